@@ -14,6 +14,8 @@ POINTS = 56  # of a text: 1,354 bytes, so that 100,000 weigh 135 MB
 INSERT_SPAN = "INSERT INTO lpis_span (id, since, until) VALUES (?1, ?2, ?3)"
 INSERT_ROW = "INSERT INTO lpis_row (year, pos, old, new) VALUES (?1, ?2, ?3, ?4)"
 INSERT_TEXT = "INSERT INTO lpis_text (id, wkt) VALUES (?1, ?2)"
+UPDATE_TEXT = "UPDATE lpis_text SET wkt = ?1 WHERE id = ?2"
+TWENTIETH = 20
 QUERIES = (
     "SELECT one, version FROM lpis_format", "SELECT year FROM lpis_release ORDER BY year",
     "SELECT id, since, until FROM lpis_span ORDER BY id", "SELECT year, pos, old, new FROM lpis_row ORDER BY year, pos",
@@ -107,11 +109,39 @@ def write_release(connection, count):
     connection.execute("COMMIT")
 
 
-def replace_texts(connection, count):
-    """A further release that keeps all identifiers."""
+def with_changed(path, count):
+    """The same, but that each twentieth parcel has another text."""
+    with_texts(path, count)
+    connection = opened(path)
+    connection.execute("BEGIN")
+    connection.executemany(UPDATE_TEXT, [(text_of(number + count), name) for number, name in changed(count)])
+    connection.execute("COMMIT")
+    connection.close()
+    return path
+
+
+def changed(count):
+    """The parcels, by number and name, whose texts change."""
+    return list(enumerate(names(count)))[::TWENTIETH]
+
+
+def keep_texts(connection, count):
+    """A further release that keeps all identifiers and texts."""
+    connection.execute("INSERT INTO lpis_release (year) VALUES (2022)")
+
+
+def update_texts(connection, count):
+    """A further release that keeps all identifiers, with other texts of some."""
     connection.execute("BEGIN")
     connection.execute("INSERT INTO lpis_release (year) VALUES (2022)")
-    connection.execute("DELETE FROM lpis_text")
+    connection.executemany(UPDATE_TEXT, [(text_of(number), name) for number, name in changed(count)])
+    connection.execute("COMMIT")
+
+
+def insert_texts(connection, count):
+    """A further release that keeps all identifiers, over a register without texts."""
+    connection.execute("BEGIN")
+    connection.execute("INSERT INTO lpis_release (year) VALUES (2022)")
     write_texts(connection, count)
     connection.execute("COMMIT")
 

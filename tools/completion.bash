@@ -3,16 +3,21 @@
 
 _lpis_files() { mapfile -t COMPREPLY < <(compgen "$@" -- "${COMP_WORDS[COMP_CWORD]}"); }
 
+# The table of commands and their words, in the repository or installed.
+_lpis_words=$(cat -- "${BASH_SOURCE[0]%/*}"/{,../../../lib/lpis/}words.txt 2>/dev/null | grep -v -e '^#' -e '^$')
+
 # By the command and the place of the word: a folder, a number or an identifier, or a file.
 _lpis() {
+  local row
   if [[ $COMP_CWORD -eq 1 ]]; then
-    _lpis_files -W 'area cut check country exact publish trace --help --version'
+    _lpis_files -W "$(sed -n '/^[^ ]*\/ /!s/ .*//p' <<<"$_lpis_words") --help --version"
     return
   fi
-  case ${COMP_WORDS[1]-}-$COMP_CWORD in
-    cut-2 | check-2 | exact-3 | publish-4) _lpis_files -d ;;
-    country-*) _lpis_options '--parcels' -d ;;
-    publish-3 | trace-3) COMPREPLY=() ;;
+  read -ra row < <(grep "^${COMP_WORDS[1]-} " <<<"$_lpis_words")
+  case ${row[COMP_CWORD - 1]-} in
+    country/) _lpis_options '--parcels' -d ;;
+    */) _lpis_files -d ;;
+    -) COMPREPLY=() ;;
     *) _lpis_files -f ;;
   esac
 }
@@ -37,14 +42,18 @@ _lpis_country() {
     *) _lpis_options '--parcels --lpis --help' -d ;;
   esac
 }
-_lpis_explain() { _lpis_options '--cert --register --area --svg --geojson --epsg --status --codes --help'; }
-_lpis_faults() { _lpis_options '--html --epsg --lpis --help'; }
+_lpis_explain() { _lpis_options '--cert --register --area --points --svg --geojson --epsg --status --name --codes --version --help'; }
+_lpis_faults() { _lpis_options '--html --epsg --lpis --version --help'; }
+_lpis_lineage() { _lpis_options '--register --check --help'; }
 _lpis_prepare() { _lpis_options '--accept --classes --epsg --name --identifiers --help'; }
-_lpis_report() { _lpis_options '--json --html --diff --lpis --help'; }
+_lpis_report() { _lpis_options '--json --html --diff --register --lpis --version --help'; }
+_lpis_year() { _lpis_options '--new --year-anyway --register-anyway --verify --lpis --help'; }
 
 complete -o filenames -F _lpis lpis
 complete -o filenames -F _lpis_country lpis-country
 complete -o filenames -F _lpis_explain lpis-explain
 complete -o filenames -F _lpis_faults lpis-faults
+complete -o filenames -F _lpis_lineage lpis-lineage
 complete -o filenames -F _lpis_prepare lpis-prepare
 complete -o filenames -F _lpis_report lpis-report
+complete -o filenames -F _lpis_year lpis-year

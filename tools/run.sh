@@ -8,45 +8,57 @@
 
 say() { printf 'lpis: %s\n' "$*" >&2; }
 
-# Puts the command's words in `words`, without `--`.
+# Puts in `words` the command and its words that are no options.
 plain_words() {
-  local word
+  local word is_over=
   words=()
-  for word; do [[ $word == -- ]] || words+=("$word"); done
+  for word; do
+    if [[ -z $is_over && $word == -- ]]; then
+      is_over=yes
+    elif [[ -n $is_over || $word != -* ]]; then
+      words+=("$word")
+    fi
+  done
 }
 
-# The path that the program reads or writes (KIND) by a name, for the command's words.
+# Puts in `row` what words.txt has of a command or of a folder.
+row_of() {
+  local line
+  row=()
+  while read -ra line; do
+    [[ ${line[0]-} != "$1" ]] || row=("${line[@]:1}")
+  done <"${BASH_SOURCE[0]%/*}/words.txt"
+}
+
+# The path that the program reads or writes (KIND) by a name, for the command's words. NAME is REGION/NAME where it lies in a region.
 path_of() {
-  local kind=$1 name=$2 words
+  local mark='' name=$2 place places words row file
+  [[ $1 == read ]] || mark='>'
   shift 2
   plain_words "$@"
-  case ${words[0]-} in
-    area) [[ $name == area ]] && printf '%s' "${words[1]-}" ;;
-    cut | check) [[ $name == cert ]] && printf '%s' "${words[2]-}" || printf '%s/%s.csv' "${words[1]-}" "$name" ;;
-    country)
-      [[ ${words[1]-} != --* ]] || words=("${words[0]}" "${words[@]:2}")
-      [[ $name == *country || $name == *cert ]] && printf '%s/%s.txt' "${words[1]-}" "$name" || printf '%s/%s.csv' "${words[1]-}" "$name"
-      ;;
-    publish) [[ $name == cert ]] && printf '%s' "${words[4]-}" || printf '%s/%s.csv' "${words[3]-}" "$name" ;;
-    exact)
-      if [[ $kind == write ]]; then
-        printf '%s' "${words[4]-}"
-      elif [[ $name == cert ]]; then
-        printf '%s' "${words[3]-}"
-      else
-        printf '%s/%s.csv' "${words[2]-}" "$name"
-      fi
-      ;;
-  esac
+  row_of "${words[0]-}"
+  places=("${row[@]}")
+  for place in "${!places[@]}"; do
+    if [[ ${places[place]} == "$mark$name" ]]; then
+      printf '%s' "${words[place + 1]-}"
+    elif [[ -z $mark && ${places[place]} == */ ]]; then
+      row_of "${places[place]}"
+      for file in "${row[@]}"; do
+        [[ ${file%.*} != "${name/#*\//*\/}" ]] || printf '%s/%s.%s' "${words[place + 1]-}" "$name" "${file##*.}"
+      done
+    fi
+  done
 }
 
 # The register that the words name, where the command line is whole.
 register_of() {
-  local words
+  local words row place
   plain_words "$@"
-  case ${words[0]-}-${#words[@]} in
-    publish-5 | exact-5 | trace-3) printf '%s' "${words[1]}" ;;
-  esac
+  row_of "${words[0]-}"
+  [[ ${#words[@]} -eq $((${#row[@]} + 1)) ]] || return 0
+  for place in "${!row[@]}"; do
+    [[ ${row[place]} != register ]] || printf '%s' "${words[place + 1]}"
+  done
 }
 
 has_head() { [[ $(head -c 15 -- "$1" 2>/dev/null | tr -d '\0') == 'SQLite format 3' ]]; }
@@ -112,7 +124,7 @@ trouble_of_reading() {
 
 # What is wrong with a path that could not be written; nothing where that is not seen.
 trouble_of_writing() {
-  local found folder free
+  local found folder
   folder=$(dirname -- "$1")
   found=$(trouble_of_place "$1" write)
   if [[ -n $found ]]; then
@@ -121,9 +133,29 @@ trouble_of_writing() {
     is_read_only "$1" && echo 'it lies on a file system that is read-only' || echo 'there is no permission to write it'
   elif [[ ! -w $folder ]]; then
     is_read_only "$folder" && echo "the folder $folder lies on a file system that is read-only" || echo "there is no permission to write into the folder $folder"
+  elif [[ ! -c $1 && $(free_at "$folder") -le 1048576 ]]; then
+    echo 'the disk is full'
+  fi
+}
+
+# How many bytes are free where a path lies; very many where that is not known.
+free_at() {
+  local free
+  free=$(df --output=avail --block-size=1 -- "$1" 2>/dev/null | tail -n 1) || free=
+  echo "${free:-9000000000000000000}"
+}
+
+# What is wrong with standard output, which is the file descriptor handed in.
+trouble_of_output() {
+  local path=/dev/fd/$1
+  if [[ -p $path || -S $path ]]; then
+    echo 'its reader went away before the end'
+  elif [[ -f $path && $(free_at "/proc/self/fd/$1") -le 1048576 ]]; then
+    echo 'the disk is full'
+  elif [[ -c $path ]]; then
+    echo 'its device takes no more'
   else
-    free=$(df --output=avail -- "$folder" 2>/dev/null | tail -n 1) || free=
-    [[ -z $free || $free -gt 1024 || -c $1 ]] || echo 'the disk is full'
+    echo 'writing it failed'
   fi
 }
 
@@ -134,15 +166,22 @@ is_read_only() {
   [[ ,$options, == *,ro,* ]]
 }
 
-# The process that holds a lock on a register's file or on one beside it, by the system's table of locks.
+# Which process holds a lock on a register's file or on one beside it; nothing where none does. What a process has open is seen of one's own
+# processes, or by root. The system's table of locks has all of them, but -1 or 0 for a process that it does not name.
 holder_of() {
-  local file inode pid
+  local file inode entry pid name
   for file in "$1" "$1"-wal "$1"-shm "$1"-journal; do
     inode=$(stat -Lc %i -- "$file" 2>/dev/null) || continue
-    pid=$(awk -v "inode=$inode" '{ for (i = 1; i <= NF; i++) if (split($i, part, ":") == 3 && part[3] == inode) { print $(i - 1); exit } }' /proc/locks 2>/dev/null) || continue
-    [[ -n $pid ]] || continue
-    echo "$pid ($(cat "/proc/$pid/comm" 2>/dev/null || echo 'a program that has ended'))"
-    return 0
+    while read -r entry; do
+      pid=${entry#/proc/} pid=${pid%%/*}
+      [[ ${entry/fdinfo/fd} -ef $file ]] && name=$(cat "/proc/$pid/comm" 2>/dev/null) || continue
+      echo "the process $pid ($name) holds it"
+      return 0
+    done < <(grep -ls "^lock:.*:$inode " /proc/[0-9]*/fdinfo/* 2>/dev/null)
+    while read -r pid; do
+      name=$(cat "/proc/$pid/comm" 2>/dev/null) && echo "the process $pid ($name) holds it" || echo 'a process of another user holds it'
+      return 0
+    done < <(awk -v "inode=$inode" '{ for (i = 1; i <= NF; i++) if (split($i, part, ":") == 3 && part[3] == inode) print $(i - 1) }' /proc/locks 2>/dev/null)
   done
 }
 
@@ -158,37 +197,41 @@ except sqlite3.Error as error:
     print("another process holds it" if "locked" in str(error) else f"SQLite says of it: {error}")' "$1" 2>/dev/null || true
 }
 
-# What is wrong with a register that failed.
-trouble_of_register() {
-  local found holder
-  found=$(trouble_of_writing "$1")
-  if [[ -n $found ]]; then
-    echo "$found"
-  elif [[ -s $1 && -r $1 ]] && ! has_head "$1"; then
-    echo 'it is no SQLite database'
-  else
-    holder=$(holder_of "$1")
-    if [[ -n $holder ]]; then
-      echo "the process $holder holds it"
-    else
-      [[ ! -e $1 ]] || found=$(damage_of "$1")
-      echo "${found:-it is there, and using it failed: perhaps another process held it just now}"
-    fi
-  fi
+# That the disk may have been full, where it has less free than a publish may write: as much as the register and the polygons have. What it
+# wrote before it failed is given back by then.
+shortage_at() {
+  local free wanted parcels
+  free=$(free_at "$(dirname -- "$1")")
+  parcels=$(path_of read parcels "${@:2}")
+  wanted=$(($(stat -Lc %s -- "$1" 2>/dev/null || echo 0) + $(stat -Lc %s -- "$parcels" 2>/dev/null || echo 0)))
+  ((free >= wanted)) || echo "the disk has $((free / 1000000)) MB free, and a publish may write $((wanted / 1000000 + 1)) MB: it was full"
 }
 
-# Says the cause behind the program's own line `failed read NAME`, `failed write NAME` or `failed store`.
+# What is wrong with a register that failed, for the command's words.
+trouble_of_register() {
+  local found
+  found=$(trouble_of_writing "$1")
+  if [[ -z $found && -s $1 && -r $1 ]] && ! has_head "$1"; then
+    found='it is no SQLite database'
+  fi
+  [[ -n $found ]] || found=$(holder_of "$1")
+  [[ -n $found || ! -e $1 ]] || found=$(damage_of "$1")
+  [[ -n $found ]] || found=$(shortage_at "$@")
+  echo "${found:-it is there, and using it failed: perhaps another process held it just now}"
+}
+
+# Says the cause behind the program's own line `failed read NAME`, `failed write NAME` or `failed store`; standard output was file descriptor $2.
 say_cause() {
-  local told=$1 kind name region path found
-  shift
+  local told=$1 out=$2 kind name region path found
+  shift 2
   if [[ $told == 'failed store' ]]; then
     path=$(register_of "$@")
-    [[ -z $path ]] || say "the register is $path: $(trouble_of_register "$path")"
+    [[ -z $path ]] || say "the register is $path: $(trouble_of_register "$path" "$@")"
   elif [[ $told == 'failed write out' ]]; then
-    say 'standard output could not be written: a full disk, or a reader that went away'
+    say "standard output could not be written: $(trouble_of_output "$out")"
   elif [[ $told =~ ^failed\ (read|write)\ ([a-z]+)(\ region\ ([A-Za-z0-9_-]+))?$ ]]; then
     kind=${BASH_REMATCH[1]} name=${BASH_REMATCH[2]} region=${BASH_REMATCH[4]}
-    path=$(path_of "$kind" "${region:+$region/}$name" "$@") || return 0
+    path=$(path_of "$kind" "${region:+$region/}$name" "$@")
     [[ -n $path ]] || return 0
     if [[ $kind == read ]]; then
       found=$(trouble_of_reading "$path")
@@ -199,19 +242,47 @@ say_cause() {
   fi
 }
 
+# Hands a signal on to the program, or keeps it until the program is begun.
+hand_on() {
+  signal=$1
+  [[ -z $child ]] || kill -s "$1" "$child" 2>/dev/null || true
+}
+
+# Runs the program, and puts in `told` what it wrote to standard error and in `status` how it ended. It has the caller's standard input, and
+# file descriptor $1 as its output. TERM, INT and HUP are handed on to it, so that it has ended when this ends; `signal` is then the last of them.
+run_and_hear() {
+  local out=$1 program=$2 in=- child='' heard name
+  shift 2
+  told='' signal=''
+  { exec {in}<&0; } 2>/dev/null || in=-
+  for name in TERM INT HUP; do trap "hand_on $name" "$name"; done
+  # shellcheck disable=SC2094
+  exec {heard}< <(trap - TERM INT HUP && exec "$program" "$@" 2>&1 >&"$out" <&"$in" {out}>&-)
+  child=$!
+  [[ -z $signal ]] || hand_on "$signal"
+  IFS= read -r -d '' -u "$heard" told || true # a signal is handed on at once while this waits
+  while :; do # a signal ends a `wait` too
+    status=0
+    wait "$child" || status=$?
+    kill -0 "$child" 2>/dev/null || break
+  done
+  trap - TERM INT HUP
+  exec {heard}<&-
+}
+
 run_program() {
-  local program=$1/lpis facts=$1/facts status=0 told
+  local program=$1/lpis facts=$1/facts status told signal out
   shift
   # The C library would keep a freed block for itself where it is smaller than the largest freed before: of a cut that is a fifth more memory at its peak.
   export MALLOC_MMAP_THRESHOLD_=${MALLOC_MMAP_THRESHOLD_-131072}
   warn_of_register "$@"
   # The program's standard output is the caller's own; its standard error, of a few lines, is passed on as it is.
-  { exec 3>&1; } 2>/dev/null || exec "$program" "$@" # standard output is closed
-  told=$("$program" "$@" 2>&1 >&3 3>&- || { status=$?; printf .; exit "$status"; }; printf .) || status=$?
-  exec 3>&-
-  told=${told%.}
+  { exec {out}>&1; } 2>/dev/null || exec "$program" "$@" # standard output is closed
+  run_and_hear "$out" "$program" "$@"
   printf '%s' "$told" >&2
   [[ $status -ne 0 || $# -ne 1 || ($1 != --version && $1 != -V) ]] || cat -- "$facts" 2>/dev/null || true
-  [[ $status -ne 3 ]] || say_cause "${told%$'\n'}" "$@"
+  [[ $status -ne 3 ]] || say_cause "${told%$'\n'}" "$out" "$@"
+  # A caller sees that a signal ended it, as it would of the program itself.
+  [[ -z $signal || $status -le 128 ]] || kill -s "$signal" "$$"
   exit "$status"
 }

@@ -121,6 +121,16 @@ def check(release, own=False):
     return Command(f"check of {release}", ["check", EXAMPLES / release, cert], [] if own else [certificate(release)])
 
 
+def pointed(folder):
+    """Three points, of which two are in the square, and one in a table that is refused."""
+    (folder / "points.csv").write_text("point,x,y\na,2.5,5\nb,7.5,5\nc,10,5\n")
+    (folder / "bad.csv").write_text("point,x,y\na,one,5\n")
+
+
+def locate(points):
+    return Command(f"locate of {points}", ["locate", EXAMPLES / "square", EXAMPLES / "square" / "cert.txt", points], [pointed])
+
+
 def publish(name, year, *makers):
     words = ["publish", "years.db", year, EXAMPLES / "years" / year, "cert.txt"]
     return Command(f"publish of {name}", words, [*makers, certificate(f"years/{year}")], "years.db")
@@ -150,6 +160,7 @@ COMMANDS = [
     *map(check, ["square", "pasture", "holes", "junctions", "members"]),
     check("older", own=True),
     Command("check of overlap, without pair lines", ["check", EXAMPLES / "overlap", "cert.txt"], [overlapping]),
+    *map(locate, ["points.csv", "bad.csv"]),
     publish("2024, in a new file", "2024"),
     publish("2025, after 2024", "2025", published("2024")),
     Command("publish of 2025 with marks, after 2024", ["publish", "years.db", "2025", "marked", "exact.txt"], [published("2024"), marked], "years.db"),

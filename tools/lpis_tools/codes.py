@@ -62,6 +62,15 @@ TABLES = {
            "write 0 to 100 in digits alone (in SQL: `round(100 * share)::int`)"),
     "3c": ("`exact` in lineage.csv is neither empty nor 0 nor 1", "`yes`, `true`, `x`, a quoted blank",
            "write 1 in each row of a split or merge that is exact, and nothing else; or leave the column out"),
+    "3d": ("`x` or `y` of a point is no coordinate; the column and a second code follow: 13 no plain number, 14 more than nine decimals, 15 beyond 20,000,000 m",
+           "a decimal comma, an exponent, an empty field, more decimals than a receiver has",
+           "write metres of the parcels' system, with at most nine decimals (`ROUND(ST_X(geom)::numeric, 9)`)"),
+}
+
+NUMBERS = {
+    "13": ("this is no plain number; exponents are not read",),
+    "14": ("this has more than nine decimals",),
+    "15": ("this is beyond 20,000,000 m",),
 }
 
 CUTS = {
@@ -151,11 +160,12 @@ EXACTS = {
 
 REGISTERS = {
     "80": ("the year is not later than the last published one", "the release is published already, or the year is mistyped",
-           "`lpis trace` shows what is published; the register was not changed"),
+           "`sqlite3 -readonly register.db 'SELECT year FROM lpis_release'` lists the published years; the register was not changed"),
     "81": ("the lineage table does not fit this release and the last; a second code follows", "see codes 70 to 78", "see codes 70 to 78"),
     "82": ("the database failed; printed as `failed store`", "a full or failing disk, another program that holds the file locked",
            "look at the disk, end the other program, try again: a release is there whole or not at all"),
-    "83": ("the identifier is in no release", "a typing error", "look it up in the register"),
+    "83": ("the identifier is in no release", "a typing error; a name of the source that `tools/prepare` changed, such as `M\u00fchle`",
+           "look it up in `identifiers.csv`, or `tools/explain release --name NAME` does"),
     "84": ("this database is no register that can be read: its tables hold no lawful history, or a shape in it is no polygon of a live parcel",
            "a later version, a file that was edited",
            "name the right file, or take it from its last copy"),
@@ -193,7 +203,7 @@ GROUPS = [
 CODES = {code: words for _, group in GROUPS for code, words in group.items()}
 
 REFUSED_BY_THE_GATE = {*CUTS, *CERTIFICATES, "80", "81", "83", "85", "92", "93", "94", "95", "96"}
-BEHIND = {"38": POLYGON_TEXTS, "81": LINEAGES, "85": EXACTS}  # the codes that stand behind one
+BEHIND = {"38": POLYGON_TEXTS, "3d": NUMBERS, "81": LINEAGES, "85": EXACTS}  # the codes that stand behind one
 
 
 def status_of(line):

@@ -1,4 +1,4 @@
-"""What is said of a refusal of `lpis country`: the region's folder, its tile, and the other copies of a parcel."""
+"""The words about a refusal of `lpis country`: the region's folder, its tile, and the other copies of a parcel."""
 
 import os
 

@@ -24,7 +24,7 @@ PARTS = 8  # what is left after a refusal is asked in so many calls
 
 
 class Trouble(Exception):
-    """`lpis` failed, or told what is no answer here."""
+    """`lpis` failed, or printed what is no answer here."""
 
 
 @dataclass
@@ -74,10 +74,10 @@ class Placed:
                 self.names[piece] = name
                 self.covers.append(f'{piece},{short},G,"{polygons.write(members, move)}"\n')
 
-    def fault(self, told):
+    def fault(self, refused):
         """A refusal with the names and the place of the release."""
-        place = told.place and (told.place[0] - self.move[0], told.place[1] - self.move[1])
-        return Fault(told.code, told.kind, [self.names[name] for name in told.names], place)
+        place = refused.place and (refused.place[0] - self.move[0], refused.place[1] - self.move[1])
+        return Fault(refused.code, refused.kind, [self.names[name] for name in refused.names], place)
 
 
 def batches(units):
@@ -115,17 +115,17 @@ def ask(command, batch):
         status, line = run_on(command, folder, os.path.join(folder, "cert.txt"))
     if status == 0:
         return None
-    told = refusal.read(line)
-    if told is None or told.kind not in ("parcel", "parcels", "piece", "pieces"):
-        raise Trouble(f"lpis cut told {line!r} of shapes that could be read")
-    number = next(i for i, placed in enumerate(batch) if told.names[0] in placed.names)
-    return number, batch[number].fault(told)
+    refused = refusal.read(line)
+    if refused is None or refused.kind not in ("parcel", "parcels", "piece", "pieces"):
+        raise Trouble(f"lpis cut printed {line!r} of shapes that could be read")
+    number = next(i for i, placed in enumerate(batch) if refused.names[0] in placed.names)
+    return number, batch[number].fault(refused)
 
 
 def search(batches_of, ask_one, count, progress, most=None):
-    """What `ask_one` tells of each item that has a fault. After a refusal the told item is set aside and the rest is parted. Where `most`
-    are told, the search ends."""
-    told, done, waiting, workers = [], 0, set(), os.cpu_count() or 1
+    """The fault that `ask_one` finds of each item that has one. After a refusal its item is set aside and the rest is parted. Where `most` are found,
+    the search ends."""
+    faults, done, waiting, workers = [], 0, set(), os.cpu_count() or 1
     with ThreadPoolExecutor(workers) as pool:
         def submit(batch):
             waiting.add(pool.submit(lambda: (batch, ask_one(batch))))
@@ -144,19 +144,19 @@ def search(batches_of, ask_one, count, progress, most=None):
                     done += len(batch)
                 else:
                     number, fault = answer
-                    told.append(fault)
+                    faults.append(fault)
                     done += 1
                     rest = batch[:number] + batch[number + 1 :]
-                    if most and len(told) >= most:
+                    if most and len(faults) >= most:
                         for other in waiting:
                             other.cancel()
-                        return told
+                        return faults
                     size = -(-len(rest) // PARTS)
                     for i in range(0, len(rest), size or 1):
                         submit(rest[i : i + size])
-            progress(done, count, len(told))
+            progress(done, count, len(faults))
             submit_more()
-    return told
+    return faults
 
 
 def all_faults(command, units, progress):

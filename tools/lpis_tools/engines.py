@@ -147,7 +147,7 @@ def cut(command, words, say):
 
 
 def counts_of(folder):
-    """The counts of the source, as the split wrote them, or None."""
+    """The counts and the area of the source, as the split wrote them, or None."""
     try:
         with open(os.path.join(folder, COUNTS), encoding="utf-8") as file:
             return file.read().split()
@@ -165,7 +165,7 @@ def check(command, words, say):
             if line.startswith("country regions "):
                 told = line.split()
     wanted = counts_of(words.folder)
-    if lpis.returncode == 0 and wanted and told[3:7] != wanted:
-        say(f"the source had {' '.join(wanted)}: rows of it are in no region, or in the regions alone")
+    if lpis.returncode == 0 and wanted and told[3 : 3 + len(wanted)] != wanted:
+        say(f"the source had {' '.join(wanted)}: rows of it are in no region, or in the regions alone, or were changed")
         return 1
     return lpis.returncode

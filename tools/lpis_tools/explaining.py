@@ -1,18 +1,22 @@
-"""Says a refusal in words, from the folder of the release that was refused."""
+"""Explains a refusal in words, from the folder of the release that was refused."""
 
 from . import codes, drawing, polygons
 from .countries import OfCountry
 from .lineages import OfGroups
+from .names import SourceNames
 from .refusal import metres_of, read
+from .sentences import SENTENCES
 from .tables import COLUMNS, FREE, INSTEAD, KEYS, LETTERS, MARK, Table, is_identifier, kind_of_file, path_of, shown
 
 
 class Explained(OfGroups, OfCountry):
     """The words about one line, the shapes concerned, the place, and the stretches of border that differ."""
 
-    def __init__(self, line, folder, cert=None, area=None, register=None):
-        self.line, self.folder, self.cert, self.area, self.register = line, folder, cert, area, register
+    def __init__(self, line, folder, cert=None, area=None, register=None, points=None):
+        self.line, self.folder, self.cert, self.register = line, folder, cert, register
+        self.named_files = {"area": area, "points": points}
         self.words, self.shapes, self.place, self.stretches, self.tables = [], [], None, [], {}
+        self.named = []  # identifiers of the row that is refused
         self.refusal = read(line)
         if self.refusal is None:
             self.say("this line is none that docs/FORMATS.md has")
@@ -24,8 +28,12 @@ class Explained(OfGroups, OfCountry):
             if code:
                 self.say_code(code)
         self.say_country()
-        if self.refusal.code in ("90", "96"):
-            return
+        if self.refusal.code not in ("90", "96"):
+            self.say_what_is_named()
+        self.say_source_names()
+
+    def say_what_is_named(self):
+        """The row, the line or the shapes that the refusal names, and its place."""
         if self.refusal.table and self.refusal.row is not None:
             self.say_row()
         elif self.refusal.cert_line is not None:
@@ -40,25 +48,35 @@ class Explained(OfGroups, OfCountry):
             self.say_shapes()
         if self.place:
             x, y = (float(value / 1000) for value in self.place)
-            self.say(f"place in metres: {metres_of(self.place)}   POINT({x:.6f} {y:.6f})")
+            self.say_sentence("place", metres=metres_of(self.place), x=f"{x:.6f}", y=f"{y:.6f}")
 
     def say(self, text):
         self.words.append(text)
+
+    def say_sentence(self, key, indent="", **values):
+        self.say(indent + SENTENCES[key].format(**values))
 
     def say_code(self, code):
         if code not in codes.CODES:
             self.say(f"code {code}: see docs/FORMATS.md")
             return
         meaning, cause, remedy = codes.CODES[code]
-        self.say(f"code {code}: {meaning}")
+        self.say_sentence("code", code=code, meaning=meaning)
         if not cause.startswith("see code"):
-            self.say(f"  usual cause: {cause}")
-            self.say(f"  remedy: {remedy}")
+            self.say_sentence("cause", "  ", cause=cause)
+            self.say_sentence("remedy", "  ", remedy=remedy)
+
+    def say_source_names(self):
+        """What the identifiers of the refusal are called in the source, where tools/prepare changed them."""
+        source = SourceNames(self.folder)
+        for identifier in dict.fromkeys([*self.refusal.names, *self.named]):
+            for kind, old in source.of(identifier):
+                self.say(f"{kind} {identifier} is {old!r} in the source (identifiers.csv)")
 
     def table(self, name):
         """The table, or None where it cannot be read; it is read once."""
         if name not in self.tables:
-            path = self.area if name == "area" and self.area else path_of(self.folder, name)
+            path = self.named_files.get(name) or path_of(self.folder, name)
             try:
                 self.tables[name] = Table(path, name)
             except OSError as error:
@@ -78,10 +96,11 @@ class Explained(OfGroups, OfCountry):
             return
         record = table.record(row)
         if record is None:
-            self.say(f"{table.path} has no row {row} (it has {max(len(table.records) - 1, 0)}): is it the file that was read?")
+            self.say_sentence("no row", path=table.path, row=row, count=max(len(table.records) - 1, 0))
             return
         fields = ", ".join(f"{n} {shown(table.field(record, n))!r}" for n in COLUMNS[name] if n != "wkt" and n in table.names)
-        self.say(f"{table.path}: row {row}, line {table.line(row)}; in QGIS: $id {table.line(row)} of a delimited text layer, fid {row} through OGR")
+        self.named = [shown(table.field(record, n)) for n in COLUMNS[name] if n != "wkt"]
+        self.say_sentence("row", path=table.path, row=row, line=table.line(row))
         if fields:
             self.say(f"  {fields}")
         self.say_field(table, row, record)
@@ -93,14 +112,14 @@ class Explained(OfGroups, OfCountry):
     def say_header(self, table):
         start = table.start
         kind = kind_of_file(start)
-        self.say(f"wanted header: {','.join(name for name in COLUMNS[table.name] if name not in {*INSTEAD.values(), *FREE})}")
+        self.say_sentence("wanted header", names=",".join(name for name in COLUMNS[table.name] if name not in {*INSTEAD.values(), *FREE}))
         if kind:
             self.say(f"{table.path} is {kind}")
             return
         if start.startswith(MARK + MARK):
             self.say(f"{table.path} begins with two byte order marks")
         found = ",".join(shown(f) for f in table.header)
-        self.say(f"found header in {table.path}: {found[:200]}")
+        self.say_sentence("found header", path=table.path, names=found[:200])
         for mark, what in ((b";", "semicolons"), (b"\t", "tabs"), (b"|", "bars")):
             if len(table.header) == 1 and mark in table.header[0]:
                 self.say(f"its columns are separated by {what}: write commas")
@@ -116,7 +135,7 @@ class Explained(OfGroups, OfCountry):
             for name in COLUMNS[table.name]:
                 field = table.field(record, name)
                 ending = name == "new" and not field
-                if name not in ("wkt", "percent", "eligible", "exact") and not ending and not is_identifier(field):
+                if name not in ("wkt", "percent", "eligible", "exact", "x", "y") and not ending and not is_identifier(field):
                     self.say_letters(name, field)
                     break
         elif code == "34":
@@ -132,6 +151,9 @@ class Explained(OfGroups, OfCountry):
         elif code in ("39", "3b", "3c"):
             name = {"39": "eligible", "3b": "percent", "3c": "exact"}[code]
             self.say(f"  {name} is {shown(table.field(record, name))!r}")
+        elif code == "3d":
+            name, number = self.refusal.column, self.refusal.number_code
+            self.say(f"  {name} is {shown(table.field(record, name))!r}; {number}: {codes.NUMBERS[number][0]}")
         elif code == "78":
             self.say_marks(table, record)
         elif code == "3a":
@@ -159,12 +181,13 @@ class Explained(OfGroups, OfCountry):
 
     def say_letters(self, name, field):
         if not field:
-            self.say(f"  {name} is empty")
+            self.say_sentence("empty", "  ", name=name)
         elif len(field) > 40:
-            self.say(f"  {name} has {len(field)} letters: {shown(field)!r}")
+            self.say_sentence("long", "  ", name=name, count=len(field), value=repr(shown(field)))
         else:
             place = next(i for i, letter in enumerate(field) if letter not in LETTERS)
-            self.say(f"  {name} {shown(field)!r} has a letter that is none of an identifier's, number {place + 1}: {shown(field[place:].decode('utf-8', 'replace')[:1].encode())!r}")
+            letter = field[place:].decode("utf-8", "replace")[:1]
+            self.say_sentence("letter", "  ", name=name, value=repr(shown(field)), number=place + 1, letter=repr(letter))
 
     def say_absent(self, name, value, table):
         if table is None:
@@ -177,9 +200,9 @@ class Explained(OfGroups, OfCountry):
         found = polygons.TOKEN.match(text, offset)
         word = found.group() if found else b""
         number = text[:offset].count(b",") + 1
-        what = f"{shown(word)!r}" if word else "the end of the text"
+        what = f"{shown(word)!r}" if word else SENTENCES["end of text"]
         before = text[max(0, offset - 40):offset].decode("utf-8", "replace")
-        self.say(f"  wkt at offset {offset}: {what}, at point number {number}, after {('..' if offset > 40 else '') + before!r}")
+        self.say_sentence("offset", "  ", offset=offset, word=what, number=number, before=repr((".." if offset > 40 else "") + before))
         self.say(f"  {extent_of_words(text)}")
 
     # Certificates.
@@ -196,9 +219,9 @@ class Explained(OfGroups, OfCountry):
             return
         number = self.refusal.cert_line
         count = len(lines) - (lines[-1] == b"")
-        self.say(f"{self.cert} has {count} lines{'' if lines[-1] == b'' else ', the last without its line end'}")
+        self.say_sentence("lines", path=self.cert, count=count, without="" if lines[-1] == b"" else SENTENCES["without"])
         if number <= count:
-            self.say(f"  line {number}: {shown(lines[number - 1])!r}")
+            self.say_sentence("line", "  ", number=number, text=repr(shown(lines[number - 1])))
         if lines[0].endswith(b"\r"):
             self.say("  its lines end with CR LF (Windows): LF alone is read")
 
@@ -257,18 +280,19 @@ class Explained(OfGroups, OfCountry):
         place = polygons.first_crossing(first, other)
         if place:
             self.place = place
-            self.say(f"{words} (found by this tool, not told by lpis):")
+            self.say(f"{words} (found by this tool, not reported by lpis):")
 
     def find_shape(self, table_name, column, name):
         table = self.table(table_name)
         row = table.find(column, name.encode()) if table else None
         if row is None:
-            self.say(f"{column} {name} is in no row of {table_name}.csv")
+            self.say_sentence("no shape", column=column, name=name, table=table_name)
             return
         record = table.record(row)
         members = polygons.read(table.field(record, "wkt"))
         others = ", ".join(f"{n} {shown(table.field(record, n))}" for n in COLUMNS[table_name] if n not in ("wkt", column))
-        self.say(f"{column} {name}: row {row} of {table_name}.csv, line {table.line(row)}{', ' + others if others else ''}; {polygons.extent(members) if members else 'its wkt is no polygon'}")
+        self.say_sentence("shape", column=column, name=name, row=row, table=table_name, line=table.line(row), others=", " + others if others else "",
+                          extent=polygons.extent(members) if members else SENTENCES["no polygon"])
         if members:
             self.add_shape(column, name, members)
 
@@ -282,7 +306,7 @@ class Explained(OfGroups, OfCountry):
                 members = polygons.read(covers.field(record, "wkt"))
                 if members:
                     piece = shown(covers.field(record, "piece"))
-                    self.say(f"its piece {piece}: row {row} of covers.csv, line {covers.line(row)}; {polygons.extent(members)}")
+                    self.say_sentence("piece", piece=piece, row=row, line=covers.line(row), extent=polygons.extent(members))
                     self.add_shape("piece", piece, members)
                     parts.append(members)
         self.stretches = polygons.residue(whole, parts)

@@ -1,4 +1,4 @@
-"""Finds all faults of a release by calling `lpis cut` on parts of it, and tells each as a point with its line, code and identifiers."""
+"""Finds all faults of a release by calling `lpis cut` on parts of it, and reports each as a point with its line, code and identifiers."""
 
 import itertools
 import sys
@@ -36,35 +36,35 @@ def near_pairs(parcels):
 def faults_of_shapes(command, release):
     """Faults of parcels with their pieces, then of two parcels."""
     whole = [parcel for parcel in release.parcels if parcel.pieces and parcel.name not in release.incomplete]
-    told = cutting.all_faults(command, [[parcel] for parcel in whole], shower("parcels"))
+    faults = cutting.all_faults(command, [[parcel] for parcel in whole], shower("parcels"))
     alone = [cutting.Parcel(parcel.name, parcel.members, [(parcel.name, parcel.members)]) for parcel in release.parcels]
     uncut = {fault.names[0] for fault in cutting.all_faults(command, [[parcel] for parcel in alone], shower("borders"))}
-    told += [cutting.Fault("40", "parcel", [name], None) for name in sorted(uncut & release.incomplete)]
+    faults += [cutting.Fault("40", "parcel", [name], None) for name in sorted(uncut & release.incomplete)]
     sound = [parcel for parcel in alone if parcel.name not in uncut]
     pairs = [[sound[i], sound[j]] for i, j in itertools.islice(near_pairs(sound), MOST_PAIRS)]
     if len(pairs) == MOST_PAIRS:
         print("faults: more than a million pairs of boxes overlap: the first million are looked at", file=sys.stderr)
     for fault in cutting.all_faults(command, pairs, shower("pairs")):
         fault.kind = fault.kind.replace("piece", "parcel")
-        told.append(fault)
-    return told
+        faults.append(fault)
+    return faults
 
 
 def feature(code, line, where, names, place, exact):
-    """A fault as a point, or without one. 38 is told with the code of the text's fault."""
+    """A fault as a point, or without one. 38 comes with the code of the text's fault."""
     inner = line.split(" wkt ")[1].split()[0] if code == "38" and " wkt " in line else ""
     geometry = place and {"type": "Point", "coordinates": [float(place[0]) / 1000, float(place[1]) / 1000]}
     return {"type": "Feature", "geometry": geometry,
             "properties": {"code": f"{code} {inner}".strip(), "line": line, "where": where, "names": " ".join(names), "place": exact, "meaning": codes.CODES[inner or code][0]}}
 
 
-def features_of(release, told):
+def features_of(release, faults):
     features = [feature(fault.code, fault.line, f"{fault.table}.csv row {fault.row}, line {fault.file_line}", fault.names, None, "none")
                 for fault in release.faults]
-    for fault in told:
+    for fault in faults:
         name = fault.names[0]
         shape, where = release.shape_of(fault.kind, name)
-        place, exact = (fault.place, "told") if fault.place else (shape[0][0][0] if shape else None, "a corner")
+        place, exact = (fault.place, "reported") if fault.place else (shape[0][0][0] if shape else None, "a corner")
         features.append(feature(fault.code, fault.line(), where, fault.names, place, exact))
     return features
 
@@ -72,5 +72,5 @@ def features_of(release, told):
 def find(command, folder):
     """The release of a folder, and its faults as features of GeoJSON."""
     release = rows.read_release(command, folder, shower)
-    told = [] if release.is_sound or release.is_cut_off else faults_of_shapes(command, release)
-    return release, features_of(release, told)
+    faults = [] if release.is_sound or release.is_cut_off else faults_of_shapes(command, release)
+    return release, features_of(release, faults)

@@ -8,9 +8,11 @@ import re
 import shutil
 import sqlite3
 import subprocess
+import sys
+from collections import Counter
 from dataclasses import dataclass, field
 
-from . import sheets, wkb
+from . import sheets, systems, wkb, wkt
 
 COLUMNS = {"parcels": ["parcel"], "covers": ["piece", "parcel", "class"], "classes": ["class", "percent"]}
 SHAPED = ("parcels", "covers")
@@ -25,26 +27,15 @@ class Trouble(Exception):
         self.reasons = list(reasons)
 
 
-@dataclass
-class System:
-    """A system of coordinates."""
-
-    number: int | None = None  # of EPSG
-    is_degrees: bool = False
-    unit: float = 1.0  # metres
-
-    def __str__(self):
-        return f"EPSG:{self.number}" if self.number else "degrees" if self.is_degrees else "a system without a number"
-
-
-@dataclass
 class Row:
-    """A row of a layer: its fields as text, and its shape, or why there is none."""
+    """A row of a layer: its fields as text, and its shape, or why there is none. The number is its fid, or its place in a table."""
 
-    number: int
-    fields: dict
-    found: wkb.Found | None = None
-    why: str = ""  # no shape: why
+    __slots__ = ("fields", "found", "number", "place", "why")
+
+    def __init__(self, number, fields, found=None):
+        self.number, self.fields, self.found = number, fields, found
+        self.why = ""  # no shape: why
+        self.place = None  # where it is, known too where the shape is not
 
     def __getitem__(self, name):
         return self.fields.get(name) or ""
@@ -54,7 +45,12 @@ class Row:
 class Layer:
     name: str
     rows: list = field(default_factory=list)
-    system: System | None = None
+    system: systems.System | None = None
+    key: str = "row"  # what a row's number is: its fid, or its place in the table
+    others: list = field(default_factory=list)  # columns that are not taken over
+    faults: list = field(default_factory=list)  # of sheets: what keeps the table from being read
+    notes: list = field(default_factory=list)  # what was met on the way, without loss
+    is_valid: bool = False  # all shapes are known to be valid
 
 
 def read(path, names=None, wanted=("parcels", "covers"), spare=None):
@@ -71,9 +67,13 @@ def read(path, names=None, wanted=("parcels", "covers"), spare=None):
         if not re.match(r"[A-Za-z]{2,}:", path):  # ogr2ogr's words for a database, such as PG:dbname=land
             raise Trouble(f"{path}: {error.strerror}") from None
         start = b""
-    if start != PACKAGE or not is_package(path):
-        path = as_package(path, spare)
-    return read_package(path, names, wanted)
+    if start == PACKAGE and is_package(path):
+        return read_package(path, names, wanted)
+    made, told = as_package(path, spare)
+    layers = read_package(made, names, wanted)
+    for layer in layers.values():
+        layer.notes += [f"ogr2ogr reports: {words}" for words in told]
+    return layers
 
 
 def apart(path, out):
@@ -103,24 +103,44 @@ def is_package(path):
 
 
 def as_package(path, spare, *words):
-    """The land as a GeoPackage in a spare folder, by ogr2ogr."""
+    """The land as a GeoPackage in a spare folder, by ogr2ogr, and its warnings."""
     if shutil.which("ogr2ogr") is None or spare is None:
         raise Trouble(f"{path} is no GeoPackage and no folder of CSV tables: ogr2ogr reads more (Debian: gdal-bin), and is not there")
     made = os.path.join(spare, f"land{len(os.listdir(spare))}.gpkg")
     run = subprocess.run(["ogr2ogr", "-q", "-f", "GPKG", made, path, *words], capture_output=True, text=True, check=False)
+    told = [line.strip() for line in run.stderr.splitlines() if line.strip()]
     if run.returncode or not os.path.exists(made):
-        raise Trouble(f"{path}: ogr2ogr cannot read it: {run.stderr.strip().splitlines()[-1] if run.stderr.strip() else run.returncode}")
-    return made
+        raise Trouble(f"{path}: ogr2ogr cannot read it: {told[-1] if told else run.returncode}")
+    return made, list(dict.fromkeys(told))
 
 
 def quoted(name):
     return '"' + name.replace('"', '""') + '"'
 
 
-def column_of(columns, name, wanted, names):
-    """What a column is called in the source, compared in any mix of cases, or None."""
-    called = names.get(f"{name}.{wanted}", wanted)
-    return next((column for column in columns if column == called), None) or next((column for column in columns if column.lower() == called.lower()), None)
+def columns_of(columns, name, wanted, names):
+    """What a column is called in the source, compared in any mix of cases: none, one or more. What --name gives is taken as it is written first."""
+    called = names.get(f"{name}.{wanted}")
+    exact = [column for column in columns if column == called]
+    return exact if len(exact) == 1 else [column for column in columns if column.lower() == (called or wanted).lower()]
+
+
+def chosen_of(columns, name, wanted, names, where):
+    """The columns of a layer by what they are for; and reasons and faults, where one is not there or there twice."""
+    chosen, reasons, faults = {}, [], []
+    for column in wanted:
+        found = columns_of(columns, name, column, names)
+        if not found:
+            reasons.append(f"{where}: no column {names.get(f'{name}.{column}', column)}: there are {', '.join(map(shown, columns))} (--name {name}.{column}=COLUMN says which it is)")
+        elif len(found) > 1:
+            faults.append(sheets.Fault(0, f"two columns are called {column}: {' and '.join(found)}"))
+        else:
+            chosen[column] = found[0]
+    return chosen, reasons, faults
+
+
+def shown(name):
+    return name if name.isprintable() and name else repr(name)
 
 
 def text_of(value):
@@ -129,12 +149,12 @@ def text_of(value):
         return None
     if isinstance(value, float) and value.is_integer():
         return str(int(value))
-    return value.decode("utf-8", "replace") if isinstance(value, bytes) else str(value)
+    return value.decode("utf-8", "backslashreplace") if isinstance(value, bytes) else str(value)
 
 
 def read_package(path, names, wanted):
     connection = connected(path)
-    connection.text_factory = lambda text: text.decode("utf-8", "replace")
+    connection.text_factory = lambda text: text.decode("utf-8", "backslashreplace")  # letters that are none stay different
     try:
         tables = [name for (name,) in connection.execute("SELECT table_name FROM gpkg_contents ORDER BY rowid")]
         shapes = {table: (column, srs) for table, column, srs in connection.execute("SELECT table_name, column_name, srs_id FROM gpkg_geometry_columns")}
@@ -146,14 +166,15 @@ def read_package(path, names, wanted):
                 if name in SHAPED:
                     reasons.append(f"no layer {called}: there are {', '.join(tables) or 'none'} (--name {name}=LAYER says which it is)")
                 continue
-            columns = [row[1] for row in connection.execute(f"PRAGMA table_info({quoted(table)})")]
-            chosen = {column: column_of(columns, name, column, names) for column in COLUMNS[name]}
-            lacking = [column for column, found in chosen.items() if found is None]
-            reasons += [f"layer {table}: no column {names.get(f'{name}.{column}', column)}: there are {', '.join(columns)} (--name {name}.{column}=COLUMN says which it is)" for column in lacking]
+            columns = {row[1]: row for row in connection.execute(f"PRAGMA table_info({quoted(table)})")}
+            chosen, lacking, _ = chosen_of(list(columns), name, COLUMNS[name], names, f"layer {table}")
+            reasons += lacking
             if name in SHAPED and table not in shapes:
                 reasons.append(f"layer {table}: it has no column of shapes")
             elif not lacking:
-                layers[name] = read_layer(connection, table, name, chosen, shapes.get(table))
+                key = next((column for column, row in columns.items() if row[5] == 1 and str(row[2]).upper() in ("INTEGER", "INT")), None)
+                layers[name] = read_layer(connection, table, Layer(name), chosen, shapes.get(table), key)
+                layers[name].others = [column for column in columns if column not in chosen.values() and column not in (key, (shapes.get(table) or ("",))[0])]
         if reasons:
             raise Trouble(*reasons)
         return layers
@@ -163,15 +184,17 @@ def read_package(path, names, wanted):
         connection.close()
 
 
-def read_layer(connection, table, name, chosen, shape):
-    layer = Layer(name)
+def read_layer(connection, table, layer, chosen, shape, key):
     if shape:
         layer.system = system_of(connection, shape[1])
-    fields = [quoted(column) for column in chosen.values()] + ([quoted(shape[0])] if shape else [])
+    layer.key = "fid" if key else "row"
+    fields = [*([quoted(key)] if key else []), *map(quoted, chosen.values()), *([quoted(shape[0])] if shape else [])]
     for number, values in enumerate(connection.execute(f"SELECT {', '.join(fields)} FROM {quoted(table)}"), 1):
-        row = Row(number, dict(zip(chosen, map(text_of, values))))
+        start = 1 if key else 0
+        row = Row(values[0] if key else number, dict(zip(chosen, map(text_of, values[start:]))))
         if shape:
             put_shape(row, values[-1], wkb.of_package)
+            of_one_system(row, shape[1], "its layer's")
         layer.rows.append(row)
     return layer
 
@@ -184,26 +207,28 @@ def put_shape(row, value, reader):
     try:
         row.found = reader(value)
     except wkb.Unreadable as error:
-        row.why = str(error)
+        row.why, row.place = str(error), error.place
         return
-    if row.found is None or (not row.found.members and not row.found.others):
-        row.found, row.why = None, "an empty shape"
-    elif not row.found.members:
-        row.found, row.why = None, f"no polygon but {', '.join(sorted(row.found.others))}"
-    elif not row.found.is_finite():
-        row.found, row.why = None, "a coordinate is no number"
+    if row.found is None:
+        row.why = "an empty shape"
+
+
+def of_one_system(row, number, whose):
+    """Takes a shape away whose own number of a system is another; 0 and -1 name none."""
+    own = row.found.srid if row.found else None
+    if own not in (None, 0, -1, number):
+        row.why, row.found, row.place = f"its own system has the number {own}, and {whose} is {number}", None, row.found.box()[:2]
 
 
 def system_of(connection, srs):
-    found = connection.execute("SELECT organization, organization_coordsys_id, definition FROM gpkg_spatial_ref_sys WHERE srs_id = ?", (srs,)).fetchone()
-    if found is None or srs in (-1, 0):
+    """The system of a layer; None where it says that it has none."""
+    if srs in (-1, 0):
         return None
+    found = connection.execute("SELECT organization, organization_coordsys_id, definition FROM gpkg_spatial_ref_sys WHERE srs_id = ?", (srs,)).fetchone()
+    if found is None:
+        return systems.System(None, False, 1.0, "", f"its number {srs} stands in no row of gpkg_spatial_ref_sys")
     organization, number, definition = found
-    definition = str(definition or "")
-    units = [float(unit) for unit in re.findall(r"UNIT\s*\[\s*\"[^\"]*\"\s*,\s*([0-9.eE+-]+)", definition)]
-    is_degrees = definition.lstrip().upper().startswith(("GEOGCS", "GEOGCRS", "GEODCRS"))
-    is_projected = definition.lstrip().upper().startswith(("PROJC", "COMPD"))
-    return System(number if str(organization).upper() == "EPSG" else None, is_degrees, units[-1] if units and is_projected else 1.0)
+    return systems.of_definition(number if str(organization).upper() == "EPSG" else None, str(definition or ""))
 
 
 def read_folder(path, names, wanted):
@@ -217,18 +242,41 @@ def read_folder(path, names, wanted):
                 reasons.append(f"no table {called}.csv in {path} (--name {name}=TABLE says which it is)")
             continue
         sheet = sheets.read(table)
-        shape = "wkt" if name in SHAPED else None
-        chosen = {column: column_of(sheet.columns, name, column, names) for column in [*COLUMNS[name], *([shape] if shape else [])]}
-        lacking = [column for column, found in chosen.items() if found is None]
-        reasons += [f"{table}: no column {names.get(f'{name}.{column}', column)}: there are {', '.join(sheet.columns)} (--name {name}.{column}=COLUMN says which it is)" for column in lacking]
-        if lacking:
-            continue
-        layer = layers[name] = Layer(name)
-        for number, record in enumerate(sheet.records, 1):
-            row = Row(number, {column: record.get(chosen[column]) for column in COLUMNS[name]})
-            if shape:
-                put_shape(row, (record.get(chosen[shape]) or "").strip(), sheets.polygons_of)
-            layer.rows.append(row)
+        columns = sheet.columns
+        wanted_columns = [*COLUMNS[name], *(["wkt"] if name in SHAPED else [])]
+        chosen, lacking, faults = chosen_of(columns, name, wanted_columns, names, table)
+        reasons += lacking
+        layers[name] = layer = Layer(name, faults=sheet.faults + faults, others=[shown(column) for column in columns if column not in chosen.values()])
+        if not lacking and not layer.faults:
+            read_rows(sheet, layer, chosen)
     if reasons:
         raise Trouble(*reasons)
     return layers
+
+
+def read_rows(sheet, layer, chosen):
+    """The rows of a table, each as long as its header."""
+    places = {column: sheet.columns.index(found) for column, found in chosen.items()}
+    shape = places.pop("wkt", None)
+    for number, fields in sheet.rows():
+        row = Row(number, {column: sys.intern(fields[place]) for column, place in places.items()})
+        if shape is not None:
+            put_shape(row, fields[shape].strip(" \t\r\n"), wkt.read)
+        layer.rows.append(row)
+    layer.faults = sheet.faults
+    if sheet.encoding == sheets.WINDOWS:
+        layer.notes.append("its letters are read as those of Windows (CP1252): write it in UTF-8 where they are others")
+    if sheet.blank:
+        layer.notes.append(f"{sheet.blank} records without any field passed over")
+    if shape is not None:
+        system_of_texts(layer)
+
+
+def system_of_texts(layer):
+    """The system that SRID= before the shapes names: that of most; the others have no shape."""
+    numbers = Counter(row.found.srid for row in layer.rows if row.found and row.found.srid is not None)
+    if numbers:
+        usual = min(numbers, key=lambda number: (-numbers[number], number))
+        layer.system = systems.of_number(usual)
+        for row in layer.rows:
+            of_one_system(row, usual, "that of most shapes")

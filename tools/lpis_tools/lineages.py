@@ -1,13 +1,11 @@
-"""The marked splits and merges of a lineage table, and the shapes that a register keeps of the last release."""
+"""The marked splits and merges of a lineage table, with the shapes that a register keeps of the last release."""
 
-import pathlib
 import sqlite3
 from dataclasses import dataclass
 
 from . import polygons
+from .registers import Kept
 from .tables import shown
-
-SECONDS = 60  # to wait for a publish that holds the register
 
 
 @dataclass
@@ -33,27 +31,6 @@ def group_of(table, name):
     return Group(False, name, sorted(new for _, new in split), [row for row, _ in split]) if len(split) > 1 else None
 
 
-class Kept:
-    """The shapes that a register keeps. It is read alone; a publish that still holds it is waited for."""
-
-    def __init__(self, path):
-        self.path = path
-        self.connection = sqlite3.connect(pathlib.Path(path).resolve().as_uri() + "?mode=ro", uri=True, timeout=SECONDS)
-        found = self.connection.execute("SELECT name FROM sqlite_schema WHERE name = 'lpis_text'").fetchall()
-        self.has_texts = bool(found)
-
-    def text(self, name):
-        """The text of a shape, as bytes, or None where none is kept."""
-        if not self.has_texts:
-            return None
-        found = self.connection.execute("SELECT wkt FROM lpis_text WHERE id = ?", (name.decode("utf-8", "replace"),)).fetchone()
-        return found[0].encode() if found else None
-
-    def shape(self, name):
-        text = self.text(name)
-        return polygons.read(text) if text is not None else None
-
-
 def blocks_of(path):
     """The `exact` blocks of a certificate, each as its kind and its identifier."""
     with open(path, "rb") as file:
@@ -61,7 +38,7 @@ def blocks_of(path):
 
 
 class OfGroups:
-    """What is said of splits and merges: a part of `explaining.Explained`, whose words, shapes and tables it takes."""
+    """The words about splits and merges: a part of `explaining.Explained`, whose words, shapes and tables it takes."""
 
     def say_row_of_lineage(self, table, row, record):
         mark = "marked" if table.field(record, "exact") == b"1" else "not marked"
@@ -141,7 +118,7 @@ class OfGroups:
         self.say(f"{len(self.stretches)} stretches of border are {whose} alone; the shortest from {polygons.metres(a[0])} {polygons.metres(a[1])} to {polygons.metres(b[0])} {polygons.metres(b[1])}")
         if not self.place and self.refusal.code != "43":
             self.place = a
-            self.say("its beginning (found by this tool, not told by lpis):")
+            self.say("its beginning (found by this tool, not reported by lpis):")
 
     def say_blocks(self):
         """The blocks that a certificate has; which are wanted the marks say."""
@@ -153,5 +130,5 @@ class OfGroups:
         except OSError as error:
             self.say(f"{self.cert}: {error.strerror}")
             return
-        told = ", ".join(" ".join(map(shown, block)) for block in blocks[:8]) + (", .." if len(blocks) > 8 else "")
-        self.say(f"{self.cert} has {len(blocks)} blocks `exact`{': ' if told else ''}{told}")
+        names = ", ".join(" ".join(map(shown, block)) for block in blocks[:8]) + (", .." if len(blocks) > 8 else "")
+        self.say(f"{self.cert} has {len(blocks)} blocks `exact`{': ' if names else ''}{names}")

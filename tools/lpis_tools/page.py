@@ -1,76 +1,29 @@
-"""A page about a release in one file, which asks no network: facts, the map with marks, tables that a click sorts. The map is moved by dragging
-and enlarged by the wheel; a click on a row goes to its parcel."""
+"""A page in one file, which asks no network: facts, the map, tables that a click sorts. `map.js` draws the map, moved by dragging and enlarged by
+the wheel, `page.js` sorts, and `page.css` has the looks; all are written into the page, and so are all shapes, as letters."""
 
 from __future__ import annotations
 
+import colorsys
 import html
+import json
+import os
+import string
 from dataclasses import dataclass, field
+from decimal import Decimal
 
-MOST_SHAPES = 20_000
-MOST_ROWS = 20_000
-UNITS = 1_000_000  # of the map's longer side
-CELLS = 60  # of the grid that stands for too many shapes
+from .areas import hectares
+
+HERE = os.path.dirname(os.path.realpath(__file__))
+FIRST_ROWS = 100  # of a table, which the page has as text; all of them are in its data
+MOST_POINTS = 8_000_000  # of pieces: of more they are not drawn
+FAR = 2_000_000_000  # steps of the map's unit
+LETTERS = string.digits + string.ascii_letters + "-_"
 FILLS = ["#a6cee3", "#b2df8a", "#fdbf6f", "#cab2d6", "#ffff99", "#fb9a99", "#8dd3c7", "#d9d9d9", "#bebada", "#fccde5", "#ccebc5", "#ffed6f"]
-
-STYLE = """
-body { font: 14px sans-serif; margin: 1em 2em; color: #222; }
-h1 { font-size: 1.4em; } h2 { font-size: 1.1em; margin-top: 1.6em; }
-table { border-collapse: collapse; } td, th { padding: 2px 10px 2px 0; text-align: left; border-bottom: 1px solid #ddd; vertical-align: top; }
-th { cursor: pointer; background: #f4f4f4; position: sticky; top: 0; } td.number, th.number { text-align: right; font-variant-numeric: tabular-nums; }
-.scroll { max-height: 28em; overflow: auto; display: inline-block; min-width: 40%; border: 1px solid #ccc; }
-.yes { color: #17692a; font-weight: bold; } .no { color: #b00020; font-weight: bold; }
-.facts td:first-child { color: #666; white-space: nowrap; } .facts td { word-break: break-all; }
-svg.map { width: 100%; height: 70vh; border: 1px solid #999; background: white; touch-action: none; cursor: grab; }
-svg.map path { vector-effect: non-scaling-stroke; stroke-linejoin: round; } .piece { stroke: none; } .parcel { fill: none; stroke: #333; stroke-width: 1px; }
-.parcel.new { stroke: #0b6e4f; stroke-width: 3px; } .parcel.changed { stroke: #b06500; stroke-width: 3px; } .parcel.here { stroke: #0000ff; stroke-width: 4px; }
-.mark { fill: none; stroke: #d00000; stroke-width: 11px; stroke-linecap: round; } .legend span { display: inline-block; margin-right: 1.2em; }
-.legend i { display: inline-block; width: 1em; height: 1em; margin-right: .4em; border: 1px solid #888; vertical-align: middle; } tr.row { cursor: pointer; }
-"""
-
-SCRIPT = """
-'use strict';
-document.querySelectorAll('table.sorted').forEach(table => table.querySelectorAll('th').forEach((head, column) => head.addEventListener('click', () => {
-  const body = table.tBodies[0], rows = Array.from(body.rows), down = head.dataset.down === '1' ? -1 : 1;
-  const key = row => row.cells[column].textContent, isNumber = head.classList.contains('number');
-  rows.sort((a, b) => down * (isNumber ? (parseFloat(key(a)) || 0) - (parseFloat(key(b)) || 0) : key(a) < key(b) ? -1 : key(a) > key(b) ? 1 : 0));
-  table.querySelectorAll('th').forEach(other => { if (other !== head) delete other.dataset.down; });
-  head.dataset.down = down === 1 ? '1' : '0';
-  rows.forEach(row => body.appendChild(row));
-})));
-const map = document.querySelector('svg.map');
-if (map) {
-  const whole = map.getAttribute('viewBox').split(' ').map(Number);
-  let view = whole.slice();
-  const show = () => map.setAttribute('viewBox', view.map(n => Math.round(n * 1000) / 1000).join(' '));
-  const place = event => { const point = new DOMPoint(event.clientX, event.clientY).matrixTransform(map.getScreenCTM().inverse()); return [point.x, point.y]; };
-  const zoom = (factor, x, y) => {
-    const next = Math.min(whole[2] * 4, Math.max(whole[2] / 1e5, view[2] * factor)) / view[2];
-    view = [x - (x - view[0]) * next, y - (y - view[1]) * next, view[2] * next, view[3] * next];
-    show();
-  };
-  map.addEventListener('wheel', event => { event.preventDefault(); zoom(event.deltaY < 0 ? 0.8 : 1.25, ...place(event)); }, { passive: false });
-  let from = null;
-  map.addEventListener('pointerdown', event => { from = place(event); });
-  window.addEventListener('pointerup', () => { from = null; });
-  map.addEventListener('pointermove', event => {
-    if (!from) return;
-    const to = place(event);
-    view[0] += from[0] - to[0]; view[1] += from[1] - to[1];
-    show();
-  });
-  document.getElementById('whole').addEventListener('click', () => { view = whole.slice(); show(); });
-  document.querySelectorAll('[data-zoom]').forEach(button => button.addEventListener('click', () => zoom(Number(button.dataset.zoom), view[0] + view[2] / 2, view[1] + view[3] / 2)));
-  document.querySelectorAll('tr.row[data-box]').forEach(row => row.addEventListener('click', () => {
-    const [x, y, w, h] = row.dataset.box.split(' ').map(Number), side = Math.max(w, h, whole[2] / 5000) * 1.6;
-    const wide = whole[2] / whole[3] > 1 ? side * whole[2] / whole[3] : side;
-    view = [x + w / 2 - wide / 2, y + h / 2 - wide * whole[3] / whole[2] / 2, wide, wide * whole[3] / whole[2]];
-    show();
-    document.querySelectorAll('.here').forEach(shape => shape.classList.remove('here'));
-    const shape = document.getElementById(row.dataset.shape || '');
-    if (shape) { shape.classList.add('here'); shape.parentNode.appendChild(shape); }
-  }));
-}
-"""
+COLOURS = {"parcel": "#333333", "chosen": "#0000ff", "fault": "#d00000", "new": "#0b6e4f", "changed": "#b06500", "moved": "#7b3294", "gone": "#777777", "region": "#222222",
+           "cells": [f"rgb({230 - 20 * n},{240 - 11 * n},255)" for n in range(10)]}
+WORDS = {"parcel": "border of a parcel", "chosen": "chosen by a click", "fault": "fault", "new": "new", "changed": "of another area", "moved": "moved, with its identifier",
+         "gone": "gone, as it was", "region": "border of a region"}
+LAYERS = ("parcels", "pieces", "old", "tiles")
 
 
 def escaped(text):
@@ -79,101 +32,187 @@ def escaped(text):
 
 @dataclass
 class Table:
-    """A table with a heading; columns that begin with # are numbers. Each row is its cells, and perhaps a key of the map's boxes."""
+    """A table with a heading. Columns that begin with # are numbers; one of square metres has its sum in hectares in its head. Each row is its
+    cells, and perhaps what a click on it shows: a layer's name or `marks`, and a number."""
 
     title: str
     columns: list
     rows: list
     keys: list = field(default_factory=list)
-    most: int = MOST_ROWS
+    heads: dict = field(default_factory=dict)  # what stands in a column's head in place of its sum
+
+    def key(self, number):
+        return self.keys[number] if number < len(self.keys) else None
+
+
+@dataclass
+class Layer:
+    """Shapes in whole millimetres with their names; `words` may have more about each, `kinds` what became of some: (number, a colour's name)."""
+
+    names: list = field(default_factory=list)
+    shapes: list = field(default_factory=list)
+    words: list | None = None
+    kinds: list = field(default_factory=list)
+    classes: list | None = None
+
+    def add(self, name, members, words=None, kind=None):
+        if words is not None:
+            self.words = self.words or []
+            self.words.append(words)
+        if kind:
+            self.kinds.append((len(self.names), kind))
+        self.names.append(name)
+        self.shapes.append(members)
+
+
+class Steps(dict):
+    """Whole numbers as letters: five bits each, the lowest first; an odd number is one below 0."""
+
+    def __missing__(self, value):
+        rest, letters = (2 * value if value >= 0 else -2 * value - 1), ""
+        while rest >= 32:
+            letters += LETTERS[32 + rest % 32]
+            rest //= 32
+        letters += LETTERS[rest]
+        if abs(value) < 100_000:
+            self[value] = letters
+        return letters
+
+
+def box_of(shapes):
+    """Least x and y and greatest x and y of the shells of some shapes, or None."""
+    points = [point for members in shapes for member in members for point in member[0]]
+    if not points:
+        return None
+    xs, ys = [p[0] for p in points], [p[1] for p in points]
+    return min(xs), min(ys), max(xs), max(ys)
 
 
 class Map:
-    """Parcels, pieces and marks in one frame of whole numbers, north above."""
+    """Layers and marks in one frame of whole numbers, north above."""
 
-    def __init__(self, parcels, pieces, marks, classes):
-        """Parcels: (name, members, kind); pieces: (name, class, members); marks: (x, y, words); lengths in millimetres."""
-        self.parcels, self.pieces, self.marks = parcels, pieces, marks
-        self.fills = {name: FILLS[number % len(FILLS)] for number, name in enumerate(classes)}
-        points = [point for shape in [p[1] for p in parcels] + [p[2] for p in pieces] for member in shape for point in member[0]]
-        points += [(x, y) for x, y, _ in marks]
-        xs, ys = [float(p[0]) for p in points] or [0.0], [float(p[1]) for p in points] or [0.0]
-        self.left, self.top = min(xs), max(ys)
-        width, height = max(xs) - self.left, self.top - min(ys)
-        self.scale = UNITS / max(width, height, 1.0)
-        self.width, self.height = max(width * self.scale, 1.0), max(height * self.scale, 1.0)
+    def __init__(self, parcels=None, pieces=None, old=None, tiles=None, marks=(), cells=None, strays=()):
+        """Lengths in millimetres. Marks are (x, y, words), cells the side of a square and (column, row from the north, count), strays names of parcels that the
+        first view leaves out."""
+        self.layers = {name: layer or Layer() for name, layer in zip(LAYERS, (parcels, pieces, old, tiles))}
+        self.marks, self.note, self.strays = list(marks), "", set(strays)
+        pieces = self.layers["pieces"]
+        self.fills = fills_of(sorted(set(pieces.classes or [])))
+        points = sum(len(ring) for members in pieces.shapes for member in members for ring in member)
+        if points > MOST_POINTS:
+            self.note = f"{len(pieces.shapes)} pieces are not drawn: they have {points} points, and at most {MOST_POINTS} are"
+            self.layers["pieces"] = Layer()
+        shapes = [shape for layer in self.layers.values() for shape in layer.shapes] + [[[[mark[:2]]]] for mark in self.marks]
+        left, low, right, self.top = (int(value) for value in box_of(shapes) or (0, 0, 1, 1))
+        self.left = left
+        self.unit = int(max(right - left, self.top - low) // FAR) + 1
+        self.whole = self.frame((left, low, right, self.top))
+        near = [shape for name, shape in zip(self.layers["parcels"].names, self.layers["parcels"].shapes) if name not in self.strays]
+        self.first = self.frame(box_of(near or shapes) or (0, 0, 1, 1))
+        self.cells = cells or (1, [])
 
-    def at(self, point):
-        return round((float(point[0]) - self.left) * self.scale), round((self.top - float(point[1])) * self.scale)
+    def at(self, x, y):
+        return (x - self.left) / self.unit, (self.top - y) / self.unit
 
-    def path(self, members):
-        """A path in steps from point to point."""
-        parts = []
-        for ring in (ring for member in members for ring in member):
-            way = [self.at(point) for point in ring]
-            steps = [f"{b[0] - a[0]} {b[1] - a[1]}" for a, b in zip(way, way[1:-1]) if a != b]
-            parts.append(f"M{way[0][0]} {way[0][1]}" + ("l" + " ".join(steps) if steps else "") + "z")
-        return "".join(parts)
+    def frame(self, box):
+        x, y = self.at(box[0], box[3])
+        return [x, y, (box[2] - box[0]) / self.unit, (box[3] - box[1]) / self.unit]
 
-    def box(self, members):
-        """The data of a row that goes to a shape."""
-        every = [self.at(point) for member in members for point in member[0]]
-        x, y = min(p[0] for p in every), min(p[1] for p in every)
-        return f"{x} {y} {max(p[0] for p in every) - x} {max(p[1] for p in every) - y}"
+    def packed(self, layer, names):
+        """A layer for `page.js`: all points as steps from the ones before."""
+        steps, parts, count, rings = Steps(), [], 0, 0
+        unit, left, top = self.unit, self.left, self.top
+        x = y = 0
+        for members in layer.shapes:
+            way = [ring for member in members for ring in member]
+            parts.append(steps[len(way)])
+            rings += len(way)
+            for ring in way:
+                points = ring[:-1] if len(ring) > 1 and ring[0] == ring[-1] else ring
+                count += len(points)
+                parts.append(steps[len(points)])
+                for px, py in points:
+                    to_x, to_y = int(px - left) // unit, int(top - py) // unit
+                    parts.append(steps[to_x - x] + steps[to_y - y])
+                    x, y = to_x, to_y
+        found = {"names": layer.names, "kinds": layer.kinds, "count": len(layer.names), "points": count, "rings": rings, "text": "".join(parts)}
+        if layer.words is not None:
+            found["words"] = layer.words
+        if layer.classes is not None:
+            found["classes"] = [names[name] for name in layer.classes]
+        return found
 
-    def svg(self):
-        shapes, note = [], ""
-        if len(self.parcels) + len(self.pieces) <= MOST_SHAPES:
-            shapes += [f'<path class="piece" fill="{self.fills.get(land_class, "#eeeeee")}" fill-rule="evenodd" d="{self.path(members)}"><title>{escaped(name)} {escaped(land_class)}</title></path>'
-                       for name, land_class, members in self.pieces]
-        elif len(self.parcels) <= MOST_SHAPES:
-            note = f"{len(self.pieces)} pieces are not drawn: at most {MOST_SHAPES} shapes are"
-        if len(self.parcels) <= MOST_SHAPES:
-            shapes += [f'<path id="p{number}" class="parcel {kind}" fill-rule="evenodd" d="{self.path(members)}"><title>{escaped(name)}</title></path>'
-                       for number, (name, members, kind) in enumerate(self.parcels)]
-        else:
-            note = f"{len(self.parcels)} parcels: a grid of their counts stands for them, since at most {MOST_SHAPES} shapes are drawn"
-            shapes += self.grid()
-        for x, y, words in self.marks[:MOST_SHAPES]:
-            at = self.at((x, y))
-            shapes.append(f'<path class="mark" d="M{at[0]} {at[1]}h0"><title>{escaped(words)}</title></path>')
-        margin = max(self.width, self.height) / 40
-        view = f"{-margin:.0f} {-margin:.0f} {self.width + 2 * margin:.0f} {self.height + 2 * margin:.0f}"
-        legend = "".join(f'<span><i style="background:{fill}"></i>{escaped(name)}</span>' for name, fill in self.fills.items())
-        marked = f'<span><i style="background:#d00000"></i>faults: {len(self.marks)}</span>' if self.marks else ""
-        return (f'<p><button data-zoom="0.5">+</button> <button data-zoom="2">&minus;</button> <button id="whole">whole</button> {escaped(note)}</p>'
-                f'<svg class="map" xmlns="http://www.w3.org/2000/svg" viewBox="{view}">{"".join(shapes)}</svg><p class="legend">{legend}{marked}</p>')
+    def data(self):
+        names = {name: number for number, name in enumerate(self.fills)}
+        side, counts = self.cells
+        marks = [[*(int(value) for value in self.at(x, y)), words] for x, y, words in self.marks]
+        return {**{name: self.packed(layer, names) for name, layer in self.layers.items()}, "classes": list(self.fills.items()), "colours": COLOURS, "marks": marks, "unit": self.unit,
+                "first": self.first, "whole": self.whole, "cells": {"side": side / self.unit, "counts": counts}}
 
-    def grid(self):
-        """Squares with the number of parcels whose first corner lies in them, darker where there are more."""
-        side, counts = max(self.width, self.height) / CELLS, {}
-        for _, members, _ in self.parcels:
-            x, y = self.at(members[0][0][0])
-            cell = int(x // side), int(y // side)
-            counts[cell] = counts.get(cell, 0) + 1
-        most = max(counts.values(), default=1)
-        return [f'<path class="cell" fill="rgb({round(230 - 200 * count / most)},{round(240 - 110 * count / most)},255)" d="M{i * side:.0f} {j * side:.0f}h{side:.0f}v{side:.0f}h{-side:.0f}z">'
-                f"<title>{count} parcels</title></path>" for (i, j), count in sorted(counts.items())]
+    def legend(self):
+        """A word for every colour that is there."""
+        there = [(fill, name or "(no class)") for name, fill in self.fills.items() if self.layers["pieces"].names]
+        there += [(COLOURS["parcel"], WORDS["parcel"])] * bool(self.layers["parcels"].names)
+        kinds = [kind for layer in self.layers.values() for _, kind in layer.kinds]
+        there += [(COLOURS[kind], f"{WORDS[kind]}: {kinds.count(kind)}") for kind in ("new", "changed", "moved", "gone") if kind in kinds]
+        there += [(COLOURS["region"], WORDS["region"])] * bool(self.layers["tiles"].names)
+        if self.cells[1]:
+            most = max(count for _, _, count in self.cells[1])
+            there += [(COLOURS["cells"][0], "a few parcels"), (COLOURS["cells"][9], f"{most} parcels in a square of {self.cells[0] / 1000:.0f} m")]
+        there += [(COLOURS["fault"], f"{WORDS['fault']}s: {len(self.marks)}")] * bool(self.marks)
+        there.append((COLOURS["chosen"], WORDS["chosen"]))
+        return "".join(f'<span><i style="background:{fill}"></i>{escaped(words)}</span>' for fill, words in there)
+
+    def text(self):
+        is_far = any(self.whole[side] > 1.5 * self.first[side] for side in (2, 3))
+        stray = '<button data-show="whole">with what lies far away</button>' if is_far else ""
+        return (f'<div class="frame"><div class="bar"><button data-zoom="2">+</button><button data-zoom="0.5">&minus;</button><button data-show="first">whole</button>{stray}'
+                f'<input id="search" type="search" placeholder="search an identifier" aria-label="search an identifier"><span id="found"></span></div>'
+                f'<canvas class="map"></canvas><div id="name" hidden></div></div><p>{escaped(self.note)}</p><p class="legend">{self.legend()}</p>')
 
 
-def table_text(table, chart=None):
-    """A table as HTML; rows with a key of the chart go there on a click."""
-    names = [(name.lstrip("#"), name.startswith("#")) for name in table.columns]
-    heads = "".join(f'<th{" class=number" if is_number else ""}>{escaped(name)}</th>' for name, is_number in names)
+def fills_of(names):
+    """A colour for each class; where there are more than a dozen, the circle of hues is parted, and lighter and darker ones take turns."""
+    if len(names) <= len(FILLS):
+        return dict(zip(names, FILLS))
+    hues = [colorsys.hls_to_rgb(number / len(names), (0.82, 0.66, 0.74)[number % 3], (0.75, 0.55)[number % 2]) for number in range(len(names))]
+    return {name: "#" + "".join(f"{round(255 * part):02x}" for part in hue) for name, hue in zip(names, hues)}
+
+
+def table_text(table, number):
+    """A table as HTML, with its first rows; `page.js` adds the others."""
+    heads = []
+    for column, name in enumerate(table.columns):
+        is_number = name.startswith("#")
+        areas = [Decimal(row[column]) for row in table.rows if row[column] not in ("", None)] if is_number and name.endswith("m\u00b2") else []
+        more = table.heads.get(column) or (f"in all {hectares(sum(areas))}" if areas else "")
+        more = f"<small>{escaped(more)}</small>" if more else ""
+        heads.append(f'<th{" class=number" if is_number else ""}>{escaped(name.lstrip("#"))}{more}</th>')
     lines = []
-    for number, row in enumerate(table.rows[: table.most]):
-        key = table.keys[number] if number < len(table.keys) else None
-        data = f' class="row" data-box="{key[0]}" data-shape="{key[1]}"' if key and chart else ""
-        cells = "".join(f'<td{" class=number" if is_number else ""}>{escaped(cell)}</td>' for cell, (_, is_number) in zip(row, names))
-        lines.append(f"<tr{data}>{cells}</tr>")
-    more = f"<p>and {len(table.rows) - table.most} more</p>" if len(table.rows) > table.most else ""
-    return (f"<h2>{escaped(table.title)}</h2><div class=scroll><table class=sorted><thead><tr>{heads}</tr></thead><tbody>\n" + "\n".join(lines) + f"\n</tbody></table></div>{more}")
+    for row_number, row in enumerate(table.rows[:FIRST_ROWS]):
+        cells = "".join(f'<td{" class=number" if name.startswith("#") else ""}>{escaped(cell)}</td>' for cell, name in zip(row, table.columns))
+        lines.append(f'<tr data-row="{row_number}"{" class=row" if table.key(row_number) else ""}>{cells}</tr>')
+    rest = len(table.rows) - len(lines)
+    return (f"<h2>{escaped(table.title)}</h2><div class=scroll><table class=sorted><thead><tr>{''.join(heads)}</tr></thead><tbody>\n" + "\n".join(lines)
+            + f'\n</tbody></table></div><p id="more{number}"{"" if rest else " hidden"}><button>{rest} more</button></p>')
+
+
+def beside(name):
+    with open(os.path.join(HERE, name), encoding="utf-8") as file:
+        return file.read()
+
+
+def data_text(chart, tables):
+    """What `page.js` reads, without a letter that could end it."""
+    data = {"letters": LETTERS, "map": chart.data() if chart else None, "tables": [{"rows": table.rows, "keys": [table.key(number) for number in range(len(table.rows))]} for table in tables]}
+    return json.dumps(data, ensure_ascii=False, separators=(",", ":"), default=str).replace("<", "\\u003c")
 
 
 def page(title, answer, is_yes, facts, chart, tables):
     """The whole page. `facts` are pairs of words, `answer` the line of lpis."""
     rows = "".join(f"<tr><td>{escaped(name)}</td><td>{escaped(value)}</td></tr>" for name, value in facts)
-    said = f'<p class="{"yes" if is_yes else "no"}">{escaped(answer)}</p>' if answer else ""
-    return (f'<!DOCTYPE html>\n<html lang="en"><head><meta charset="utf-8"><title>{escaped(title)}</title><style>{STYLE}</style></head><body>\n'
-            f"<h1>{escaped(title)}</h1>{said}\n<table class=facts>{rows}</table>\n<h2>Map</h2>{chart.svg() if chart else ''}\n"
-            + "\n".join(table_text(table, chart) for table in tables) + f"\n<script>{SCRIPT}</script></body></html>\n")
+    verdict = f'<p class="{"yes" if is_yes else "no"}">{escaped(answer)}</p>' if answer else ""
+    return (f'<!DOCTYPE html>\n<html lang="en"><head><meta charset="utf-8"><meta name="viewport" content="width=device-width, initial-scale=1"><title>{escaped(title)}</title>'
+            f'<style>{beside("page.css")}</style></head><body>\n<h1>{escaped(title)}</h1>{verdict}\n<table class=facts>{rows}</table>\n{"<h2>Map</h2>" + chart.text() if chart else ""}\n'
+            + "\n".join(table_text(table, number) for number, table in enumerate(tables))
+            + f'\n<script id="data" type="application/json">{data_text(chart, tables)}</script>\n<script>{beside("map.js")}{beside("page.js")}</script></body></html>\n')

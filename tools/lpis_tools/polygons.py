@@ -6,8 +6,14 @@ Everything is whole numbers or fractions: no coordinate is rounded but for drawi
 import re
 from fractions import Fraction
 
+from .sentences import SENTENCES
+
 NUMBER = re.compile(rb"([+-]?)(\d*)(?:\.(\d*))?\Z")
 TOKEN = re.compile(rb"[(),]|[^ \t\r\n(),]+")
+POINT = rb"-?[0-9]+\.[0-9]{3} -?[0-9]+\.[0-9]{3}"
+RING = rb"\(" + POINT + rb"(?:," + POINT + rb")*\)"
+BODY = rb"\(" + RING + rb"(?:," + RING + rb")*\)"
+WRITTEN = re.compile(rb"MULTIPOLYGON\(" + BODY + rb"(?:," + BODY + rb")*\)\Z")
 
 
 def millimetres(word):
@@ -24,6 +30,8 @@ def millimetres(word):
 
 def read(text):
     """The members of a polygon text, each a list of rings, each a list of points. None where it is no such text."""
+    if WRITTEN.match(text):
+        return [[ring_of(ring) for ring in member.split(b"),(")] for member in text[15:-3].split(b")),((")]
     tokens = TOKEN.findall(text)
     if not tokens or tokens[0].upper() not in (b"POLYGON", b"MULTIPOLYGON"):
         return None
@@ -35,6 +43,12 @@ def read(text):
     members = nested if many else [nested]
     shape_is_right = all(isinstance(m, list) and all(isinstance(r, list) and all(isinstance(p, tuple) for p in r) for r in m) for m in members)
     return members if end == len(tokens) and shape_is_right else None
+
+
+def ring_of(text):
+    """The points of a ring whose numbers have three decimals, as tools write them: quickly."""
+    values = list(map(int, text.replace(b".", b"").replace(b",", b" ").split()))
+    return list(zip(values[0::2], values[1::2]))
 
 
 def nest(tokens, at):
@@ -86,7 +100,7 @@ def box(shapes):
 
 def extent(members):
     found = box([members])
-    return "no points" if found is None else "x {} to {}, y {} to {}".format(*(metres(found[i]) for i in (0, 2, 1, 3)))
+    return "no points" if found is None else SENTENCES["extent"].format(**dict(zip(("left", "low", "right", "high"), map(metres, found))))
 
 
 def doubled_area(ring):

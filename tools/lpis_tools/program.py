@@ -16,16 +16,22 @@ def is_program(path):
     return os.path.isfile(path) and os.access(path, os.X_OK)
 
 
+def beside():
+    """The program that is installed beside the tools, or built in the repository that they are in; None where there is none."""
+    places = os.path.join(HERE, "program", "lpis"), os.path.join(os.path.dirname(HERE), "out", "program", "lpis")
+    return next(filter(is_program, places), None)
+
+
 def command(words=""):
     """Named, installed beside the tools, of the repository that the tools are in (built by its script first), or on the path."""
     if words:
         return shlex.split(words)
-    installed, top = os.path.join(HERE, "program", "lpis"), os.path.dirname(HERE)
-    if is_program(installed):
-        return [installed]
-    if is_program(os.path.join(top, "lpis")):
-        subprocess.run([os.path.join(top, "lpis"), "--help"], stdout=subprocess.DEVNULL, check=True)
-        return [os.path.join(top, "out", "program", "lpis")]
+    script = os.path.join(os.path.dirname(HERE), "lpis")
+    if is_program(script) and not is_program(os.path.join(HERE, "program", "lpis")):
+        subprocess.run([script, "--help"], stdout=subprocess.DEVNULL, check=True)
+    built = beside()
+    if built is not None:
+        return [built]
     found = shutil.which("lpis")
     if found is None:
         raise Absent("no lpis beside the tools and none on PATH: name it by --lpis or LPIS")

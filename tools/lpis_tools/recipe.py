@@ -1,26 +1,42 @@
-"""The words that every recipe takes, and its end: LAND OUT [--epsg N] [--accept]."""
+"""What every recipe does: its words, the source, the tables beside those that stand until all is known, the report, and only then the tables."""
 
-import argparse
+import contextlib
+import csv
+import os
+import shutil
+import signal
 import sys
 import tempfile
+from collections import Counter
 
-TROUBLE = 64
-LOOK = 1
-WORDS = "status 0 nothing is lost and no conflict is two centimetres wide, or --accept; 1 there is something to look at; 64 trouble of its own"
+from . import installed, land, shapely_there, sheets, words
+
+TROUBLE, STOPPED = 64, 130
+STOPPED_WORDS = "stopped: no table is written"
+TABLES = ("parcels", "covers", "classes")
+REPORT = "OUT/report.csv, OUT/report.geojson and OUT/balance.csv have what was lost, settled and changed."
+CLASSES = "OUT/classes.csv is that of --classes FILE; else it stays as it is; where there is none it is the table classes of LAND."
+SOUND = "nothing is lost, no conflict is two centimetres wide, no shape changed by more than its border times a millimetre"
+WORDS = f"""{REPORT}
+{CLASSES}
+
+status 0: the tables are written: {SOUND},
+or --accept. 1: there is something to look at, and no table is written. 64: trouble of its own."""
+COMPARING = f"""{REPORT}
+
+status 0: {SOUND}, or --accept.
+1: there is something to look at. 64: trouble of its own."""
 
 
-class Parser(argparse.ArgumentParser):
-    def error(self, message):
-        self.print_usage(sys.stderr)
-        self.exit(TROUBLE, f"{self.prog}: {message}\n")
-
-
-def parser(name, words):
-    made = Parser(prog=name, description=words, epilog=WORDS, formatter_class=argparse.RawDescriptionHelpFormatter)
+def parser(name, text, engine):
+    made = words.Parser(name, text)
+    made.epilog = WORDS if engine else COMPARING
     made.add_argument("land", metavar="LAND", help="a GeoPackage with the layers parcels and covers")
     made.add_argument("out", metavar="OUT", help="the folder of the tables and of the report")
     made.add_argument("--epsg", metavar="N", type=int, help="the coordinate system's number, where the land does not say it")
-    made.add_argument("--accept", action="store_true", help="status 0 also where something is lost or in conflict")
+    if engine:
+        made.add_argument("--classes", metavar="FILE", help="the table class, percent: OUT/classes.csv is written anew from it")
+    made.add_argument("--accept", action="store_true", help="status 0 also where something is lost, changed or in conflict" + ", and the tables are written" * bool(engine))
     return made
 
 
@@ -29,21 +45,203 @@ def teller(name):
     return lambda words: print(f"{name}: {words}", file=sys.stderr, flush=True)
 
 
-def run(name, words, steps):
-    """A recipe from its words to its report. `steps` writes the tables of the layers read."""
-    from . import land, losses, rounding
+def stop_at_once(name, *folders):
+    """Ctrl-C ends the program from now on, with the folders gone: an exception would be lost where a shape is being freed."""
+    def stop(*_):
+        for folder in folders:
+            shutil.rmtree(folder, ignore_errors=True)
+        os.write(sys.stderr.fileno(), f"{name}: {STOPPED_WORDS}\n".encode())
+        os._exit(STOPPED)
 
-    said = parser(name, words).parse_args()
-    say = teller(name)
+    signal.signal(signal.SIGINT, stop)
+
+
+def run(name, text, engine=None, more=None):
+    """A recipe from its words to its report. `engine` makes the tables of a source in a folder, and gives the conflicts that its map shows,
+    where it has one; none: the tables that stand are compared."""
+    options = parser(name, text, engine)
+    if more:
+        more(options)
+    said, say = options.parse_args(), teller(name)
+    said.name = name
+    shapely_there.go_on(name)
+    stop_at_once(name)
+    from . import rounding
+
     try:
-        land.apart(said.land, said.out)
-        with tempfile.TemporaryDirectory() as spare:
-            layers = land.read(said.land, spare=spare, wanted=("parcels", "covers"))
-            steps(layers, said, say)
-            return losses.report(layers, said.out, said.accept, say, said.epsg)
+        return made(said, engine, say)
     except land.Trouble as trouble:
         for reason in trouble.reasons:
-            say(reason)
+            say(installed.here(reason))
+    except BrokenPipeError:  # who reads standard output has gone away
+        os.dup2(os.open(os.devnull, os.O_WRONLY), sys.stdout.fileno())
     except (OSError, rounding.Restless) as error:
         say(error)
     return TROUBLE
+
+
+def made(said, engine, say):
+    from . import balance, conflicts, losses
+
+    asked = table_of(said.classes) if engine and said.classes else None
+    land.apart(said.land, said.out)
+    with tempfile.TemporaryDirectory() as spare:
+        stop_at_once(said.name, spare)
+        say(f"reading {said.land}")
+        layers = land.read(said.land, spare=spare, wanted=TABLES)
+        suited(layers)
+        tell_notes(layers, say)
+        whole, source = balance.Balance(layers), conflicts.Source(layers)
+        with staged(said.out) as stage:
+            stop_at_once(said.name, stage, spare)
+            source.losses += classes(asked, layers, stage, said.out)
+            seen = engine(source, stage, spare, say, said) if engine else None
+            status = losses.report(layers, said.out, said.accept, say, said.epsg, whole=whole, tables=stage if engine else said.out, source=source, seen=seen)
+            if engine:
+                settle(stage, said.out, status)
+    return status
+
+
+@contextlib.contextmanager
+def staged(out):
+    """A folder for new tables in that of the tables, until it is known whether they take their place."""
+    stage = os.path.join(out, f".new-{os.getpid()}")
+    try:
+        os.makedirs(stage)
+        yield stage
+    finally:
+        shutil.rmtree(stage, ignore_errors=True)
+
+
+def settle(stage, out, status):
+    """Puts new tables in the place of those that stand, where they are sound or accepted."""
+    if status == 0:
+        put(stage, out, [name for name in (f"{table}.csv" for table in TABLES) if os.path.exists(os.path.join(stage, name))])
+        print(f"tables written in {out}")
+    else:
+        stand = os.path.exists(os.path.join(out, "parcels.csv"))
+        print(f"no table is written in {out}" + (": those that stand there are of an earlier run" if stand else ""))
+
+
+def put(made, out, names):
+    """Puts files in their place, all or none: the old ones are put aside first, and back where that fails."""
+    aside = tempfile.mkdtemp(dir=made)
+    try:
+        for name in names:
+            if os.path.exists(os.path.join(out, name)):
+                os.replace(os.path.join(out, name), os.path.join(aside, name))
+        for name in names:
+            os.replace(os.path.join(made, name), os.path.join(out, name))
+    except OSError:
+        for name in os.listdir(aside):
+            os.replace(os.path.join(aside, name), os.path.join(out, name))
+        raise
+
+
+def suited(layers):
+    """Refuses tables that cannot be read as they stand, and systems that are no plane in metres with true areas."""
+    reasons = [f"table {name}: {fault.words}" + (f" (row {fault.row})" if fault.row else "") for name, layer in layers.items() for fault in layer.faults]
+    numbers = {}
+    for name in land.SHAPED:
+        system = layers[name].system
+        if system and system.why:
+            reasons.append(f"layer {name} is in {system} ({system.why}): tools/prepare transforms it by --epsg N")
+        elif system is None and is_in_degrees(layers[name]):
+            reasons.append(f"layer {name} has no system of coordinates, and reads as degrees: transform it to a system in metres")
+        numbers[name] = system.number if system else None
+    if not reasons and len(set(filter(None, numbers.values()))) > 1:
+        reasons.append("the layers are in " + " and ".join(f"EPSG:{number}" for number in numbers.values()) + ": tools/prepare transforms them")
+    if reasons:
+        raise land.Trouble(*reasons)
+
+
+def is_in_degrees(layer):
+    boxes = [row.found.box() for row in layer.rows[:1000] if row.found]
+    return bool(boxes) and all(max(abs(box[0]), abs(box[2])) <= 180 and max(abs(box[1]), abs(box[3])) <= 90 for box in boxes)
+
+
+def tell_notes(layers, say):
+    """What was met while the source was read."""
+    from .findings import NOTES
+
+    for name, layer in layers.items():
+        for words in layer.notes:
+            say(f"{name}: {words}")
+        counts = Counter(note for row in layer.rows if row.found for note in row.found.notes)
+        for note, count in sorted(counts.items()):
+            say(f"{name}: {NOTES.get(note, note)} in {count} rows")
+
+
+# The table of classes: never written over unasked.
+
+
+def classes(asked, layers, stage, out):
+    """Writes the table of classes into the stage where it is to be written; what is wrong with the one that the release then has."""
+    stands = os.path.join(out, "classes.csv")
+    of_land = [row.fields for row in layers["classes"].rows] if "classes" in layers else None
+    if asked is not None:
+        table = asked
+    elif os.path.exists(stands):
+        table = table_of(stands)
+        differing = differing_classes(table, of_land or [], stands)
+        return differing + lacking_classes(table, layers, stands)
+    elif of_land is not None:
+        table = of_land
+    else:
+        used = sorted({row["class"] for row in layers["covers"].rows})
+        print(f"classes: write {stands}, a row class,percent for each of: {' '.join(used)}")
+        return []
+    column = column_of(table)
+    with open(os.path.join(stage, "classes.csv"), "w", newline="", encoding="utf-8") as file:
+        written = csv.writer(file, lineterminator="\n")
+        written.writerow(["class", column])
+        written.writerows([record.get("class") or "", record.get(column) or ""] for record in table)
+    return lacking_classes(table, layers, stands)
+
+
+def table_of_classes(stage, out):
+    """The rows of the table that the release has in the end, its header first; None where there is none."""
+    path = next((path for path in (os.path.join(folder, "classes.csv") for folder in (stage, out)) if os.path.exists(path)), None)
+    if path is None:
+        return None
+    table = table_of(path)
+    column = column_of(table)
+    return [["class", column], *([record.get("class"), record.get(column)] for record in table)]
+
+
+def table_of(path):
+    """The records of a table of classes by the names of its columns in small letters."""
+    sheet = sheets.read(path)
+    records, names = [*sheet.records], [name.lower() for name in sheet.columns]
+    faults = [fault.words + (f" (row {fault.row})" if fault.row else "") for fault in sheet.faults]
+    if not faults and (names.count("class") != 1 or (names.count("percent") or names.count("eligible")) != 1):
+        faults = [f"it wants the columns class and percent, each once: there are {', '.join(sheet.columns) or 'none'}"]
+    if faults:
+        raise land.Trouble(*(f"{path}: {words}" for words in faults))
+    return [{name.lower(): value for name, value in record.items()} for record in records]
+
+
+def column_of(table):
+    return "eligible" if table and "percent" not in table[0] and "eligible" in table[0] else "percent"
+
+
+def differing_classes(table, of_land, path):
+    from .conflicts import Loss
+
+    column, other = column_of(table), column_of(of_land)
+    stand = {record.get("class"): record.get(column) for record in table}
+    return [Loss("class", [record.get("class") or ""], f"its {other} is {record.get(other)} in the source, and {stand.get(record.get('class'), 'no row')} in {path}, which stays: --classes FILE writes another", layer="classes")
+            for record in of_land if (column, stand.get(record.get("class"))) != (other, record.get(other))]
+
+
+def lacking_classes(table, layers, path):
+    from .conflicts import Loss, number_of
+
+    known, rows, column = {record.get("class") for record in table}, {}, column_of(table)
+    for row in layers["covers"].rows:
+        if row["class"] not in known:
+            rows.setdefault(row["class"], []).append(number_of(row))
+    wrong = [Loss("class", [name], f"{len(found)} pieces have this class, and {path} has not: lpis refuses it (36)", layer="covers", rows=found) for name, found in rows.items()]
+    most = 100 if column == "percent" else 1
+    return wrong + [Loss("class", [record.get("class") or ""], f"its {column} is {record.get(column)!r}, no whole number from 0 to {most}: lpis refuses it (3b)", layer="classes")
+                    for record in table if not (str(record.get(column) or "").isdecimal() and int(record[column]) <= most)]

@@ -5,6 +5,7 @@ from __future__ import annotations
 from dataclasses import dataclass, field
 from fractions import Fraction
 
+from .sentences import SENTENCES
 from .tables import COLUMNS
 
 
@@ -15,6 +16,8 @@ class Refusal:
     row: int | None = None
     text_code: str = ""
     offset: int | None = None
+    column: str = ""  # of a coordinate of a point that is none
+    number_code: str = ""
     kind: str = ""  # parcel, piece, parcels, pieces, pair or exact
     names: list = field(default_factory=list)
     place: tuple | None = None  # x and y in millimetres, as fractions
@@ -32,7 +35,7 @@ class Refusal:
 
 
 def read(line):
-    """The refusal that a line tells, or None where it is no such line."""
+    """The refusal that a line reports, or None where it is no such line."""
     words = line.split()
     if len(words) < 2 or words[0] != "refused":
         return None
@@ -45,7 +48,7 @@ def read(line):
 
 
 def without_region(refusal, rest):
-    """The words before `region NAME`, which `lpis country` puts behind what a region's own check tells, and behind its own faults."""
+    """The words before `region NAME`, which `lpis country` puts behind what a region's own check prints, and behind its own faults."""
     plain = 2 if rest[:1] in (["parcel"], ["piece"]) else 7 if refusal.code == "38" else 3
     if refusal.code[:1] in "3569" and len(rest) == plain + 2 and rest[-2] == "region":
         refusal.region = rest[-1]
@@ -76,6 +79,8 @@ def fill(refusal, rest):
         refusal.table, refusal.row = rest[0], int(rest[2])
         if code == "38":
             refusal.text_code, refusal.offset = rest[4], int(rest[6])
+        if code == "3d":
+            refusal.column, refusal.number_code = rest[3], rest[4]
     else:
         count = 2 if rest[0] in ("parcels", "pieces", "pair") else 1
         refusal.kind, refusal.names = rest[0], rest[1 : 1 + count]
@@ -90,4 +95,5 @@ def metres_of(place):
     """A place in metres, for people: exact where four decimals hold it, else marked as about."""
     exact = all((value * 10).denominator == 1 for value in place)
     x, y = (float(value / 1000) for value in place)
-    return f"x {x:.4f}, y {y:.4f}" if exact else f"about x {x:.6f}, y {y:.6f}"
+    decimals = 4 if exact else 6
+    return SENTENCES["exactly" if exact else "about"].format(x=f"{x:.{decimals}f}", y=f"{y:.{decimals}f}")

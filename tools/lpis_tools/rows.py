@@ -13,7 +13,7 @@ from .tables import COLUMNS, KEYS, Table, path_of, shown
 NAMES = ("parcels", "covers", "classes")
 MOST_ROWS = 200_000
 ROWS_A_CALL = 50_000
-MOST_FAULTS = 1_000  # of one table: where a whole column is wrong, more would be told for an hour
+MOST_FAULTS = 1_000  # of one table: where a whole column is wrong, listing more would take an hour
 
 
 @dataclass
@@ -45,11 +45,11 @@ def read_release(command, folder, shower):
     with tempfile.TemporaryDirectory() as spare:
         ended = cutting.run_on(command, folder, os.path.join(spare, "cert.txt"))
     tables = {name: Table(path_of(folder, name), name) for name in NAMES}
-    told = refusal.read(ended[1])
-    if told is None:
+    refused = refusal.read(ended[1])
+    if refused is None:
         release.is_sound = ended[0] == 0
-    elif told.table and told.row == 0:
-        release.faults.append(RowFault(told.code, ended[1], told.table, 0, 1, []))
+    elif refused.table and refused.row == 0:
+        release.faults.append(RowFault(refused.code, ended[1], refused.table, 0, 1, []))
         release.is_sound = True
     if release.is_sound:
         release.parcels = tables["parcels"].records[1:]
@@ -98,11 +98,11 @@ def ask(command, table, rows):
                 else:
                     out.writerow(COLUMNS[name])
         _, line = cutting.run_on(command, folder, os.path.join(folder, "cert.txt"))
-    told = refusal.read(line)
-    if told is None or told.table != table.name or told.code in ("35", "36", "37"):
+    refused = refusal.read(line)
+    if refused is None or refused.table != table.name or refused.code in ("35", "36", "37"):
         return None
-    row = rows[told.row - 1]
-    return told.row - 1, (row, told.code, line.replace(f"row {told.row}", f"row {row}", 1))
+    row = rows[refused.row - 1]
+    return refused.row - 1, (row, refused.code, line.replace(f"row {refused.row}", f"row {row}", 1))
 
 
 def join(tables, release, bad):

@@ -20,12 +20,17 @@ def python():
     return sys.executable if is_there() else SYSTEM if is_there(SYSTEM) else None
 
 
-def go_on(name, status=64):
-    """Returns where Shapely is there."""
-    if is_there():
-        return
-    if os.path.realpath(sys.executable) != os.path.realpath(SYSTEM) and is_there(SYSTEM):
+def go_on_if_there():
+    """Returns in a Python that has Shapely, or where none has it."""
+    if not is_there() and os.path.realpath(sys.executable) != os.path.realpath(SYSTEM) and is_there(SYSTEM):
         sys.stdout.flush()
         os.execv(SYSTEM, [SYSTEM, *sys.argv])
+
+
+def go_on(name, status=64):
+    """Returns where Shapely is there."""
+    go_on_if_there()
+    if is_there():
+        return
     print(f"{name}: {LACKING}", file=sys.stderr)
     sys.exit(status)

@@ -1,134 +1,95 @@
-"""Tables as spreadsheets write them: UTF-8, UTF-16 or Windows' letters, a byte order mark, semicolons or tabs, decimal commas in the
-shapes' texts."""
+"""Tables as spreadsheets write them: UTF-8, UTF-16 or Windows' letters, a byte order mark, commas, semicolons, tabs or bars. Read record by record; what
+cannot be read as it stands is a fault of the table, and never passed over."""
 
 from __future__ import annotations
 
+import codecs
 import csv
-import io
-import re
 from dataclasses import dataclass
 
-from . import wkb
+from .wkt import read as polygons_of
 
+__all__ = ["Fault", "Sheet", "encoding_of", "polygons_of", "read"]
 csv.field_size_limit(1 << 30)
-WORD = re.compile(r"[()]|[^()]+")
-KEYWORD = re.compile(r"\s*(?:SRID\s*=\s*\d+\s*;)?\s*(MULTIPOLYGON|POLYGON)\s*(ZM|Z|M)?\s*(EMPTY)?", re.IGNORECASE)
+WINDOWS = "cp1252"
+PART = 1 << 20
 
 
 @dataclass
+class Fault:
+    """What is wrong with a table: the record's number, from 1 behind the header, or 0 where it is the table's."""
+
+    row: int
+    words: str
+
+
 class Sheet:
-    columns: list
-    records: list  # of fields by column
-    separator: str
-    encoding: str
+    """A table, whatever program wrote it."""
+
+    def __init__(self, path):
+        self.path, self.encoding, self.faults, self.blank = path, encoding_of(path), [], 0
+        with self.opened() as file:
+            try:
+                first = file.readline()
+            except UnicodeError:
+                first = ""
+        self.separator = max(",;\t|", key=first.count)
+        self.columns = next((fields for _, fields in self.lines()), [])
+        self.columns = [name.strip() for name in self.columns]
+
+    def opened(self):
+        return open(self.path, encoding=self.encoding, newline="", errors="strict")
+
+    def lines(self):
+        """The records that are not blank lines, with the line on which each begins; a fault where they cannot be read on."""
+        with self.opened() as file:
+            reader, line = csv.reader(file, delimiter=self.separator, strict=True), 1
+            try:
+                for fields in reader:
+                    if fields:
+                        yield line, fields
+                    line = reader.line_num + 1
+            except csv.Error as error:
+                self.faults.append(Fault(0, f"it cannot be read behind line {line}: {error} (a quotation mark that is not closed?)"))
+            except UnicodeError as error:
+                self.faults.append(Fault(0, f"it cannot be read behind line {line}: bytes that are none of {self.encoding} ({error.reason})"))
+
+    def rows(self):
+        """The records behind the header with their numbers. One that is as long as the header alone is told; another is a fault."""
+        self.faults, self.blank = [], 0
+        lines, width = self.lines(), len(self.columns)
+        next(lines, None)
+        for number, (line, fields) in enumerate(lines, 1):
+            if not any(field.strip() for field in fields):
+                self.blank += 1
+            elif len(fields) != width:
+                self.faults.append(Fault(number, f"line {line} has {len(fields)} fields, and the header has {width}"))
+            else:
+                yield number, fields
+
+    @property
+    def records(self):
+        """The rows by the names of their columns."""
+        return [dict(zip(self.columns, fields)) for _, fields in self.rows()]
 
 
 def read(path):
-    """A table, whatever program wrote it."""
+    return Sheet(path)
+
+
+def encoding_of(path):
     with open(path, "rb") as file:
-        data = file.read()
-    encoding = encoding_of(data)
-    text = data.decode(encoding, "replace")
-    first = text.split("\n", 1)[0]
-    separator = max(",;\t|", key=first.count)
-    rows = [row for row in csv.reader(io.StringIO(text, newline=""), delimiter=separator) if any(field.strip() for field in row)]
-    if not rows:
-        return Sheet([], [], separator, encoding)
-    columns = [name.strip() for name in rows[0]]
-    return Sheet(columns, [dict(zip(columns, row)) for row in rows[1:]], separator, encoding)
-
-
-def encoding_of(data):
-    if data.startswith((b"\xff\xfe", b"\xfe\xff")):
-        return "utf-16"
-    if data[:200].count(b"\0") > len(data[:200]) // 4:
-        return "utf-16-le" if data[1:2] == b"\0" else "utf-16-be"
-    try:
-        data.decode("utf-8")
-    except UnicodeDecodeError:
-        return "cp1252"
+        data = file.read(200)
+        if data.startswith((b"\xff\xfe", b"\xfe\xff")):
+            return "utf-16"
+        if data.count(b"\0") > len(data) // 4:
+            return "utf-16-le" if data[1:2] == b"\0" else "utf-16-be"
+        decoder = codecs.getincrementaldecoder("utf-8")()
+        try:
+            while data:
+                decoder.decode(data)
+                data = file.read(PART)
+            decoder.decode(b"", True)
+        except UnicodeDecodeError:
+            return WINDOWS
     return "utf-8-sig"
-
-
-def polygons_of(text):
-    """The polygons of a well-known text, with points or commas as decimal marks."""
-    head = KEYWORD.match(text)
-    if head is None:
-        raise wkb.Unreadable(f"no polygon's text: {text[:30]!r}")
-    found = wkb.Found()
-    mark = (head[2] or "").lower()
-    found.notes |= set(mark)
-    if head[3]:
-        return None
-    depth, members, rings = 0, [], []
-    wanted = 2 if head[1].upper() == "POLYGON" else 3
-    for word in WORD.findall(text[head.end() :]):
-        if word == "(":
-            depth += 1
-            if depth == wanted - 1:
-                rings = []
-        elif word == ")":
-            if depth == wanted - 1:
-                members.append(rings)
-            depth -= 1
-        elif depth == wanted:
-            rings.append(points_of(word, 2 + len(mark), found.notes))
-        elif word.strip(" \t\r\n,"):
-            raise wkb.Unreadable(f"the polygon's text is wrong at {word.strip()[:30]!r}")
-    if depth:
-        raise wkb.Unreadable("the polygon's text is cut off")
-    found.members = members
-    return wkb.finished(found)
-
-
-def points_of(text, size, notes):
-    """The points of a ring's text."""
-    try:
-        return [point(part.split(), notes) for part in text.split(",")]
-    except ValueError:
-        pass
-    try:
-        return with_commas(text, size)
-    except (ValueError, IndexError):
-        raise wkb.Unreadable(f"the polygon's text is wrong at {text.strip()[:30]!r}") from None
-
-
-def point(words, notes):
-    if not 2 <= len(words) <= 4:
-        raise ValueError
-    if len(words) > 2:
-        notes.add("z")
-    for word in words[2:]:
-        float(word)
-    return float(words[0]), float(words[1])
-
-
-def with_commas(text, size):
-    """The points of a ring whose numbers have decimal commas. Between two blanks stand a y and the next x; where one of them has decimals
-    and the other none, that reading is taken whose x is nearer to the first."""
-    if re.search(r"[,;]\s+|;", text):
-        parts = [part.split() for part in re.split(r",\s+|\s*;\s*", text.strip())]
-        return [(number(words[0]), number(words[1])) for words in parts if size <= len(words) or len(words) == 2]
-    words = text.split()
-    if size != 2 or len(words) < 2:
-        raise ValueError
-    x, points = number(words[0]), []
-    first = x
-    for word in words[1:-1]:
-        parts = word.split(",")
-        if len(parts) == 2:
-            y, after = parts
-        elif len(parts) == 4:
-            y, after = ",".join(parts[:2]), ",".join(parts[2:])
-        elif len(parts) == 3:
-            ways = [(parts[0], ",".join(parts[1:])), (",".join(parts[:2]), parts[2])]
-            y, after = min(ways, key=lambda way: abs(number(way[1]) - first))
-        else:
-            raise ValueError
-        points.append((x, number(y)))
-        x = number(after)
-    return [*points, (x, number(words[-1]))]
-
-
-def number(word):
-    return float(word.replace(",", ".", 1))

@@ -1,19 +1,26 @@
 """From tables of any size to the regions of a country: boxes first, then tiles, then each row into the region of each tile that its parcel's
-box meets. What is kept are identifiers, boxes and counts; the texts pass by twice."""
+box meets. What is kept are identifiers, boxes and counts. The texts pass by twice, and those of the regions once: every row and square
+metre of the source is looked for there, in the first region of its parcel, before the folders are changed."""
 
+import contextlib
 import filecmp
 import os
 import re
+import zlib
 from array import array
 
-from . import parting, tiles
-from .streams import Stream, Trouble, box_of, ended
+from . import balance, parting, tiles
+from .streams import Folder, Stream, Trouble, ended, measured, shown
 
 MOST_TOLD = 20
 BUFFERED = 64_000_000  # letters, until they are written
 GROWN = 1.05  # a tiling that stands is used again while no region is over the limits by more
 NAMES = ("parcels", "covers", "classes")
 COUNTS = "split.txt"
+NEW = ".new"  # behind the name of a file that is to take the place of another
+MASK = (1 << 128) - 1
+PARCELS = ("parcels", "")
+CHANGED = "the source changed while it was read; nothing was changed, run it again"
 
 
 class Faults:
@@ -32,32 +39,57 @@ class Faults:
             raise Trouble(*self.lines)
 
 
+class Sums:
+    """Of each table how many rows it has and a sum that each of their bytes changes; of each class of pieces, and of the parcels, the area."""
+
+    def __init__(self):
+        self.rows, self.bytes, self.doubled = dict.fromkeys(NAMES, 0), dict.fromkeys(NAMES, 0), {}
+
+    def add(self, name, raw, group, doubled):
+        self.rows[name] += 1
+        self.bytes[name] = (self.bytes[name] + zlib.crc32(raw.rstrip("\r\n").encode("latin-1"))) & MASK
+        self.doubled[group] = self.doubled.get(group, 0) + doubled
+
+    def areas(self):
+        return {group: doubled / 2_000_000 for group, doubled in self.doubled.items()}
+
+    def counts(self):
+        """As `lpis country` writes them: parcels, pieces, the area of the parcels."""
+        area = 5 * self.doubled.get(PARCELS, 0)
+        return f"parcels {self.rows['parcels']} pieces {self.rows['covers']} area {area // 10**7}.{area % 10**7:07}"
+
+
 class Land:
     """What is kept of a source: the number of each parcel, its box, and the rows and points of its pieces."""
 
     def __init__(self, source, say):
-        self.source, self.numbers, self.boxes, self.covers = source, {}, parting.Boxes(), 0
+        self.source, self.numbers, self.boxes, self.sums = source, {}, parting.Boxes(), Sums()
         faults = Faults()
+        source.test(say)
         say(f"reading the parcels of {source.path}")
-        for row, (name, wkt), _ in Stream(source, "parcels", ["parcel", "wkt"]):
-            box = box_of(wkt)
-            if box is None:
-                faults.add(f"parcels.csv row {row}: parcel {name}: its wkt is no polygon in range")
+        for row, (name, wkt), raw in Stream(source, "parcels", ["parcel", "wkt"]):
+            found = measured(wkt)
+            if found is None:
+                faults.add(f"parcels.csv row {row}: parcel {shown(name)}: its wkt is no polygon in range")
             elif name in self.numbers:
-                faults.add(f"parcels.csv row {row}: parcel {name} is in an earlier row too")
+                faults.add(f"parcels.csv row {row}: parcel {shown(name)} is in an earlier row too")
             else:
                 self.numbers[name] = len(self.boxes)
-                self.boxes.add(box)
+                self.boxes.add(found[0])
+                self.sums.add("parcels", raw, PARCELS, found[1])
         say(f"reading the pieces of {len(self.boxes)} parcels")
-        for row, (name, wkt), _ in Stream(source, "covers", ["parcel", "wkt"]):
-            number = self.numbers.get(name)
+        for row, (piece, name, land_class, wkt), raw in Stream(source, "covers", ["piece", "parcel", "class", "wkt"]):
+            number, found = self.numbers.get(name), measured(wkt)
             if number is None:
-                faults.add(f"covers.csv row {row}: its parcel {name} is in no row of parcels.csv")
-                continue
-            self.covers += 1
-            self.boxes.pieces[number] += 1
-            self.boxes.points[number] += wkt.count(",") + 1
-        Stream(source, "classes", ["class"])
+                faults.add(f"covers.csv row {row}: piece {shown(piece)}: its parcel {shown(name)} is in no row of parcels.csv")
+            elif found is None:
+                faults.add(f"covers.csv row {row}: piece {shown(piece)}: its wkt is no polygon in range")
+            else:
+                self.sums.add("covers", raw, ("covers", land_class or "(no class)"), found[1])
+                self.boxes.pieces[number] += 1
+                self.boxes.points[number] += wkt.count(",") + 1
+        for _, _, raw in Stream(source, "classes", ["class", "class"]):
+            self.sums.add("classes", raw, None, 0)
         faults.stop()
 
     def named(self, numbers):
@@ -129,14 +161,13 @@ def tiling_of(land, out, most, anew, say):
 
 
 class Writer:
-    """One table of all regions. Rows are gathered and then written, so that few files are open; a file whose bytes are those that stand
-    stays as it is, and keeps its time."""
+    """One table of all regions. Rows are gathered and then written, so that few files are open, into files beside those that stand."""
 
     def __init__(self, out, folders, name, header):
         self.paths = [os.path.join(out, folder, f"{name}.csv") for folder in folders]
         self.rows, self.size = {}, 0
         for path in self.paths:
-            with open(path + ".new", "w", encoding="latin-1", newline="") as file:
+            with open(path + NEW, "w", encoding="latin-1", newline="") as file:
                 file.write(header)
 
     def add(self, regions, raw):
@@ -148,47 +179,83 @@ class Writer:
 
     def flush(self):
         for region, rows in self.rows.items():
-            with open(self.paths[region] + ".new", "a", encoding="latin-1", newline="") as file:
+            with open(self.paths[region] + NEW, "a", encoding="latin-1", newline="") as file:
                 file.writelines(rows)
         self.rows, self.size = {}, 0
 
-    def end(self):
-        """How many files changed."""
-        self.flush()
-        return sum(settle(path) for path in self.paths)
-
 
 def settle(path):
-    """Puts a new file in the place of that which stands, where it differs; answers whether it does."""
-    if os.path.exists(path) and filecmp.cmp(path, path + ".new", shallow=False):
-        os.remove(path + ".new")
+    """Puts a new file in the place of that which stands, where it differs, so that one that is the same keeps its time; answers whether it does."""
+    if os.path.exists(path) and filecmp.cmp(path, path + NEW, shallow=False):
+        os.remove(path + NEW)
         return False
-    os.replace(path + ".new", path)
+    os.replace(path + NEW, path)
     return True
 
 
-def write(path, text):
-    with open(path + ".new", "w", encoding="latin-1", newline="") as file:
+def write_new(path, text):
+    with open(path + NEW, "w", encoding="latin-1", newline="") as file:
         file.write(text)
-    return settle(path)
+    return path
+
+
+def write(path, text):
+    return settle(write_new(path, text))
 
 
 def write_regions(land, tiling, places, out, say):
-    """The folders of all regions; answers how many of their files changed."""
-    for folder in tiling.folders:
-        os.makedirs(os.path.join(out, folder), exist_ok=True)
-    changed = 0
+    """The new tables of all regions beside those that stand; answers their paths."""
+    paths = []
     for name in ("parcels", "covers"):
         say(f"writing the {name} of {len(tiling.folders)} regions")
-        stream = Stream(land.source, name, ["parcel"])
+        stream = Stream(land.source, name, ["parcel", "parcel"])
         writer = Writer(out, tiling.folders, name, stream.header)
-        for _, parcel, raw in stream:
+        paths += writer.paths
+        for row, (parcel, _), raw in stream:
+            if parcel not in land.numbers:
+                raise Trouble(f"{name}.csv row {row}: parcel {shown(parcel)}: {CHANGED}")
             writer.add(places.of(land.numbers[parcel]), ended(raw))
-        changed += writer.end()
+        writer.flush()
     classes = "".join(land.source.lines("classes"))
-    for folder in ("", *tiling.folders):
-        changed += write(os.path.join(out, folder, "classes.csv"), classes)
-    return changed
+    return paths + [write_new(os.path.join(out, folder, "classes.csv"), classes) for folder in ("", *tiling.folders)]
+
+
+class New(Folder):
+    """The tables that were written beside those of a region."""
+
+    def lines(self, name):
+        with open(os.path.join(self.path, f"{name}.csv{NEW}"), encoding="latin-1", newline="") as file:
+            yield from file
+
+
+def sums_of(land, tiling, places, out):
+    """What the regions have, each row in the first region of its parcel."""
+    sums = Sums()
+    for region, folder in enumerate(tiling.folders):
+        new = New(os.path.join(out, folder))
+        for _, (name, wkt), raw in Stream(new, "parcels", ["parcel", "wkt"]):
+            if places.first[land.numbers[name]] == region:
+                sums.add("parcels", raw, PARCELS, measured(wkt)[1])
+        for _, (name, land_class, wkt), raw in Stream(new, "covers", ["parcel", "class", "wkt"]):
+            if places.first[land.numbers[name]] == region:
+                sums.add("covers", raw, ("covers", land_class or "(no class)"), measured(wkt)[1])
+    for _, _, raw in Stream(New(out), "classes", ["class", "class"]):
+        sums.add("classes", raw, None, 0)
+    return sums
+
+
+def judge(land, tiling, places, out):
+    """The balance of the source and the regions; where a row is not there as it was, nothing is changed."""
+    found = sums_of(land, tiling, places, out)
+    for name in NAMES:
+        if (found.rows[name], found.bytes[name]) != (land.sums.rows[name], land.sums.bytes[name]):
+            raise Trouble(f"{name}.csv: {land.sums.rows[name]} rows were read, and the regions have {found.rows[name]}: {CHANGED}")
+    whole = balance.Balance({})
+    for column, areas in (("source", land.sums.areas()), ("tables", found.areas())):
+        for group, area in areas.items():
+            if group:
+                whole.add(group, column, area)
+    return whole
 
 
 def strays(out, tiling):
@@ -198,14 +265,26 @@ def strays(out, tiling):
 
 
 def split(source, out, most, anew, say):
-    """Splits a source; answers the line that tells what was made."""
+    """Splits a source; answers the lines that tell what was made."""
     land = Land(source, say)
     tiling, places = tiling_of(land, out, most, anew, say)
     os.makedirs(out, exist_ok=True)
-    changed = write_regions(land, tiling, places, out, say)
-    counts = f"parcels {len(land.boxes)} pieces {land.covers}"
-    write(os.path.join(out, COUNTS), f"{counts}\n")
+    for folder in tiling.folders:
+        os.makedirs(os.path.join(out, folder), exist_ok=True)
+    try:
+        paths = write_regions(land, tiling, places, out, say)
+        say("looking for every row of the source in the regions")
+        whole = judge(land, tiling, places, out)
+        changed = sum(map(settle, paths))
+    finally:
+        for folder in ("", *tiling.folders):
+            for name in NAMES:
+                with contextlib.suppress(OSError):
+                    os.remove(os.path.join(out, folder, f"{name}.csv{NEW}"))
+    write(os.path.join(out, COUNTS), f"{land.sums.counts()}\n")
     write(os.path.join(out, "country.txt"), tiling.text())
+    whole.write(out)
     if others := strays(out, tiling):
         say(f"folders of a split before, which are no regions now: {' '.join(others[:MOST_TOLD])}")
-    return f"regions {len(tiling.folders)} {counts} guests {len(places.several)} rows {places.rows()} files changed {changed}"
+    counts = f"parcels {len(land.boxes)} pieces {land.sums.rows['covers']}"
+    return [*whole.words(), f"regions {len(tiling.folders)} {counts} guests {len(places.several)} rows {places.rows()} files changed {changed}"]

@@ -5,18 +5,29 @@ import itertools
 import operator
 import os
 import subprocess
+import tempfile
+from itertools import islice
+from operator import mul
 
+from . import psql
 from .tables import COLUMNS, FREE, INSTEAD
 
 csv.field_size_limit(1 << 30)
 MARK = "\xef\xbb\xbf"  # the byte order mark; bytes are letters here, one for one
 BLANKS = str.maketrans("(),", "   ")
 FAR = 20_000_000_000
+MOST_TOLD = 20
 ORDERED = {
     "parcels": "SELECT parcel, ST_AsText(geom, 3) AS wkt FROM rel_parcels ORDER BY parcel",
     "covers": "SELECT piece, parcel, class, ST_AsText(geom, 3) AS wkt FROM rel_covers ORDER BY piece",
-    "classes": "SELECT class, percent::int AS percent FROM classes ORDER BY class",
+    "classes": "SELECT class, percent FROM classes ORDER BY class",
 }
+TABLES = {"rel_parcels": ("row", "parcel", "geom"), "rel_covers": ("row", "piece", "parcel", "class", "geom"), "classes": ("class", "percent")}
+# The schema of the recipe for PostGIS goes first, where it is there.
+PATH = "DO $do$ BEGIN PERFORM set_config('search_path', 'lpis_release,' || current_setting('search_path'), false); END $do$"
+# Rows whose shapes the texts would change: no shape, or corners that are no whole millimetres.
+UNEVEN = "SELECT {key}, CASE WHEN geom IS NULL THEN 'no shape' ELSE 'corners that are no whole millimetres' END FROM {table} WHERE geom IS NULL OR ST_AsText(geom, 3) <> ST_AsText(geom, 15) ORDER BY 1"
+UNUSED = "SELECT column_name FROM information_schema.columns WHERE (table_schema || '.' || table_name)::regclass = '{table}'::regclass AND column_name NOT IN ({known}) ORDER BY 1"
 
 
 class Trouble(Exception):
@@ -37,6 +48,10 @@ class Folder:
         with open(os.path.join(self.path, f"{name}.csv"), encoding="latin-1", newline="") as file:
             yield from file
 
+    def test(self, say):
+        if os.path.exists(os.path.join(self.path, "lineage.csv")):
+            say(f"{self.path}/lineage.csv is of no region, and stays where it is")
+
 
 class Postgis:
     """The tables rel_parcels and rel_covers, which the recipe for PostGIS makes, and classes. Their texts are made anew for each pass."""
@@ -44,13 +59,35 @@ class Postgis:
     def __init__(self, connection):
         self.path = self.connection = connection
 
+    def words(self, statement):
+        return ["-v", "ON_ERROR_STOP=1", "-d", self.connection, "-c", PATH, "-c", statement]
+
     def lines(self, name):
-        command = ["psql", "-X", "-q", "-v", "ON_ERROR_STOP=1", "-d", self.connection, "-c", f"COPY ({ORDERED[name]}) TO STDOUT (FORMAT csv, HEADER)"]
-        surroundings = {**os.environ, "PGCLIENTENCODING": "UTF8"}
-        with subprocess.Popen(command, stdout=subprocess.PIPE, encoding="latin-1", env=surroundings) as psql:
-            yield from psql.stdout
-        if psql.returncode != 0:
-            raise Trouble(f"psql ended with status {psql.returncode} at the table {name}")
+        with tempfile.TemporaryFile("w+", encoding="utf-8", errors="replace") as told:
+            command = ["psql", "-X", "-q", *self.words(f"COPY ({ORDERED[name]}) TO STDOUT (FORMAT csv, HEADER)")]
+            with subprocess.Popen(command, stdout=subprocess.PIPE, stderr=told, encoding="latin-1", env=psql.surroundings()) as run:
+                yield from run.stdout
+            if run.returncode != 0:
+                told.seek(0)
+                raise Trouble(f"{self.connection}: psql ended with status {run.returncode} at the table {name}", *psql.reasons(told.read()))
+
+    def ask(self, statement):
+        """The rows of an answer."""
+        status, text, told = psql.run("-t", "-A", "-F", "\t", *self.words(statement))
+        if status:
+            raise Trouble(f"{self.connection}: psql ended with status {status}", *told)
+        return [line.split("\t") for line in text.splitlines()]
+
+    def test(self, say):
+        """Shapes that the texts would change are faults; columns that no table takes are named."""
+        faults = []
+        for table, key in (("rel_parcels", "parcel"), ("rel_covers", "piece")):
+            faults += [f"{table}: {key} {name}: {why}" for name, why in self.ask(UNEVEN.format(key=key, table=table))]
+        for table, known in TABLES.items():
+            for (column,) in self.ask(UNUSED.format(table=table, known=", ".join(f"'{name}'" for name in known))):
+                say(f"column {column} of {table} is in no table of the country")
+        if faults:
+            raise Trouble(*faults[:MOST_TOLD], *([f"and {len(faults) - MOST_TOLD} more"] if len(faults) > MOST_TOLD else []))
 
 
 def records(lines):
@@ -93,22 +130,44 @@ def columns_of(name, names):
     return [INSTEAD.get(column, column) if column not in names else column for column in COLUMNS[name] if column not in {*INSTEAD.values(), *FREE}]
 
 
+def shown(name):
+    """An identifier, whose bytes are letters here, for people to read."""
+    return name.encode("latin-1").decode("utf-8", "replace")[:60]
+
+
 def ended(raw):
     """The lines of a record with a line end."""
     return raw if raw.endswith("\n") else raw + "\n"
 
 
-def box_of(text):
-    """Least x and y and greatest x and y of a polygon's text in millimetres, exact where it has at most three decimals; None where it is no
-    such text."""
-    words = text.translate(BLANKS).split()
-    if len(words) < 3 or len(words) % 2 == 0 or words[0].upper() not in ("POLYGON", "MULTIPOLYGON"):
+def measured(text):
+    """The box of a polygon's text (least x and y, greatest x and y) in millimetres, and its doubled area; exact where it has at most three decimals.
+    None where it is no such text."""
+    head, _, body = text.partition("(")
+    if head.strip().upper() not in ("POLYGON", "MULTIPOLYGON"):
         return None
+    doubled, every_x, every_y = 0, [], []
     try:
-        values = list(map(float, words[1:]))
-        xs, ys = values[0::2], values[1::2]
-        round(sum(values))  # which no infinity and no `nan` stands
-        box = tuple(round(value * 1000) for value in (min(xs), min(ys), max(xs), max(ys)))
+        for ring in filter(is_filled, body.split(")")):
+            brackets, _, points = ring.rpartition("(")
+            xs, ys = millimetres(points)
+            is_shell = "(" in brackets or not every_x
+            doubled += (1 if is_shell else -1) * abs(sum(map(mul, xs, islice(ys, 1, None))) - sum(map(mul, islice(xs, 1, None), ys)))
+            every_x += xs
+            every_y += ys
     except (ValueError, OverflowError):
         return None
-    return box if max(map(abs, box)) <= FAR else None
+    box = (min(every_x), min(every_y), max(every_x), max(every_y)) if every_x else (FAR + 1,)
+    return (box, doubled) if max(map(abs, box)) <= FAR else None
+
+
+def is_filled(text):
+    return text.strip(" \t\r\n,") != ""
+
+
+def millimetres(text):
+    """The numbers of a ring, x and y for themselves."""
+    values = [round(float(word) * 1000) for word in text.replace(",", " ").split()]
+    if len(values) % 2 or not values:
+        raise ValueError
+    return values[0::2], values[1::2]

@@ -1,6 +1,6 @@
 """Reads tables as `lpis` does: bytes, commas, double quotes, one leading byte order mark, columns by name in any case.
 
-Fields are kept as bytes, so that the offsets that `lpis` tells fit.
+Fields are kept as bytes, so that the offsets that `lpis` reports fit.
 """
 
 import csv
@@ -13,6 +13,7 @@ COLUMNS = {
     "covers": ["piece", "parcel", "class", "wkt"],
     "classes": ["class", "percent", "eligible"],
     "lineage": ["old", "new", "exact"],
+    "points": ["point", "x", "y"],
 }
 INSTEAD = {"percent": "eligible"}  # the column that is read where there is none of the first name
 FREE = {"exact"}  # columns that a table may lack

@@ -1,49 +1,140 @@
-"""Shapes as a GeoPackage has them (well-known binary), read into rings of plain points: Z and M are dropped, arcs made straight, and
-each such thing is said. Python's standard library alone."""
+"""Shapes as a GeoPackage has them (well-known binary): Z and M are dropped and arcs made straight, and each such thing is noted. What the grammar of the
+tables would refuse is refused here too, with the place: a ring of fewer than four points, one that does not end where it begins, an empty ring, a
+collection. Python's standard library alone."""
 
 from __future__ import annotations
 
 import math
 import struct
-from dataclasses import dataclass, field
 
-ARC = 0.01  # metres that a straightened arc may lie beside the arc
-POINTS = {1, 4}
-LINES = {2, 5, 8, 9, 11}
-POLYGONS = {3, 10, 17}
+ARC = 0.0005  # metres that a straightened arc may lie beside the arc: no more than rounding does
 LISTS = {4, 5, 6, 7, 11, 12, 15, 16}
-NAMES = {1: "point", 2: "line", 4: "points", 5: "lines", 7: "collection", 8: "arc", 9: "curve", 11: "curves"}
+NAMES = {1: "a point", 2: "a line", 4: "points", 5: "lines", 7: "a collection", 8: "an arc", 9: "a curve", 11: "curves", 15: "a surface of polygons", 16: "a net of triangles", 17: "a triangle"}
+HEAD = struct.Struct("<BII")
+COUNT = struct.Struct("<I")
+NO_NOTES = frozenset()
 
 
 class Unreadable(Exception):
-    """A blob that is no shape."""
+    """A shape that is none of the tables' grammar: why, and a place where it is known."""
+
+    def __init__(self, words, place=None):
+        super().__init__(words)
+        self.place = place
 
 
-@dataclass
 class Found:
-    """The polygons of a shape, and what was met on the way."""
+    """The polygons of a shape, kept as well-known binary, and what was met on the way."""
 
-    members: list = field(default_factory=list)  # polygons, each of rings, each of (x, y)
-    notes: set = field(default_factory=set)  # of z, m, curve, unclosed, short
-    others: set = field(default_factory=set)  # names of parts that are no polygons
+    __slots__ = ("blob", "notes", "srid")
+
+    def __init__(self, members=(), notes=NO_NOTES, srid=None):
+        self.members, self.notes, self.srid = members, notes, srid
+
+    @classmethod
+    def of_blob(cls, blob):
+        """Of bytes that are a MultiPolygon of x and y, as `written` makes them."""
+        found = cls.__new__(cls)
+        found.blob, found.notes, found.srid = blob, NO_NOTES, None
+        return found
+
+    @property
+    def members(self):
+        """Polygons, each of rings, each of (x, y)."""
+        return unpacked(self.blob)
+
+    @members.setter
+    def members(self, members):
+        self.blob = written(members)
+
+    def numbers(self):
+        """All coordinates, x and y in turn."""
+        blob, values = self.blob, []
+        for at, count, _ in rings_of(blob):
+            values += struct.unpack_from(f"<{2 * count}d", blob, at)
+        return values
 
     def box(self):
         """Least and greatest x and y, or None where there is no point."""
-        every = [point for member in self.members for ring in member for point in ring]
-        if not every:
+        values = self.numbers()
+        if not values:
             return None
-        xs, ys = [p[0] for p in every], [p[1] for p in every]
+        xs, ys = values[0::2], values[1::2]
         return min(xs), min(ys), max(xs), max(ys)
 
     def is_finite(self):
-        return all(math.isfinite(x) and math.isfinite(y) for member in self.members for ring in member for x, y in ring)
+        return all(map(math.isfinite, self.numbers()))
+
+    def count(self):
+        """How many points there are."""
+        return sum(count for _, count, _ in rings_of(self.blob))
+
+
+def rings_of(blob):
+    """Where the points of each ring begin, how many there are, and whether it is a hole."""
+    at = 9
+    for _ in range(COUNT.unpack_from(blob, 5)[0]):
+        rings = COUNT.unpack_from(blob, at + 5)[0]
+        at += 9
+        for number in range(rings):
+            count = COUNT.unpack_from(blob, at)[0]
+            yield at + 4, count, number > 0
+            at += 4 + 16 * count
+
+
+def unpacked(blob):
+    at, members = 9, []
+    for _ in range(COUNT.unpack_from(blob, 5)[0]):
+        rings = []
+        for _ in range(COUNT.unpack_from(blob, at + 5)[0]):
+            count = COUNT.unpack_from(blob, at + 9)[0]
+            values = struct.unpack_from(f"<{2 * count}d", blob, at + 13)
+            rings.append(list(zip(values[0::2], values[1::2])))
+            at += 4 + 16 * count
+        members.append(rings)
+        at += 9
+    return members
+
+
+def written(members):
+    """Polygons as well-known binary, for Shapely."""
+    parts = [HEAD.pack(1, 6, len(members))]
+    for member in members:
+        parts.append(HEAD.pack(1, 3, len(member)))
+        for ring in member:
+            parts.append(struct.pack(f"<I{2 * len(ring)}d", len(ring), *(number for point in ring for number in point)))
+    return b"".join(parts)
+
+
+def judge_rings(members):
+    """Refuses what the grammar of the tables refuses: the members, where it does not."""
+    if not members:
+        raise Unreadable("an empty shape")
+    for number, member in enumerate(members, 1):
+        if not member:
+            raise Unreadable(f"polygon {number} of the shape is empty")
+        for ring in member:
+            judge_ring(ring)
+    return members
+
+
+def judge_ring(ring):
+    if not ring:
+        raise Unreadable("an empty ring")
+    start, end = ring[0], ring[-1]
+    if not all(math.isfinite(value) for point in ring for value in point):
+        raise Unreadable("a coordinate is no number", next((point for point in ring if all(map(math.isfinite, point))), None))
+    if len(ring) < 4:
+        raise Unreadable(f"a ring has {len(ring)} point{'s' * (len(ring) > 1)} and not four or more", start)
+    if start != end:
+        raise Unreadable(f"a ring is open: it begins at {start[0]} {start[1]} and ends at {end[0]} {end[1]}", start)
 
 
 class Reader:
     """Walks through a blob."""
 
     def __init__(self, blob):
-        self.blob, self.at, self.found = blob, 0, Found()
+        self.blob, self.at, self.notes, self.srid, self.members = blob, 0, set(), None, []
 
     def take(self, form, order):
         try:
@@ -62,11 +153,13 @@ class Reader:
         (code,) = self.take("I", order)
         has_z, has_m = bool(code & 0x80000000), bool(code & 0x40000000)
         if code & 0x20000000:
-            self.take("I", order)
+            (self.srid,) = self.take("I", order)
         code &= 0x1FFFFFFF
+        if code >= 4000:
+            raise Unreadable(f"a shape of kind {code}")
         has_z |= code // 1000 in (1, 3)
         has_m |= code // 1000 in (2, 3)
-        self.found.notes |= {name for name, is_there in (("z", has_z), ("m", has_m)) if is_there}
+        self.notes |= {name for name, is_there in (("z", has_z), ("m", has_m)) if is_there}
         return order, code % 1000, 2 + has_z + has_m
 
     def points(self, order, size):
@@ -81,88 +174,71 @@ class Reader:
         order, kind, size = self.head()
         if kind == 2:
             return self.points(order, size)
-        self.found.notes.add("curve")
+        self.notes.add("curve")
         if kind == 8:
             return straightened(self.points(order, size))
         if kind != 9:
-            raise Unreadable(f"a ring of kind {kind}")
+            raise Unreadable(f"a ring that is {NAMES.get(kind, f'a shape of kind {kind}')}")
         way = []
         for _ in range(self.take("I", order)[0]):
-            part = self.way()
-            way += part[1:] if way else part
+            way = joined(way, self.way())
         return way
 
     def shape(self, depth=0):
         order, kind, size = self.head()
-        if depth > 20:
-            raise Unreadable("collections in collections")
-        if kind in (3, 17):
-            self.found.members.append([self.points(order, size) for _ in range(self.take("I", order)[0])])
-        elif kind == 10:
-            self.found.notes.add("curve")
-            self.found.members.append([self.way() for _ in range(self.take("I", order)[0])])
-        elif kind in LISTS:
-            if kind == 7:
-                self.found.others.add(NAMES[7])
+        if kind in (3, 10):
+            read = self.way if kind == 10 else lambda: self.points(order, size)
+            if kind == 10:
+                self.notes.add("curve")
+            self.members.append([read() for _ in range(self.take("I", order)[0])])
+        elif kind in (6, 12) and depth == 0:
             for _ in range(self.take("I", order)[0]):
-                self.shape(depth + 1)
-        elif kind == 1:
-            self.take(f"{size}d", order)
-            self.found.others.add(NAMES[1])
-        elif kind == 2:
-            self.points(order, size)
-            self.found.others.add(NAMES[2])
-        elif kind in (8, 9):
-            self.at -= 5
-            self.way()
-            self.found.others.add(NAMES[kind])
+                self.shape(1)
         else:
-            raise Unreadable(f"a shape of kind {kind}")
+            raise Unreadable(f"no polygon but {NAMES.get(kind, f'a shape of kind {kind}')}")
+
+
+def joined(way, part):
+    """A curve and its next part, which begins where it ends."""
+    if way and part and way[-1] != part[0]:
+        raise Unreadable(f"the parts of a curve do not meet at {part[0][0]} {part[0][1]}", part[0])
+    return way + part[1:] if way else part
 
 
 def read(blob):
-    """The polygons of well-known binary."""
+    """The polygons of well-known binary; None where it is an empty one."""
     reader = Reader(blob)
     reader.shape()
-    return finished(reader.found)
-
-
-def finished(found):
-    """Closes rings that are open, and leaves out those that have no area since they have no three points: both are said."""
-    members = []
-    for member in found.members:
-        rings = [closed(ring, found.notes) for ring in member if ring]
-        if not rings:
-            continue
-        long = [ring for ring in rings if len(ring) > 3]
-        if len(long) < len(rings):
-            found.notes.add("short")
-        if rings[0] in long:
-            members.append(long)
-    found.members = members
-    return found
-
-
-def closed(ring, notes):
-    if ring[0] == ring[-1]:
-        return ring
-    notes.add("unclosed")
-    return [*ring, ring[0]]
+    if reader.at != len(blob):
+        raise Unreadable(f"the shape has {len(blob) - reader.at} bytes behind its end")
+    members = [member for member in reader.members if member]
+    if not members:
+        return None
+    return Found(judge_rings(reader.members), frozenset(reader.notes), reader.srid)
 
 
 def of_package(blob):
-    """The polygons of a GeoPackage's field, or None where it says that it is empty."""
+    """The polygons of a GeoPackage's field, or None where it says that it is empty. With the number that the field has for its system."""
     if blob[:2] != b"GP" or len(blob) < 8:
         raise Unreadable("the field is no shape of a GeoPackage")
     flags = blob[3]
     size = {0: 0, 1: 32, 2: 48, 3: 48, 4: 64}.get(flags >> 1 & 7)
-    if size is None:
+    if size is None or flags & 32:
         raise Unreadable("the field is no shape of a GeoPackage")
-    return None if flags & 16 else read(blob[8 + size :])
+    if flags & 16:
+        return None
+    found = read(blob[8 + size :])
+    if found is not None and found.srid is None:
+        found.srid = int.from_bytes(blob[4:8], "little" if flags & 1 else "big", signed=True)
+    return found
 
 
 def straightened(points):
     """The points along arcs, each through three points; the same whichever way an arc is walked."""
+    if len(points) < 3 or len(points) % 2 == 0:
+        raise Unreadable(f"arcs through {len(points)} points: three, five, seven or so are wanted", points[0] if points else None)
+    if not all(math.isfinite(value) for point in points for value in point):
+        raise Unreadable("a coordinate is no number")
     way = points[:1]
     for start, middle, end in zip(points[0::2], points[1::2], points[2::2]):
         way += arc(start, middle, end) if start <= end else arc(end, middle, start)[-2::-1] + [end]
@@ -187,13 +263,3 @@ def arc(start, middle, end):
     count = max(2, math.ceil(abs(turn) / step))
     inner = [(cx + radius * math.cos(first + turn * i / count), cy + radius * math.sin(first + turn * i / count)) for i in range(1, count)]
     return [*inner, end]
-
-
-def written(members):
-    """Polygons as well-known binary, for Shapely."""
-    parts = [struct.pack("<BII", 1, 6, len(members))]
-    for member in members:
-        parts.append(struct.pack("<BII", 1, 3, len(member)))
-        for ring in member:
-            parts.append(struct.pack(f"<I{2 * len(ring)}d", len(ring), *(number for point in ring for number in point)))
-    return b"".join(parts)

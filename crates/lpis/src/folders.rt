@@ -1,7 +1,7 @@
 //! The folders of a country's regions, as files.
 
-ghost use Rattle.std.specs.Prelude.{IfErr};
-ghost use Rattle.lpis_country_run.specs.CountryFailures.{IsUnreadFolder};
+ghost use Rattle.std.specs.Prelude.{IfErr, None, true};
+ghost use Rattle.lpis_country_run.specs.CountryFailures.{IsUnopened};
 
 use crate::open_at;
 use lpis_commands::{Failure, Name, RegionFiles, region_files};
@@ -24,7 +24,13 @@ impl<'a> Folders<'a> {
 
 /// Opens the four files of a region's folder, or reports the first that cannot be read.
 fn open_folder(rt: &HostRuntime, files: &RegionFiles) -> Result<Folder<File>, Failure>
-    ensures { IfErr result IsUnreadFolder }
+    ensures { IfErr result (IsUnopened (record {
+      may_be_missing = λ _. true;
+      parcels = None;
+      covers = None;
+      classes = None;
+      cert = None;
+    })) }
 {
     let parcels = open_at(rt, files.tables.parcels.path.as_str(), Name::Parcels)?;
     let covers = open_at(rt, files.tables.covers.path.as_str(), Name::Covers)?;
@@ -39,12 +45,18 @@ fn open_folder(rt: &HostRuntime, files: &RegionFiles) -> Result<Folder<File>, Fa
 }
 
 impl Regions for Folders<'_> {
-    ghost use Rattle.std.specs.Prelude.{None};
+    ghost use Rattle.std.specs.Prelude.{None, true};
 
     type File = File;
 
-    // Nothing is known of the bytes of files.
-    ghost texts = { λ _ _. record { parcels = None; covers = None; classes = None; cert = None } };
+    // Each may be missing, and nothing is known of its bytes.
+    ghost texts = { λ _ _. record {
+      may_be_missing = λ _. true;
+      parcels = None;
+      covers = None;
+      classes = None;
+      cert = None;
+    } };
 
     fn open(&self, name: &str) -> Result<Folder<File>, Failure> {
         let files = region_files(self.rt.alloc(), self.dir, name)?;

@@ -1,4 +1,7 @@
 //! The release checker of a Land Parcel Identification System.
+//!
+//! No crate stands on it.
+//! Begin at `src/main.rt`.
 #![tactic(auto)]
 
 mod created;
@@ -16,6 +19,7 @@ use lpis_commands::{
 };
 use lpis_country_run::{print_country_failure, run_country};
 use lpis_gate::{refuse_register, run_exact, run_publish, run_trace};
+use lpis_locate::run_locate;
 use lpis_register::Register;
 use sqlite::{Alter, Unknown};
 use std::alloc::Global;
@@ -97,6 +101,11 @@ fn perform_on(rt: &HostRuntime, files: &CommandFiles<'_>) -> Result<u8, Failure>
             classes,
             detail,
         } => check_country(rt, dir, country, classes, *detail),
+        CommandFiles::Locate {
+            tables,
+            cert,
+            points,
+        } => locate(rt, tables, cert, points),
         CommandFiles::Exact {
             db,
             submission,
@@ -144,6 +153,21 @@ fn check(rt: &HostRuntime, tables: &TableFiles, cert: &NamedFile) -> Result<u8, 
     let (parcels, covers, classes) = open_tables(rt, tables)?;
     let cert = open(rt, cert)?;
     run_check(rt.alloc(), parcels, covers, classes, cert, &mut rt.stdout())
+}
+
+/// Finds the points of this table in the release of these tables, which is checked against this
+/// certificate first.
+fn locate(
+    rt: &HostRuntime,
+    tables: &TableFiles,
+    cert: &NamedFile,
+    points: &NamedFile,
+) -> Result<u8, Failure> {
+    let (parcels, covers, classes) = open_tables(rt, tables)?;
+    let cert = open(rt, cert)?;
+    let points = open(rt, points)?;
+    let mut out = rt.stdout();
+    run_locate(rt.alloc(), parcels, covers, classes, cert, points, &mut out)
 }
 
 /// What is done with a register, and the files that it takes.

@@ -1,4 +1,7 @@
 //! Certificates and their texts.
+//!
+//! The layer above may cite: text and value correspond one to one.
+//! Begin at `specs/CertText.antt`, then `src/reading.rt`.
 #![tactic(auto)]
 
 mod blocks;

@@ -1,10 +1,13 @@
 //! The text of a certificate.
 
-ghost use Rattle.std.specs.Prelude.{◌++◌, OnOk, length};
+ghost use Rattle.std.specs.Prelude.{◌≡◌, ◌≢◌, ◌++◌, OnOk, length};
 ghost use Rattle.std.specs.List.{flat_map};
 ghost use Rattle.std.specs.Io.KnownBytes.{Appends};
+ghost use Rattle.std.specs.IoError.{error_kind};
+ghost use Rattle.std.specs.declared.io.ErrorKind.TheVariants.{OutOfMemory};
 ghost use Rattle.lpis_cert.specs.CertText.{PairLine as separator_line, PieceLine, PairsLine};
 ghost use Rattle.lpis_cert.specs.CertText.{EndLine};
+ghost use Rattle.lpis_cert.specs.declared.writing.WriteFault.TheVariants.{Memory, Write};
 ghost use Rattle.lpis_cert.specs.private.Taken.{corner_line};
 ghost use Rattle.lpis_cert.specs.Contents.{corner_numbers, separator_of, cert_text};
 ghost use Rattle.lpis_cert.specs.private.Drafts.{flats_line};
@@ -35,6 +38,10 @@ pub enum WriteFault {
 }
 
 impl From<io::Error> for WriteFault {
+    ghost from_gives = { λ error fault.
+        (error_kind error ≡ OutOfMemory → fault ≡ Memory)
+        × (error_kind error ≢ OutOfMemory → fault ≡ Write) };
+
     fn from(error: io::Error) -> WriteFault {
         if error.kind() == ErrorKind::OutOfMemory {
             WriteFault::Memory

@@ -1,4 +1,8 @@
 //! The check of a release against a certificate.
+//!
+//! The layer above may cite: Ok exactly where the certificate is good; a `Yes` means a sound map;
+//! `check_exact` Ok exactly where blocks show their wholes made up.
+//! Begin at `specs/SoundMap.antt`, then `src/checking.rt`.
 #![tactic(auto)]
 
 mod blocks;

@@ -1,5 +1,8 @@
 //! Tests of tables, certificates, releases and the checker, with values from outside the program.
 //!
+//! No crate stands on it: it has tests alone.
+//! Begin at `src/releases.rt`.
+//!
 //! They are a crate of their own, since a crate that has tests is proved twice.
 #![tactic(auto)]
 

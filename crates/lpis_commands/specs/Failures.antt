@@ -2,7 +2,8 @@
 use Rattle.std.specs.Prelude.{◌≡◌, ◌⊎◌, ℕ, List, Option, ◌++◌, codes}
 use Rattle.lpis_commands.specs.declared.failure.Name.{Name}
 use Rattle.lpis_commands.specs.declared.failure.Name.TheVariants.{Area, Parcels, Covers, Classes}
-use Rattle.lpis_commands.specs.declared.failure.Name.TheVariants.{Lineage, Cert, Country, Out}
+use Rattle.lpis_commands.specs.declared.failure.Name.TheVariants.{Lineage, Cert, Country, Points}
+use Rattle.lpis_commands.specs.declared.failure.Name.TheVariants.{Out}
 use Rattle.lpis_commands.specs.declared.failure.Failure.{Failure}
 use Rattle.lpis_commands.specs.declared.failure.Failure.TheVariants.{Memory, Read, Write}
 use Rattle.lpis_commands.specs.declared.failure.Failure.TheVariants.{Store, StoreMemory}
@@ -17,6 +18,7 @@ name_text Classes = codes "classes"
 name_text Lineage = codes "lineage"
 name_text Cert = codes "cert"
 name_text Country = codes "country"
+name_text Points = codes "points"
 name_text Out = codes "out"
 
 -- the line of a failure

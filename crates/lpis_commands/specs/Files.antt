@@ -4,7 +4,7 @@ use Rattle.lpis_commands.specs.declared.command.Cmd.{Cmd}
 use Rattle.lpis_commands.specs.declared.command.Cmd.TheVariants as cmd
 use Rattle.lpis_commands.specs.declared.failure.Name.{Name}
 use Rattle.lpis_commands.specs.declared.failure.Name.TheVariants.{Area, Parcels, Covers, Classes}
-use Rattle.lpis_commands.specs.declared.failure.Name.TheVariants.{Cert, Country, Lineage}
+use Rattle.lpis_commands.specs.declared.failure.Name.TheVariants.{Cert, Country, Lineage, Points}
 use Rattle.lpis_commands.specs.declared.named.NamedFile.{NamedFile}
 use Rattle.lpis_commands.specs.declared.named.RegionFiles.{RegionFiles}
 use Rattle.lpis_commands.specs.declared.named.SubmissionFiles.{SubmissionFiles}
@@ -49,6 +49,8 @@ files_of (cmd.Area file) = (file.now, Area) ∷ []
 files_of (cmd.Cut dir cert) = tables_in dir.now ++ (cert.now, Cert) ∷ []
 files_of (cmd.Check dir cert) = tables_in dir.now ++ (cert.now, Cert) ∷ []
 files_of (cmd.Country dir detail) = country_file dir.now ∷ classes_file dir.now ∷ []
+files_of (cmd.Locate dir cert points) =
+    tables_in dir.now ++ (cert.now, Cert) ∷ (points.now, Points) ∷ []
 files_of (cmd.Exact db dir cert out) =
     files_of_submission dir.now cert.now ++ (out.now, Cert) ∷ []
 files_of (cmd.Publish db year dir cert) = files_of_submission dir.now cert.now
@@ -72,6 +74,8 @@ listed (files.Area table) = shown_file table ∷ []
 listed (files.Cut tables cert) = tables_listed tables ++ shown_file cert ∷ []
 listed (files.Check tables cert) = tables_listed tables ++ shown_file cert ∷ []
 listed (files.Country dir country classes detail) = shown_file country ∷ shown_file classes ∷ []
+listed (files.Locate tables cert points) =
+    tables_listed tables ++ shown_file cert ∷ shown_file points ∷ []
 listed (files.Exact db submission out) = submission_listed submission ++ shown_file out ∷ []
 listed (files.Publish db year submission) = submission_listed submission
 listed (files.Trace db id) = []
@@ -84,6 +88,7 @@ HasWords (cmd.Cut dir cert) (files.Cut tables c) = ⊤
 HasWords (cmd.Check dir cert) (files.Check tables c) = ⊤
 HasWords (cmd.Country dir detail) (files.Country d country classes e) =
     (d.now ≡ dir.now) × (e ≡ detail)
+HasWords (cmd.Locate dir cert points) (files.Locate tables c p) = ⊤
 HasWords (cmd.Exact db dir cert out) (files.Exact d submission o) = d.now ≡ db.now
 HasWords (cmd.Publish db year dir cert) (files.Publish d y submission) =
     (d.now ≡ db.now) × (y ≡ year)

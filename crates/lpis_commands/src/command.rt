@@ -48,6 +48,15 @@ pub enum Cmd<'a> {
         /// What is printed.
         detail: Detail,
     },
+    /// The places of points in a release, after its check.
+    Locate {
+        /// The path of the folder of the release's tables.
+        dir: &'a str,
+        /// The certificate's path.
+        cert: &'a str,
+        /// The path of the table of points.
+        points: &'a str,
+    },
     /// The check of a release, and its publication in a register.
     Publish {
         /// The register's path.
@@ -121,6 +130,17 @@ fn country_named<'a>(matches: &ArgMatches<'a>) -> Option<Cmd<'a>>
     Some(Cmd::Country { dir, detail })
 }
 
+/// `locate` with its words.
+fn locate_named<'a>(matches: &ArgMatches<'a>) -> Option<Cmd<'a>>
+    ensures { IfSome result (λ c. IsNamedCommand c (codes "locate")
+        (rows_of (found_of matches.now))) }
+{
+    let dir = word_of(matches, "dir")?;
+    let cert = word_of(matches, "cert")?;
+    let points = word_of(matches, "points")?;
+    Some(Cmd::Locate { dir, cert, points })
+}
+
 /// `publish` with its words.
 fn publish_named<'a>(matches: &ArgMatches<'a>) -> Option<Cmd<'a>>
     ensures { IfSome result (λ c. IsNamedCommand c (codes "publish")
@@ -181,6 +201,7 @@ fn command_named<'a>(name: &str, matches: &ArgMatches<'a>) -> Option<Cmd<'a>>
             Some(Cmd::Check { dir, cert })
         }
         "country" => country_named(matches),
+        "locate" => locate_named(matches),
         "exact" => exact_named(matches),
         "publish" => publish_named(matches),
         "trace" => trace_named(matches),

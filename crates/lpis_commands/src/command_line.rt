@@ -4,6 +4,7 @@ ghost use Rattle.std.specs.Prelude.{◌≡◌, IfOk, codes, false};
 ghost use Rattle.clap.specs.Words.{App, rule_of};
 ghost use Rattle.lpis_commands.specs.Command.{area_app, check_app, command_line_app, country_app};
 ghost use Rattle.lpis_commands.specs.Command.{cut_app, exact_app, exact_release_app, flag_rule};
+ghost use Rattle.lpis_commands.specs.Command.{locate_app, locate_release_app};
 ghost use Rattle.lpis_commands.specs.Command.{program_app, publish_app, publish_year_app};
 ghost use Rattle.lpis_commands.specs.Command.{trace_app, with_command, word_rule, year_rule};
 ghost use Rattle.lpis_commands.specs.private.Commands.{IsCommandOf};
@@ -66,6 +67,15 @@ fn cert_argument<'a>(alloc: Global) -> Arg<'a>
     ensures local { result.global ≡ false }
 {
     word_argument(alloc, "cert", "A certificate of triangles for the release")
+}
+
+/// The table of points.
+fn points_argument<'a>(alloc: Global) -> Arg<'a>
+    ensures rule { rule_of result ≡ word_rule (codes "points") }
+    ensures local { result.global ≡ false }
+{
+    let text = "A table in CSV with the columns `point`, `x` and `y`";
+    word_argument(alloc, "points", text)
 }
 
 /// The register of releases.
@@ -133,6 +143,26 @@ fn country_command<'a>(alloc: Global) -> Result<Command<'a>, AllocError>
         .about("Checks a country that is cut into regions, and prints its sums")
         .arg(dir)?
         .arg(parcels)
+}
+
+/// `locate` with the folder and the certificate.
+fn locate_command_for_release<'a>(alloc: Global) -> Result<Command<'a>, AllocError>
+    ensures { IfOk result (λ c. IsCommandOf locate_release_app c) }
+{
+    let dir = dir_argument(alloc);
+    let cert = cert_argument(alloc);
+    Command::new(alloc, "locate")
+        .about("Checks a release, and prints which parcel and piece each point is in")
+        .arg(dir)?
+        .arg(cert)
+}
+
+/// `locate DIR CERT POINTS`.
+fn locate_command<'a>(alloc: Global) -> Result<Command<'a>, AllocError>
+    ensures { IfOk result (λ c. IsCommandOf locate_app c) }
+{
+    let points = points_argument(alloc);
+    locate_command_for_release(alloc)?.arg(points)
 }
 
 /// `publish` with the register and the year.
@@ -221,6 +251,7 @@ pub(crate) fn command_line<'a>(alloc: Global) -> Result<Command<'a>, AllocError>
     let line = joined(line, cut_command(alloc));
     let line = joined(line, check_command(alloc));
     let line = joined(line, country_command(alloc));
+    let line = joined(line, locate_command(alloc));
     let line = joined(line, exact_command(alloc));
     let line = joined(line, publish_command(alloc));
     joined(line, trace_command(alloc))

@@ -26,6 +26,8 @@ pub enum Name {
     Cert,
     /// The text that says how a country is cut into regions.
     Country,
+    /// The table of points.
+    Points,
     /// What the run prints.
     Out,
 }
@@ -43,6 +45,7 @@ impl Name {
             Name::Lineage => "lineage",
             Name::Cert => "cert",
             Name::Country => "country",
+            Name::Points => "points",
             Name::Out => "out",
         }
     }

@@ -1,5 +1,9 @@
 //! The program's commands, as functions of what they read: the words of the command line, the runs
 //! over readers and writers that need no register, and what the runs over one share with them.
+//!
+//! The layer above may cite: text and status of `area`, `cut` and `check` are the answers'
+//! definition; the words of the command line.
+//! Begin at `specs/CheckAnswer.antt`, then `src/check.rt`.
 #![tactic(auto)]
 
 mod answer;

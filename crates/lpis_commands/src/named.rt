@@ -85,6 +85,15 @@ pub enum CommandFiles<'a> {
         /// What is printed.
         detail: Detail,
     },
+    /// Of `locate`.
+    Locate {
+        /// The tables of a release.
+        tables: TableFiles,
+        /// The certificate.
+        cert: NamedFile,
+        /// The table of points.
+        points: NamedFile,
+    },
     /// Of `exact`.
     Exact {
         /// The path of the register, which is opened before the files.
@@ -203,6 +212,11 @@ pub fn named_files<'a>(alloc: Global, command: Cmd<'a>) -> Result<CommandFiles<'
             country: country_in(alloc, dir)?,
             classes: classes_in(alloc, dir)?,
             detail,
+        }),
+        Cmd::Locate { dir, cert, points } => Ok(CommandFiles::Locate {
+            tables: tables_of(alloc, dir)?,
+            cert: file_at(alloc, cert, Name::Cert)?,
+            points: file_at(alloc, points, Name::Points)?,
         }),
         Cmd::Exact { db, dir, cert, out } => Ok(CommandFiles::Exact {
             db,

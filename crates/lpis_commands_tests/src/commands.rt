@@ -33,7 +33,7 @@ fn expect_fault(rt: &HostRuntime, line: &str, kind: ErrorKind) -> Result<(), Fai
 }
 
 /// Lines, and the commands that they ask for.
-static COMMANDS: [(&str, Cmd<'_>); 21] = [
+static COMMANDS: [(&str, Cmd<'_>); 23] = [
     ("lpis area a.csv", Cmd::Area { file: "a.csv" }),
     (
         "lpis cut a b",
@@ -68,6 +68,14 @@ static COMMANDS: [(&str, Cmd<'_>); 21] = [
         Cmd::Country {
             dir: "a",
             detail: Detail::Parcels,
+        },
+    ),
+    (
+        "lpis locate a b c",
+        Cmd::Locate {
+            dir: "a",
+            cert: "b",
+            points: "c",
         },
     ),
     (
@@ -124,6 +132,14 @@ static COMMANDS: [(&str, Cmd<'_>); 21] = [
         Cmd::Country {
             dir: "--parcels",
             detail: Detail::Regions,
+        },
+    ),
+    (
+        "locate locate locate locate locate",
+        Cmd::Locate {
+            dir: "locate",
+            cert: "locate",
+            points: "locate",
         },
     ),
     (
@@ -199,7 +215,7 @@ fn words_ask_for_a_command(rt: HostRuntime) -> Result<(), Fail> {
 }
 
 /// Lines that ask for none, and the kinds of their faults.
-static WORDS: [(&str, ErrorKind); 19] = [
+static WORDS: [(&str, ErrorKind); 21] = [
     ("lpis publish a.db 0 a b", ErrorKind::ValueValidation),
     ("lpis publish a.db 10000 a b", ErrorKind::ValueValidation),
     ("lpis publish a.db  a b", ErrorKind::ValueValidation),
@@ -220,6 +236,8 @@ static WORDS: [(&str, ErrorKind); 19] = [
         "lpis country --parcels --parcels a",
         ErrorKind::ArgumentConflict,
     ),
+    ("lpis locate a b", ErrorKind::MissingRequiredArgument),
+    ("lpis locate a b c d", ErrorKind::UnknownArgument),
     ("lpis exact a.db a b", ErrorKind::MissingRequiredArgument),
     ("lpis exact a.db a b c d", ErrorKind::UnknownArgument),
     ("lpis retrace a b", ErrorKind::InvalidSubcommand),

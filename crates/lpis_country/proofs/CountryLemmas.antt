@@ -13,9 +13,9 @@ use Rattle.lpis_parcels.specs.Release.{Contents, names_parcel, parcel_ids, piece
 use Rattle.lpis_edge_sums.proofs.Shared.{found_any, any_found, all_at, all_from, filter_kept}
 use Rattle.lpis_country.specs.Polygons.{HasClosedRings}
 use Rattle.lpis_country.specs.Country.{IsRegion, country_of, is_new, new_parcels, new_pieces, with_region, with_regions}
+use Rattle.lpis_country.specs.Union.{IsDouble, IsUnion}
 use Rattle.lpis_country.proofs.ListLemmas.{all_among, all_snoc, among_at, any_left, any_right, not_both, filter_both, filter_neither, filter_none, into_filter, place_of_item}
 use Rattle.lpis_country.proofs.IdLemmas.{distinct_append, distinct_filter, has_among, has_at}
-use Rattle.lpis_country.proofs.UnionLemmas.{IsDouble, IsUnion}
 
 -- the piece names one of these parcels
 abbrev pub NamedIn : List Parcel → Piece → Type 0

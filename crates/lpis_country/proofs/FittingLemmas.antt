@@ -15,12 +15,13 @@ use Rattle.lpis_checker.specs.SoundMap.{IsInParcel, IsSoundMap, TurnsTell}
 use Rattle.lpis_country.specs.Polygons.{HasClosedRings, box_of_members}
 use Rattle.lpis_country.specs.Tiling.{Tiling, frame, reaches, rectangles}
 use Rattle.lpis_country.specs.Country.{IsRegion, country_of, is_new, new_parcels, with_region}
+use Rattle.lpis_country.specs.Union.{IsDouble, IsUnion}
 use Rattle.lpis_country.proofs.ListLemmas.{all_among, among_at, not_both, front_or_last, item_at, place_of_item}
 use Rattle.lpis_country.proofs.IdLemmas.{has_among, id_found, same_parcel}
 use Rattle.lpis_country.proofs.BoxLemmas.{IsPointIn, box_covers, box_framed}
 use Rattle.lpis_country.proofs.OutsideLemmas.{in_its_box}
 use Rattle.lpis_country.proofs.TileLemmas.{meet_at, point_wider, tile_of}
-use Rattle.lpis_country.proofs.UnionLemmas.{HasBoth, IsDouble, IsUnion, SeamIsMet, country_turns, region_of_parcel, union_is_sound}
+use Rattle.lpis_country.proofs.UnionLemmas.{HasBoth, SeamIsMet, country_turns, region_of_parcel, union_is_sound}
 use Rattle.lpis_country.proofs.CountryLemmas.{country_classes, country_snoc, in_region, is_fresh, no_regions, union_grows}
 
 -- ---- regions one after the other
@@ -116,6 +117,13 @@ made tiles classes rs g c h = by [] rs (record { union = no_regions classes; sta
         subst (IsMade tiles classes) same (by (done ++ s ∷ []) ss
         (made_more tiles classes done s m (All-head IsRegion s ss g) (All-head (λ (r : Contents). r.classes ≡ classes) s ss c) (h done s ss refl))
         (All-tail IsRegion s ss g) (All-tail (λ (r : Contents). r.classes ≡ classes) s ss c) (subst (EachFits tiles classes) (sym same) h))
+
+-- regions of the same classes, of which each fits to those before, make up their union
+pub country_is_union : (tiles : List Box4) (classes : List Class) (rs : List Contents) → All IsRegion rs → All (λ (r : Contents). r.classes ≡ classes) rs → EachFits tiles classes rs
+    → IsUnion rs (country_of classes rs)
+country_is_union tiles classes rs g c h =
+    let m = made tiles classes rs g c h in
+    m.union
 
 -- ---- the theorem
 seam_is_met : (tiling : Tiling) (classes : List Class) (rs : List Contents) → All IsRegion rs → All IsSoundMap rs → IsMade (rectangles tiling frame) classes rs

@@ -18,21 +18,9 @@ use Rattle.lpis_parcels.specs.Weighted.{areas2, piece_weight, weighted2}
 use Rattle.lpis_edge_sums.specs.Counting.{AtMostOne, ExactlyOne}
 use Rattle.lpis_edge_sums.proofs.Shared.{Found, any_found, all_at, all_from, filter_kept}
 use Rattle.lpis_checker.specs.SoundMap.{IsInParcel, IsInPiece, IsSoundMap, IsSoundEverywhere, TurnsTell, TurnsOnce, AreasAdd}
+use Rattle.lpis_country.specs.Union.{IsDouble, IsUnion}
 use Rattle.lpis_country.proofs.ListLemmas.{among_at, all_among, into_filter, place_of_item}
 use Rattle.lpis_country.proofs.IdLemmas.{same_index}
-
--- the parcel of the region is in the country as it stands, with the same pieces in the same order
-pub record IsDouble (country r : Contents) (k : Parcel) : Type 0 where
-  pub row : IsAmong country.parcels k
-  pub pieces : pieces_named country k.id ≡ pieces_named r k.id
-
--- the country has each row of each region, and no other; each identifier once, and the classes of all
-pub record IsUnion (regions : List Contents) (country : Contents) : Type 0 where
-  pub distinct : IsDistinct same_id (parcel_ids country.parcels)
-  pub from : All (λ (k : Parcel). Any (λ (r : Contents). IsAmong r.parcels k) regions) country.parcels
-  pub doubles : All (λ (r : Contents). All (IsDouble country r) r.parcels) regions
-  pub named : All (λ (x : Piece). Any (λ (k : Parcel). IsTrue (names_parcel k.id x)) country.parcels) country.pieces
-  pub classes : All (λ (r : Contents). r.classes ≡ country.classes) regions
 
 -- a region has both parcels
 pub record HasBoth (a b : Parcel) (r : Contents) : Type 0 where

@@ -1,3 +1,4 @@
 pub mod Polygons
 pub mod Tiling
 pub mod Country
+pub mod Union

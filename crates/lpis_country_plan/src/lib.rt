@@ -1,5 +1,9 @@
 //! The plan of a country, `country.txt`: how it is cut into regions, and their folders' names.
 //!
+//! The layer above may cite: a country's plan: names and tiles from its text, or its first fault; a
+//! tree has one text.
+//! Begin at `specs/Tree.antt`, then `src/reading.rt`.
+//!
 //! | Call | Answer |
 //! |---|---|
 //! | `read_plan` | the plan of a text, or the line of the text's first fault |

@@ -1,4 +1,8 @@
 //! Rows of releases by their values: whether two are equal, and copies of them.
+//!
+//! The layer above may cite: rows are equal exactly where they are the same parcel, piece, class or
+//! polygon; a copy is the row.
+//! Begin at `specs/Equality.antt`, then `src/equality.rt`.
 #![tactic(auto)]
 
 mod copies;

@@ -8,8 +8,9 @@ use Rattle.lpis_parcels.specs.Release.{Contents}
 use Rattle.lpis_commands.specs.CheckAnswer.{Answer, IsTableAnswer}
 use Rattle.lpis_commands.specs.declared.command.Detail.{Detail}
 use Rattle.lpis_commands.specs.Status.{done}
+use Rattle.lpis_country.specs.Tiling.{frame, rectangles}
 use Rattle.lpis_country_plan.specs.Tree.{folders, tiling_of}
-use Rattle.lpis_country_seam.specs.Laws.{JoinedCountryIsSound}
+use Rattle.lpis_country_seam.specs.Laws.{JoinedCountryIsSound, JoinedCountryIsUnion}
 use Rattle.lpis_country_seam.specs.Open.{IsSeamOf}
 use Rattle.lpis_country_run.specs.declared.beginning.Begun.{Begun}
 use Rattle.lpis_country_run.specs.declared.failure.CountryFailure.{CountryFailure}
@@ -42,10 +43,10 @@ starts texts detail x b p begun seam totals = record {
 }
 
 -- the regions of all folders make up a country
-all-country : (texts : List ℕ → Texts) (detail : Detail) (x : CountryInputs) (b : Begun) (begun : IsBegun x b) (all : List Contents) → JoinedCountryIsSound
+all-country : (texts : List ℕ → Texts) (detail : Detail) (x : CountryInputs) (b : Begun) (begun : IsBegun x b) (all : List Contents) → JoinedCountryIsSound → JoinedCountryIsUnion
     → HaveAllPassed (begun_setting texts detail x b begun) all → IsCountry texts x
 unfolding begun_setting
-all-country texts detail x b begun all law ((text, passed), joined) =
+all-country texts detail x b begun all law unites ((text, passed), joined) =
     let s = setting_of texts detail begun.plan b.classes.items in
     let tiling = tiling_of begun.plan in
     let long = sym (passed_length s (folders begun.plan) all text passed) ∙ ap length (sym begun.names_are) ∙ length-map b.names.items string_bytes ∙ begun.as_many ∙ ap length begun.tiles_are in
@@ -57,6 +58,7 @@ all-country texts detail x b begun all law ((text, passed), joined) =
       regions = all;
       of_folders = passed_regions s (folders begun.plan) all text passed;
       same = joined.classes_are;
+      union = unites (rectangles tiling frame) b.classes.items all joined;
       sound = law tiling b.classes.items all joined (passed_sound s (folders begun.plan) all text passed) long;
     }
 
@@ -72,15 +74,15 @@ whole-answer texts detail x b begun a h = inr (
 
 -- where a run over the regions of what was begun ends, with a yes only if all passed, so does that over the country
 pub begun_ends : (texts : List ℕ → Texts) (detail : Detail) (x : CountryInputs) (b : Begun) (begun : IsBegun x b) (r : Result ℕ CountryFailure) (old new : Option (List ℕ)) → JoinedCountryIsSound
-    → IfOk r (RegionsEnd (begun_setting texts detail x b begun) old new)
+    → JoinedCountryIsUnion → IfOk r (RegionsEnd (begun_setting texts detail x b begun) old new)
     → IfOk r (λ status. status ≡ done → (all : List Contents) × HaveAllPassed (begun_setting texts detail x b begun) all)
     → IfOk r (λ status. CountryEnds texts detail x status old new)
-begun_ends texts detail x b begun (Err f) old new law ends passed = tt
-begun_ends texts detail x b begun (Ok status) old new law (text, answer, written) passed = record {
+begun_ends texts detail x b begun (Err f) old new law unites ends passed = tt
+begun_ends texts detail x b begun (Ok status) old new law unites (text, answer, written) passed = record {
   text = text;
   answer = whole-answer texts detail x b begun (text, status) answer;
   written = written;
-  proved = λ e. let p = passed e in all-country texts detail x b begun p.0 law p.1;
+  proved = λ e. let p = passed e in all-country texts detail x b begun p.0 law unites p.1;
 }
 
 -- so it is where it breaks off

@@ -10,6 +10,7 @@ use Rattle.lpis_commands.proofs.Shared.{appends-more}
 use Rattle.lpis_parcels.specs.Release.{Contents}
 use Rattle.lpis_commands.specs.declared.failure.Failure.{Failure}
 use Rattle.lpis_commands.specs.declared.failure.Failure.TheVariants.{Memory, Read, Write, Store, StoreMemory}
+use Rattle.lpis_commands.specs.declared.failure.Name.{Name}
 use Rattle.lpis_commands.specs.declared.failure.Name.TheVariants.{Cert, Classes, Covers, Out, Parcels}
 use Rattle.lpis_commands.specs.CheckAnswer.{Inputs, IsProvedOf}
 use Rattle.lpis_commands.specs.declared.answer.Answer.{Answer as Printed}
@@ -160,26 +161,35 @@ next_region s texts bytes xs ys detail p n same lt start =
     )
 
 -- ---- breaking off
+-- where a folder is not read, memory ran out, or a file was not read
+unread_is : (t : Texts) (failure : Failure) → IsUnreadFolder t failure → (failure ≡ Memory) ⊎ ((file : Name) × (failure ≡ Read file))
+unread_is t failure (inl (inl e)) = inl e
+unread_is t failure (inl (inr (inl (may, e)))) = inr (Parcels, e)
+unread_is t failure (inl (inr (inr (inl (may, e))))) = inr (Covers, e)
+unread_is t failure (inl (inr (inr (inr (inl (may, e)))))) = inr (Classes, e)
+unread_is t failure (inl (inr (inr (inr (inr (may, e)))))) = inr (Cert, e)
+unread_is t failure (inr (inl (inl e))) = inl e
+unread_is t failure (inr (inl (inr (inl e)))) = inr (Parcels, e)
+unread_is t failure (inr (inl (inr (inr (inl (w, e)))))) = inr (Covers, e)
+unread_is t failure (inr (inl (inr (inr (inr (w, v, e)))))) = inr (Classes, e)
+unread_is t failure (inr (inr (w, v, x, e))) = inr (Cert, e)
+
+-- another failure is none of these
+no_other : (failure : Failure) → (failure ≡ Memory) ⊎ ((file : Name) × (failure ≡ Read file)) → (failure ≡ Memory → ⊥) → ((file : Name) → failure ≡ Read file → ⊥) → ⊥
+no_other failure (inl e) m r = m e
+no_other failure (inr (file, e)) m r = r file e
+
 -- the folder was not read, or memory ran out
-is_stopped : (failure : Failure) (name : List ℕ) (left : List (List ℕ)) (f : CountryFailure) → IsUnreadFolder failure → IsFailureOf failure name f → IsStoppedBefore (name ∷ left) f
-is_stopped Memory name left f u h = inl h
-is_stopped (Read file) name left f (inl e) h = cc e
-is_stopped (Read file) name left f (inr u) h = inr (subst (λ (x : Failure). (x ≡ Read Parcels) ⊎ (x ≡ Read Covers) ⊎ (x ≡ Read Classes) ⊎ (x ≡ Read Cert)) (sym h.0) u, h.1)
-is_stopped (Write file) name left f (inl e) h = cc e
-is_stopped (Write file) name left f (inr (inl e)) h = cc e
-is_stopped (Write file) name left f (inr (inr (inl e))) h = cc e
-is_stopped (Write file) name left f (inr (inr (inr (inl e)))) h = cc e
-is_stopped (Write file) name left f (inr (inr (inr (inr e)))) h = cc e
-is_stopped Store name left f (inl e) h = cc e
-is_stopped Store name left f (inr (inl e)) h = cc e
-is_stopped Store name left f (inr (inr (inl e))) h = cc e
-is_stopped Store name left f (inr (inr (inr (inl e)))) h = cc e
-is_stopped Store name left f (inr (inr (inr (inr e)))) h = cc e
-is_stopped StoreMemory name left f (inl e) h = cc e
-is_stopped StoreMemory name left f (inr (inl e)) h = cc e
-is_stopped StoreMemory name left f (inr (inr (inl e))) h = cc e
-is_stopped StoreMemory name left f (inr (inr (inr (inl e)))) h = cc e
-is_stopped StoreMemory name left f (inr (inr (inr (inr e)))) h = cc e
+is_stopped : (texts : List ℕ → Texts) (failure : Failure) (name : List ℕ) (left : List (List ℕ)) (f : CountryFailure) → IsUnreadFolder (texts name) failure → IsFailureOf failure name f
+    → IsStoppedBefore texts (name ∷ left) f
+is_stopped texts Memory name left f u h = inl h
+is_stopped texts (Read file) name left f u h = inr (subst (IsUnreadFolder (texts name)) (sym h.0) u, λ e. absurd (not_memory (sym h.0 ∙ e)), h.1)
+  where
+    not_memory : Read file ≡ Memory → ⊥
+    not_memory e = cc
+is_stopped texts (Write file) name left f u h = absurd (no_other (Write file) (unread_is (texts name) (Write file) u) (λ e. cc) (λ r e. cc))
+is_stopped texts Store name left f u h = absurd (no_other Store (unread_is (texts name) Store u) (λ e. cc) (λ r e. cc))
+is_stopped texts StoreMemory name left f u h = absurd (no_other StoreMemory (unread_is (texts name) StoreMemory u) (λ e. cc) (λ r e. cc))
 
 -- a beginning of the verdict on the next region was written
 begun-verdict : (s : Setting) (n : ℕ) (before : List Contents) (lines name text : List ℕ) → n < length s.names → name ≡ get_or s.names n [] → HavePassed s (take n s.names) before lines
@@ -201,7 +211,7 @@ breaks_off s names p n old now new name failure f here are lt is (inl (unread, k
       here.text,
       name ∷ drop (n + 1) s.names,
       subst (IsReachedBy s here.before here.text) (drop_more s.names n [] there ∙ ap (λ (x : List ℕ). x ∷ drop (n + 1) s.names) (sym named)) (reached_by s n here.before here.text here.have_passed),
-      is_stopped failure name (drop (n + 1) s.names) f unread of,
+      is_stopped s.texts failure name (drop (n + 1) s.names) f unread of,
       appends-kept old now new here.text here.written keeps,
     )
 breaks_off s names p n old now new name failure f here are lt is (inr (write, (text, verdict, begins))) of =

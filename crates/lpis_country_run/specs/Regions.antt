@@ -1,5 +1,5 @@
 -- The regions of a country, and what is known of the files of their folders.
-use Rattle.std.specs.Prelude.{◌≡◌, ℕ, List, [], ◌∷◌, All, Ok, Option}
+use Rattle.std.specs.Prelude.{◌≡◌, Bool, ℕ, List, [], ◌∷◌, All, Ok, Option}
 use Rattle.lpis_covers.specs.declared.class.Class.{Class}
 use Rattle.lpis_covers.specs.Classes.{classes_table}
 use Rattle.lpis_covers.specs.Faults.{rows_of}
@@ -7,14 +7,17 @@ use Rattle.lpis_parcels.specs.Release.{Contents}
 use Rattle.lpis_checker.specs.SoundMap.{IsSoundMap}
 use Rattle.lpis_commands.specs.CheckAnswer.{AreRead, Inputs, IsProvedOf}
 use Rattle.lpis_commands.specs.Streams.{IsRead}
+use Rattle.lpis_commands.specs.declared.failure.Name.{Name}
 use Rattle.lpis_country.specs.Country.{country_of}
+use Rattle.lpis_country.specs.Union.{IsUnion}
 use Rattle.lpis_country_plan.specs.CountryText.{IsCountryText}
 use Rattle.lpis_country_plan.specs.Tree.{Tree, folders}
 use Rattle.lpis_country_run.specs.declared.folder.Folder.{Folder}
 
 -- ---- a folder
--- the four files of a folder, each as far as its bytes are known
+-- the four files of a folder: whether one may be missing, and its bytes as far as they are known
 pub record Texts : Type 0 where
+  pub may_be_missing : Name → Bool
   pub parcels : Option (List ℕ)
   pub covers : Option (List ℕ)
   pub classes : Option (List ℕ)
@@ -55,7 +58,8 @@ AreRegionsOf texts (name ∷ names) (r ∷ rs) = IsRegionOf (texts name) r
 AreRegionsOf texts _ _ = ⊥
 
 -- `country.txt` is the text of a plan, and `classes.csv` a table of classes. Each folder of the
--- plan has a region with these classes, and the union of the regions is a sound map
+-- plan has a region with these classes. The country is the union of the regions, in which no parcel
+-- of a region is missing, and it is a sound map
 pub record IsCountry (texts : List ℕ → Texts) (x : CountryInputs) : Type 0 where
   pub plan : Tree
   pub text : IsCountryText x.plan plan
@@ -64,4 +68,5 @@ pub record IsCountry (texts : List ℕ → Texts) (x : CountryInputs) : Type 0 w
   pub regions : List Contents
   pub of_folders : AreRegionsOf texts (folders plan) regions
   pub same : All (λ (r : Contents). r.classes ≡ classes) regions
+  pub union : IsUnion regions (country_of classes regions)
   pub sound : IsSoundMap (country_of classes regions)

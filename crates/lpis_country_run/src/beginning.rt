@@ -41,7 +41,7 @@ pub(crate) fn read_top<P: Read + Drop, K: Read + Drop>(
 ) -> Result<CountryBytes, CountryFailure>
     ensures bytes { IfOk result (λ b. AreCountryRead (country_inputs_of b) (P.remaining country)
         (K.remaining classes)) }
-    ensures failure { IfErr result IsUnreadTop }
+    ensures failure { IfErr result (IsUnreadTop (P.remaining country)) }
 {
     let plan = read_named(alloc, country, Name::Country)?;
     let classes = read_named(alloc, classes, Name::Classes)?;

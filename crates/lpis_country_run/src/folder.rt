@@ -1,8 +1,9 @@
 //! The folders of a country's regions.
 
 ghost use Rattle.std.specs.Prelude.{IfErr, IfOk, List, ℕ};
+ghost use Rattle.lpis_commands.specs.Failures.{IsUnchecked};
 ghost use Rattle.lpis_commands.specs.Inputs.{inputs_of};
-ghost use Rattle.lpis_country_run.specs.CountryFailures.{IsUnreadFolder};
+ghost use Rattle.lpis_country_run.specs.CountryFailures.{IsUnopened, IsUnreadFolder};
 ghost use Rattle.lpis_country_run.specs.Regions.{AreGiven, AreOfFolder, Texts};
 
 use lpis_commands::{Failure, InputBytes, read_inputs};
@@ -27,21 +28,22 @@ pub trait Regions {
     /// The reader of a file.
     type File: Read + Drop;
 
-    /// What is known of the bytes of the files of each folder.
+    /// What is known of the files of each folder: which may be missing, and their bytes.
     ghost texts: { Self → List ℕ → Texts };
 
     /// Opens the four files of the folder of this name.
     fn open(&self, name: &str) -> Result<Folder<Self::File>, Failure>
         ensures given { IfOk result (λ f. AreGiven Self.File.remaining f
             (texts self.now name.now)) }
-        ensures failure { IfErr result IsUnreadFolder };
+        ensures failure { IfErr result (IsUnopened (texts self.now name.now)) };
 }
 
 /// All bytes of the files of a folder.
 fn read_opened<R: Read + Drop>(alloc: Global, folder: Folder<R>) -> Result<InputBytes, Failure>
     ensures bytes { (t : Texts) → AreGiven R.remaining folder t
         → IfOk result (λ i. AreOfFolder (inputs_of i) t) }
-    ensures failure { IfErr result IsUnreadFolder }
+    ensures failure { (t : Texts) → AreGiven R.remaining folder t
+        → IfErr result (IsUnchecked t.parcels t.covers t.classes) }
 {
     let Folder {
         parcels,
@@ -59,7 +61,7 @@ pub(crate) fn read_folder<G: Regions>(
     name: &str,
 ) -> Result<InputBytes, Failure>
     ensures bytes { IfOk result (λ i. AreOfFolder (inputs_of i) (G.texts regions.now name.now)) }
-    ensures failure { IfErr result IsUnreadFolder }
+    ensures failure { IfErr result (IsUnreadFolder (G.texts regions.now name.now)) }
 {
     let folder = regions.open(name)?;
     read_opened(alloc, folder)

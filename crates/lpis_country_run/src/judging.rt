@@ -52,7 +52,7 @@ fn judge<G: Regions>(
     ensures verdict { (s : Setting) (before : List Contents) → IsAt s before progress.old
         → AreOfRun s (G.texts regions.now) (map string_bytes names.now) detail
         → IfOk result (IsVerdict s before name.now progress.new) }
-    ensures failure { IfErr result IsUnreadFolder }
+    ensures failure { IfErr result (IsUnreadFolder (G.texts regions.now name.now)) }
 {
     let inputs = read_folder(alloc, regions, name)?;
     let verdict = judge_inputs(alloc, names, name, detail, progress, inputs)?;

@@ -1,5 +1,8 @@
 //! The run over the regions of a country: each is read, checked, tested against those before it,
 //! and let go before the next one.
+//!
+//! The layer above may cite: text and status of `country`, over whatever opens the folders.
+//! Begin at `specs/CountryAnswer.antt`, then `src/country.rt`.
 #![tactic(auto)]
 
 mod beginning;

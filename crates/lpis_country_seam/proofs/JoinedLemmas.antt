@@ -15,7 +15,8 @@ use Rattle.lpis_parcels.specs.Release.{Contents, parcel_ids, parcel_named, piece
 use Rattle.lpis_checker.specs.SoundMap.{IsSoundMap}
 use Rattle.lpis_country.specs.Country.{country_of, is_new}
 use Rattle.lpis_country.specs.Tiling.{Tiling, rectangles, frame, reaches}
-use Rattle.lpis_country.proofs.Shared.{FitsCountry, IsDouble, IsLate, IsThere, country_is_sound, has_among}
+use Rattle.lpis_country.specs.Union.{IsDouble, IsUnion}
+use Rattle.lpis_country.proofs.Shared.{FitsCountry, IsLate, IsThere, country_is_sound, country_is_union, has_among}
 use Rattle.lpis_country_rows.specs.Equality.{same_pieces, same_polygon, TestsTellEqualRows}
 use Rattle.lpis_country_seam.specs.declared.fault.SeamFault.{SeamFault}
 use Rattle.lpis_country_seam.specs.declared.fault.SeamFault.TheVariants.{At}
@@ -170,3 +171,8 @@ pub joined_is_sound : TestsTellEqualRows → (tiling : Tiling) (classes : List C
     → length regions ≡ length (rectangles tiling frame) → IsSoundMap (country_of classes regions)
 joined_is_sound tell tiling classes regions j s e =
     country_is_sound tiling classes regions j.regions_are s j.classes_are (λ before r after f. fits tell (rectangles tiling frame) classes before r (j.faultless before r after f)) e
+
+-- regions without a fault of the seam make up their union
+pub joined_is_union : TestsTellEqualRows → (tiles : List Box4) (classes : List Class) (regions : List Contents) → AreJoined tiles classes regions → IsUnion regions (country_of classes regions)
+joined_is_union tell tiles classes regions j =
+    country_is_union tiles classes regions j.regions_are j.classes_are (λ before r after f. fits tell tiles classes before r (j.faultless before r after f))

@@ -1,4 +1,8 @@
 //! The seam of a country: whether its next region fits to those that were read and let go.
+//!
+//! The layer above may cite: what a region owes those before it: the first fault at the seam, or
+//! the state that goes on; regions without one make a sound map.
+//! Begin at `specs/Faults.antt`, then `src/seam.rt`.
 #![tactic(auto)]
 
 mod classes;

@@ -1,11 +1,12 @@
 //! The seam that is open.
 
-ghost use Rattle.std.specs.Prelude.{◌≡◌, ◌++◌, ◌∷◌, [], List, filter, map, Some, IfOk, OnOk};
-ghost use Rattle.std.specs.Prelude.{slice_get};
+ghost use Rattle.std.specs.Prelude.{◌≡◌, ◌≢◌, ◌++◌, ◌∷◌, [], List, filter, map, Some, IfErr, IfOk};
+ghost use Rattle.std.specs.Prelude.{OnOk, slice_get};
 ghost use Rattle.lpis_covers.specs.declared.class.Class.{Class};
 ghost use Rattle.lpis_parcels.specs.Release.{Contents};
 ghost use Rattle.lpis_country.specs.Country.{country_of, new_parcels};
 ghost use Rattle.lpis_country_seam.specs.Faults.{ReportsSeam, seam_faults};
+ghost use Rattle.lpis_country_seam.specs.declared.fault.SeamFault.TheVariants.{Memory};
 ghost use Rattle.lpis_country_seam.specs.Open.{HasNext, IsSeamOf};
 ghost use Rattle.lpis_country_seam.specs.private.Stepping.{IsKeptNext, tested};
 ghost use Rattle.lpis_country_seam.specs.private.Testing.{is_fresh};
@@ -87,8 +88,8 @@ impl OpenSeam {
     }
 
     /// Tests the next region against those before it, and keeps what later ones need. The places of
-    /// its new parcels among its parcels, or the region's first fault, after which nothing is known
-    /// of the seam.
+    /// its new parcels among its parcels, or the region's first fault, which leaves the seam as it
+    /// was; after out of memory nothing is known of it.
     pub fn step(&mut self, alloc: Global, release: &Release) -> Result<Vec<usize>, SeamFault>
         requires { HasNext self.old }
         ensures reports { (tiles : List Box4) (classes : List Class) (done : List Contents)
@@ -101,6 +102,7 @@ impl OpenSeam {
             → IsSeamOf tiles classes done self.old
             → IfOk result (λ places. map (slice_get release.now.parcels) places.items
             ≡ map Some (new_parcels (country_of classes done) release.now)) }
+        ensures stays { IfErr result (λ fault. fault ≢ Memory → self.new ≡ self.old) }
     {
         is_region(release);
         match self.check(alloc, release) {

@@ -114,11 +114,17 @@ fn folder_of<'a>(texts: [&'a str; 4], failing: Option<(usize, usize)>) -> Folder
 }
 
 impl<'a> Regions for &'a Shelf {
-    ghost use Rattle.std.specs.Prelude.{None};
+    ghost use Rattle.std.specs.Prelude.{None, true};
 
     type File = Halting<'a>;
 
-    ghost texts = { λ _ _. record { parcels = None; covers = None; classes = None; cert = None } };
+    ghost texts = { λ _ _. record {
+      may_be_missing = λ _. true;
+      parcels = None;
+      covers = None;
+      classes = None;
+      cert = None;
+    } };
 
     fn open(&self, name: &str) -> Result<Folder<Halting<'a>>, Failure> {
         match name {

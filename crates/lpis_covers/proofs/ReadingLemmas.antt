@@ -33,10 +33,11 @@ rows-odd table w places n r rs l =
     rw len refl
 
 -- the end, a stop and a row, from a reading of this row that has these records left
-pub next-end : (old : Reading) (table : Table) (w n : ℕ) (places : List (Option ℕ)) (row : Fields) (left : List Record)
-    → reading table places n row (rows_from table w places (n + 1) left) ≡ old → left ≡ [] → (old.rows ≡ []) × (old.stop ≡ None)
+pub next-end : (old : Reading) (table : Table) (w v n : ℕ) (places : List (Option ℕ)) (row : Fields) (left rest : List Record)
+    → reading table places n row (rows_from table w places (n + 1) left) ≡ old → left ≡ [] → rest ≡ []
+    → (old.rows ≡ []) × (old.stop ≡ None) × ((rows_from table v places (n + 1) rest).rows ≡ []) × ((rows_from table v places (n + 1) rest).stop ≡ None)
 unfolding rows_from
-next-end old table w n places row left e l = rw (← e, l) (refl, refl)
+next-end old table w v n places row left rest e l k = rw (← e, l, k) (refl, refl, refl, refl)
 
 -- where the next record has another length than the header, no row is left, and the fault of no CSV stops the rows
 pub next-odd : (old : Reading) (table : Table) (w n : ℕ) (places : List (Option ℕ)) (row : Fields) (r : Record) (left rs : List Record)

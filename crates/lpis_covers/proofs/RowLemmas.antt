@@ -96,7 +96,7 @@ pub rows-stop : {A : Type 0} (kind : RowsOf A) (t old new : Reading) (keys : Lis
 unfolding table_row_faults
 rows-stop kind t old new keys rows Memory h a = tt
 rows-stop kind t old new keys rows (At code table row wkt) h a =
-    let stop = rw (a.0, a.1) at h.faults in
+    let stop = rw (a.0.0, a.0.1) at h.faults in
     rw (h.enough, ← stop) refl
 
 -- a fault of a row

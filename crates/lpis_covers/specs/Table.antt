@@ -155,15 +155,18 @@ abbrev pub table_fault_reported : TableFault → Option TableFault
 table_fault_reported Memory = None
 table_fault_reported (At code table row wkt) = Some (At code table row wkt)
 
--- what reading the next row does
+-- what reading the next row does. After the end there is no row, and the next read finds the end
+-- again; after a fault there is none, and the next read answers that fault again
 abbrev pub Advances : Reading → Reading → Result Bool TableFault → Type 0
 Advances old new (Ok true) =
     (old.rows ≡ new.row ∷ new.rows) × (new.stop ≡ old.stop) × (new.number ≡ old.number + 1)
     × (new.table ≡ old.table) × (new.number ≤ most_rows) × (new.has ≡ old.has)
-Advances old new (Ok false) = (old.rows ≡ []) × (old.stop ≡ None)
+Advances old new (Ok false) =
+    (old.rows ≡ []) × (old.stop ≡ None) × (new.rows ≡ []) × (new.stop ≡ None)
 Advances old new (Err fault) =
     UnlessMemory (λ (f : TableFault). (old.rows ≡ [])
     × (old.stop ≡ Some f)) (table_fault_reported fault)
+    × (new.rows ≡ []) × (new.stop ≡ Some fault)
 
 -- a call answers a value that fits what the definition says, or the fault that it says, unless
 -- memory ran out

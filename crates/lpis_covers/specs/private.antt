@@ -5,3 +5,4 @@ pub mod Keyed
 pub mod Left
 pub mod Padding
 pub mod Percent
+pub mod Stops

@@ -1,4 +1,8 @@
 //! Tables in CSV: identifiers, rows by the names of their columns, and rows by their identifiers.
+//!
+//! The layer above may cite: rows by column name up to the fault that stops them; tables of typed
+//! rows with their first fault.
+//! Begin at `specs/Table.antt`, then `src/reader.rt`.
 #![tactic(auto)]
 
 mod class;

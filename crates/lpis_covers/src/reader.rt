@@ -5,7 +5,7 @@ ghost use Rattle.std.specs.Prelude.{option_to_list, slice_index_or, unwrap_or};
 ghost use Rattle.csv.specs.Records.{fields_of};
 ghost use Rattle.csv.specs.Reading.{strip_bom};
 ghost use Rattle.lpis_covers.specs.Table.{Advances, Answers, fault_at, field_of};
-ghost use Rattle.lpis_covers.specs.Table.{flat};
+ghost use Rattle.lpis_covers.specs.Table.{flat, most_rows};
 ghost use Rattle.lpis_covers.specs.Table.{has_column, has_mark, one_place, optional_field, picked};
 ghost use Rattle.lpis_covers.specs.Table.{place_of};
 ghost use Rattle.lpis_covers.specs.Table.{field_at_place, places_of, table_of, texts};
@@ -13,6 +13,7 @@ ghost use Rattle.lpis_covers.specs.Table.{wanted_places};
 ghost use Rattle.lpis_covers.specs.declared.fault.TableCode.TheVariants.{BadGeometry};
 ghost use Rattle.lpis_covers.specs.declared.fault.TableFault.TheVariants.{At};
 ghost use Rattle.lpis_covers.specs.private.Columns.{TellsColumn, after_places};
+ghost use Rattle.lpis_covers.specs.private.Stops.{stop_fault};
 
 use crate::fault::{Table, TableCode, TableFault};
 use crate::records::{Records, Step};
@@ -24,6 +25,15 @@ use std::marker::Model;
 /// The most rows of a table, its header aside.
 pub(crate) const MOST_ROWS: u32 = 200_000;
 
+/// What stopped the rows behind the last one that was read.
+#[derive(Clone, Copy, Debug, PartialEq, Eq)]
+pub(crate) enum Stop {
+    /// Memory ran out.
+    Memory,
+    /// A fault in the row after it.
+    At(TableCode),
+}
+
 /// A reader of a table, row by row: it holds one row at a time. Contracts see the number and the
 /// wanted fields of the row that was read last, the rows that are left and the fault that stops
 /// them.
@@ -34,18 +44,20 @@ pub struct TableReader<'a> {
     places: Vec<Option<usize>>,
     table: Table,
     number: u32,
+    stopped: Option<Stop>,
 }
 
 impl<'a> Model for TableReader<'a> {
     ghost use Rattle.std.specs.Prelude.{◌≤◌, ◌+◌};
     ghost use Rattle.csv.specs.Records.{fields_of};
     ghost use Rattle.lpis_covers.specs.Table.{Reading, most_rows, picked, reading, rows_from};
+    ghost use Rattle.lpis_covers.specs.private.Stops.{left_after};
 
     ghost Value = { Reading };
 
     ghost view = { λ r. reading r.table r.places.items r.number
-        (picked r.places.items (fields_of r.current))
-        (rows_from r.table r.records.width r.places.items (r.number + 1) r.records.records) };
+        (picked r.places.items (fields_of r.current)) (left_after r.table r.number r.stopped
+        (rows_from r.table r.records.width r.places.items (r.number + 1) r.records.records)) };
 
     ghost invariant = { λ r. r.number ≤ most_rows };
 }
@@ -194,6 +206,27 @@ pub(crate) fn fault(code: TableCode, table: Table, row: u32) -> TableFault
     }
 }
 
+/// The fault that stopped the rows of a table behind the one of a number.
+fn fault_of(stop: Stop, table: Table, number: u32) -> TableFault
+    requires { number ≤ most_rows }
+    ensures { result ≡ stop_fault table number stop }
+{
+    match stop {
+        Stop::Memory => TableFault::Memory,
+        Stop::At(code) => fault(code, table, number + 1),
+    }
+}
+
+/// Stops the rows of a table behind the one of a number. The answer is the fault that does.
+fn stop_rows(stopped: &mut Option<Stop>, stop: Stop, table: Table, number: u32) -> TableFault
+    requires { number ≤ most_rows }
+    ensures stopped { stopped.new ≡ Some stop }
+    ensures fault { result ≡ stop_fault table number stop }
+{
+    *stopped = Some(stop);
+    fault_of(stop, table, number)
+}
+
 impl<'a> TableReader<'a> {
     /// A reader of the wanted columns of a table. The first record is the header, in which the name
     /// of each of `columns` stands once, and that of each of `further` at most once, in any mix of
@@ -224,27 +257,38 @@ impl<'a> TableReader<'a> {
                     places,
                     table,
                     number: 0,
+                    stopped: None,
                 })
             }
             None => Err(fault(TableCode::MissingColumn, table, 0)),
         }
     }
 
-    /// Reads the next row. `Ok(false)` is the end of the table; a refusal is the fault that stops
-    /// the rows, or out of memory. After either the reader has no meaning.
+    /// Reads the next row. `Ok(false)` is the end of the table, which the next call finds again; a
+    /// refusal is the fault that stops the rows, or out of memory, and the next call answers it
+    /// again.
     pub fn next_row(&mut self) -> Result<bool, TableFault>
         ensures { Advances self.old self.new result }
     {
-        match self.records.next(&mut self.current)? {
-            Step::End => Ok(false),
-            Step::Uneven => Err(fault(TableCode::NotCsv, self.table, self.number + 1)),
-            Step::Record => {
+        match self.stopped {
+            Some(stop) => return Err(fault_of(stop, self.table, self.number)),
+            None => {}
+        }
+        match self.records.next(&mut self.current) {
+            Ok(Step::End) => Ok(false),
+            Ok(Step::Uneven) => {
+                let stop = Stop::At(TableCode::NotCsv);
+                Err(stop_rows(&mut self.stopped, stop, self.table, self.number))
+            }
+            Ok(Step::Record) => {
                 if self.number == MOST_ROWS {
-                    return Err(fault(TableCode::TooManyRows, self.table, self.number + 1));
+                    let stop = Stop::At(TableCode::TooManyRows);
+                    return Err(stop_rows(&mut self.stopped, stop, self.table, self.number));
                 }
                 self.number += 1;
                 Ok(true)
             }
+            Err(_) => Err(stop_rows(&mut self.stopped, Stop::Memory, self.table, self.number)),
         }
     }
 

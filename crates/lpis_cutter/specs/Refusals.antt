@@ -1,16 +1,20 @@
 -- What a refusal says of a release.
-use Rattle.std.specs.Prelude.{◌≡◌, ◌≢◌, ℕ, List, Option, Some, None, All, Any, ◌⊎◌, ⊤}
+use Rattle.std.specs.Prelude.{◌≡◌, ◌≢◌, ◌≤◌, ℕ, List, Option, Some, None, All, Any, ◌⊎◌, ⊤}
 use Rattle.std.specs.Prelude.{Contains as IsAmong}
 use Rattle.lpis_points.specs.Memory.{UnlessMemory}
+use Rattle.lpis_points.specs.declared.triangle.Triangle.{Triangle}
 use Rattle.lpis_points.specs.Plane.{RationalPoint, same_point}
+use Rattle.lpis_points.specs.Triangles.{IsCounterClockwise}
 use Rattle.lpis_points.specs.RatPoints.{rational_of}
 use Rattle.lpis_points.specs.Chain.{SameNet}
+use Rattle.lpis_rings.specs.declared.polygon.Member.{Member}
 use Rattle.lpis_rings.specs.Edges.{edges_of}
 use Rattle.lpis_covers.specs.declared.piece.Piece.{Piece}
 use Rattle.lpis_parcels.specs.declared.parcel.Parcel.{Parcel}
 use Rattle.lpis_parcels.specs.Release.{Contents, pieces_named}
-use Rattle.lpis_edge_sums.specs.Making.{edges_of_all}
-use Rattle.lpis_checker.specs.GoodCertificate.{polygons_of}
+use Rattle.lpis_edge_sums.specs.Making.{HasCorners, corners_of, edges_of_all}
+use Rattle.lpis_cert.specs.Limits.{last_edge}
+use Rattle.lpis_checker.specs.GoodCertificate.{LineSeparates, polygons_of}
 use Rattle.lpis_checker.specs.SoundMap.{IsInParcel, IsInPiece}
 use Rattle.lpis_cutter.specs.declared.fault.Refusal.{Refusal}
 use Rattle.lpis_cutter.specs.declared.fault.Refusal.TheVariants.{NoCut, ParcelsOverlap}
@@ -71,13 +75,32 @@ pub record IsUneven (r : Contents) (id : List ℕ) : Type 0 where
   pub uneven : SameNet same_point (edges_of x.polygon)
       (edges_of_all (polygons_of (pieces_named r id))) → ⊥
 
+-- a counter-clockwise triangle with its corners on a polygon's rings
+abbrev pub IsOn : List Member → Triangle → Type 0
+IsOn members t = IsCounterClockwise t × HasCorners (corners_of members) t
+
+-- no edge of two triangles keeps them apart
+abbrev pub NoEdgeSeparates : Triangle → Triangle → Type 0
+NoEdgeSeparates s t = (k : ℕ) → k ≤ last_edge → LineSeparates k s t → ⊥
+
+-- two pieces have triangles on their own corners that no edge keeps apart
+pub record AreUnseparated (r : Contents) (first second : List ℕ) : Type 0 where
+  pub x : Piece
+  pub y : Piece
+  pub is_x : IsPiece r first x
+  pub is_y : IsPiece r second y
+  pub s : Triangle
+  pub t : Triangle
+  pub on_x : IsOn x.polygon s
+  pub on_y : IsOn y.polygon t
+  pub none : NoEdgeSeparates s t
+
 -- what a refusal says
 abbrev pub RefusalSays : Contents → Refusal → Type 0
 RefusalSays r (NoCut piece) = ((x : Piece) × IsPiece r piece x) × (AreFewFans r → ⊥)
 RefusalSays r (ParcelsOverlap first second at) = ParcelsShare r first second (rational_of at)
 RefusalSays r (PiecesOverlap first second at) = PiecesShare r first second (rational_of at)
-RefusalSays r (NoSeparator first second) = ((x : Piece) × IsPiece r first x)
-    × ((y : Piece) × IsPiece r second y)
+RefusalSays r (NoSeparator first second) = AreUnseparated r first second
 RefusalSays r (Disagreement parcel at) = Disagrees r parcel (rational_of at)
 RefusalSays r (NoFlats parcel) = IsUneven r parcel
 

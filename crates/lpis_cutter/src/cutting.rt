@@ -17,7 +17,7 @@ use crate::numbered::Numbered;
 use crate::parts::{Parts, cert_of, no_parts, with_parcel, with_piece};
 use crate::pieces::{Cutter, cut_of};
 use crate::searching::{Budget, find_disagreement};
-use crate::separating::{Separated, early_overlap, separate, unseparated};
+use crate::separating::{Separated, early_overlap, separate};
 use crate::telling::unevenness;
 use lpis_cert::{Cert, GREATEST_COUNT, MOST_FLATS, PairLine};
 use lpis_checker::laws::a_good_certificate_shows_a_sound_map;
@@ -217,27 +217,14 @@ fn join(alloc: Global, budget: Budget, release: &Release, filled: Filled) -> Res
     if let Some(refusal) = later {
         return Err(CutFault::Refused(refusal));
     }
-    finish(alloc, release, &numbered, parts, lines)
+    Ok(finish(alloc, parts, lines))
 }
 
-/// The certificate of all parts and lines, where the lines are not too many.
-fn finish(
-    alloc: Global,
-    release: &Release,
-    numbered: &Numbered,
-    parts: Parts,
-    lines: Vec<PairLine>,
-) -> Result<Cert, CutFault>
-    ensures { IfErr result (RefusesRightly release.now) }
-{
-    if let Some(line) = lines.get(GREATEST_COUNT as usize)
-        && let Some(refusal) = unseparated(release, numbered, line.i, line.j)?
-    {
-        return Err(CutFault::Refused(refusal));
-    }
+/// The certificate of all parts, with as many of the lines as one may have.
+fn finish(alloc: Global, parts: Parts, lines: Vec<PairLine>) -> Cert {
     let mut lines = lines;
     lines.truncate(GREATEST_COUNT as usize);
-    Ok(cert_of(alloc, parts, lines))
+    cert_of(alloc, parts, lines)
 }
 
 /// The certificate of a release, or what it is refused for.

@@ -1,4 +1,8 @@
 //! The cutter: from a release to a certificate, or to a place where the release is wrong.
+//!
+//! The layer above may cite: a refusal of `cut` means of the release what its variant means;
+//! nothing of a certificate.
+//! Begin at `specs/Refusals.antt`, then `src/cutting.rt`.
 #![tactic(auto)]
 
 mod cutting;
@@ -10,6 +14,7 @@ mod parts;
 mod pieces;
 mod searching;
 mod separating;
+mod separator;
 mod telling;
 
 pub use cutting::cut;

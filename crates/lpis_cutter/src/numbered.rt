@@ -1,5 +1,7 @@
 //! The triangles of all pieces by their numbers.
 
+ghost use Rattle.std.specs.Prelude.{◌≡◌, IfSome, Some, slice_get};
+
 use crate::parts::Parts;
 use lpis_points::Triangle;
 use std::alloc::{AllocError, Global};
@@ -38,10 +40,14 @@ impl Numbered {
         self.triangles.get(number as usize)
     }
 
-    /// The indices of the pieces of two triangles.
-    pub(crate) fn owners_of(&self, i: u32, j: u32) -> Option<(usize, usize)> {
+    /// Two triangles, behind the indices of their pieces.
+    pub(crate) fn pair(&self, i: u32, j: u32) -> Option<((usize, usize), &Triangle, &Triangle)>
+        ensures { IfSome result (λ pair. (slice_get self.now.owners.items i ≡ Some pair.0.0)
+            × (slice_get self.now.owners.items j ≡ Some pair.0.1)) }
+    {
         let first = *self.owners.get(i as usize)?;
         let second = *self.owners.get(j as usize)?;
-        Some((first as usize, second as usize))
+        let pieces = (first as usize, second as usize);
+        Some((pieces, self.triangle(i)?, self.triangle(j)?))
     }
 }

@@ -1,51 +1,20 @@
 //! Edges that separate near triangles, and overlaps where none does.
 
-ghost use Rattle.std.specs.Prelude.{◌≤◌, IfOk, IfSome};
-ghost use Rattle.lpis_cert.specs.Limits.{last_edge};
-ghost use Rattle.lpis_cutter.specs.private.Cutting.{SaysIfAny};
+ghost use Rattle.std.specs.Prelude.{IfOk, IfSome};
+ghost use Rattle.lpis_cutter.specs.private.Cutting.{NamesOwners, SaysIfAny};
 
 use crate::fault::Refusal;
 use crate::numbered::Numbered;
 use crate::searching::{Budget, find_overlap};
+use crate::separator::separator;
 use crate::telling::no_separator;
 use lpis_cert::PairLine;
 use lpis_parcels::Release;
-use lpis_points::{Point, Triangle, apart, box_of, edge, orient};
+use lpis_points::{Triangle, apart, box_of};
 use std::alloc::{AllocError, Global};
 
 /// How many triangles behind the first of a piece it is compared with before near pairs are listed.
 const NEXT: usize = 8;
-
-/// Whether each corner is right of the line from a to b, or on it.
-fn is_right(a: Point, b: Point, triangle: &Triangle) -> bool {
-    orient(a, b, triangle.a) <= 0 && orient(a, b, triangle.b) <= 0 && orient(a, b, triangle.c) <= 0
-}
-
-/// The edge of a counter-clockwise triangle that has another on its right.
-fn edge_between(own: &Triangle, other: &Triangle) -> Option<u8>
-    ensures { IfSome result (λ k. k ≤ 2) }
-{
-    for k in 0..3 {
-        if let Some((a, b)) = edge(own, k)
-            && is_right(a, b, other)
-        {
-            return Some(k);
-        }
-    }
-    None
-}
-
-/// The number of the edge that separates two counter-clockwise triangles: 0 to 2 of the first, 3 to
-/// 5 of the second.
-fn separator(s: &Triangle, t: &Triangle) -> Option<u8>
-    ensures { IfSome result (λ k. k ≤ last_edge) }
-{
-    if let Some(k) = edge_between(s, t) {
-        return Some(k);
-    }
-    let k = edge_between(t, s)?;
-    Some(k + 3)
-}
 
 /// The overlap of two triangles that no edge separates, where a point is found.
 fn overlap_of(
@@ -58,11 +27,7 @@ fn overlap_of(
 ) -> Result<Option<Refusal>, AllocError>
     ensures { IfOk result (SaysIfAny release.now) }
 {
-    let (Some(pieces), Some(s), Some(t)) = (
-        numbered.owners_of(i, j),
-        numbered.triangle(i),
-        numbered.triangle(j),
-    ) else {
+    let Some((pieces, s, t)) = numbered.pair(i, j) else {
         return Ok(None);
     };
     if pieces.0 == pieces.1 {
@@ -165,23 +130,26 @@ fn line_of(numbered: &Numbered, i: u32, j: u32) -> Option<PairLine> {
     Some(PairLine { i, j, k })
 }
 
-/// That the pieces of a pair have no separator.
-pub(crate) fn unseparated(
+/// That the triangles of a pair have no separator, by their pieces.
+fn unseparated(
+    alloc: Global,
     release: &Release,
     numbered: &Numbered,
     i: u32,
     j: u32,
 ) -> Result<Option<Refusal>, AllocError>
-    ensures { IfOk result (SaysIfAny release.now) }
+    ensures says { IfOk result (SaysIfAny release.now) }
+    ensures named { IfOk result (λ o. IfSome o (NamesOwners release.now numbered.now i j)) }
 {
-    match numbered.owners_of(i, j) {
-        Some((first, second)) => no_separator(release, first, second),
+    match numbered.pair(i, j) {
+        Some((pieces, s, t)) => no_separator(alloc, release, pieces, s, t),
         None => Ok(None),
     }
 }
 
-/// What is kept, or else that the pieces of a pair have no separator.
+/// What is kept, or else that the triangles of a pair have no separator.
 fn first_unseparated(
+    alloc: Global,
     release: &Release,
     numbered: &Numbered,
     kept: Option<Refusal>,
@@ -193,7 +161,7 @@ fn first_unseparated(
 {
     match kept {
         Some(refusal) => Ok(Some(refusal)),
-        None => unseparated(release, numbered, i, j),
+        None => unseparated(alloc, release, numbered, i, j),
     }
 }
 
@@ -216,7 +184,7 @@ pub(crate) fn separate(
             lines.push(line)?;
             continue;
         }
-        kept = first_unseparated(release, numbered, kept, *i, *j)?;
+        kept = first_unseparated(alloc, release, numbered, kept, *i, *j)?;
         if !budget.search() {
             break;
         }

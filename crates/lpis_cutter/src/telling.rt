@@ -8,15 +8,17 @@ ghost use Rattle.lpis_rings.specs.Edges.{edges_of};
 ghost use Rattle.lpis_parcels.specs.Release.{pieces_named};
 ghost use Rattle.lpis_edge_sums.specs.Making.{edges_of_all};
 ghost use Rattle.lpis_checker.specs.GoodCertificate.{polygons_of};
-ghost use Rattle.lpis_cutter.specs.Refusals.{IsCovered, IsUncovered};
+ghost use Rattle.lpis_cutter.specs.Refusals.{IsCovered, IsOn, IsUncovered, NoEdgeSeparates};
 ghost use Rattle.lpis_cutter.specs.private.Cutting.{NamesPieces, SaysIfAny, edge_times};
 
 use crate::fault::Refusal;
+use crate::separator::separator;
 use lpis_covers::Id;
+use lpis_edge_sums::has_corners;
 use lpis_parcels::{Parcel, Release, pieces_of};
-use lpis_points::{Point, RatPoint};
+use lpis_points::{Point, RatPoint, Triangle, is_ccw};
 use lpis_rings::{Polygon, contains, edges};
-use std::alloc::AllocError;
+use std::alloc::{AllocError, Global};
 
 /// That the pieces at two indices overlap, where both contain the point and they have two
 /// identifiers.
@@ -176,18 +178,57 @@ pub(crate) fn unevenness(
     Ok(Some(Refusal::NoFlats { parcel }))
 }
 
-/// That two triangles of the pieces at two indices have no separator.
+/// Whether a triangle is counter-clockwise and has its corners on a polygon's rings.
+fn is_on(alloc: Global, polygon: &Polygon, triangle: &Triangle) -> Result<bool, AllocError>
+    ensures { IfOk result (λ on. IsTrue on → IsOn polygon.now triangle.now) }
+{
+    if !is_ccw(triangle) {
+        return Ok(false);
+    }
+    has_corners(alloc, polygon, &[*triangle], &[])
+}
+
+/// Whether two triangles are on the corners of two polygons, and no edge keeps them apart.
+fn are_unseparated(
+    alloc: Global,
+    x: &Polygon,
+    y: &Polygon,
+    s: &Triangle,
+    t: &Triangle,
+) -> Result<bool, AllocError>
+    ensures { IfOk result (λ b. IsTrue b
+        → IsOn x.now s.now × IsOn y.now t.now × NoEdgeSeparates s.now t.now) }
+{
+    if !is_on(alloc, x, s)? {
+        return Ok(false);
+    }
+    if !is_on(alloc, y, t)? {
+        return Ok(false);
+    }
+    Ok(separator(s, t).is_none())
+}
+
+/// That triangles of the pieces at two indices have no separator, where they have none.
 pub(crate) fn no_separator(
+    alloc: Global,
     release: &Release,
-    i: usize,
-    j: usize,
+    pieces: (usize, usize),
+    s: &Triangle,
+    t: &Triangle,
 ) -> Result<Option<Refusal>, AllocError>
     ensures says { IfOk result (SaysIfAny release.now) }
-    ensures named { IfOk result (λ said. IfSome said (NamesPieces release.now i j)) }
+    ensures named { IfOk result (λ said. IfSome said
+        (NamesPieces release.now pieces.0 pieces.1)) }
 {
-    let (Some(x), Some(y)) = (release.pieces().get(i), release.pieces().get(j)) else {
+    let (Some(x), Some(y)) = (
+        release.pieces().get(pieces.0),
+        release.pieces().get(pieces.1),
+    ) else {
         return Ok(None);
     };
+    if !are_unseparated(alloc, &x.polygon, &y.polygon, s, t)? {
+        return Ok(None);
+    }
     let first = x.id.copy()?;
     let second = y.id.copy()?;
     Ok(Some(Refusal::NoSeparator { first, second }))

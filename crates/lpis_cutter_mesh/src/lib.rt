@@ -1,5 +1,8 @@
 //! Rooms between edges, cut into triangles on the corners that are there.
 //!
+//! The layer above may cite: every call returns; nothing of a cut.
+//! Begin at `src/sweep.rt`.
+//!
 //! Nothing is promised of a cut: who uses one checks it. Every call returns.
 #![tactic(auto)]
 

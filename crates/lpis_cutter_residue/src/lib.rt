@@ -2,6 +2,9 @@
 //! flats that make it up or points of the rooms that it bounds, and points that two triangles may
 //! share.
 //!
+//! The layer above may cite: every call returns; nothing of a point or a flat.
+//! Begin at `src/net.rt`.
+//!
 //! Nothing is promised of a point or a flat: who uses one tests it. Every call returns.
 #![tactic(auto)]
 

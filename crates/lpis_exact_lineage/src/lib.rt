@@ -1,5 +1,9 @@
 //! Exact lineage: what rows that are marked exact ask for, and what it says of the points of the
 //! plane once it is shown.
+//!
+//! The layer above may cite: the parts that the exact groups of a change ask for, or the first old
+//! shape that is not kept; what is shown of a sound map has exact lineage.
+//! Begin at `specs/ExactLineage.antt`, then `src/asking.rt`.
 #![tactic(auto)]
 
 mod asking;

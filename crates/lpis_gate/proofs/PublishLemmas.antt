@@ -142,7 +142,7 @@ memory-no-store is = absurd cc
 
 -- a release that was accepted could not be stored
 pub fails-accepted : {S A : Type 0} (g : Ghosts S) (h : List Entry) (kept : List Shape) (year : ℕ) (r : Contents) (blocks : List ExactBlock) (rows : List Row) (a : Accepted) (old new : Held S)
-    (answer : Result A Failure) → IsAccepted h kept year r blocks rows a → IfErr answer (λ failure. HasStoreCause g (last_year h) a old new (failure ≡ Store))
+    (answer : Result A Failure) → IsAccepted h kept year r blocks rows a → IfErr answer (λ failure. HasStoreCause g (last_year h) kept a old new (failure ≡ Store))
     → IfErr answer (λ failure. IsStoreFailure failure → FailsToStore g h kept year r blocks rows old new (failure ≡ Store))
 fails-accepted g h kept year r blocks rows a old new (Ok x) made fails = tt
 fails-accepted g h kept year r blocks rows a old new (Err e) made fails = λ is. (a, made, fails)

@@ -1,5 +1,8 @@
 //! The runs over a register: the publication of a release, the blocks that its marked rows ask for,
 //! and the trace of an identifier.
+//!
+//! The layer above may cite: the same of `publish`, `exact` and `trace`, over any register.
+//! Begin at `specs/PublishAnswer.antt`, then `src/publish.rt`.
 #![tactic(auto)]
 
 mod blocks;

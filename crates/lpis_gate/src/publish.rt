@@ -101,7 +101,8 @@ fn publish_accepted<S: Alter>(
         register.old.shapes.items (state S.Store register.new.conn) register.new.history
         register.new.shapes.items }
     ensures cause { IfErr result (λ failure. HasStoreCause S.Store (last_year register.old.history)
-        accepted register.old.conn register.new.conn (failure ≡ Store)) }
+        register.old.shapes.items accepted register.old.conn register.new.conn
+        (failure ≡ Store)) }
 {
     let answer = tell_change(alloc, yes, year, accepted.change())?;
     match register.commit(accepted) {

@@ -1,6 +1,9 @@
 //! Tests of histories, and of the runs over a register in memory, with values from outside the
 //! program.
 //!
+//! No crate stands on it: it has tests alone.
+//! Begin at `src/worked.rt`.
+//!
 //! They are a crate of their own, on which nothing stands, since a test that calls a run over a
 //! register makes the whole database engine concrete, which is to be proved once.
 #![tactic(auto)]

@@ -1,4 +1,7 @@
 //! Lineage: what became of each identifier, through the years.
+//!
+//! The layer above may cite: a History is lawful; `accept` refuses exactly the rest.
+//! Begin at `specs/Lawful.antt`, then `src/acceptance.rt`.
 #![tactic(auto)]
 
 mod acceptance;

@@ -1,4 +1,7 @@
 //! Pairs of triangles whose boxes are not apart.
+//!
+//! The layer above may cite: the law of `PairSource`.
+//! Begin at `specs/NearPairs.antt`, then `src/sweep.rt`.
 #![tactic(auto)]
 
 mod all_pairs;

@@ -1,4 +1,7 @@
 //! Releases: parcels, pieces of land cover and classes, joined by their identifiers.
+//!
+//! The layer above may cite: a Release is that of its three texts.
+//! Begin at `specs/Release.antt`, then `src/reading.rt`.
 #![tactic(auto)]
 
 mod groups;

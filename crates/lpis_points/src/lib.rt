@@ -1,6 +1,9 @@
 //! Points of the plane in whole millimetres, sides of lines, crossings of edges, and triangles. No
 //! call takes memory.
 //!
+//! The layer above may cite: values are the formulas of sides, crossings and boxes.
+//! Begin at `specs/Plane.antt`, then `src/side.rt`.
+//!
 //! | Call | Answer |
 //! |---|---|
 //! | `Point::new` | the point, or `None` exactly where a coordinate is out of range |

@@ -9,7 +9,8 @@ use Rattle.lpis_register_sql.specs.Stopping.{BoundStatement, StopsWithin, releas
 use Rattle.lpis_lineage.specs.Lineage.{last_year}
 use Rattle.lpis_cert.specs.declared.part.ExactBlock.{ExactBlock}
 use Rattle.lpis_parcels.specs.Release.{Contents}
-use Rattle.lpis_register.proofs.Common.{Entry, PublishFault, Row, Shape, StoredText, state}
+use Rattle.lpis_register_rows.specs.Shapes.{text_edits}
+use Rattle.lpis_register.proofs.Common.{Entry, PublishFault, Row, Shape, state}
 use Rattle.lpis_register.specs.Accepting.{IsAccepted}
 use Rattle.lpis_register.specs.Faults.{IsStoreFault}
 use Rattle.lpis_register.specs.Failing.{FailsToRun, FailsToStore, HasStoreCause, accepted_statements}
@@ -30,23 +31,23 @@ fails_to_run g xs old new e fault memory is stops = or_shut (state g old).is_ope
 ])
 
 -- the statements are those of the accepted release
-pub stops_as : {S : Type 0} (g : store.Ghosts S) (last : ℕ) (a : Accepted) (y l : ℕ) (gone fresh : List (List ℕ)) (rows : List Row) (texts : List StoredText) → y ≡ a.year → l ≡ last
-    → gone ≡ a.step.change.dropped_ids → fresh ≡ a.step.fresh.items → rows ≡ a.step.change.rows → texts ≡ a.kept.texts.items → (old new : Held S) (r : Result (Unit {0}) Error)
-    → IfErr r (StopsWithin g (release_statements (pos y) (pos l) gone fresh rows texts) old new) → IfErr r (StopsWithin g (accepted_statements last a) old new)
-stops_as g last a y l gone fresh rows texts ey el eg ef er et old new r h =
-    let one = subst₂ (λ v w. IfErr r (StopsWithin g (release_statements (pos v) (pos w) gone fresh rows texts) old new)) ey el h in
-    let two = subst₂ (λ v w. IfErr r (StopsWithin g (release_statements (pos a.year) (pos last) v w rows texts) old new)) eg ef one in
-    subst₂ (λ v w. IfErr r (StopsWithin g (release_statements (pos a.year) (pos last) a.step.change.dropped_ids a.step.fresh.items v w) old new)) er et two
+pub stops_as : {S : Type 0} (g : store.Ghosts S) (last : ℕ) (kept : List Shape) (a : Accepted) (y l : ℕ) (gone fresh : List (List ℕ)) (rows : List Row) (shapes : List Shape) → y ≡ a.year
+    → l ≡ last → gone ≡ a.step.change.dropped_ids → fresh ≡ a.step.fresh.items → rows ≡ a.step.change.rows → shapes ≡ a.shapes.items → (old new : Held S) (r : Result (Unit {0}) Error)
+    → IfErr r (StopsWithin g (release_statements (pos y) (pos l) gone fresh rows (text_edits kept shapes)) old new) → IfErr r (StopsWithin g (accepted_statements last kept a) old new)
+stops_as g last kept a y l gone fresh rows shapes ey el eg ef er es old new r h =
+    let one = subst₂ (λ v w. IfErr r (StopsWithin g (release_statements (pos v) (pos w) gone fresh rows (text_edits kept shapes)) old new)) ey el h in
+    let two = subst₂ (λ v w. IfErr r (StopsWithin g (release_statements (pos a.year) (pos last) v w rows (text_edits kept shapes)) old new)) eg ef one in
+    subst₂ (λ v w. IfErr r (StopsWithin g (release_statements (pos a.year) (pos last) a.step.change.dropped_ids a.step.fresh.items v (text_edits kept w)) old new)) er es two
 
 -- the database failed to write the accepted release, which follows the last one
-pub fails_to_commit : {S : Type 0} (g : store.Ghosts S) (l last : ℕ) (a : Accepted) (old new : Held S) (r : Result (Unit {0}) PublishFault) → l ≡ last → IfErr r IsStoreFault
-    → IfErr r (λ fault. HasStoreCause g l a old new (fault ≡ Store)) → IfErr r (FailsToCommit g last a old new)
-fails_to_commit g l last a old new (Ok x) is either cause = tt
-fails_to_commit g l last a old new (Err e) is either cause = record { untouched = inl either; cause = subst (λ n. HasStoreCause g n a old new (e ≡ Store)) is cause }
+pub fails_to_commit : {S : Type 0} (g : store.Ghosts S) (l last : ℕ) (kept : List Shape) (a : Accepted) (old new : Held S) (r : Result (Unit {0}) PublishFault) → l ≡ last → IfErr r IsStoreFault
+    → IfErr r (λ fault. HasStoreCause g l kept a old new (fault ≡ Store)) → IfErr r (FailsToCommit g last kept a old new)
+fails_to_commit g l last kept a old new (Ok x) is either cause = tt
+fails_to_commit g l last kept a old new (Err e) is either cause = record { untouched = inl either; cause = subst (λ n. HasStoreCause g n kept a old new (e ≡ Store)) is cause }
 
 -- a release that was accepted is one that could not be stored
 pub fails_to_store : {S X : Type 0} (g : store.Ghosts S) (h : List Entry) (kept : List Shape) (year : ℕ) (r : Contents) (blocks : List ExactBlock) (rows : List Row) (a : Accepted) (old new : Held S)
-    (answer : Result X PublishFault) → IsAccepted h kept year r blocks rows a → IfErr answer (λ fault. HasStoreCause g (last_year h) a old new (fault ≡ Store))
+    (answer : Result X PublishFault) → IsAccepted h kept year r blocks rows a → IfErr answer (λ fault. HasStoreCause g (last_year h) kept a old new (fault ≡ Store))
     → IfErr answer (λ fault. IsStoreFault fault → FailsToStore g h kept year r blocks rows old new (fault ≡ Store))
 fails_to_store g h kept year r blocks rows a old new (Ok x) made fails = tt
 fails_to_store g h kept year r blocks rows a old new (Err e) made fails = λ is. (a, made, fails)

@@ -8,16 +8,16 @@ use Rattle.lpis_lineage.specs.declared.row.Entry.{Entry}
 use Rattle.lpis_lineage.specs.declared.row.Row.{Row}
 use Rattle.lpis_lineage.specs.Lineage.{last_year}
 use Rattle.lpis_parcels.specs.Release.{Contents}
-use Rattle.lpis_register_rows.specs.Shapes.{Shape}
+use Rattle.lpis_register_rows.specs.Shapes.{Shape, text_edits}
 use Rattle.lpis_register_sql.specs.Stopping.{BoundStatement, IsStopped, release_statements}
 use Rattle.lpis_register.specs.Accepting.{IsAccepted}
 use Rattle.lpis_register.specs.declared.accepting.Accepted.{Accepted}
 
--- the statements that write an accepted release after the one of a year
-abbrev pub accepted_statements : ℕ → Accepted → List BoundStatement
-accepted_statements last a =
+-- the statements that write an accepted release after the one of a year, when these shapes are kept
+abbrev pub accepted_statements : ℕ → List Shape → Accepted → List BoundStatement
+accepted_statements last kept a =
     release_statements (pos a.year) (pos last) a.step.change.dropped_ids a.step.fresh.items
-    a.step.change.rows a.kept.texts.items
+    a.step.change.rows (text_edits kept a.shapes.items)
 
 module _ {S : Type 0} (store : Ghosts S) where
   -- a call fails to run statements in a transaction: the connection was shut before, or the disk
@@ -27,15 +27,15 @@ module _ {S : Type 0} (store : Ghosts S) where
   FailsToRun xs old new = ((state store old).is_open ≡ false)
       ⊎ IsStopped store xs (record old { in_transaction = true }) new
 
-  -- writing an accepted release after the one of a year failed; if the disk kept what was written,
-  -- and this says that the database failed, there is a cause
-  abbrev pub HasStoreCause : ℕ → Accepted → Held S → Held S → Type 0 → Type 0
-  HasStoreCause last a old new Failed = HasCleanDisk (state store new) → Failed
-      → FailsToRun (accepted_statements last a) old new
+  -- writing an accepted release after the one of a year, when these shapes are kept, failed; if the
+  -- disk kept what was written, and this says that the database failed, there is a cause
+  abbrev pub HasStoreCause : ℕ → List Shape → Accepted → Held S → Held S → Type 0 → Type 0
+  HasStoreCause last kept a old new Failed = HasCleanDisk (state store new) → Failed
+      → FailsToRun (accepted_statements last kept a) old new
 
   -- the release of this year with these blocks of its certificate and these rows was accepted after
   -- this history, when these shapes were kept of the last one, and writing it failed
   abbrev pub FailsToStore : List Entry → List Shape → ℕ → Contents → List ExactBlock → List Row
       → Held S → Held S → Type 0 → Type 0
   FailsToStore h kept year r blocks rows old new Failed = (a : Accepted)
-      × IsAccepted h kept year r blocks rows a × HasStoreCause (last_year h) a old new Failed
+      × IsAccepted h kept year r blocks rows a × HasStoreCause (last_year h) kept a old new Failed

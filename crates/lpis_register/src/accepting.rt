@@ -26,7 +26,7 @@ use lpis_exact_lineage::{
 };
 use lpis_lineage::{Change, History, Row, accept};
 use lpis_parcels::{Parcel, Release};
-use lpis_register_rows::{TextRow, changes_tell_what_is_written, fresh_ids, shapes_in, texts_of};
+use lpis_register_rows::{changes_tell_what_is_written, fresh_ids, shapes_in};
 use lpis_rings::Polygon;
 use std::alloc::{AllocError, Global};
 
@@ -41,21 +41,13 @@ pub(crate) struct Step {
     pub(crate) fresh: Vec<Id>,
 }
 
-/// What is kept of a release's parcels.
-#[derive(Drop)]
-pub(crate) struct Kept {
-    /// Their shapes, ascending by identifier.
-    pub(crate) shapes: Vec<(Id, Polygon)>,
-    /// The texts of these.
-    pub(crate) texts: Vec<TextRow>,
-}
-
 /// A release that may follow the history that it was accepted for. The register alone makes one.
 #[derive(Drop)]
 pub struct Accepted {
     pub(crate) year: u16,
     pub(crate) step: Step,
-    pub(crate) kept: Kept,
+    /// The shapes of its parcels, ascending by identifier.
+    pub(crate) shapes: Vec<(Id, Polygon)>,
 }
 
 impl Accepted {
@@ -130,37 +122,35 @@ fn check_groups(
     Ok(())
 }
 
-/// The shapes of a release's parcels, and their texts.
-fn kept_of(alloc: Global, release: &Release) -> Result<Kept, AllocError>
-    ensures { IfOk result (AreKept release.now.parcels) }
+/// The shapes of a release's parcels, ascending by identifier.
+fn kept_of(alloc: Global, release: &Release) -> Result<Vec<(Id, Polygon)>, AllocError>
+    ensures { IfOk result (λ shapes. AreKept release.now.parcels shapes.items) }
 {
-    let shapes = shapes_in(alloc, release)?;
-    let texts = texts_of(alloc, shapes.as_slice())?;
-    Ok(Kept { shapes, texts })
+    shapes_in(alloc, release)
 }
 
 /// Refuses a sound map that may not follow in a later year, or makes all that publishing it needs.
 fn accept_map(
     alloc: Global,
     history: &History,
-    shapes: &[(Id, Polygon)],
+    kept: &[(Id, Polygon)],
     year: u16,
     release: &Release,
     rows: &[Row],
     cert: &Cert,
 ) -> Result<Accepted, PublishFault>
-    requires ascending { IsAscending (shape_ids shapes.now) }
+    requires ascending { IsAscending (shape_ids kept.now) }
     requires sound { IsSoundMap release.now }
     requires later { last_year history.now < year }
-    ensures { AnswersRelease history.now shapes.now year release.now cert.now.exact
+    ensures { AnswersRelease history.now kept.now year release.now cert.now.exact
         rows.now result }
 {
     sound_maps_have_such_shapes();
     what_is_shown_has_exact_lineage();
     let step = step_of(alloc, history, release, rows)?;
-    check_groups(alloc, &step.change, shapes, release, cert)?;
-    let kept = kept_of(alloc, release)?;
-    Ok(Accepted { year, step, kept })
+    check_groups(alloc, &step.change, kept, release, cert)?;
+    let shapes = kept_of(alloc, release)?;
+    Ok(Accepted { year, step, shapes })
 }
 
 /// Refuses a release that may not follow, or makes all that publishing it needs.

@@ -20,39 +20,46 @@ ghost use Rattle.lpis_register.specs.declared.fault.PublishFault.TheVariants.{St
 
 use crate::accepting::Accepted;
 use crate::fault::PublishFault;
+use lpis_covers::Id;
 use lpis_lineage::History;
-use lpis_register_rows::{publishing_adds_the_release, texts_keep_one_list_of_shapes};
+use lpis_register_rows::{ShapeChange, publishing_adds_the_release};
 use lpis_register_sql::write_release;
+use lpis_rings::Polygon;
 use sqlite::{Alter, Connection, Error, ErrorCode};
+use std::alloc::Global;
 
 /// Writes an accepted release, which stands at a history's end already, in one transaction: tables
-/// that hold the history before it hold the whole one afterwards, and with an error the one before.
+/// that hold the history before it and the kept shapes hold the whole one and its shapes
+/// afterwards, and with an error what they held.
 fn write_at_end<S: Alter>(
+    alloc: Global,
     conn: &mut Connection<S>,
     history: &History,
     last: u16,
+    kept: &[(Id, Polygon)],
     accepted: &Accepted,
 ) -> Result<(), Error>
     requires autocommit { conn.old.in_transaction ≡ false }
     ensures autocommit { conn.new.in_transaction ≡ false }
-    ensures writes { WritesRelease history.now last accepted.now (state S.Store conn.old)
-        (state S.Store conn.new) result }
+    ensures writes { WritesRelease history.now last accepted.now kept.now
+        (state S.Store conn.old) (state S.Store conn.new) result }
     ensures stops { IsTrue (state S.Store conn.old).is_open → HasCleanDisk (state S.Store conn.new)
-        → IfErr result (StopsWithin S.Store (accepted_statements last accepted.now)
+        → IfErr result (StopsWithin S.Store (accepted_statements last kept.now accepted.now)
         (record conn.old { in_transaction = true }) conn.new) }
 {
     let _ = history.releases();
     publishing_adds_the_release();
-    texts_keep_one_list_of_shapes();
     let step = &accepted.step;
+    let shapes = accepted.shapes.as_slice();
     write_release(
+        alloc,
         conn,
         u32::from(accepted.year),
         u32::from(last),
         step.change.dropped(),
         step.fresh.as_slice(),
         step.change.rows(),
-        accepted.kept.texts.as_slice(),
+        ShapeChange { kept, shapes },
     )
 }
 
@@ -89,21 +96,23 @@ fn fault_of_writing(error: Error) -> PublishFault
 
 /// Writes an accepted release, which stands at the history's end already, or takes it back.
 fn write_or_take_back<S: Alter>(
+    alloc: Global,
     conn: &mut Connection<S>,
     history: &mut History,
     last: u16,
+    kept: &[(Id, Polygon)],
     accepted: &Accepted,
 ) -> Result<(), PublishFault>
     requires autocommit { conn.old.in_transaction ≡ false }
     ensures autocommit { conn.new.in_transaction ≡ false }
     ensures commits { (h : List Entry) (due : IsToWrite history.old last accepted.now h)
-        → Commits h history.new due.year due.parcels due.rows accepted.now (state S.Store conn.old)
-        (state S.Store conn.new) result }
+        → Commits h history.new due.year due.parcels due.rows accepted.now kept.now
+        (state S.Store conn.old) (state S.Store conn.new) result }
     ensures failure { IfErr result IsStoreFault }
-    ensures cause { IfErr result (λ fault. HasStoreCause S.Store last accepted.now conn.old conn.new
-        (fault ≡ Store)) }
+    ensures cause { IfErr result (λ fault. HasStoreCause S.Store last kept.now accepted.now
+        conn.old conn.new (fault ≡ Store)) }
 {
-    match write_at_end(conn, history, last, accepted) {
+    match write_at_end(alloc, conn, history, last, kept, accepted) {
         Ok(()) => Ok(()),
         Err(error) => {
             history.take_back();
@@ -113,11 +122,12 @@ fn write_or_take_back<S: Alter>(
 }
 
 /// Publishes a release that was accepted for this history: it stands at the end of the history and
-/// of that of the tables. With an error both are as before. All that needs memory comes before the
-/// tables are written.
+/// of that of the tables. With an error both are as before.
 pub(crate) fn commit_release<S: Alter>(
+    alloc: Global,
     conn: &mut Connection<S>,
     history: &mut History,
+    kept: &[(Id, Polygon)],
     accepted: &Accepted,
 ) -> Result<(), PublishFault>
     requires autocommit { conn.old.in_transaction ≡ false }
@@ -126,15 +136,15 @@ pub(crate) fn commit_release<S: Alter>(
     ensures autocommit { conn.new.in_transaction ≡ false }
     ensures commits { (year : ℕ) (parcels : List Parcel) (rows : List Row)
         → IsPrepared history.old year parcels rows accepted.now
-        → Commits history.old history.new year parcels rows accepted.now (state S.Store conn.old)
-        (state S.Store conn.new) result }
-    ensures failure { IfErr result (FailsToCommit S.Store (last_year history.old) accepted.now
-        conn.old conn.new) }
+        → Commits history.old history.new year parcels rows accepted.now kept.now
+        (state S.Store conn.old) (state S.Store conn.new) result }
+    ensures failure { IfErr result (FailsToCommit S.Store (last_year history.old) kept.now
+        accepted.now conn.old conn.new) }
 {
     let last = history.last_year();
     match grow(history, accepted) {
         // The tables don't have the release yet.
-        Ok(()) => write_or_take_back(conn, history, last, accepted),
+        Ok(()) => write_or_take_back(alloc, conn, history, last, kept, accepted),
         Err(fault) => Err(fault),
     }
 }

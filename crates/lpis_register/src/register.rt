@@ -130,12 +130,19 @@ impl<S: Alter> Register<S> {
         ensures untouched { IfErr result (λ fault. IsStoreFault fault
             ⊎ ((fault ≡ Memory) × (self.new.conn ≡ self.old.conn))) }
         ensures cause { IfErr result (λ fault. HasStoreCause S.Store (last_year self.old.history)
-            accepted self.old.conn self.new.conn (fault ≡ Store)) }
+            self.old.shapes.items accepted self.old.conn self.new.conn (fault ≡ Store)) }
     {
-        match commit_release(&mut self.conn, &mut self.history, &accepted) {
+        let kept = self.shapes.as_slice();
+        match commit_release(
+            self.alloc,
+            &mut self.conn,
+            &mut self.history,
+            kept,
+            &accepted,
+        ) {
             Ok(()) => {
-                let Accepted { step, kept, .. } = accepted;
-                self.shapes = kept.shapes;
+                let Accepted { step, shapes, .. } = accepted;
+                self.shapes = shapes;
                 Ok(step.change)
             }
             Err(fault) => Err(fault),

@@ -17,10 +17,13 @@ use Rattle.lpis_lineage.specs.Lineage.{last_year}
 use Rattle.lpis_lineage.specs.Order.{IsAscending}
 use Rattle.lpis_lineage.specs.Spans.{span_between}
 use Rattle.lpis_lineage.proofs.Shared.{same-by_order, filter-append, follows-back, first-index, span-more}
-use Rattle.lpis_register_rows.specs.Shapes.{AreLive, IsLive, Shape}
-use Rattle.lpis_register_rows.specs.Content.{StoredText, published, released, with_mark, with_marks, with_text, with_texts, without_texts, marks_from}
+use Rattle.lpis_country_rows.specs.Equality.{same_polygon}
+use Rattle.lpis_points.specs.Chain.{IsEquality}
+use Rattle.lpis_register_rows.specs.Shapes.{AreLive, IsLive, IsSpelled, Shape, ShapesAre, shape_ids, text_edits}
+use Rattle.lpis_register_rows.specs.Content.{StoredText, TextEdit, Deletes, Replaces, Inserts, edited, published, released, with_mark, with_marks, with_replaced, with_text, without_text, marks_from}
 use Rattle.lpis_register_rows.specs.Tells.{IsWriting, Tells}
 use Rattle.lpis_register_rows.proofs.AscendingLemmas.{all-append, all-map}
+use Rattle.lpis_register_rows.proofs.EditLemmas.{shapes-follow}
 use Rattle.lpis_register_rows.proofs.FoldLemmas.{end_among, fresh_span, published-is, rev-moved, rev_onto}
 use Rattle.lpis_register_rows.proofs.SpanRowLemmas.{spans-moved, told-some}
 
@@ -289,42 +292,58 @@ published-tells c h k year live gone fresh rows t (e, k-is, year-is, is) law fit
           subst (λ (rs : List Row). TellsSpans 3 (rev_onto (marks_from (pos e.year) 0 rs) c.marks) (published (pos e.year) last gone fresh rs c) (h ++ e ∷ []))
           is.rows_are (at law fit (omega (arith, small, year-is)))))
 
-texts-made : (ts : List StoredText) (c : Content) → with_texts ts c ≡ record c { texts = rev_onto ts c.texts }
-texts-made [] c = refl
-texts-made (t ∷ ts) c = texts-made ts (with_text c t)
-
 marks-made : (ms : List Mark) (c : Content) → with_marks ms c ≡ record c { marks = rev_onto ms c.marks }
 marks-made [] c = refl
 marks-made (m ∷ ms) c = marks-made ms (with_mark c m)
 
--- marks, and texts in place of any
-released-tells : (c : Content) (h : List Entry) (texts : List StoredText) (marks : List Mark) → TellsSpans 3 (rev_onto marks c.marks) c h → Tells (released texts marks c) h
-released-tells c h texts marks t =
-    subst (λ (d : Content). Tells d h) (sym (texts-made texts (without_texts (with_marks marks c))))
-    (subst (λ (d : Content). Tells (record (without_texts d) { texts = rev_onto texts [] }) h) (sym (marks-made marks c)) (record {
-      kept = t.kept;
-      formats_are = t.formats_are;
-      years_are = t.years_are;
-      spans_are = t.spans_are;
-      lines_are = t.lines_are;
-      marks_are = t.marks_are;
-    }))
+with-texts : (c : Content) (h : List Entry) (texts : List StoredText) → Tells c h → Tells (record c { texts = texts }) h
+with-texts c h texts t = record {
+  kept = t.kept;
+  formats_are = t.formats_are;
+  years_are = t.years_are;
+  spans_are = t.spans_are;
+  lines_are = t.lines_are;
+  marks_are = t.marks_are;
+}
+
+-- tables tell the same of a history, whatever their texts
+edited-tells : (c : Content) (h : List Entry) (edits : List TextEdit) → Tells c h → Tells (edited edits c) h
+edited-tells c h [] t = t
+edited-tells c h (Deletes id ∷ edits) t = edited-tells (without_text c id) h edits (with-texts c h (without_text c id).texts t)
+edited-tells c h (Replaces new ∷ edits) t = edited-tells (with_replaced c new) h edits (with-texts c h (with_replaced c new).texts t)
+edited-tells c h (Inserts new ∷ edits) t = edited-tells (with_text c new) h edits (with-texts c h (with_text c new).texts t)
+
+-- marks, and what becomes of texts
+released-tells : (c : Content) (h : List Entry) (edits : List TextEdit) (marks : List Mark) → TellsSpans 3 (rev_onto marks c.marks) c h → Tells (released edits marks c) h
+released-tells c h edits marks t = edited-tells (with_marks marks c) h edits (subst (λ (d : Content). Tells d h) (sym (marks-made marks c)) (record {
+  kept = t.kept;
+  formats_are = t.formats_are;
+  years_are = t.years_are;
+  spans_are = t.spans_are;
+  lines_are = t.lines_are;
+  marks_are = t.marks_are;
+}))
 
 -- the law
 pub publishing-tells : (c : Content) (h k : List Entry) (year : ℕ) (live gone fresh : List (List ℕ)) (rows : List Row)
-    → Tells c h → Adds h k year live rows → IsLawful k → RowsFit k → year ≤ last_of_years → IsWriting h live gone fresh → (texts : List StoredText)
-    → Tells (released texts (marks_from (pos year) 0 rows) (published (pos year) (pos (last_year h)) gone fresh rows c)) k
-publishing-tells c h k year live gone fresh rows t adds law fit small w texts =
+    → Tells c h → Adds h k year live rows → IsLawful k → RowsFit k → year ≤ last_of_years → IsWriting h live gone fresh → (edits : List TextEdit)
+    → Tells (released edits (marks_from (pos year) 0 rows) (published (pos year) (pos (last_year h)) gone fresh rows c)) k
+publishing-tells c h k year live gone fresh rows t adds law fit small w edits =
     let d : Content = published (pos year) (pos (last_year h)) gone fresh rows c in
     let ms : List Mark = marks_from (pos year) 0 rows in
     let same : c.marks ≡ d.marks = ap (λ (x : Content). x.marks) (sym (published-is (pos year) (pos (last_year h)) gone fresh rows c)) in
-    released-tells d k texts ms (subst (λ (l : List Mark). TellsSpans 3 (rev_onto ms l) d k) same (published-tells c h k year live gone fresh rows t adds law fit small w))
+    released-tells d k edits ms (subst (λ (l : List Mark). TellsSpans 3 (rev_onto ms l) d k) same (published-tells c h k year live gone fresh rows t adds law fit small w))
 
--- after a release the texts kept are those of the release, in some order
-pub released-texts : (c : Content) (texts : List StoredText) (marks : List Mark) → IsPermutation texts (released texts marks c).texts
-released-texts c texts marks =
-    subst (λ (d : Content). IsPermutation texts d.texts) (sym (texts-made texts (without_texts (with_marks marks c))))
-    (subst (λ (l : List StoredText). IsPermutation l (rev_onto texts [])) (append-nil texts) (rev-moved texts []))
+-- after a release the texts keep its shapes
+pub released-texts : IsEquality same_polygon → (c : Content) (kept shapes : List Shape) (year last : ℕ) (gone fresh : List (List ℕ)) (rows : List Row) → ShapesAre c.texts kept
+    → IsAscending (shape_ids shapes) → AllByRecursion IsSpelled shapes
+    → ShapesAre (released (text_edits kept shapes) (marks_from (pos year) 0 rows) (published (pos year) (pos last) gone fresh rows c)).texts shapes
+released-texts tells c kept shapes year last gone fresh rows are up sp =
+    let d : Content = published (pos year) (pos last) gone fresh rows c in
+    let ms : List Mark = marks_from (pos year) 0 rows in
+    let same : c.texts ≡ (with_marks ms d).texts =
+    ap (λ (x : Content). x.texts) (sym (published-is (pos year) (pos last) gone fresh rows c)) ∙ ap (λ (x : Content). x.texts) (sym (marks-made ms d)) in
+    shapes-follow tells (with_marks ms d) kept shapes (subst (λ (l : List StoredText). ShapesAre l kept) same are) up sp
 
 -- what is live in the release is live in the last one
 pub released-live : (h k : List Entry) (year : ℕ) (live : List (List ℕ)) (rows : List Row) → Adds h k year live rows → (shapes : List Shape)

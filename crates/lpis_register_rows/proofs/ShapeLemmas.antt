@@ -17,7 +17,7 @@ use Rattle.lpis_wkt.specs.Answer.{polygon_of}
 use Rattle.lpis_wkt.specs.Text.{PolygonText}
 use Rattle.lpis_wkt.specs.declared.fault.WktCode.{WktCode}
 use Rattle.lpis_register_rows.specs.Content.{StoredText}
-use Rattle.lpis_register_rows.specs.Shapes.{AreLive, IsLive, IsTextOfShape, Shape, ShapesAre, shape_ids, parcel_shape, written_text}
+use Rattle.lpis_register_rows.specs.Shapes.{AreLive, IsLive, IsTextOfShape, Shape, ShapesAre, shape_ids, parcel_shape}
 use Rattle.lpis_register_rows.proofs.AscendingLemmas.{Ascends, all-both, all-moved, same-ascending}
 use Rattle.lpis_register_rows.proofs.KnownLemmas.{take-whole}
 use Rattle.lpis_register_rows.proofs.MarkLemmas.{all-unmap}
@@ -31,33 +31,6 @@ zip-push R [] [] x y z r = (r, tt)
 zip-push R [] (b ∷ ys) x y z r = absurd z
 zip-push R (a ∷ xs) [] x y z r = absurd z
 zip-push R (a ∷ xs) (b ∷ ys) x y z r = (z.0, zip-push R xs ys x y z.1 r)
-
--- they are related so, too, as each two that are related are
-zip-weaker : {A B : Type 0} (R Q : A → B → Type 0) (xs : List A) (ys : List B) → ((x : A) (y : B) → R x y → Q x y) → AllZip R xs ys → AllZip Q xs ys
-zip-weaker R Q [] [] f z = tt
-zip-weaker R Q [] (y ∷ ys) f z = absurd z
-zip-weaker R Q (x ∷ xs) [] f z = absurd z
-zip-weaker R Q (x ∷ xs) (y ∷ ys) f z = (f x y z.0, zip-weaker R Q xs ys f z.1)
-
--- the first is made of the second, where each of its elements is of the one beside it
-zip-made : {A B : Type 0} (f : B → A) (xs : List A) (ys : List B) → AllZip (λ x y. x ≡ f y) xs ys → xs ≡ map f ys
-zip-made f [] [] z = refl
-zip-made f [] (y ∷ ys) z = absurd z
-zip-made f (x ∷ xs) [] z = absurd z
-zip-made f (x ∷ xs) (y ∷ ys) z = ap₂ (λ p ps. p ∷ ps) z.0 (zip-made f xs ys z.1)
-
--- a text that spells a shape, as it is written
-abbrev pub IsWrittenOf : StoredText → Shape → Type 0
-IsWrittenOf text shape = IsTextOfShape text shape × (text ≡ written_text shape)
-
--- where all shapes are written, the texts spell them, and are those that are written for them
-pub all-written : (texts : List StoredText) (shapes : List Shape) (i : ℕ) → length shapes ≤ i → AllZip IsWrittenOf texts (take i shapes)
-    → AllZip IsTextOfShape texts shapes × (texts ≡ map written_text shapes)
-all-written texts shapes i le z =
-    let whole = subst (AllZip IsWrittenOf texts) (take-whole shapes i le) z in (
-      zip-weaker IsWrittenOf IsTextOfShape texts shapes (λ text shape is. is.0) whole,
-      zip-made written_text texts shapes (zip-weaker IsWrittenOf (λ text shape. text ≡ written_text shape) texts shapes (λ text shape is. is.1) whole),
-    )
 
 -- what stands beside the element at a position
 pub zip-at : {A B : Type 0} (R : A → B → Type 0) (P : B → Type 0) (xs : List A) (ys : List B) (i : ℕ) (x : A) → AllZip R xs ys → AllByRecursion P ys → i < length xs → x ≡ get_or xs i x
@@ -123,13 +96,15 @@ pub ascend-pair : (shapes : List Shape) (before n : ℕ) (a b : Shape) → befor
 ascend-pair shapes before n a b e lt at here up = sym (pair-at shapes before n a b e lt at here)
     ∙ Less-from_sorted (slice_cmp nat_cmp) (shape_ids shapes) before n [] up (omega (arith, e)) (let l = ids-length shapes in omega (arith, l, lt))
 
-abbrev Below : Shape → Shape → Type 0
+-- the one is before the other by its identifier
+abbrev pub Below : Shape → Shape → Type 0
 Below a b = slice_cmp nat_cmp a.0 b.0 ≡ Less
 
 below-alone : (a b : Shape) → Below a b → Below b a → ⊥
 below-alone a b r s = let e = sym r ∙ nat_list_cmp_total.antisymm a.0 b.0 ∙ ap ordering_reverse s in cc
 
-ascending : (shapes : List Shape) → IsAscending (shape_ids shapes) → Ascends Below shapes
+-- shapes whose identifiers ascend do so one before all others
+pub ascending : (shapes : List Shape) → IsAscending (shape_ids shapes) → Ascends Below shapes
 ascending [] a = tt
 ascending (s ∷ ss) a = (
   all-unmap (λ (id : List ℕ). slice_cmp nat_cmp s.0 id ≡ Less) (λ (x : Shape). x.0) ss (sorted_head (slice_cmp nat_cmp) s.0 (shape_ids ss) a),

@@ -1,38 +1,48 @@
 //! Laws of the definitions: functions that do nothing, and whose contracts say them.
 
 ghost use Rattle.std.specs.Prelude.{◌≡◌, ◌↔◌, ◌≤◌, ℕ, List, [], pos, IsPermutation};
+ghost use Rattle.std.specs.List.{AllByRecursion};
 ghost use Rattle.lpis_lineage.specs.Accepts.{Adds};
 ghost use Rattle.lpis_lineage.specs.Changes.{Changes, IsChange};
 ghost use Rattle.lpis_lineage.specs.Lawful.{IsLawful, RowsFit};
 ghost use Rattle.lpis_lineage.specs.Lineage.{last_live, last_year};
+ghost use Rattle.lpis_lineage.specs.Order.{IsAscending};
 ghost use Rattle.lpis_lineage.specs.declared.row.Entry.{Entry};
 ghost use Rattle.lpis_lineage.specs.declared.row.Row.{Row};
-ghost use Rattle.lpis_register_rows.specs.Content.{Content, Mark, StoredSpan, StoredText, moved};
+ghost use Rattle.lpis_register_rows.specs.Content.{Content, StoredSpan, StoredText, TextEdit};
+ghost use Rattle.lpis_register_rows.specs.Content.{moved};
 ghost use Rattle.lpis_register_rows.specs.Content.{marks_from, no_content, published, raised};
 ghost use Rattle.lpis_register_rows.specs.Content.{released, without_live, without_texts};
-ghost use Rattle.lpis_register_rows.specs.Shapes.{AreLive, Shape, ShapesAre};
+ghost use Rattle.lpis_register_rows.specs.Shapes.{AreLive, IsSpelled, Shape, ShapesAre};
+ghost use Rattle.lpis_register_rows.specs.Shapes.{shape_ids, text_edits};
 ghost use Rattle.lpis_register_rows.specs.Tells.{AreFresh, IsSameContent, IsSameHistory, IsWriting};
 ghost use Rattle.lpis_register_rows.specs.Tells.{TablesSay, SpansTell, Tells, TellsLive};
 ghost use Rattle.lpis_register_rows.specs.Tells.{TellsSpans};
 ghost use Rattle.lpis_register_rows.specs.Tells.{last_of_years};
 ghost use Rattle.lpis_register_rows.specs.declared.version.Version.{Version};
 
+use lpis_country_rows::laws::tests_tell_equal_rows;
 use lpis_wkt::laws::function_of_text;
 
 /// Where tables say a history, they say that history with a release more after what publishing it
-/// writes, and keep its texts.
+/// writes; and where they keep shapes, they keep those of the release in their place.
 pub fn publishing_adds_the_release()
     ensures tells { (c : Content) (h k : List Entry) (year : ℕ) (live gone fresh : List (List ℕ))
         (rows : List Row) → Tells c h → Adds h k year live rows → IsLawful k → RowsFit k
-        → year ≤ last_of_years → IsWriting h live gone fresh → (texts : List StoredText)
-        → Tells (released texts (marks_from (pos year) 0 rows)
+        → year ≤ last_of_years → IsWriting h live gone fresh → (edits : List TextEdit)
+        → Tells (released edits (marks_from (pos year) 0 rows)
         (published (pos year) (pos (last_year h)) gone fresh rows c)) k }
-    ensures texts { (c : Content) (texts : List StoredText) (marks : List Mark)
-        → IsPermutation texts (released texts marks c).texts }
+    ensures texts { (c : Content) (kept shapes : List Shape) (year last : ℕ)
+        (gone fresh : List (List ℕ)) (rows : List Row) → ShapesAre c.texts kept
+        → IsAscending (shape_ids shapes) → AllByRecursion IsSpelled shapes
+        → ShapesAre (released (text_edits kept shapes) (marks_from (pos year) 0 rows)
+        (published (pos year) (pos last) gone fresh rows c)).texts shapes }
     ensures live { (h k : List Entry) (year : ℕ) (live : List (List ℕ)) (rows : List Row)
         → Adds h k year live rows → (shapes : List Shape) → AreLive live shapes
         → AreLive (last_live k) shapes }
-{}
+{
+    tests_tell_equal_rows();
+}
 
 /// Tables say one history.
 pub fn tables_say_one_history()

@@ -2,7 +2,7 @@
 
 ghost use Rattle.std.specs.Prelude.{◌≡◌, ◌↔◌, true, List, map, IfErr, IfOk, IsPermutation, IsTrue};
 ghost use Rattle.std.specs.Cmp.Lexicographic.{slice_cmp};
-ghost use Rattle.std.specs.List.{AllZip};
+ghost use Rattle.std.specs.List.{AllByRecursion, AllZip};
 ghost use Rattle.std.specs.List.Sorted.{IsSortedByKey};
 ghost use Rattle.std.specs.Ordering.{nat_cmp};
 ghost use Rattle.lpis_covers.specs.Ids.{is_id};
@@ -12,7 +12,8 @@ ghost use Rattle.lpis_parcels.specs.Release.{parcel_ids};
 ghost use Rattle.lpis_rings.specs.declared.polygon.Member.{Member};
 ghost use Rattle.lpis_wkt.specs.Text.{PolygonText};
 ghost use Rattle.lpis_register_rows.specs.declared.fault.RowsFault.TheVariants.{Unlawful};
-ghost use Rattle.lpis_register_rows.specs.Shapes.{AreLive, AreShapesOf, IsLive, IsTextOfShape};
+ghost use Rattle.lpis_register_rows.specs.Shapes.{AreLive, AreShapesOf, IsLive, IsSpelled};
+ghost use Rattle.lpis_register_rows.specs.Shapes.{IsTextOfShape};
 ghost use Rattle.lpis_register_rows.specs.Shapes.{Shape};
 ghost use Rattle.lpis_register_rows.specs.Shapes.{ShapesAre, TextsStand, shape_ids};
 ghost use Rattle.lpis_register_rows.specs.Shapes.{parcel_shape as the_shape_of};
@@ -20,6 +21,7 @@ ghost use Rattle.lpis_register_rows.specs.Shapes.{parcel_shape as the_shape_of};
 use crate::fault::RowsFault;
 use crate::known::read_id;
 use crate::rows::TextRow;
+use crate::spelling::has_text;
 use crate::writing::copy_of;
 use lpis_covers::Id;
 use lpis_lineage::History;
@@ -126,7 +128,9 @@ pub fn shapes_of(
 fn copied_shape(alloc: Global, parcel: &Parcel) -> Result<(Id, Polygon), AllocError>
     ensures same { IfOk result (λ shape. shape ≡ the_shape_of parcel.now) }
     ensures id { IfOk result (λ shape. is_id shape.0 ≡ true) }
+    ensures spelled { IfOk result IsSpelled }
 {
+    has_text(&parcel.polygon);
     let id = copy_of(&parcel.id)?;
     let polygon = parcel.polygon.copy(alloc)?;
     Ok((id, polygon))
@@ -136,6 +140,7 @@ fn copied_shape(alloc: Global, parcel: &Parcel) -> Result<(Id, Polygon), AllocEr
 fn copied_shapes(alloc: Global, parcels: &[Parcel]) -> Result<Vec<(Id, Polygon)>, AllocError>
     ensures same { IfOk result (λ v. v.items ≡ map the_shape_of parcels.now) }
     ensures live { IfOk result (λ v. AreLive (parcel_ids parcels.now) v.items) }
+    ensures spelled { IfOk result (λ v. AllByRecursion IsSpelled v.items) }
 {
     let mut shapes = Vec::with_capacity(alloc, parcels.len())?;
     for parcel in parcels {
@@ -149,6 +154,7 @@ fn copied_shapes(alloc: Global, parcels: &[Parcel]) -> Result<Vec<(Id, Polygon)>
 pub fn shapes_in(alloc: Global, release: &Release) -> Result<Vec<(Id, Polygon)>, AllocError>
     ensures are { IfOk result (λ v. AreShapesOf release.now.parcels v.items) }
     ensures live { IfOk result (λ v. AreLive (parcel_ids release.now.parcels) v.items) }
+    ensures spelled { IfOk result (λ v. AllByRecursion IsSpelled v.items) }
 {
     let mut shapes = copied_shapes(alloc, release.parcels())?;
     sort_shapes(&mut shapes);

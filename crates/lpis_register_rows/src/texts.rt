@@ -1,38 +1,85 @@
-//! The texts that keep shapes.
+//! What becomes of the texts that keep shapes, when those of a release follow.
 
-ghost use Rattle.std.specs.Prelude.{◌≡◌, IfOk, map};
-ghost use Rattle.std.specs.List.{AllZip};
-ghost use Rattle.lpis_lineage.specs.Order.{IsAscending};
-ghost use Rattle.lpis_register_rows.specs.Shapes.{IsTextOfShape, ShapesAre, shape_ids};
-ghost use Rattle.lpis_register_rows.specs.Shapes.{written_text};
+ghost use Rattle.std.specs.Prelude.{◌≡◌, ◌+◌, ◌<◌, ◌++◌, [], MatchOption, length};
+ghost use Rattle.lpis_register_rows.specs.Shapes.{edits_of, text_edits};
+ghost use Rattle.lpis_register_rows.specs.Editing.{edits_in};
 
-use crate::rows::TextRow;
+use lpis_country_rows::is_same_polygon;
 use lpis_covers::Id;
 use lpis_rings::Polygon;
-use lpis_wkt_writer::write;
-use std::alloc::{AllocError, Global};
+use std::cmp::Ordering;
 
-/// The text that keeps a shape.
-fn text_of(alloc: Global, shape: &(Id, Polygon)) -> Result<TextRow, AllocError>
-    ensures spells { IfOk result (λ text. IsTextOfShape text shape.now) }
-    ensures written { IfOk result (λ text. text ≡ written_text shape.now) }
-{
-    let id = String::from_str(alloc, shape.0.as_str())?;
-    let wkt = write(alloc, &shape.1)?;
-    Ok(TextRow { id, wkt })
+/// What becomes of a text.
+#[derive(Clone, Copy)]
+pub enum Edit<'a> {
+    /// The one of this identifier is deleted.
+    Deletes(&'a Id),
+    /// That of this shape takes the place of the one of its identifier.
+    Replaces(&'a (Id, Polygon)),
+    /// That of this shape is inserted.
+    Inserts(&'a (Id, Polygon)),
 }
 
-/// The texts that keep these shapes, in their order.
-pub fn texts_of(alloc: Global, shapes: &[(Id, Polygon)]) -> Result<Vec<TextRow>, AllocError>
-    ensures spelled { IfOk result (λ v. AllZip IsTextOfShape v.items shapes.now) }
-    ensures written { IfOk result (λ v. v.items ≡ map written_text shapes.now) }
-    ensures are { IsAscending (shape_ids shapes.now)
-        → IfOk result (λ v. ShapesAre v.items shapes.now) }
+/// Shapes that are kept, and those that follow them, both ascending by identifier.
+#[derive(Clone, Copy)]
+pub struct ShapeChange<'a> {
+    /// Those that are kept.
+    pub kept: &'a [(Id, Polygon)],
+    /// Those that follow.
+    pub shapes: &'a [(Id, Polygon)],
+}
+
+/// What becomes of the text of a kept shape where one of its identifier follows: nothing where both
+/// have the same points.
+fn edit_of<'a>(kept: &(Id, Polygon), shape: &'a (Id, Polygon)) -> Option<Edit<'a>>
+    ensures { edits_in result ≡ edits_of kept.now shape.now }
 {
-    let mut texts = Vec::with_capacity(alloc, shapes.len())?;
-    for shape in shapes {
-        let text = text_of(alloc, shape)?;
-        texts.push(text)?;
+    if is_same_polygon(&kept.1, &shape.1) {
+        None
+    } else {
+        Some(Edit::Replaces(shape))
     }
-    Ok(texts)
+}
+
+/// The first step through both lists: what becomes of a text, if anything, and what is left of the
+/// lists then; `None` at their end.
+pub fn next_edit(change: ShapeChange<'_>) -> Option<(Option<Edit<'_>>, ShapeChange<'_>)>
+    ensures edits { MatchOption result
+        (text_edits change.entry.kept.now change.entry.shapes.now ≡ [])
+        (λ step. text_edits change.entry.kept.now change.entry.shapes.now
+        ≡ edits_in step.0 ++ text_edits step.1.kept.now step.1.shapes.now) }
+    ensures shorter { MatchOption result (Unit {0}) (λ step.
+        length step.1.kept.now + length step.1.shapes.now
+        < length change.entry.kept.now + length change.entry.shapes.now) }
+{
+    let ShapeChange { kept, shapes } = change;
+    match (kept.split_first(), shapes.split_first()) {
+        (None, None) => None,
+        (Some((first, kept)), None) => {
+            Some((Some(Edit::Deletes(&first.0)), ShapeChange { kept, shapes }))
+        }
+        (None, Some((shape, shapes))) => {
+            Some((Some(Edit::Inserts(shape)), ShapeChange { kept, shapes }))
+        }
+        (Some((first, others)), Some((shape, more))) => match first.0.cmp(&shape.0) {
+            Ordering::Less => {
+                let rest = ShapeChange {
+                    kept: others,
+                    shapes,
+                };
+                Some((Some(Edit::Deletes(&first.0)), rest))
+            }
+            Ordering::Equal => {
+                let rest = ShapeChange {
+                    kept: others,
+                    shapes: more,
+                };
+                Some((edit_of(first, shape), rest))
+            }
+            Ordering::Greater => {
+                let rest = ShapeChange { kept, shapes: more };
+                Some((Some(Edit::Inserts(shape)), rest))
+            }
+        },
+    }
 }

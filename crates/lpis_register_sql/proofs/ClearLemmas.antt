@@ -1,9 +1,9 @@
 -- What DELETE with no WHERE makes of a table.
-use Rattle.std.proofs.Common.{◌≡◌, ℕ, ℤ, List, [], ◌∷◌, map, slice_get, true, false, not, Some, None, Ok, refl, sym, ap, subst, ◌∙◌, IsPermutation, Option}
+use Rattle.std.proofs.Common.{◌≡◌, ℕ, ℤ, List, [], ◌∷◌, map, slice_get, true, false, not, Some, None, Ok, refl, sym, ap, subst, ◌∙◌, IsPermutation}
 use Rattle.lpis_register_rows.specs.Content.{without_live}
-use Rattle.lpis_register_sql.proofs.Common.{flat_map_single, IsPermutation-refl, IsPermutation-map, Null, Row, Table, Schema, overlay, IsAnswer, Output, output, edit_of, Given, Trees, Tally, Does}
+use Rattle.lpis_register_sql.proofs.Common.{flat_map_single, IsPermutation-refl, IsPermutation-map, Null, Row, Table, overlay, IsAnswer, Output, output, Does}
 use Rattle.lpis_register_sql.proofs.Common.{Database}
-use Rattle.lpis_register_sql.proofs.Common.{Mode, State, mode_of, ExecutesInside, understood, Program, ids_of, statement_of, runs_as, Content}
+use Rattle.lpis_register_sql.proofs.Common.{State, mode_of, ExecutesInside, understood, ids_of, statement_of, runs_as, Content}
 use Rattle.lpis_register_rows.specs.Content.{without_texts}
 use Rattle.lpis_register_rows.specs.Content.{without_spans}
 use Rattle.lpis_register_sql.proofs.Common.{span_table, text_table, mark_table}
@@ -13,36 +13,14 @@ use Rattle.lpis_register_sql.specs.Tables.{live_table}
 use Rattle.lpis_register_sql.proofs.Common.{mark_row, Inside}
 use Rattle.sqlite.specs.Command.TheVariants.{Delete}
 use Rattle.sqlite.specs.Edit.{without_all}
-use Rattle.sqlite.specs.Does.{AtPlace, OnRows}
 use Rattle.sqlite.specs.Effect.{IsDatabase}
-use Rattle.sqlite.specs.Rows.{Written, Edited, Task}
 use Rattle.sqlite.specs.State.{Executes}
-use Rattle.lpis_register_sql.specs.private.Texts.{clear_span, clear_live, clear_mark}
-use Rattle.lpis_register_sql.specs.Statements.{clear_text}
+use Rattle.lpis_register_sql.specs.private.Texts.{clear_span, clear_live, clear_mark, clear_text}
 use Rattle.lpis_register_sql.proofs.MeaningLemmas.{Says, whole, ids_query, clear_span_means, clear_live_means, clear_text_means, clear_mark_means}
 use Rattle.lpis_register_sql.proofs.UpdateLemmas.{without_is, filter_same, gone_are, key_of}
 use Rattle.lpis_register_sql.proofs.PartLemmas.{KeepsAll, own_tree, spans_changed, texts_changed, marks_changed, live_changed}
 use Rattle.lpis_register_sql.proofs.InsertLemmas.{inside_next, span_stands, text_stands, mark_stands}
-use Rattle.lpis_register_sql.proofs.WriteLemmas.{Finding, did_not_stop, same_value, step_of, Kept, kept_of}
-
--- DELETE is one query and one step
-deletes : (limit : Option ℕ) (mode : Mode) (params : Row) (schema : Schema) (trees : Trees) (text : List ℕ) (index : ℕ) (table : Table) (q : Program) (tally : Tally) (after : Database)
-    → slice_get schema.tables index ≡ Some table
-    → Does limit mode params (record { schema = schema; trees = trees }) text None (Delete index q) (Ok (tally, after))
-    → Finding schema mode.keys trees q params (λ rows. edit_of trees table (ids_of rows) Given 0 []) after
-deletes limit mode params schema trees text index table q tally after at h =
-    let task : Table → Task = λ t. record { limit = limit; keys = mode.keys; schema = schema; table = t; params = params } in
-    let done = did_not_stop (subst (λ t. AtPlace (λ t. OnRows (task t) mode None (Delete index q) trees) t (Ok (tally, after))) at h) in
-    let now = ap (λ (p : Tally × Database). p.1) (same_value (did_not_stop (did_not_stop done.2).2).2) in
-    let given = did_not_stop done.1 in
-    let written = did_not_stop given.2 in
-    let trees_are : done.0.trees ≡ written.0 = ap (λ (it : Written). it.trees) (same_value written.2) in
-    record {
-      found = given.0;
-      answer = given.1;
-      schema_is = ap (λ (d : Database). d.schema) now;
-      edited = subst (λ (t : Trees). Edited schema mode.keys trees (edit_of trees table (ids_of given.0) Given 0 []) (Ok t)) (sym (ap (λ (d : Database). d.trees) now ∙ trees_are)) written.1;
-    }
+use Rattle.lpis_register_sql.proofs.WriteLemmas.{deletes, step_of, Kept, kept_of}
 
 keys_out : (tree : ℕ) (rows : List Row) → map key_of (map (λ (o : Output). o.1) (map (output (ids_query tree)) (map (λ r. [] ∷ r ∷ []) rows))) ≡ map key_of rows
 keys_out tree [] = refl

@@ -11,7 +11,7 @@ pub use Rattle.lpis_register_sql.specs.private.Texts.{read_format, read_line_tex
 pub use Rattle.sqlite.proofs.Callers.{runs_as, statement_of}
 pub use Rattle.sqlite.specs.Command.TheVariants.{Update}
 pub use Rattle.sqlite.specs.Compile.{table_defined_by}
-pub use Rattle.sqlite.specs.Does.{Does, Tally}
+pub use Rattle.sqlite.specs.Does.{Does}
 pub use Rattle.sqlite.specs.Edit.{edit_of, is_taken}
 pub use Rattle.sqlite.specs.Effect.{Database}
 pub use Rattle.sqlite.specs.Held.{state}
@@ -27,11 +27,9 @@ pub use Rattle.sqlite.specs.Table.{Table}
 pub use Rattle.sqlite.specs.Term.{Term}
 pub use Rattle.sqlite.specs.Tree.{Trees, put_row, rowid}
 pub use Rattle.sqlite.specs.declared.error.Error.{Error}
-pub use Rattle.sqlite.specs.declared.run.Mode.{Mode}
 pub use Rattle.sqlite.specs.declared.types.Value.TheVariants.{Int, Null}
 pub use Rattle.sqlite_rules.specs.Calls.{ids_of}
 pub use Rattle.sqlite_rules.specs.Lists.{Has}
-pub use Rattle.sqlite_schema.specs.declared.program.Program.{Program}
 pub use Rattle.std.proofs.lemmas.Bool.{and_parts, cases_Bool, not-true}
 pub use Rattle.std.proofs.lemmas.Bool.Decides.{nat_tests}
 pub use Rattle.std.proofs.lemmas.List.Concat.{flat_map_single}

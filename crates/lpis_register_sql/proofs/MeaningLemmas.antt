@@ -1,12 +1,13 @@
 -- What the texts mean, in each order of the tables.
 use Rattle.std.proofs.Common.{◌≡◌, ℕ, Ok, refl, codes, [], ◌∷◌, None, true, false, pos, negsuc, List, sym, true≢false}
-use Rattle.lpis_register_sql.proofs.Common.{Null, Int, table_defined_by, Term, Program, Update, understood, statement_of, Schema, Table, format_table, release_table, span_table}
+use Rattle.lpis_register_sql.proofs.Common.{Null, Int, table_defined_by, Term, Update, understood, statement_of, Schema, Table, format_table, release_table, span_table}
 use Rattle.sqlite.specs.Command.TheVariants.{CreateTable}
 use Rattle.lpis_register_sql.proofs.Common.{row_table}
 use Rattle.lpis_register_sql.proofs.Common.{Layout, Origin, New, First, Moved, Whole, LessMarks, LessTexts, schema_of, has_spans, has_live, has_texts, has_marks, span_tree, text_tree, mark_tree}
 use Rattle.lpis_register_sql.proofs.Common.{origin_of, no_schema, span_place}
 use Rattle.lpis_register_sql.proofs.Common.{text_place, mark_place, one_table, two_tables, three_tables, read_format, read_release, read_span, read_line_text, read_live, read_text, read_mark}
 use Rattle.lpis_register_sql.proofs.Common.{text_table, mark_table}
+use Rattle.sqlite_schema.specs.declared.program.Program.{Program}
 use Rattle.sqlite.specs.Term.{lit, col, op2}
 use Rattle.sqlite_sql.specs.declared.ops.BinaryOp.TheVariants.{Compare}
 use Rattle.sqlite_sql.specs.declared.ops.CompareOp.TheVariants.{Eq}
@@ -22,8 +23,8 @@ use Rattle.sqlite.proofs.Callers.{IsPlain, command_of}
 use Rattle.sqlite_tied.specs.Compute.{everything}
 use Rattle.lpis_register_sql.specs.private.Texts.{make_format, make_release, make_span, make_row, insert_format, clear_span, insert_whole_span}
 use Rattle.lpis_register_sql.specs.Statements.{insert_release, insert_span, insert_line, end_span}
-use Rattle.lpis_register_sql.specs.private.Texts.{clear_live, set_version, make_text, make_mark, clear_mark}
-use Rattle.lpis_register_sql.specs.Statements.{insert_text, clear_text, insert_mark}
+use Rattle.lpis_register_sql.specs.private.Texts.{clear_live, set_version, make_text, make_mark, clear_mark, clear_text}
+use Rattle.lpis_register_sql.specs.Statements.{insert_text, replace_text, delete_text, insert_mark}
 
 -- a key of an ORDER BY: texts compared as bytes, the least first
 abbrev pub ascending : Key
@@ -78,6 +79,14 @@ ids_query tree = from_all tree [] (col 1 0 ∷ []) []
 -- for each span whose identifier is the second parameter: its rowid, and its row with the first one as last year
 abbrev pub ends_query : ℕ → Query
 ends_query tree = from_all tree (op2 (Compare Eq Binary) (col 1 1) (col 0 1) ∷ []) (col 1 0 ∷ col 1 0 ∷ col 1 1 ∷ col 1 2 ∷ col 0 0 ∷ []) []
+
+-- for each text whose identifier is the second parameter: its rowid, and its row with the first one as text
+abbrev pub replaces_query : ℕ → Query
+replaces_query tree = from_all tree (op2 (Compare Eq Binary) (col 1 1) (col 0 1) ∷ []) (col 1 0 ∷ col 1 0 ∷ col 1 1 ∷ col 0 0 ∷ []) []
+
+-- the rowid of each text whose identifier is the parameter
+abbrev pub deletes_query : ℕ → Query
+deletes_query tree = from_all tree (op2 (Compare Eq Binary) (col 1 1) (col 0 0) ∷ []) (col 1 0 ∷ []) []
 
 -- for each row of `lpis_format`: its rowid, and the row with version 3
 abbrev pub version_query : Query
@@ -178,6 +187,16 @@ insert_text_means = in_each _ (refl, (refl, refl)) (refl, (refl, refl))
 pub clear_text_means : (o : Origin) → Says o clear_text (Delete (text_place o) (whole (ids_query (text_tree o))))
 unfolding understood everything
 clear_text_means = in_each _ (refl, (refl, refl)) (refl, (refl, refl))
+
+-- the text that replaces one of a shape is an UPDATE of `lpis_text` by the query that finds the rows with its identifier
+pub replace_text_means : (o : Origin) → Says o replace_text (Update (text_place o) (whole (replaces_query (text_tree o))))
+unfolding understood everything
+replace_text_means = in_each _ (refl, (refl, refl)) (refl, (refl, refl))
+
+-- the text that deletes one of a shape is a DELETE of the rowids with its identifier
+pub delete_text_means : (o : Origin) → Says o delete_text (Delete (text_place o) (whole (deletes_query (text_tree o))))
+unfolding understood everything
+delete_text_means = in_each _ (refl, (refl, refl)) (refl, (refl, refl))
 
 -- the text that inserts a mark is an INSERT of its terms at the place of `lpis_mark`
 pub insert_mark_means : (o : Origin) → Says o insert_mark (Insert (mark_place o) (Values pair_terms 3))

@@ -1,10 +1,12 @@
 -- What the statements that make the tables do.
 use Rattle.std.proofs.Common.{◌≡◌, ℕ, pos, List, [], ◌∷◌, ◌++◌, map, drop, Bool, true, false, None, Ok, Result, refl, sym, ap, subst, ◌∙◌, IsPermutation, Option, MatchBool, true≢false}
-use Rattle.lpis_register_sql.proofs.Common.{IsPermutation-refl, Row, Table, Schema, table_defined_by, Tally, Does, Trees, Mode, Error, Database, State, mode_of, ExecutesInside, runs_as}
+use Rattle.lpis_register_sql.proofs.Common.{IsPermutation-refl, Row, Table, Schema, table_defined_by, Does, Trees, Error, Database, State, mode_of, ExecutesInside, runs_as}
 use Rattle.sqlite.specs.Command.TheVariants.{CreateTable}
 use Rattle.lpis_register_sql.proofs.Common.{format_table, span_table, text_table, mark_table, Layout, Origin, New, Moved, First, LessTexts, LessMarks, Whole, schema_of, origin_of, is_moved, has_spans}
 use Rattle.lpis_register_sql.proofs.Common.{has_live, has_texts, has_marks}
 use Rattle.lpis_register_sql.proofs.Common.{span_tree, text_tree, mark_tree, Content, Format, format_row, year_row, span_row, line_row, live_row, text_row, mark_row, Inside}
+use Rattle.sqlite.specs.Does.{Tally}
+use Rattle.sqlite.specs.declared.run.Mode.{Mode}
 use Rattle.lpis_register_sql.specs.Holding.{Keeps}
 use Rattle.std.specs.List.{AllByRecursion}
 use Rattle.sqlite.specs.Change.{created, next_tree, KeepsRows}

@@ -90,7 +90,7 @@ faults_kept : (a b c : ℕ) → MoreFaults a b → b ≤ c → MoreFaults a c
 faults_kept a b c more low = omega arith
 
 -- a call that makes these statements in an open transaction fails, and says why
-abbrev Halts : {S : Type 0} → store.Ghosts S → List BoundStatement → Held S → Held S → Error → Type 0
+abbrev pub Halts : {S : Type 0} → store.Ghosts S → List BoundStatement → Held S → Held S → Error → Type 0
 Halts g xs a b e = HasCleanDisk (state g b) → IsTrue (state g a).is_open → IsTrue a.in_transaction → StopsWithin g xs a b e
 
 module _ {S : Type 0} (g : store.Ghosts S) where

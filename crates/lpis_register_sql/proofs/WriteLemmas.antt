@@ -2,10 +2,13 @@
 use Rattle.std.proofs.Common.{◌≡◌, ◌≢◌, ◌⊎◌, inl, inr, ℕ, ℤ, List, [], ◌∷◌, length, slice_get, Bool, true, false, cond, Some, None, Ok, Err, Result, refl, sym, ap, subst, ◌∙◌, IsPermutation, is_eq}
 use Rattle.std.proofs.lemmas.Bool.{or_parts}
 use Rattle.std.proofs.Common.{true≢false, if◌then◌else◌, ◌/◌, ◌==◌, Option, MatchBool, flat_map, filter_map, is_lt, int_cmp}
-use Rattle.lpis_register_sql.proofs.Common.{and_parts, not-true, Null, Int, Row, value_cmp, Table, Update, edit_of, is_taken, ids_of, Has, Program, Given, Tally, Does, Database, Mode, Schema, Term}
+use Rattle.lpis_register_sql.proofs.Common.{and_parts, not-true, Null, Int, Row, value_cmp, Table, Update, edit_of, is_taken, ids_of, Has, Given, Does, Database, Schema, Term}
 use Rattle.lpis_register_sql.proofs.Common.{Trees}
 use Rattle.lpis_register_sql.proofs.Common.{rowid, put_row, Error, understood, State, mode_of, statement_of, runs_as, Origin, New, Moved, Whole, schema_of, is_moved, span_tree, text_tree, mark_tree}
 use Rattle.lpis_register_sql.proofs.Common.{AreKeyed}
+use Rattle.sqlite_schema.specs.declared.program.Program.{Program}
+use Rattle.sqlite.specs.Does.{Tally}
+use Rattle.sqlite.specs.declared.run.Mode.{Mode}
 use Rattle.std.specs.List.{AllByRecursion}
 use Rattle.std.proofs.lemmas.Cmp.{tied_itself}
 use Rattle.sqlite_value.proofs.OrderLemmas.{value_cmp_total}
@@ -13,7 +16,7 @@ use Rattle.sqlite.specs.declared.types.Value.{Value}
 use Rattle.sqlite.specs.Ops.{unary}
 use Rattle.sqlite.specs.Kind.TheVariants.{Integer}
 use Rattle.sqlite.specs.Source.TheVariants.{Values}
-use Rattle.sqlite.specs.Command.TheVariants.{Insert}
+use Rattle.sqlite.specs.Command.TheVariants.{Delete, Insert}
 use Rattle.sqlite.specs.Edit.{Edit, Applies, are_fresh, put_all, taken_by}
 use Rattle.sqlite_rules.specs.Action.{works, work_by, pairs, deed_for}
 use Rattle.sqlite_rules.proofs.TableLemmas.{put_has}
@@ -112,6 +115,25 @@ updates limit mode params schema trees text index table q tally after at h =
       answer = given.1;
       schema_is = ap (λ (d : Database). d.schema) now;
       edited = subst (λ (t : Trees). Edited schema mode.keys trees (edit_of trees table (ids_of given.0) Given 1 given.0) (Ok t)) (sym (ap (λ (d : Database). d.trees) now ∙ trees_are)) written.1;
+    }
+
+-- DELETE is one query and one step
+pub deletes : (limit : Option ℕ) (mode : Mode) (params : Row) (schema : Schema) (trees : Trees) (text : List ℕ) (index : ℕ) (table : Table) (q : Program) (tally : Tally) (after : Database)
+    → slice_get schema.tables index ≡ Some table
+    → Does limit mode params (record { schema = schema; trees = trees }) text None (Delete index q) (Ok (tally, after))
+    → Finding schema mode.keys trees q params (λ rows. edit_of trees table (ids_of rows) Given 0 []) after
+deletes limit mode params schema trees text index table q tally after at h =
+    let task : Table → Task = λ t. record { limit = limit; keys = mode.keys; schema = schema; table = t; params = params } in
+    let done = did_not_stop (subst (λ t. AtPlace (λ t. OnRows (task t) mode None (Delete index q) trees) t (Ok (tally, after))) at h) in
+    let now = ap (λ (p : Tally × Database). p.1) (same_value (did_not_stop (did_not_stop done.2).2).2) in
+    let given = did_not_stop done.1 in
+    let written = did_not_stop given.2 in
+    let trees_are : done.0.trees ≡ written.0 = ap (λ (it : Written). it.trees) (same_value written.2) in
+    record {
+      found = given.0;
+      answer = given.1;
+      schema_is = ap (λ (d : Database). d.schema) now;
+      edited = subst (λ (t : Trees). Edited schema mode.keys trees (edit_of trees table (ids_of given.0) Given 0 []) (Ok t)) (sym (ap (λ (d : Database). d.trees) now ∙ trees_are)) written.1;
     }
 
 -- the trees that a step on one table leaves

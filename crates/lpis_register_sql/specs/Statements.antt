@@ -16,8 +16,11 @@ end_span = codes "UPDATE lpis_span SET until = ?1 WHERE id = ?2"
 abbrev pub insert_text : List ℕ
 insert_text = codes "INSERT INTO lpis_text (id, wkt) VALUES (?1, ?2)"
 
-abbrev pub clear_text : List ℕ
-clear_text = codes "DELETE FROM lpis_text"
+abbrev pub replace_text : List ℕ
+replace_text = codes "UPDATE lpis_text SET wkt = ?1 WHERE id = ?2"
+
+abbrev pub delete_text : List ℕ
+delete_text = codes "DELETE FROM lpis_text WHERE id = ?1"
 
 abbrev pub insert_mark : List ℕ
 insert_mark = codes "INSERT INTO lpis_mark (year, pos) VALUES (?1, ?2)"

@@ -13,10 +13,11 @@ use Rattle.sqlite.specs.declared.types.Value.TheVariants.{Int, Text}
 use Rattle.sqlite_disk.specs.Disk.{MoreFaults}
 use Rattle.sqlite_trees.specs.declared.store.Store.{Ghosts}
 use Rattle.lpis_lineage.specs.declared.row.Row.{Row}
-use Rattle.lpis_register_rows.specs.Content.{Line, Mark, StoredText, lines_from, marks_from}
+use Rattle.lpis_register_rows.specs.Content.{Line, Mark, lines_from, marks_from}
+use Rattle.lpis_register_rows.specs.Content.{TextEdit, Deletes, Replaces, Inserts}
 use Rattle.lpis_register_sql.specs.Holding.{line_row, mark_row, text_row}
 use Rattle.lpis_register_sql.specs.Statements.{insert_release, insert_span, insert_line, end_span}
-use Rattle.lpis_register_sql.specs.Statements.{insert_text, clear_text, insert_mark}
+use Rattle.lpis_register_sql.specs.Statements.{insert_text, replace_text, delete_text, insert_mark}
 
 -- a statement, and the values of its parameters
 pub record BoundStatement : Type 0 where
@@ -45,13 +46,11 @@ line_statement l = record { sql = insert_line; values = line_row l }
 abbrev pub mark_statement : Mark → BoundStatement
 mark_statement m = record { sql = insert_mark; values = mark_row m }
 
--- no text is left
-abbrev pub clearing_statement : BoundStatement
-clearing_statement = record { sql = clear_text; values = [] }
-
--- the text of a parcel's shape
-abbrev pub text_statement : StoredText → BoundStatement
-text_statement t = record { sql = insert_text; values = text_row t }
+-- what becomes of the text of a parcel's shape
+abbrev pub edit_statement : TextEdit → BoundStatement
+edit_statement (Deletes id) = record { sql = delete_text; values = Text id ∷ [] }
+edit_statement (Replaces t) = record { sql = replace_text; values = Text t.wkt ∷ Text t.id ∷ [] }
+edit_statement (Inserts t) = record { sql = insert_text; values = text_row t }
 
 -- its year, and the spans of the identifiers that it drops and of those that are new
 abbrev pub span_statements : (year last : ℤ) (dropped fresh : List (List ℕ)) → List BoundStatement
@@ -59,21 +58,17 @@ span_statements year last dropped fresh =
     year_statement year
     ∷ map (ending_statement last) dropped ++ map (span_statement year) fresh
 
--- its texts, in place of any
-abbrev pub text_statements : List StoredText → List BoundStatement
-text_statements texts = clearing_statement ∷ map text_statement texts
-
--- its rows, their marks, and its texts
-abbrev pub row_statements : ℤ → List Row → List StoredText → List BoundStatement
-row_statements year rows texts =
+-- its rows, their marks, and what becomes of the texts
+abbrev pub row_statements : ℤ → List Row → List TextEdit → List BoundStatement
+row_statements year rows edits =
     map line_statement (lines_from year 0 rows)
-    ++ (map mark_statement (marks_from year 0 rows) ++ text_statements texts)
+    ++ (map mark_statement (marks_from year 0 rows) ++ map edit_statement edits)
 
 -- all of them, in turn
 abbrev pub release_statements : (year last : ℤ) (dropped fresh : List (List ℕ)) → List Row
-    → List StoredText → List BoundStatement
-release_statements year last dropped fresh rows texts =
-    span_statements year last dropped fresh ++ row_statements year rows texts
+    → List TextEdit → List BoundStatement
+release_statements year last dropped fresh rows edits =
+    span_statements year last dropped fresh ++ row_statements year rows edits
 
 -- ---- why they stop
 

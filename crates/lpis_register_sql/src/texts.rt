@@ -2,36 +2,85 @@
 
 ghost use Rattle.std.specs.Prelude.{◌≡◌, ◌∷◌, [], map};
 ghost use Rattle.sqlite.specs.Held.{state};
-ghost use Rattle.lpis_register_rows.specs.Content.{with_shapes, with_text, with_texts};
-ghost use Rattle.lpis_register_rows.specs.Content.{without_texts};
-ghost use Rattle.lpis_register_sql.specs.Stopping.{clearing_statement, text_statement};
-ghost use Rattle.lpis_register_sql.specs.Stopping.{text_statements};
+ghost use Rattle.lpis_register_rows.specs.Content.{TextEdit, Deletes, Replaces, Inserts};
+ghost use Rattle.lpis_register_rows.specs.Content.{edited, with_edit, without_texts};
+ghost use Rattle.lpis_register_rows.specs.Shapes.{text_edits, written_text};
+ghost use Rattle.lpis_register_rows.specs.Editing.{edit_in, edits_in};
+ghost use Rattle.lpis_register_sql.specs.Stopping.{edit_statement};
 ghost use Rattle.lpis_register_sql.specs.private.Inside.{IsQuiet, Makes, Turns};
 ghost use Rattle.lpis_register_sql.specs.private.Lines.{text_at};
 
 use crate::statements::run;
-use lpis_register_rows::TextRow;
+use lpis_covers::Id;
+use lpis_register_rows::{Edit, ShapeChange, next_edit};
+use lpis_rings::Polygon;
+use lpis_wkt_writer::write;
 use sqlite::{Alter, Error, Transaction, params};
+use std::alloc::Global;
 
 /// No text is left.
 pub(crate) fn clear_texts<S: Alter>(tx: &mut Transaction<'_, S>) -> Result<(), Error>
     ensures same_reference { tx.new.conn.ghost_name ≡ tx.old.conn.ghost_name }
     ensures cleared { Turns without_texts (state S.Store tx.old.conn.now)
         (state S.Store tx.new.conn.now) result }
-    ensures makes { Makes S.Store (clearing_statement ∷ []) tx.old.conn.now
-        tx.new.conn.now result }
     ensures quiet { IsQuiet (state S.Store tx.old.conn.now) (state S.Store tx.new.conn.now) }
 {
     run(tx, "DELETE FROM lpis_text", &[])
 }
 
+/// No text is of this identifier.
+fn delete_text<S: Alter>(tx: &mut Transaction<'_, S>, id: &Id) -> Result<(), Error>
+    ensures same_reference { tx.new.conn.ghost_name ≡ tx.old.conn.ghost_name }
+    ensures turns { Turns (λ c. with_edit c (Deletes id.now)) (state S.Store tx.old.conn.now)
+        (state S.Store tx.new.conn.now) result }
+    ensures makes { Makes S.Store (edit_statement (Deletes id.now) ∷ []) tx.old.conn.now
+        tx.new.conn.now result }
+    ensures quiet { IsQuiet (state S.Store tx.old.conn.now) (state S.Store tx.new.conn.now) }
+{
+    let id = id.as_str();
+    run(tx, "DELETE FROM lpis_text WHERE id = ?1", params![id])
+}
+
+/// A text in place of that of its identifier, its columns apart.
+fn replace_text_at<S: Alter>(tx: &mut Transaction<'_, S>, id: &str, wkt: &str) -> Result<(), Error>
+    ensures same_reference { tx.new.conn.ghost_name ≡ tx.old.conn.ghost_name }
+    ensures turns { Turns (λ c. with_edit c (Replaces (text_at id.now wkt.now)))
+        (state S.Store tx.old.conn.now) (state S.Store tx.new.conn.now) result }
+    ensures makes { Makes S.Store (edit_statement (Replaces (text_at id.now wkt.now)) ∷ [])
+        tx.old.conn.now tx.new.conn.now result }
+    ensures quiet { IsQuiet (state S.Store tx.old.conn.now) (state S.Store tx.new.conn.now) }
+{
+    run(
+        tx,
+        "UPDATE lpis_text SET wkt = ?1 WHERE id = ?2",
+        params![wkt, id],
+    )
+}
+
+/// The text of a shape, in place of that of its identifier.
+fn replace_text<S: Alter>(
+    alloc: Global,
+    tx: &mut Transaction<'_, S>,
+    shape: &(Id, Polygon),
+) -> Result<(), Error>
+    ensures same_reference { tx.new.conn.ghost_name ≡ tx.old.conn.ghost_name }
+    ensures turns { Turns (λ c. with_edit c (Replaces (written_text shape.now)))
+        (state S.Store tx.old.conn.now) (state S.Store tx.new.conn.now) result }
+    ensures makes { Makes S.Store (edit_statement (Replaces (written_text shape.now)) ∷ [])
+        tx.old.conn.now tx.new.conn.now result }
+    ensures quiet { IsQuiet (state S.Store tx.old.conn.now) (state S.Store tx.new.conn.now) }
+{
+    let wkt = write(alloc, &shape.1)?;
+    replace_text_at(tx, shape.0.as_str(), wkt.as_str())
+}
+
 /// One more text, its columns apart.
 fn insert_text_at<S: Alter>(tx: &mut Transaction<'_, S>, id: &str, wkt: &str) -> Result<(), Error>
     ensures same_reference { tx.new.conn.ghost_name ≡ tx.old.conn.ghost_name }
-    ensures adds { Turns (λ c. with_text c (text_at id.now wkt.now))
+    ensures turns { Turns (λ c. with_edit c (Inserts (text_at id.now wkt.now)))
         (state S.Store tx.old.conn.now) (state S.Store tx.new.conn.now) result }
-    ensures makes { Makes S.Store (text_statement (text_at id.now wkt.now) ∷ []) tx.old.conn.now
-        tx.new.conn.now result }
+    ensures makes { Makes S.Store (edit_statement (Inserts (text_at id.now wkt.now)) ∷ [])
+        tx.old.conn.now tx.new.conn.now result }
     ensures quiet { IsQuiet (state S.Store tx.old.conn.now) (state S.Store tx.new.conn.now) }
 {
     run(
@@ -41,45 +90,81 @@ fn insert_text_at<S: Alter>(tx: &mut Transaction<'_, S>, id: &str, wkt: &str) ->
     )
 }
 
-/// One more text.
-fn insert_text<S: Alter>(tx: &mut Transaction<'_, S>, text: &TextRow) -> Result<(), Error>
-    ensures same_reference { tx.new.conn.ghost_name ≡ tx.old.conn.ghost_name }
-    ensures adds { Turns (λ c. with_text c text.now) (state S.Store tx.old.conn.now)
-        (state S.Store tx.new.conn.now) result }
-    ensures makes { Makes S.Store (text_statement text.now ∷ []) tx.old.conn.now
-        tx.new.conn.now result }
-    ensures quiet { IsQuiet (state S.Store tx.old.conn.now) (state S.Store tx.new.conn.now) }
-{
-    insert_text_at(tx, text.id.as_str(), text.wkt.as_str())
-}
-
-/// Texts, in this order.
-fn insert_texts<S: Alter>(tx: &mut Transaction<'_, S>, texts: &[TextRow]) -> Result<(), Error>
-    ensures same_reference { tx.new.conn.ghost_name ≡ tx.old.conn.ghost_name }
-    ensures adds { Turns (with_texts texts.now) (state S.Store tx.old.conn.now)
-        (state S.Store tx.new.conn.now) result }
-    ensures makes { Makes S.Store (map text_statement texts.now) tx.old.conn.now
-        tx.new.conn.now result }
-    ensures quiet { IsQuiet (state S.Store tx.old.conn.now) (state S.Store tx.new.conn.now) }
-{
-    for text in texts {
-        insert_text(tx, text)?;
-    }
-    Ok(())
-}
-
-/// These texts in place of any.
-pub(crate) fn replace_texts<S: Alter>(
+/// The text of a shape, as one more.
+fn insert_text<S: Alter>(
+    alloc: Global,
     tx: &mut Transaction<'_, S>,
-    texts: &[TextRow],
+    shape: &(Id, Polygon),
 ) -> Result<(), Error>
     ensures same_reference { tx.new.conn.ghost_name ≡ tx.old.conn.ghost_name }
-    ensures replaces { Turns (with_shapes texts.now) (state S.Store tx.old.conn.now)
+    ensures turns { Turns (λ c. with_edit c (Inserts (written_text shape.now)))
+        (state S.Store tx.old.conn.now) (state S.Store tx.new.conn.now) result }
+    ensures makes { Makes S.Store (edit_statement (Inserts (written_text shape.now)) ∷ [])
+        tx.old.conn.now tx.new.conn.now result }
+    ensures quiet { IsQuiet (state S.Store tx.old.conn.now) (state S.Store tx.new.conn.now) }
+{
+    let wkt = write(alloc, &shape.1)?;
+    insert_text_at(tx, shape.0.as_str(), wkt.as_str())
+}
+
+/// What becomes of a text.
+fn write_edit<S: Alter>(
+    alloc: Global,
+    tx: &mut Transaction<'_, S>,
+    edit: Edit<'_>,
+) -> Result<(), Error>
+    ensures same_reference { tx.new.conn.ghost_name ≡ tx.old.conn.ghost_name }
+    ensures turns { Turns (λ c. with_edit c (edit_in edit.entry)) (state S.Store tx.old.conn.now)
         (state S.Store tx.new.conn.now) result }
-    ensures makes { Makes S.Store (text_statements texts.now) tx.old.conn.now
+    ensures makes { Makes S.Store (edit_statement (edit_in edit.entry) ∷ []) tx.old.conn.now
         tx.new.conn.now result }
     ensures quiet { IsQuiet (state S.Store tx.old.conn.now) (state S.Store tx.new.conn.now) }
 {
-    clear_texts(tx)?;
-    insert_texts(tx, texts)
+    match edit {
+        Edit::Deletes(id) => delete_text(tx, id),
+        Edit::Replaces(shape) => replace_text(alloc, tx, shape),
+        Edit::Inserts(shape) => insert_text(alloc, tx, shape),
+    }
+}
+
+/// What becomes of a text, if anything.
+fn write_if<S: Alter>(
+    alloc: Global,
+    tx: &mut Transaction<'_, S>,
+    edit: Option<Edit<'_>>,
+) -> Result<(), Error>
+    ensures same_reference { tx.new.conn.ghost_name ≡ tx.old.conn.ghost_name }
+    ensures turns { Turns (edited (edits_in edit.entry)) (state S.Store tx.old.conn.now)
+        (state S.Store tx.new.conn.now) result }
+    ensures makes { Makes S.Store (map edit_statement (edits_in edit.entry)) tx.old.conn.now
+        tx.new.conn.now result }
+    ensures quiet { IsQuiet (state S.Store tx.old.conn.now) (state S.Store tx.new.conn.now) }
+{
+    match edit {
+        Some(edit) => write_edit(alloc, tx, edit),
+        None => Ok(()),
+    }
+}
+
+/// What becomes of the texts where shapes follow kept ones, one statement each, ascending by
+/// identifier.
+pub(crate) fn write_texts<S: Alter>(
+    alloc: Global,
+    tx: &mut Transaction<'_, S>,
+    change: ShapeChange<'_>,
+) -> Result<(), Error>
+    ensures same_reference { tx.new.conn.ghost_name ≡ tx.old.conn.ghost_name }
+    ensures turns { Turns (edited (text_edits change.entry.kept.now change.entry.shapes.now))
+        (state S.Store tx.old.conn.now) (state S.Store tx.new.conn.now) result }
+    ensures makes { Makes S.Store (map edit_statement
+        (text_edits change.entry.kept.now change.entry.shapes.now)) tx.old.conn.now
+        tx.new.conn.now result }
+    ensures quiet { IsQuiet (state S.Store tx.old.conn.now) (state S.Store tx.new.conn.now) }
+{
+    let mut rest = change;
+    'edits: while let Some((edit, next)) = next_edit(rest) {
+        write_if(alloc, tx, edit)?;
+        rest = next;
+    }
+    Ok(())
 }

@@ -1,6 +1,9 @@
 //! Rings and polygons, their areas, their edges, and the points that they contain. No call takes
 //! memory but `copy` and `without_spare`.
 //!
+//! The layer above may cite: `edges` is the list; `turns`, `contains`, `area2`.
+//! Begin at `specs/Edges.antt`, then `src/polygon.rt`.
+//!
 //! | Call | Answer |
 //! |---|---|
 //! | `Ring::new` | the ring, or its points back exactly where they are fewer than four or the last differs from the first |

@@ -1,5 +1,8 @@
 //! What the tests of several crates share: a square of ten metres and its halves, readers that
 //! fail, and comparisons that report what was found. The program calls none of it.
+//!
+//! Tests alone use it.
+//! Begin at `src/square.rt`.
 #![tactic(auto)]
 
 mod expecting;

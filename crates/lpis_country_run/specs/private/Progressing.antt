@@ -96,7 +96,7 @@ IsWritten s before name p old new (Some status) =
 abbrev pub IsUnwritten : Setting → List Contents → List ℕ → Option (List ℕ) → Option (List ℕ)
     → Failure → Type 0
 IsUnwritten s before name old new failure =
-    (IsUnreadFolder failure × Keeps old new)
+    (IsUnreadFolder (s.texts name) failure × Keeps old new)
     ⊎ ((failure ≡ Write Out) × ((text : List ℕ) × IsVerdictText s before name text
     × Begins old new text))
 
@@ -154,7 +154,7 @@ IsPartOrWhole s text =
 abbrev pub RegionsBreakOff : Setting → Option (List ℕ) → Option (List ℕ) → CountryFailure → Type 0
 RegionsBreakOff s old new f =
     ((regions : List Contents) × (text : List ℕ) × (left : List (List ℕ))
-    × IsReachedBy s regions text left × IsStoppedBefore left f × Appends old new text)
+    × IsReachedBy s regions text left × IsStoppedBefore s.texts left f × Appends old new text)
     ⊎ (IsOfNone f (Write Out) × ((text : List ℕ) × IsPartOrWhole s text × Begins old new text))
 
 -- a run over regions answered with this status

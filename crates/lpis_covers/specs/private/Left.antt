@@ -63,7 +63,7 @@ LeftByRecords width ended r = ended ≡ false → IsBetween r × (expected_len r
 
 -- what one read does to what is left
 abbrev pub ReadMoves : Left → Left → Step → List (List ℕ) → Type 0
-ReadMoves old new step.End fields = old.records ≡ []
+ReadMoves old new step.End fields = (old.records ≡ []) × (new.records ≡ [])
 ReadMoves old new step.Record fields = (old.records ≡ fields ∷ new.records)
     × (length fields ≡ old.width) × (new.width ≡ old.width)
 ReadMoves old new step.Uneven fields =

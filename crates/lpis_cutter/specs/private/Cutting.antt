@@ -10,6 +10,7 @@ use Rattle.lpis_parcels.specs.Release.{Contents}
 use Rattle.lpis_cert.specs.Limits.{most_flats}
 use Rattle.lpis_points.specs.Triangles.{most_triangles}
 use Rattle.lpis_cutter.specs.declared.fault.Refusal.{Refusal}
+use Rattle.lpis_cutter.specs.declared.numbered.Numbered.{Numbered}
 use Rattle.lpis_cutter.specs.declared.fault.Refusal.TheVariants.{NoSeparator}
 use Rattle.lpis_cutter.specs.Fans.{IsFan}
 use Rattle.lpis_cutter.specs.Refusals.{RefusalSays}
@@ -22,6 +23,11 @@ SaysIfAny r o = IfSome o (RefusalSays r)
 abbrev pub NamesPieces : Contents → ℕ → ℕ → Refusal → Type 0
 NamesPieces r i j refusal = (x : Piece) × (y : Piece) × (slice_get r.pieces i ≡ Some x)
     × (slice_get r.pieces j ≡ Some y) × (refusal ≡ NoSeparator x.id y.id)
+
+-- so it is of those that two triangles are of
+abbrev pub NamesOwners : Contents → Numbered → ℕ → ℕ → Refusal → Type 0
+NamesOwners r n i j refusal = (a : ℕ) × (b : ℕ) × (slice_get n.owners.items i ≡ Some a)
+    × (slice_get n.owners.items j ≡ Some b) × NamesPieces r a b refusal
 
 -- the points of pieces
 abbrev pub points_in_pieces : List Piece → ℕ

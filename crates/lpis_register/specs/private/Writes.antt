@@ -25,44 +25,46 @@ module _ (now : List Entry) (last : ℕ) (a : Accepted) where
     pub parcels : List Parcel
     pub rows : List Row
     pub made : IsPrepared h year parcels rows a
-    pub follows : FollowsHistory h year parcels rows now a.kept.shapes.items
+    pub follows : FollowsHistory h year parcels rows now a.shapes.items
     pub last_is : last ≡ last_year h
 
-  -- tables that hold the history before the release hold the whole one afterwards and its shapes,
-  -- and with an error what they held; a crash leaves either, and right after the call the whole one
-  pub record WritesRelease {E : Type 0} (old new : State) (r : Result (Unit {0}) E) : Type 0 where
-    pub ok : (h : List Entry) (shapes : List Shape) → IsToWrite h → HasCleanDisk new
-        → HoldsRegister old h shapes → OnOk r (HoldsRegister new now a.kept.shapes.items)
-    pub err : (h : List Entry) (shapes : List Shape) → HasCleanDisk new → IsTrue new.is_open
-        → HoldsRegister old h shapes → OnErr r (HoldsRegister new h shapes)
-    pub crash : (h : List Entry) (shapes : List Shape) → IsToWrite h → HoldsRegister old h shapes
-        → Survives old new (LeavesRegister now a.kept.shapes.items)
-    pub durable : (h : List Entry) (shapes : List Shape) → IsToWrite h → HasCleanDisk new
-        → HoldsRegister old h shapes
-        → OnOk r ((db : Trees) → new.may_leave db → LeavesRegister now a.kept.shapes.items db)
+  -- tables that hold the history before the release and these shapes hold the whole one afterwards
+  -- and its shapes, and with an error what they held; a crash leaves either, and right after the
+  -- call the whole one
+  pub record WritesRelease {E : Type 0} (kept : List Shape) (old new : State)
+      (r : Result (Unit {0}) E) : Type 0 where
+    pub ok : (h : List Entry) → IsToWrite h → HasCleanDisk new
+        → HoldsRegister old h kept → OnOk r (HoldsRegister new now a.shapes.items)
+    pub err : (h : List Entry) → HasCleanDisk new → IsTrue new.is_open
+        → HoldsRegister old h kept → OnErr r (HoldsRegister new h kept)
+    pub crash : (h : List Entry) → IsToWrite h → HoldsRegister old h kept
+        → Survives old new (LeavesRegister now a.shapes.items)
+    pub durable : (h : List Entry) → IsToWrite h → HasCleanDisk new
+        → HoldsRegister old h kept
+        → OnOk r ((db : Trees) → new.may_leave db → LeavesRegister now a.shapes.items db)
 
 -- publishing an accepted release after the one of a year failed: either the database did, and there
 -- is a cause, or memory ran out before it was asked
-pub record FailsToCommit {S : Type 0} (store : Ghosts S) (last : ℕ) (a : Accepted)
-    (old new : Held S) (fault : PublishFault) : Type 0 where
+pub record FailsToCommit {S : Type 0} (store : Ghosts S) (last : ℕ) (kept : List Shape)
+    (a : Accepted) (old new : Held S) (fault : PublishFault) : Type 0 where
   pub untouched : IsStoreFault fault ⊎ ((fault ≡ Memory) × (new ≡ old))
-  pub cause : HasStoreCause store last a old new (fault ≡ Store)
+  pub cause : HasStoreCause store last kept a old new (fault ≡ Store)
 
 module _ (h k : List Entry) (year : ℕ) (parcels : List Parcel) (rows : List Row) (a : Accepted)
   where
     -- the accepted release stands at the end of the history
     abbrev pub EndsWithRelease : {E : Type 0} → Result (Unit {0}) E → Type 0
-    EndsWithRelease r = OnOk r (FollowsHistory h year parcels rows k a.kept.shapes.items)
+    EndsWithRelease r = OnOk r (FollowsHistory h year parcels rows k a.shapes.items)
 
-    -- and of the tables' history, as publishing it does
-    pub record Commits {E : Type 0} (old new : State) (r : Result (Unit {0}) E) : Type 0 where
+    -- and of the tables' history, as publishing it does where these shapes are kept
+    pub record Commits {E : Type 0} (kept : List Shape) (old new : State)
+        (r : Result (Unit {0}) E) : Type 0 where
       pub follows : EndsWithRelease r
       pub refused : OnErr r (k ≡ h)
-      pub ok : (shapes : List Shape) → HasCleanDisk new → HoldsRegister old h shapes
-          → OnOk r (HoldsRegister new k a.kept.shapes.items)
-      pub err : (shapes : List Shape) → HasCleanDisk new → IsTrue new.is_open
-          → HoldsRegister old h shapes → OnErr r (HoldsRegister new h shapes)
-      pub crash : (shapes : List Shape) → HoldsRegister old h shapes
-          → Survives old new (LeavesRelease h year parcels rows)
-      pub durable : (shapes : List Shape) → HasCleanDisk new → HoldsRegister old h shapes
-          → OnOk r ((db : Trees) → new.may_leave db → LeavesRegister k a.kept.shapes.items db)
+      pub ok : HasCleanDisk new → HoldsRegister old h kept
+          → OnOk r (HoldsRegister new k a.shapes.items)
+      pub err : HasCleanDisk new → IsTrue new.is_open
+          → HoldsRegister old h kept → OnErr r (HoldsRegister new h kept)
+      pub crash : HoldsRegister old h kept → Survives old new (LeavesRelease h year parcels rows)
+      pub durable : HasCleanDisk new → HoldsRegister old h kept
+          → OnOk r ((db : Trees) → new.may_leave db → LeavesRegister k a.shapes.items db)

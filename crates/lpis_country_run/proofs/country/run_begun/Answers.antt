@@ -16,7 +16,7 @@ returns-clause-ends g c = λ x begun.
     let s = begun_setting texts c.args.detail x c.args.begun begun in
     let start = starts texts c.args.detail x c.args.begun (record { seam = c.new.result; totals = c.none.result }) begun c.new.ensures c.none.ensures in
     begun_ends texts c.args.detail x c.args.begun begun c.run_regions.result (g.W.Write.contents c.args.out.now)
-    (g.W.Write.contents c.run_regions.new.out) c.a_country_of_joined_regions_is_sound.ensures
+    (g.W.Write.contents c.run_regions.new.out) c.a_country_of_joined_regions_is_sound.ensures.sound c.a_country_of_joined_regions_is_sound.ensures.union
     (c.run_regions.ensures.answer s start) (c.run_regions.ensures.proved s start)
 
 pub returns-clause-failure : goal.returns-clause-failure

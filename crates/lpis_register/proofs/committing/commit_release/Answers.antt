@@ -11,11 +11,12 @@ returns-in-Ok-clause-commits g c year parcels rows made =
     (record { year = year; parcels = parcels; rows = rows; made = made; follows = c.in-Ok.ensures.grows year parcels rows made; last_is = c.last_year-last.ensures })
 
 pub returns-in-Err-clause-commits : goal.returns-in-Err-clause-commits
-returns-in-Err-clause-commits g c year parcels rows made = not_begun c.args.history.now _ year parcels rows c.args.accepted.now (state g.S.Store c.args.conn.now) c.in-Err.ensures.refused _
+returns-in-Err-clause-commits g c year parcels rows made =
+    not_begun c.args.history.now _ year parcels rows c.args.accepted.now c.args.kept.now (state g.S.Store c.args.conn.now) c.in-Err.ensures.refused _
 
 pub returns-in-Ok-clause-failure : goal.returns-in-Ok-clause-failure
 returns-in-Ok-clause-failure g c =
-    fails_to_commit g.S.Store c.last_year-last.result (last_year c.args.history.now) c.args.accepted.now c.args.conn.now c.write_or_take_back.new.conn c.write_or_take_back.result
+    fails_to_commit g.S.Store c.last_year-last.result (last_year c.args.history.now) c.args.kept.now c.args.accepted.now c.args.conn.now c.write_or_take_back.new.conn c.write_or_take_back.result
     c.last_year-last.ensures c.write_or_take_back.ensures.failure c.write_or_take_back.ensures.cause
 
 pub returns-in-Err-clause-failure : goal.returns-in-Err-clause-failure

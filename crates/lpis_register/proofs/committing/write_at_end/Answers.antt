@@ -7,14 +7,14 @@ use Rattle.lpis_register.proofs.committing.write_at_end.Goals as goal
 pub returns-clause-writes : goal.returns-clause-writes
 returns-clause-writes g c =
     let law = c.publishing_adds_the_release.ensures in
-    statements_write law.tells law.texts law.live c.texts_keep_one_list_of_shapes.ensures.reordered c.args.history.now c.releases.ensures.lawful c.releases.ensures.fits c.args.last c.args.accepted.now
-    c.from.result c.from-2.result c.dropped.result.now c.as_slice.result.now c.rows.result.now c.as_slice-2.result.now
-    c.from.ensures c.from-2.ensures c.dropped.ensures.list c.as_slice.ensures.value c.rows.ensures c.as_slice-2.ensures.value (omega arith)
+    statements_write law.tells law.texts law.live c.args.history.now c.releases.ensures.lawful c.releases.ensures.fits c.args.last c.args.kept.now c.args.accepted.now
+    c.from.result c.from-2.result c.dropped.result.now c.as_slice.result.now c.rows.result.now c.as_slice-shapes.result.now
+    c.from.ensures c.from-2.ensures c.dropped.ensures.list c.as_slice.ensures.value c.rows.ensures c.as_slice-shapes.ensures.value (omega arith)
     (state g.S.Store c.args.conn.now) (state g.S.Store c.write_release.new.conn) c.write_release.result c.write_release.ensures.writes
 
 pub returns-clause-stops : goal.returns-clause-stops
 returns-clause-stops g c up clean =
-    stops_as g.S.Store c.args.last c.args.accepted.now c.from.result c.from-2.result c.dropped.result.now c.as_slice.result.now c.rows.result.now c.as_slice-2.result.now
-    c.from.ensures c.from-2.ensures c.dropped.ensures.list c.as_slice.ensures.value c.rows.ensures c.as_slice-2.ensures.value
+    stops_as g.S.Store c.args.last c.args.kept.now c.args.accepted.now c.from.result c.from-2.result c.dropped.result.now c.as_slice.result.now c.rows.result.now c.as_slice-shapes.result.now
+    c.from.ensures c.from-2.ensures c.dropped.ensures.list c.as_slice.ensures.value c.rows.ensures c.as_slice-shapes.ensures.value
     (record c.args.conn.now { in_transaction = true }) c.write_release.new.conn c.write_release.result
     (c.write_release.ensures.stops up clean)

@@ -1,7 +1,7 @@
 use Rattle.lpis_parcels.specs.Release.{parcel_ids}
 use Rattle.lpis_register_rows.proofs.AscendingLemmas.{all-moved}
 use Rattle.lpis_register_rows.proofs.ShapeLemmas.{sorted-ascends}
-use Rattle.lpis_register_rows.specs.Shapes.{IsLive}
+use Rattle.lpis_register_rows.specs.Shapes.{IsLive, IsSpelled}
 use Rattle.lpis_register_rows.proofs.shapes.shapes_in.Goals as goal
 
 pub returns-clause-are : goal.returns-clause-are
@@ -12,3 +12,6 @@ returns-clause-are c =
 pub returns-clause-live : goal.returns-clause-live
 returns-clause-live c = all-moved (IsLive (parcel_ids c.args.release.now.parcels)) c.in_ok-shapes.shapes.items c.sort_shapes.new.shapes.items c.sort_shapes.ensures.same
     (rw c.parcels.ensures.parcels at c.in_ok-shapes.ensures.live)
+
+pub returns-clause-spelled : goal.returns-clause-spelled
+returns-clause-spelled c = all-moved IsSpelled c.in_ok-shapes.shapes.items c.sort_shapes.new.shapes.items c.sort_shapes.ensures.same c.in_ok-shapes.ensures.spelled

@@ -1,8 +1,8 @@
-use Rattle.std.proofs.Common.{◌∷◌, [], ◌++◌, arith, map, pos, Err, List}
+use Rattle.std.proofs.Common.{◌∷◌, [], ◌++◌, arith, map, pos, Err}
 use Rattle.lpis_register_sql.proofs.Common.{state, HasCleanDisk}
 use Rattle.lpis_register_sql.proofs.StepLemmas.{quiet_on}
 use Rattle.lpis_register_sql.proofs.StopLemmas.{fails_first, handed_on, makes_both}
-use Rattle.lpis_register_sql.specs.Stopping.{BoundStatement, ending_statement, span_statement, span_statements, year_statement}
+use Rattle.lpis_register_sql.specs.Stopping.{ending_statement, span_statement, span_statements, year_statement}
 use Rattle.lpis_register_sql.proofs.publishing.fill.Goals as goal
 
 pub returns-clause-adds : goal.returns-clause-adds

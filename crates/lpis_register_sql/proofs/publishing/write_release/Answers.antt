@@ -1,5 +1,6 @@
-use Rattle.std.proofs.Common.{◌≡◌, Err, Ok, arith, pos, refl, rules}
-use Rattle.lpis_register_sql.proofs.Common.{Content, HasCleanDisk, Inside, IsQuiet, Layout, state}
+use Rattle.std.proofs.Common.{◌≡◌, Err, Ok, arith, pos, rules}
+use Rattle.lpis_register_rows.specs.Shapes.{text_edits}
+use Rattle.lpis_register_sql.proofs.Common.{HasCleanDisk, state}
 use Rattle.lpis_register_sql.proofs.StepLemmas.{quiet_on, whole_alone, written_at_commit}
 use Rattle.lpis_register_sql.proofs.StopLemmas.{begun_stops, commit_stops, fails_first, makes_both, undone_stops}
 use Rattle.lpis_register_sql.specs.Stopping.{release_statements, row_statements, span_statements}
@@ -21,8 +22,9 @@ returns-clause-writes g c =
 pub returns-clause-stops : goal.returns-clause-stops
 returns-clause-stops g c =
     let spans = span_statements (pos c.args.year) (pos c.args.last) c.args.dropped.now c.args.fresh.now in
-    let rest = row_statements (pos c.args.year) c.args.rows.now c.args.texts.now in
-    let all = release_statements (pos c.args.year) (pos c.args.last) c.args.dropped.now c.args.fresh.now c.args.rows.now c.args.texts.now in
+    let edits = text_edits c.args.change.kept.now c.args.change.shapes.now in
+    let rest = row_statements (pos c.args.year) c.args.rows.now edits in
+    let all = release_statements (pos c.args.year) (pos c.args.last) c.args.dropped.now c.args.fresh.now c.args.rows.now edits in
     let held = c.args.conn.now in
     let first = c.transaction-tx.result.conn.now in
     let mid = c.fill.new.tx.conn.now in
@@ -37,8 +39,9 @@ returns-clause-stops g c =
 pub returns-in_err-fill-clause-stops : goal.returns-in_err-fill-clause-stops
 returns-in_err-fill-clause-stops g c =
     let spans = span_statements (pos c.args.year) (pos c.args.last) c.args.dropped.now c.args.fresh.now in
-    let rest = row_statements (pos c.args.year) c.args.rows.now c.args.texts.now in
-    let all = release_statements (pos c.args.year) (pos c.args.last) c.args.dropped.now c.args.fresh.now c.args.rows.now c.args.texts.now in
+    let edits = text_edits c.args.change.kept.now c.args.change.shapes.now in
+    let rest = row_statements (pos c.args.year) c.args.rows.now edits in
+    let all = release_statements (pos c.args.year) (pos c.args.last) c.args.dropped.now c.args.fresh.now c.args.rows.now edits in
     let held = c.args.conn.now in
     let first = c.transaction-tx.result.conn.now in
     let mid = c.fill.new.tx.conn.now in
@@ -52,8 +55,9 @@ returns-in_err-fill-clause-stops g c =
 pub returns-in_err-fill_rows-clause-stops : goal.returns-in_err-fill_rows-clause-stops
 returns-in_err-fill_rows-clause-stops g c =
     let spans = span_statements (pos c.args.year) (pos c.args.last) c.args.dropped.now c.args.fresh.now in
-    let rest = row_statements (pos c.args.year) c.args.rows.now c.args.texts.now in
-    let all = release_statements (pos c.args.year) (pos c.args.last) c.args.dropped.now c.args.fresh.now c.args.rows.now c.args.texts.now in
+    let edits = text_edits c.args.change.kept.now c.args.change.shapes.now in
+    let rest = row_statements (pos c.args.year) c.args.rows.now edits in
+    let all = release_statements (pos c.args.year) (pos c.args.last) c.args.dropped.now c.args.fresh.now c.args.rows.now edits in
     let held = c.args.conn.now in
     let first = c.transaction-tx.result.conn.now in
     let mid = c.fill.new.tx.conn.now in

@@ -27,15 +27,15 @@ returns-in-Err-clause-publishes g c year r blocks rows made = record {
 pub returns-in-Ok-clause-stores : goal.returns-in-Ok-clause-stores
 returns-in-Ok-clause-stores g c year r blocks rows made =
     stored_ok c.args.self.now.history c.commit_release.new.history year r.parcels rows c.args.accepted c.args.self.now.shapes.items _ (state g.S.Store c.args.self.now.conn)
-    (state g.S.Store c.commit_release.new.conn) refl _ _ (c.in-Ok.ensures.commits year r.parcels rows made.prepared)
+    (state g.S.Store c.commit_release.new.conn) refl _ _ (rw c.as_slice-kept.ensures.value at (c.in-Ok.ensures.commits year r.parcels rows made.prepared))
 
 pub returns-in-Err-clause-stores : goal.returns-in-Err-clause-stores
 returns-in-Err-clause-stores g c year r blocks rows made =
     stored_err c.args.self.now.history c.commit_release.new.history year r.parcels rows c.args.accepted c.args.self.now.shapes.items (state g.S.Store c.args.self.now.conn)
-    (state g.S.Store c.commit_release.new.conn) _ (c.in-Err.ensures.commits year r.parcels rows made.prepared)
+    (state g.S.Store c.commit_release.new.conn) _ (rw c.as_slice-kept.ensures.value at (c.in-Err.ensures.commits year r.parcels rows made.prepared))
 
 pub returns-in-Err-clause-untouched : goal.returns-in-Err-clause-untouched
 returns-in-Err-clause-untouched g c = c.in-Err.ensures.failure.untouched
 
 pub returns-in-Err-clause-cause : goal.returns-in-Err-clause-cause
-returns-in-Err-clause-cause g c = c.in-Err.ensures.failure.cause
+returns-in-Err-clause-cause g c = rw c.as_slice-kept.ensures.value at c.in-Err.ensures.failure.cause

@@ -1,0 +1,3 @@
+pub mod LocateLines
+pub mod LocateAnswer
+pub mod private

@@ -1,0 +1,75 @@
+-- The answer to points in a release: text and status, of the bytes of the release's files and of
+-- the table of points.
+use Rattle.std.specs.Prelude.{◌≡◌, ◌⊎◌, ◌++◌, ℕ, List, Option, Result, Ok, Err, codes}
+use Rattle.std.specs.Io.KnownBytes.{Appends, Keeps}
+use Rattle.lpis_parcels.specs.Release.{Contents}
+use Rattle.lpis_commands.specs.CheckAnswer.{Answer, AreRead, Inputs, IsProvedOf}
+use Rattle.lpis_commands.specs.CheckAnswer.{IsRefusal}
+use Rattle.lpis_commands.specs.Failures.{IsUnchecked}
+use Rattle.lpis_commands.specs.Status.{done, unreadable}
+use Rattle.lpis_commands.specs.Streams.{Begins, IsRead, IsWithin}
+use Rattle.lpis_commands.specs.declared.failure.Failure.{Failure}
+use Rattle.lpis_commands.specs.declared.failure.Failure.TheVariants.{Read, Write}
+use Rattle.lpis_commands.specs.declared.failure.Name.TheVariants.{Out, Points}
+use Rattle.lpis_locating.specs.declared.fault.PointsFault.{PointsFault}
+use Rattle.lpis_locating.specs.Points.{Given, points_of}
+use Rattle.lpis_locate.specs.LocateLines.{AreLines, points_refusal_text}
+
+-- the bytes of a release's files, and of a table of points
+pub record LocateInputs : Type 0 where
+  pub checked : Inputs
+  pub points : List ℕ
+
+-- of a release and what the table of points says: the line of its first fault, or the line of each
+-- point in the order of the rows, and a yes
+abbrev pub IsPointsAnswer : Contents → Result (List Given) PointsFault → Answer → Type 0
+IsPointsAnswer r (Err fault) a = a ≡ (points_refusal_text fault, unreadable)
+IsPointsAnswer r (Ok points) a =
+    (lines : List ℕ) × AreLines r points lines × (a ≡ (lines ++ codes "yes\n", done))
+
+-- the answer: what `check` refuses comes first, with its line; then, of a release that is a sound
+-- map, the points
+abbrev pub IsLocateAnswer : LocateInputs → Answer → Type 0
+IsLocateAnswer x a =
+    IsRefusal x.checked a
+    ⊎ ((r : Contents) × IsProvedOf x.checked r × IsPointsAnswer r (points_of x.points) a)
+
+-- the inputs are what five readers reported, as far as it is known
+pub record AreLocateRead (x : LocateInputs) (parcels covers classes cert points : Option (List ℕ)) :
+    Type 0 where
+  pub of_release : AreRead x.checked parcels covers classes cert
+  pub of_points : IsRead x.points points
+
+-- the release is a sound map, the points are those of the table, and each has the line of its own
+-- place
+pub record IsLocatedText (x : LocateInputs) (text : List ℕ) : Type 0 where
+  pub release : Contents
+  pub proved : IsProvedOf x.checked release
+  pub points : List Given
+  pub table : points_of x.points ≡ Ok points
+  pub lines : List ℕ
+  pub are : AreLines release points lines
+  pub is : text ≡ lines ++ codes "yes\n"
+
+-- the run answered with this status, and wrote the text; where it is done, the release is a sound
+-- map, and each point has the line of its own place
+pub record LocateEnds (x : LocateInputs) (status : ℕ) (old new : Option (List ℕ)) : Type 0 where
+  pub text : List ℕ
+  pub answer : IsLocateAnswer x (text, status)
+  pub written : Appends old new text
+  pub located : status ≡ done → IsLocatedText x text
+
+-- an input was not read, or memory ran out
+abbrev pub IsUnlocated : (parcels covers classes cert : Option (List ℕ)) → Failure → Type 0
+IsUnlocated parcels covers classes cert failure =
+    IsUnchecked parcels covers classes failure
+    ⊎ (IsWithin parcels × IsWithin covers × IsWithin classes × IsWithin cert
+    × (failure ≡ Read Points))
+
+-- the run gave no answer: a reader failed, or the writer did after a beginning of the answer
+abbrev pub LocateHalts : Failure → (parcels covers classes cert points : Option (List ℕ))
+    → Option (List ℕ) → Option (List ℕ) → Type 0
+LocateHalts failure parcels covers classes cert points old new =
+    ((x : LocateInputs) × AreLocateRead x parcels covers classes cert points
+    × (failure ≡ Write Out) × ((a : Answer) × IsLocateAnswer x a × Begins old new a.0))
+    ⊎ (IsUnlocated parcels covers classes cert failure × Keeps old new)

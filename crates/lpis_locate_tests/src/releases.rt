@@ -1,0 +1,63 @@
+//! Runs of `locate` over texts.
+
+use lpis_commands::Failure;
+use lpis_locate::run_locate;
+use lpis_testing::{CLASSES, Halting, PARCELS_CERT, expect_answer};
+use std::test::Fail;
+
+/// The halves of the square as two parcels, of one piece each, and their certificate.
+pub static PARCELS: &str = "parcel,wkt
+B,\"POLYGON((0 0,5 0,5 10,0 10,0 0))\"
+C,\"POLYGON((5 0,10 0,10 10,5 10,5 0))\"
+";
+
+pub static PIECES: &str = "piece,parcel,class,wkt
+b1,B,G,\"POLYGON((0 0,5 0,5 10,0 10,0 0))\"
+c1,C,W,\"POLYGON((5 0,10 0,10 10,5 10,5 0))\"
+";
+
+/// The texts of a run: of the release, of its certificate, and of the points.
+#[derive(Clone, Copy)]
+pub struct Texts<'a> {
+    pub parcels: &'a str,
+    pub pieces: &'a str,
+    pub cert: &'a str,
+    pub points: &'a str,
+}
+
+/// The halves as parcels, with these points.
+pub fn halves(points: &str) -> Texts<'_> {
+    Texts {
+        parcels: PARCELS,
+        pieces: PIECES,
+        cert: PARCELS_CERT,
+        points,
+    }
+}
+
+/// Runs `locate`. The input at an index may fail after so many bytes.
+pub fn run(
+    rt: &HostRuntime,
+    texts: &Texts<'_>,
+    failing: Option<(usize, usize)>,
+    out: &mut Vec<u8>,
+) -> Result<u8, Failure> {
+    run_locate(
+        rt.alloc(),
+        Halting::at(0, texts.parcels, failing),
+        Halting::at(1, texts.pieces, failing),
+        Halting::at(2, CLASSES, failing),
+        Halting::at(3, texts.cert, failing),
+        Halting::at(4, texts.points, failing),
+        out,
+    )
+}
+
+/// Fails unless `locate` writes this text and answers this status.
+pub fn expect_run(rt: &HostRuntime, texts: &Texts<'_>, text: &str, status: u8) -> Result<(), Fail> {
+    let mut out = Vec::new(rt.alloc());
+    match run(rt, texts, None, &mut out) {
+        Ok(answer) => expect_answer(out.as_slice(), answer, text, status),
+        Err(_failure) => Err("a failure".into()),
+    }
+}

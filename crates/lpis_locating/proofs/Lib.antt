@@ -1,0 +1,5 @@
+pub mod DigitLemmas
+pub mod SlotLemmas
+pub mod PointsLemmas
+pub mod VisitLemmas
+pub mod BoxLemmas

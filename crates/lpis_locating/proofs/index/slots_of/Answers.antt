@@ -1,0 +1,18 @@
+use Rattle.std.proofs.Common.{◌+◌, List, length, refl, sym, subst}
+use Rattle.std.proofs.lemmas.Option.{slice_get_read}
+use Rattle.lpis_locating.specs.declared.index.Slot.{Slot}
+use Rattle.lpis_locating.specs.private.Slots.{IsSlot}
+use Rattle.lpis_locating.proofs.SlotLemmas.{HaveSlots, slot_pushed}
+use Rattle.lpis_locating.proofs.index.slots_of.Goals as goal
+
+pub loop-i-preserved : goal.loop-i-preserved
+loop-i-preserved c =
+    let given = c.args.given.now in
+    let i = c.loop-i.i in
+    let slot : Slot = record { spot = c.spot.result; row = i } in
+    let is : IsSlot given slot = record {
+      point = c.index-given-i.result;
+      at = slice_get_read given (length given) i c.index-given-i.result refl c.loop-i-test.true c.index-given-i.is;
+      same = sym c.spot.ensures;
+    } in
+    subst (λ (slots : List Slot). HaveSlots given slots (i + 1)) (sym c.in_ok-push.ensures.items) (slot_pushed given c.loop-i.slots.items i slot is refl c.loop-i.invariant)

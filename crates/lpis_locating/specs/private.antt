@@ -1,0 +1,5 @@
+-- Machinery, cited by private contracts alone: no promise rests on it.
+pub mod Digits
+pub mod Reaches
+pub mod Slots
+pub mod Visits

@@ -1,0 +1,160 @@
+//! The places of points in a release.
+
+ghost use Rattle.std.specs.Prelude.{◌≡◌, ◌<◌, ◌∷◌, [], All, Contains, IfOk, List, MatchOption};
+ghost use Rattle.std.specs.Prelude.{None, OnOk, length};
+ghost use Rattle.lpis_points.specs.RatPoints.{rational_of};
+ghost use Rattle.lpis_covers.specs.declared.piece.Piece.{Piece};
+ghost use Rattle.lpis_parcels.specs.Release.{pieces_named};
+ghost use Rattle.lpis_checker.specs.SoundMap.{IsInParcel, IsInPiece, IsSoundMap};
+ghost use Rattle.lpis_country.specs.Polygons.{HasClosedRings, box_of_members};
+ghost use Rattle.lpis_locating.specs.Places.{AreFoundIn};
+ghost use Rattle.lpis_locating.specs.Points.{Given, rational_at};
+ghost use Rattle.lpis_locating.specs.private.Reaches.{reach_of};
+ghost use Rattle.lpis_locating.specs.private.Slots.{IsSlot};
+ghost use Rattle.lpis_locating.specs.private.Visits.{AreTouched, AreVisited, IsPlaceBy, IsSettled};
+ghost use Rattle.lpis_locating.specs.private.Visits.{IsTouched};
+
+use crate::index::{Points, Slot, first_from};
+use crate::place::Place;
+use crate::reach::{Reach, is_in_height, is_past, scaled_box};
+use lpis_country::is_region;
+use lpis_covers::Piece;
+use lpis_parcels::{Parcel, Release, pieces_of};
+use lpis_points::RatPoint;
+use lpis_rings::contains;
+use std::alloc::AllocError;
+
+/// The first piece of the parcel that contains the point.
+fn piece_at<'a>(release: &'a Release, parcel: &Parcel, p: &RatPoint) -> Option<&'a Piece>
+    ensures { MatchOption result (All (λ (y : Piece). IsInPiece (rational_of p.now) y → ⊥)
+        (pieces_named release.now parcel.now.id))
+        (λ y. Contains (pieces_named release.now parcel.now.id) y.now
+        × IsInPiece (rational_of p.now) y.now) }
+{
+    for piece in pieces_of(release, &parcel.id) {
+        if contains(&piece.polygon, p) {
+            return Some(piece);
+        }
+    }
+    None
+}
+
+/// The place of a point in a parcel that contains it.
+fn place_in(release: &Release, parcel: &Parcel, p: &RatPoint) -> Result<Place, AllocError>
+    requires sound { IsSoundMap release.now }
+    requires among { Contains release.now.parcels parcel.now }
+    requires inside { IsInParcel (rational_of p.now) parcel.now }
+    ensures { IfOk result (IsPlaceBy release.now (rational_of p.now) parcel.now) }
+{
+    match piece_at(release, parcel, p) {
+        Some(piece) => Place::of(parcel, piece),
+        // A point of a parcel is in one of its pieces.
+        None => unreachable!(),
+    }
+}
+
+/// The place of a slot's point, if the parcel contains it.
+fn place_by(release: &Release, parcel: &Parcel, slot: &Slot) -> Result<Option<Place>, AllocError>
+    requires sound { IsSoundMap release.now }
+    requires among { Contains release.now.parcels parcel.now }
+    ensures { IfOk result (λ o. MatchOption o
+        (IsInParcel (rational_at slot.now.spot) parcel.now → ⊥)
+        (IsPlaceBy release.now (rational_at slot.now.spot) parcel.now)) }
+{
+    let p = slot.spot.as_fraction();
+    if !contains(&parcel.polygon, &p) {
+        return Ok(None);
+    }
+    Ok(Some(place_in(release, parcel, &p)?))
+}
+
+/// The place of a slot's point is found where it has none, is in the height of the parcel's box,
+/// and the parcel contains it.
+fn settle(
+    release: &Release,
+    parcel: &Parcel,
+    reach: &Reach,
+    slot: &Slot,
+    found: &mut Option<Place>,
+) -> Result<(), AllocError>
+    requires sound { IsSoundMap release.now }
+    requires among { Contains release.now.parcels parcel.now }
+    requires closed { HasClosedRings parcel.now.polygon }
+    requires reach { reach.now ≡ reach_of (box_of_members parcel.now.polygon) }
+    ensures touched { OnOk result (IsTouched release.now parcel.now (rational_at slot.now.spot)
+        found.old found.new) }
+    ensures settled { OnOk result (found.new ≡ None
+        → IsInParcel (rational_at slot.now.spot) parcel.now → ⊥) }
+{
+    if is_in_height(reach, slot.spot) && found.is_none() {
+        *found = place_by(release, parcel, slot)?;
+    }
+    Ok(())
+}
+
+/// The same of the place that stands at the slot's row.
+fn visit_slot(
+    release: &Release,
+    parcel: &Parcel,
+    reach: &Reach,
+    slot: &Slot,
+    found: &mut [Option<Place>],
+) -> Result<(), AllocError>
+    requires sound { IsSoundMap release.now }
+    requires among { Contains release.now.parcels parcel.now }
+    requires closed { HasClosedRings parcel.now.polygon }
+    requires reach { reach.now ≡ reach_of (box_of_members parcel.now.polygon) }
+    requires within { slot.now.row < length found.old }
+    ensures touched { (ps : List Given) → IsSlot ps slot.now
+        → OnOk result (AreTouched release.now parcel.now ps found.old found.new) }
+    ensures settled { (ps : List Given) → IsSlot ps slot.now
+        → OnOk result (IsSettled parcel.now ps found.new slot.now.row) }
+{
+    settle(release, parcel, reach, slot, &mut found[slot.row as usize])
+}
+
+/// Looks at all points for those that a parcel contains.
+fn visit(
+    release: &Release,
+    parcel: &Parcel,
+    points: &Points,
+    found: &mut [Option<Place>],
+) -> Result<(), AllocError>
+    requires sound { IsSoundMap release.now }
+    requires among { Contains release.now.parcels parcel.now }
+    requires closed { HasClosedRings parcel.now.polygon }
+    requires as_many { length found.old ≡ length points.now }
+    ensures { OnOk result (AreVisited release.now (parcel.now ∷ []) points.now found.old
+        found.new) }
+{
+    let reach = scaled_box(&parcel.polygon);
+    let slots = points.slots();
+    for k in first_from(slots, &reach)..slots.len() {
+        let slot = &slots[k];
+        if is_past(&reach, slot.spot) {
+            return Ok(());
+        }
+        visit_slot(release, parcel, &reach, slot, found)?;
+    }
+    Ok(())
+}
+
+/// Finds the places of points in a release that is a sound map. A point that has a place keeps it.
+///
+/// Each parcel looks at the points between the left and the right side of its box alone.
+pub fn locate_in(
+    release: &Release,
+    points: &Points,
+    found: &mut [Option<Place>],
+) -> Result<(), AllocError>
+    requires sound { IsSoundMap release.now }
+    requires as_many { length found.old ≡ length points.now }
+    ensures { OnOk result (AreFoundIn release.now points.now found.old found.new) }
+{
+    // Its rings are closed.
+    is_region(release);
+    for parcel in release.parcels() {
+        visit(release, parcel, points, found)?;
+    }
+    Ok(())
+}

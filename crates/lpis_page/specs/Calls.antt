@@ -1,0 +1,46 @@
+-- What a call of the library hands over for the bytes that it was handed.
+use Rattle.std.specs.Prelude.{◌≡◌, ◌<◌, ◌⊎◌, ℕ, List, MatchOption, [], length}
+use Rattle.lpis_parcels.specs.Release.{release_of}
+use Rattle.lpis_commands.specs.AreaAnswer.{area_answer}
+use Rattle.lpis_commands.specs.CheckAnswer.{Inputs, IsAnswer, IsProved}
+use Rattle.lpis_commands.specs.CutAnswer.{IsCutAnswer}
+use Rattle.lpis_commands.specs.Outputs.{Outputs}
+use Rattle.lpis_commands.specs.Status.{done}
+
+-- the inputs of a check, by the bytes of the four files
+abbrev pub inputs : (parcels covers classes cert : List ℕ) → Inputs
+inputs parcels covers classes cert = record {
+  parcels = parcels;
+  covers = covers;
+  classes = classes;
+  cert = cert;
+}
+
+-- the status and the text are the answer to these inputs; a yes comes only for a release that is a
+-- sound map, and a certificate that is good for it
+abbrev pub IsCheckOf : Inputs → ℕ → List ℕ → Type 0
+IsCheckOf x status text = IsAnswer x (text, status) × (status ≡ done → IsProved x)
+
+-- the status and the text are the areas of a table, or the line of its first fault
+abbrev pub IsAreaOf : List ℕ → ℕ → List ℕ → Type 0
+IsAreaOf table status text = (text, status) ≡ area_answer table
+
+-- the status, the certificate's text, if there is one, else nothing, and the line are an answer to
+-- these tables
+abbrev pub IsCutOf : (parcels covers classes : List ℕ) → ℕ → (cert line : List ℕ) → Type 0
+IsCutOf parcels covers classes status cert line =
+    (a : Outputs) × IsCutAnswer (release_of parcels covers classes) a × (status ≡ a.status)
+    × (line ≡ a.line) × MatchOption a.cert (cert ≡ []) (λ text. cert ≡ text)
+
+-- no length was given, or it is that of a text of which this holds, which a room is too small for
+abbrev pub IsUnansweredOr : (List ℕ → Type 0) → (room given : ℕ) → Type 0
+IsUnansweredOr IsText room given =
+    (given ≡ 0) ⊎ ((text : List ℕ) × IsText text × (given ≡ length text) × (room < given))
+
+-- the same of a certificate and a line, of which one is longer than its room
+abbrev pub IsUncutOr : ((cert line : List ℕ) → Type 0) → (cert_room room cert_given given : ℕ)
+    → Type 0
+IsUncutOr AreTexts cert_room room cert_given given =
+    ((cert_given ≡ 0) × (given ≡ 0))
+    ⊎ ((cert line : List ℕ) × AreTexts cert line × (cert_given ≡ length cert)
+    × (given ≡ length line) × ((cert_room < cert_given) ⊎ (room < given)))

@@ -1,0 +1,249 @@
+'use strict';
+// What the page does: takes files, asks the worker, shows what it answers.
+
+const KINDS = ['parcels', 'covers', 'classes', 'cert'];
+const FACTS = JSON.parse($('facts').textContent);
+const files = {};
+const known = { program: FACTS.program, module: '', page: '' }; // sha256s; of module and page those of what runs here
+let shown = null; // the last result, so that it can be shown in another language
+let tables = [];
+
+// The worker does one task after another.
+const worker = new Worker(URL.createObjectURL(new Blob([$('work').textContent], { type: 'text/javascript' })));
+let last = Promise.resolve();
+
+function ask(task, words, transfer = []) {
+  const answer = last.then(() => new Promise(done => {
+    worker.onmessage = ({ data }) => done(data);
+    worker.onerror = event => done({ task, error: event.message || 'worker' });
+    worker.postMessage({ task, ...words }, transfer);
+  }));
+  last = answer;
+  return answer;
+}
+
+// Files.
+
+function kindOf(name, start) {
+  const table = KINDS.slice(0, 3).find(kind => new RegExp(`${kind}[^/]*\\.csv$`, 'i').test(name));
+  if (table || /\.csv$/i.test(name)) return table ?? '';
+  if (/\.html?$/i.test(name)) return 'page';
+  return start.startsWith('lpis-cert') || /cert|\.txt$/i.test(name) ? 'cert' : '';
+}
+
+const FOLDERS = 3; // how deep folders are looked into
+
+async function filesOfHandle(handle, depth = FOLDERS) {
+  if (handle.kind === 'file') return [await handle.getFile()];
+  const found = [];
+  if (depth) for await (const one of handle.values()) found.push(...(await filesOfHandle(one, depth - 1)));
+  return found;
+}
+
+async function filesOfEntry(entry, depth = FOLDERS) {
+  if (entry.isFile) return [await new Promise((done, failed) => entry.file(done, failed))];
+  const reader = entry.createReader(), found = [];
+  for (let part = [0]; depth && part.length;) {
+    part = await new Promise((done, failed) => reader.readEntries(done, failed));
+    for (const one of part) if (one) found.push(...(await filesOfEntry(one, depth - 1)));
+  }
+  return found;
+}
+
+/** The files of what was dropped. A page that lies in a file gets those of a folder by a handle in one browser, and by an entry in another. */
+function filesOfItem(item) {
+  const entry = item.webkitGetAsEntry?.();
+  if (!entry?.isDirectory) return [item.getAsFile()].filter(file => file);
+  return item.getAsFileSystemHandle ? item.getAsFileSystemHandle().then(handle => filesOfHandle(handle)) : filesOfEntry(entry);
+}
+
+async function addDropped(transfer) {
+  try {
+    await add((await Promise.all([...transfer.items].map(filesOfItem))).flat());
+  } catch (error) {
+    showWords('no', 'no folder', { error: String(error) });
+  }
+}
+
+async function sorted(list) {
+  const found = {};
+  for (const file of list) {
+    const kind = kindOf(file.name, await file.slice(0, 16).text());
+    if (kind) (found[kind] ??= []).push(file);
+  }
+  return found;
+}
+
+async function add(list) {
+  const found = await sorted(list);
+  const doubled = Object.entries(found).find(([kind, all]) => all.length > 1 && kind !== 'page');
+  if (doubled) {
+    showWords('no', 'several', { names: doubled[1].map(file => file.webkitRelativePath || file.name).join(', ') });
+    return;
+  }
+  if (found.page) await showDigestOf(found.page[0]);
+  if (files.cert?.isMadeHere && KINDS.some(kind => found[kind])) delete files.cert;
+  for (const kind of KINDS) if (found[kind]) files[kind] = found[kind][0];
+  showFiles();
+  if (KINDS.every(kind => files[kind]) && KINDS.some(kind => found[kind])) await check();
+}
+
+function showFiles() {
+  $('have').replaceChildren(...KINDS.map(kind => {
+    const file = files[kind];
+    const words = !file ? say('missing') : file.isMadeHere ? say('made here', { bytes: file.size }) : `${file.name}, ${say('bytes', { bytes: file.size })}`;
+    return element('li', `${say(`file ${kind}`)}: ${words}`, file ? 'there' : '');
+  }));
+  $('check').disabled = !KINDS.every(kind => files[kind]);
+  $('cut').disabled = !KINDS.slice(0, 3).every(kind => files[kind]);
+  $('hint').hidden = $('cut').disabled || Boolean(files.cert);
+  $('save-cert').hidden = !files.cert?.isMadeHere;
+}
+
+// Results.
+
+function showWords(kind, key, values = {}) {
+  shown = { kind, key, values, sentences: [], result: null };
+  render();
+}
+
+const VERDICTS = { check: ['yes', 'refused', 'unreadable'], cut: ['cut', 'not cut', 'unreadable'] };
+
+function verdictOf(result, task) {
+  if (result.error) return ['no', result.error === 'memory' ? 'no memory' : 'no answer', { error: result.error }];
+  const line = result.status === 0 && task === 'check' ? '' : result.text.trim();
+  return [result.status === 0 ? 'yes' : 'no', VERDICTS[task][result.status] ?? 'no answer', { line, error: `status ${result.status}` }];
+}
+
+async function run(task) {
+  document.body.classList.add('busy');
+  showWords('busy', `busy ${task}`);
+  const wanted = Object.fromEntries((task === 'cut' ? KINDS.slice(0, 3) : KINDS).map(kind => [kind, files[kind]]));
+  const result = await ask(task, { files: wanted });
+  const [kind, key, values] = verdictOf(result, task);
+  shown = { kind, key, values, sentences: result.sentences ?? [], result: result.error ? null : result, names: wanted, isReport: task === 'check' && result.status === 0 };
+  render();
+  if (!result.error && (task === 'check' || result.status)) await draw(wanted, result);
+  document.body.classList.remove('busy');
+  return result;
+}
+
+async function check() {
+  return run('check');
+}
+
+/** Makes a certificate, and checks the release by it. */
+async function cut() {
+  const result = await run('cut');
+  if (!result.cert) return;
+  files.cert = new File([result.cert], 'release.cert');
+  files.cert.isMadeHere = true;
+  showFiles();
+  await check();
+}
+
+async function draw({ parcels, covers, classes }, result) {
+  const drawn = await ask('draw', { files: { parcels, covers, classes }, focus: result.focus, refusal: result.refusal, line: result.text.slice(0, 200).trim() });
+  shown.drawn = drawn.error ? null : drawn;
+  shown.drawError = drawn.error;
+  render();
+}
+
+/** The parcels of a report, and its sums. */
+function reportOf(text) {
+  const parcels = new Map();
+  let sums = null;
+  for (const line of text.split('\n')) {
+    const words = line.split(' ');
+    if (words[0] === 'parcel') parcels.set(words[1], [words[3], words[5]]);
+    else if (words[0] === 'total') sums = { area: words[2], eligible: words[4] };
+  }
+  return { parcels, sums };
+}
+
+function renderTables({ drawn, result, isReport }) {
+  const report = isReport ? reportOf(result.text) : { parcels: new Map(), sums: null };
+  const { sums } = drawn;
+  showMap(drawn.drawing);
+  const isWrong = report.sums && (report.sums.area !== sums.area || report.sums.eligible !== sums.eligible);
+  $('wrong').textContent = isWrong ? say('sums differ', { report: `${report.sums.area} ${report.sums.eligible}`, tables: `${sums.area} ${sums.eligible}` }) : '';
+  $('totals').textContent = say('totals', sums);
+  const rows = drawn.pieces.map(([name, count]) => [name, String(count), ...(report.parcels.get(name) ?? ['', ''])]);
+  tables = [new SortedTable($('classes'), ['class', '#percent', '#pieces', '#area', '#eligible'], sums.rows), new SortedTable($('parcels'), ['parcel', '#pieces', '#area', '#eligible'], rows, number => chart.go('parcels', number))];
+}
+
+function renderDigests() {
+  const digests = [[say('program', FACTS), known.program], [say('module'), known.module], [say('page'), known.page]];
+  for (const [kind, digest] of Object.entries(shown?.result?.digests ?? {})) digests.push([shown.names[kind].name, digest]);
+  $('digests').replaceChildren(...digests.map(([name, digest]) => {
+    const row = element('tr');
+    row.append(element('td', name), element('td', digest || say('no digest'), 'digest'));
+    return row;
+  }));
+  const differs = (known.module && known.module !== FACTS.module) || (known.page && known.page !== FACTS.page);
+  $('differs').textContent = differs ? say('differs') : '';
+}
+
+function render() {
+  const { kind, key, values, sentences, result, drawn, isReport } = shown ?? {};
+  $('result').hidden = !shown;
+  if (!shown) return;
+  $('verdict').className = kind;
+  $('verdict').textContent = say(key, values) + (result ? ` ${say('status', { status: result.status, seconds: result.seconds.toFixed(2) })}` : '');
+  $('means').textContent = isReport ? say('yes means') : '';
+  $('line').textContent = values?.line ?? '';
+  $('sentences').replaceChildren(...linesOf(sentences).map(line => element('li', line)));
+  $('save-text').hidden = !result;
+  $('rests').hidden = !result;
+  $('views').hidden = !drawn;
+  $('wrong').textContent = shown.drawError ? say('not drawn', { error: shown.drawError }) : '';
+  renderDigests();
+  if (drawn) renderTables(shown);
+}
+
+async function showDigestOf(file) {
+  const { digest } = await ask('digestFile', { file });
+  showWords('plain', 'digest of', { name: file.name, digest: digest || say('no digest') });
+}
+
+// The beginning.
+
+function listenToFiles() {
+  const drop = $('drop');
+  for (const [name, isOver] of [['dragover', true], ['dragleave', false], ['drop', false]]) {
+    document.addEventListener(name, event => {
+      event.preventDefault();
+      drop.classList.toggle('over', isOver);
+    });
+  }
+  document.addEventListener('drop', event => addDropped(event.dataTransfer));
+  for (const id of ['files', 'folder']) $(id).addEventListener('change', async event => {
+    await add([...event.target.files]);
+    event.target.value = '';
+  });
+  $('check').addEventListener('click', check);
+  $('cut').addEventListener('click', cut);
+  $('save-cert').addEventListener('click', () => save([files.cert], 'release.cert'));
+  $('save-text').addEventListener('click', () => save([shown.result.text], 'report.txt'));
+  $('save-classes').addEventListener('click', () => save([tables[0].csv()], 'classes-sums.csv'));
+  $('save-parcels').addEventListener('click', () => save([tables[1].csv()], 'parcels-report.csv'));
+}
+
+async function begin() {
+  offerLanguages($('language'), () => {
+    showFiles();
+    render();
+  });
+  speak();
+  showFiles();
+  listenToFiles();
+  const module = Uint8Array.from(atob($('module').textContent), letter => letter.charCodeAt(0));
+  const begun = await ask('begin', { module }, [module.buffer]);
+  if (begun.error) showWords('no', 'no module', { error: begun.error });
+  known.module = begun.digest ?? '';
+  known.page = (await ask('digest', { text: ['style', 'words', 'work', 'script'].map(id => $(id).textContent).join('') })).digest ?? '';
+  document.body.dataset.state = 'ready';
+  render();
+}
+
+begin();

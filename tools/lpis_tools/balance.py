@@ -1,0 +1,149 @@
+"""A balance of land: the square metres of a source and of the tables made of it, by class, and what became of the difference. No column is worked
+out from the others, so land for which nobody accounts shows. Python's standard library alone.
+
+    whole = balance.Balance(layers)     what was read, in the tables' system of coordinates and before any repair
+    whole.join(into, row)               where a row's land goes on in another row's
+    losses.report(.., whole)            the rest: rows that the layers have no longer are left out
+"""
+
+from __future__ import annotations
+
+import csv
+import math
+import os
+
+SHAPED = ("parcels", "covers")
+COLUMNS = ("source", "mended", "left out", "settled", "tables")
+FILE = "balance.csv"
+ZONE = 1_000_000  # metres: eastings may have the number of their zone before them
+NEAR = 0.5  # square metres: what a balance that adds up may miss
+
+
+def area_of(members):
+    """The square metres of polygons by their points: each shell without its holes, whatever lies where."""
+    try:
+        return math.fsum((1 if number == 0 else -1) * abs(ring_area(ring)) for member in members or () for number, ring in enumerate(member))
+    except (OverflowError, ValueError):
+        return 0.0  # of coordinates that no sum bears: their row is left out by name
+
+
+def ring_area(ring):
+    """About its first point, so that long coordinates keep their last digits."""
+    x, y = ring[0] if ring else (0, 0)
+    return math.fsum((a[0] - x) * (b[1] - y) - (b[0] - x) * (a[1] - y) for a, b in zip(ring, ring[1:])) / 2
+
+
+class Entry:
+    """A row of the source as it was read."""
+
+    __slots__ = ("area", "founds", "joined", "layer", "row")
+
+    def __init__(self, layer, row, area):
+        self.layer, self.row, self.area = layer, row, area
+        self.founds = (row.found,) if row.found else ()  # its shape as it was read, and those of rows that were joined with it
+        self.joined = False  # its land goes on in another row
+
+    def group(self):
+        return group_of(self.layer, self.row)
+
+
+def group_of(layer, row):
+    return layer, (row["class"] or "(no class)") if layer == "covers" else ""
+
+
+class Balance:
+    """The sums of each column, by layer and class."""
+
+    def __init__(self, layers):
+        self.sums, self.entries = {}, {}
+        for name in SHAPED:
+            for row in layers[name].rows if name in layers else ():
+                self.entries[id(row)] = Entry(name, row, area_of(row.found.members if row.found else ()))
+
+    def join(self, into, row):
+        """The row's land goes on in another row of its layer."""
+        entry, other = self.entries[id(row)], self.entries[id(into)]
+        entry.joined, other.founds = True, other.founds + entry.founds
+
+    def area_of(self, row):
+        return self.entries[id(row)].area
+
+    def source_of(self, row):
+        """The polygons of a row as they were read; None where it has them still. A zone's number that was taken off is taken off here too."""
+        founds = self.entries[id(row)].founds
+        if len(founds) == 1 and founds[0] is row.found:
+            return None
+        members, now = [member for found in founds for member in found.members], row.found.members
+        away = round((members[0][0][0][0] - now[0][0][0][0]) / ZONE) * ZONE if members and now else 0
+        return [[[(x - away, y) for x, y in ring] for ring in member] for member in members] if away else members
+
+    def left_out(self, layers):
+        """The entries of rows that the layers have no longer."""
+        kept = {id(row) for name in SHAPED if name in layers for row in layers[name].rows}
+        return [entry for key, entry in self.entries.items() if key not in kept and not entry.joined]
+
+    def begin(self, layers):
+        """Books the source, and what is left out of it before the rounding."""
+        self.sums = {}
+        for entry in self.entries.values():
+            self.add(entry.group(), "source", entry.area)
+            if entry.joined:
+                self.add(entry.group(), "mended", -entry.area)
+        for entry in self.left_out(layers):
+            self.add(entry.group(), "left out", -entry.area)
+
+    def add_table(self, layer, record, area):
+        """A row of a table that was written."""
+        self.add(group_of(layer, record), "tables", area)
+
+    def add(self, group, column, area):
+        self.sums.setdefault(group, dict.fromkeys(COLUMNS, 0.0))[column] += area
+
+    def book(self, row, mended, change):
+        """A row that the layers have: its area after all repairs, and the land that it gained by rounding less what it lost; None where it is in no
+        table."""
+        entry = self.entries[id(row)]
+        self.add(entry.group(), "mended", mended - entry.area)
+        self.add(entry.group(), "left out" if change is None else "settled", -mended if change is None else change)
+
+    def write(self, out):
+        """balance.csv in a folder."""
+        with open(os.path.join(out, FILE), "w", newline="", encoding="utf-8") as file:
+            table = csv.writer(file, lineterminator="\n")
+            table.writerow(["layer", "class", *(f"{column.replace(' ', '_')}_m2" for column in COLUMNS), "unaccounted_m2"])
+            table.writerows([layer, land_class, *(f"{value:.3f}" for value in (*found.values(), missing(found)))] for (layer, land_class), found in self.lines())
+
+    def lines(self):
+        """Each class, then all pieces, then the parcels."""
+        classes = sorted(group for group in self.sums if group[0] == "covers")
+        whole = {column: math.fsum(self.sums[group][column] for group in classes) for column in COLUMNS}
+        return [*((group, self.sums[group]) for group in classes), (("covers", ""), whole), *((group, self.sums[group]) for group in sorted(self.sums) if group[0] == "parcels")]
+
+    def words(self):
+        """The balance for people, in hectares, and whether it adds up."""
+        lines, wrong = [f"{'balance of land in hectares':30}" + "".join(f"{column:>15}" for column in COLUMNS)], []
+        for (layer, land_class), found in self.lines():
+            name = {"covers": "all pieces", "parcels": "parcels"}[layer] if not land_class else land_class
+            lines.append(f"  {name:28}" + "".join(f"{hectares(value, sign=0 < number < 4):>15}" for number, value in enumerate(found.values())))
+            if abs(missing(found)) >= NEAR:
+                wrong.append(f"{name} by {missing(found):+.3f} m2")
+        return [*lines, "the balance does not add up: " + ", ".join(wrong) if wrong else "the balance adds up to the square metre"]
+
+    def source_words(self, layers):
+        """The land of the source for people, where no table is written."""
+        self.begin(layers)
+        lines = ["land of the source in hectares"]
+        return lines + [f"  {land_class or {'covers': 'all pieces', 'parcels': 'parcels'}[layer]:28}{hectares(found['source']):>15}" for (layer, land_class), found in self.lines()]
+
+    def is_even(self):
+        return all(abs(missing(found)) < NEAR for _, found in self.lines())
+
+
+def missing(found):
+    """The square metres of the tables beyond those accounted for."""
+    return found["tables"] - math.fsum(found[column] for column in COLUMNS[:4])
+
+
+def hectares(value, sign=False):
+    text = f"{value / 10_000:{'+' if sign else ''},.4f}"
+    return text if text.strip("+-0.,") else "0.0000"

@@ -1,0 +1,215 @@
+"""What is wrong with a source, by Shapely: names that do not do, shapes that cross themselves, and places that two pieces have, or a parcel and none of
+its pieces, or a piece and not its parcel."""
+
+from __future__ import annotations
+
+from collections import Counter
+from dataclasses import dataclass, field
+
+from shapely.errors import ShapelyError
+from shapely.geometry import Polygon
+from shapely.ops import unary_union
+from shapely.validation import explain_validity, make_valid
+
+from . import identifiers, land, wkb
+from .rounding import Map, shape_of
+
+WIDE = 0.02  # metres: a conflict of this width is a fault of the source
+ROUNDING = 0.000_001  # metres: of doubles
+LEAST = 0.001  # metres: conflicts that are narrower are rounding, and no rows
+FAR = 20_000_000.0  # metres: the range of the tables
+MOST_NAMESAKES = 10  # parcels of one name, beyond which it is not asked which of them a piece lies outside of: they are rows of their own
+ORDER = ("lost", "left out", "made", "doubled", "identifier", "stranger", "added", "class", "invalid", "overlap", "gap", "outside", "changed", "column")
+STOPPING = frozenset(ORDER[:9])
+
+
+@dataclass
+class Loss:
+    """Something to look at."""
+
+    kind: str  # one of ORDER
+    names: list
+    words: str
+    shape: object = None  # of Shapely, in metres
+    width: float | None = None
+    area: float | None = None
+    layer: str = ""
+    rows: list = field(default_factory=list)  # their numbers in the layer
+    is_grave: bool = False
+
+    def is_wide(self):
+        return self.width is not None and self.width >= WIDE - ROUNDING
+
+    def stops(self):
+        return self.kind in STOPPING or self.is_wide() or self.is_grave
+
+    def place(self):
+        parts = parts_of(self.shape)
+        if not parts:
+            return None
+        point = max(parts, key=lambda part: part.area).representative_point()
+        return point.x, point.y
+
+
+def number_of(row):
+    """By what a row is found in its layer."""
+    return getattr(row, "fid", None) or row.number
+
+
+def width_of(part):
+    """The area over the length: the width of the rectangle that has the area and the border's length of a part."""
+    area, half = part.area, part.length / 2
+    root = half * half - 4 * area
+    return 2 * area / (half + root**0.5) if root > 0 else area**0.5
+
+
+def parts_of(shape):
+    """The polygons of whatever an operation gave."""
+    if shape is None or shape.is_empty:
+        return []
+    if shape.geom_type == "Polygon":
+        return [shape]
+    return [part for inner in getattr(shape, "geoms", []) for part in parts_of(inner)]
+
+
+def members_of(shape):
+    return [[list(map(tuple, ring.coords)) for ring in (part.exterior, *part.interiors)] for part in parts_of(shape)]
+
+
+def polygons_by(members):
+    """The land of polygons as a valid shape. A hole takes land away wherever it lies, and never becomes land."""
+    shape = shape_of(wkb.Found(members))
+    return shape if shape.is_valid else unary_union([land_of_member(rings) for rings in members])
+
+
+def land_of_member(rings):
+    shell, *holes = (unary_union(parts_of(make_valid(Polygon(ring)))) for ring in rings)
+    return unary_union(parts_of(shell.difference(unary_union(holes)))) if holes else shell
+
+
+def by_geos(what, rows, operation, *shapes):
+    """An operation of Shapely; where it fails the rows are named."""
+    try:
+        return operation(*shapes)
+    except (ShapelyError, ValueError) as error:
+        named = ", ".join(f"{layer} {name}" + (f" (row {number_of(row)})" if row else "") for layer, name, row in rows)
+        raise land.Trouble(f"{what} of {named} cannot be worked out: mend the shape ({str(error).splitlines()[0][:80]})") from None
+
+
+def pieces_found(kind, names, rows, shape, words):
+    for part in parts_of(shape):
+        width = width_of(part)
+        if width >= LEAST - ROUNDING:
+            yield Loss(kind, names, words, part, width, part.area, "parcels" if kind == "gap" else "covers", rows)
+
+
+class Shapes:
+    """The shapes of rows, each made when it is asked for."""
+
+    def __init__(self):
+        self.founds = {}
+
+    def put(self, row):
+        self.founds[id(row)] = row
+
+    def get(self, key):
+        row = self.founds.get(key)
+        return shape_of(row.found) if row else None
+
+
+class Source:
+    """A land whose shapes are valid: `shapes` has them by the row."""
+
+    KEYS = {"parcels": "parcel", "covers": "piece"}
+
+    def __init__(self, layers):
+        self.losses, self.layers, self.shapes = [], layers, Shapes()
+        self.parcels, self.covers = ([row for row in layers[name].rows if self.has_land(layers[name], column, row)] for name, column in self.KEYS.items())
+        self.pieces_of = {}
+        for row in self.covers:
+            self.pieces_of.setdefault(row["parcel"], []).append(row)
+
+    def has_land(self, layer, column, row):
+        """Whether a row has a shape with an area, which is mended first where it crosses itself."""
+        if row.found is None or self.is_far(row):
+            return False
+        if not layer.is_valid:
+            shape = by_geos("the shape", [(layer.name, row[column], row)], shape_of, row.found)
+            if not shape.is_valid:
+                shape = self.mended(layer, column, row, shape)
+            if shape.is_empty:
+                return False
+        self.shapes.put(row)
+        return True
+
+    @staticmethod
+    def is_far(row):
+        """Takes a shape out of range from its row."""
+        if max(map(abs, row.found.box())) <= FAR:
+            return False
+        row.found, row.why = None, "a coordinate is beyond 20,000,000 m"
+        return True
+
+    def mended(self, layer, column, row, shape):
+        why = explain_validity(shape)
+        mended = by_geos("the shape", [(layer.name, row[column], row)], polygons_by, row.found.members)
+        words = f"{why}; mended it has {mended.area:.3f} m2, by its points {abs(shape.area):.3f}"
+        row.found = wkb.Found(members_of(mended))
+        self.losses.append(Loss("invalid", [row[column]], words, mended, None, mended.area, layer.name, [number_of(row)]))
+        return mended
+
+
+def find_names(source):
+    """Rows whose names do not do: several of one identifier, none that is an identifier, a parcel that is not there."""
+    for name, column in Source.KEYS.items():
+        rows = {}
+        for row in source.layers[name].rows:
+            rows.setdefault(row[column], []).append(number_of(row))
+        source.losses += [Loss("doubled", [who], f"{len(found)} rows have this identifier: lpis refuses it (34)", layer=name, rows=found) for who, found in rows.items() if len(found) > 1]
+    for name, column in (("parcels", "parcel"), ("covers", "piece"), ("covers", "class")):
+        rows = {}
+        for row in source.layers[name].rows:
+            if not identifiers.is_one(row[column]):
+                rows.setdefault(row[column], []).append(number_of(row))
+        source.losses += [Loss("identifier", [who], f"this {column} is no identifier, in {len(found)} row{'s' * (len(found) > 1)}: lpis refuses it (33)", layer=name, rows=found)
+                          for who, found in rows.items()]
+    known = {row["parcel"] for row in source.layers["parcels"].rows}
+    for row in source.layers["covers"].rows:
+        if row["parcel"] not in known:
+            shape = source.shapes.get(id(row))
+            source.losses.append(Loss("stranger", [row["piece"], row["parcel"]], "the piece names a parcel that is not there: lpis refuses it (35)", shape, None, shape.area if shape else None, "covers", [number_of(row)]))
+
+
+def find_conflicts(source, say, found=None):
+    """The places in conflict, by Shapely: of the rows that have one where all borders are rounded together (`found`). What the rounding closes by itself
+    is none."""
+    found = found or Map(source.parcels, source.covers, say).conflicts()
+    namesakes = Counter(row["parcel"] for row in source.parcels)
+    outsides = [(piece, row) for piece, row in found.outsides if row["parcel"] and namesakes[row["parcel"]] <= MOST_NAMESAKES]
+    say(f"conflicts: {len(found.overlaps)} overlaps, {len(found.gaps)} gaps, {len(outsides)} pieces outside of their parcel to be measured")
+    for first, second in found.overlaps:
+        find_overlap(source, first, second)
+    for row in found.gaps:
+        find_gap(source, row)
+    for piece, row in outsides:
+        find_outside(source, piece, row)
+
+
+def find_overlap(source, row, other):
+    shapes = [source.shapes.get(id(one)) for one in (row, other)]
+    both = by_geos("the overlap", [("covers", one["piece"], one) for one in (row, other)], shapes[0].intersection, shapes[1])
+    first, second = sorted((row, other), key=lambda one: one["piece"])
+    source.losses += pieces_found("overlap", [first["piece"], second["piece"]], [number_of(first), number_of(second)], both, "both pieces have this place")
+
+
+def find_gap(source, row):
+    named = [("parcels", row["parcel"], row)]
+    whole = by_geos("the pieces", named, unary_union, [source.shapes.get(id(piece)) for piece in source.pieces_of[row["parcel"]]])
+    gap = by_geos("the gaps", named, source.shapes.get(id(row)).difference, whole)
+    source.losses += pieces_found("gap", [row["parcel"]], [number_of(row)], gap, "the parcel has this place, and none of its pieces")
+
+
+def find_outside(source, piece, row):
+    named = [("parcels", row["parcel"], row), ("covers", piece["piece"], piece)]
+    outside = by_geos("the outside", named, source.shapes.get(id(piece)).difference, source.shapes.get(id(row)))
+    source.losses += pieces_found("outside", [piece["piece"], row["parcel"]], [number_of(piece), number_of(row)], outside, "the piece has this place, and its parcel has not")

@@ -1,0 +1,148 @@
+"""A report about a country that an auditor can keep: what `lpis country` answered, of which bytes by which program, by regions; as JSON, and as a
+page with the map of its tiles."""
+
+from __future__ import annotations
+
+import datetime
+import os
+import subprocess
+from dataclasses import dataclass, field
+
+from . import page, release_page, report, streams, tiles
+from .areas import AREA, both, decimal, hectares
+from .explaining import Explained
+
+CELLS = 60  # squares of the map's longer side, in which parcels are counted
+FILES = ("parcels", "covers", "classes")
+
+
+@dataclass
+class Region:
+    """A region's rows of parcels by their boxes: those that no earlier tile meets, and the box of all of them."""
+
+    corners: list = field(default_factory=list)  # least x and y of a parcel, in millimetres
+    box: tuple | None = None
+    doubled: int = 0  # area of those that no earlier tile meets, in square millimetres
+
+
+@dataclass
+class Country:
+    """What is known of a country: `facts` is what the JSON has."""
+
+    facts: dict
+    tiling: tiles.Tiling
+    regions: dict
+    place: tuple | None = None
+
+
+def is_one(folder):
+    return os.path.isfile(os.path.join(folder, "country.txt"))
+
+
+def tiling_of(folder):
+    try:
+        with open(os.path.join(folder, "country.txt"), encoding="latin-1", newline="") as file:
+            return tiles.read(file.read())
+    except tiles.Unreadable as error:
+        raise report.Trouble(f"{folder}/country.txt: {error}") from None
+
+
+def read_region(folder, name, number, tiling):
+    region = Region()
+    table = streams.Stream(streams.Folder(os.path.join(folder, name)), "parcels", ("wkt",))
+    for _, text, _ in table:
+        found = streams.measured(text)
+        if found is None:
+            continue
+        box, doubled = found
+        region.box = box if region.box is None else (min(region.box[0], box[0]), min(region.box[1], box[1]), max(region.box[2], box[2]), max(region.box[3], box[3]))
+        if min(tiling.met(box), default=number) == number:
+            region.corners.append(box[:2])
+            region.doubled += doubled
+    return region
+
+
+def lines_of(text):
+    """The regions of a report of `lpis country`, and the country's counts and sums."""
+    regions, totals = {}, {}
+    for line in text.splitlines():
+        words = line.split()
+        if words[:1] == ["region"] and len(words) == 10:
+            regions[words[1]] = {"parcels": int(words[3]), "pieces": int(words[5]), "area": words[7], "eligible": words[9]}
+        elif words[:2] == ["country", "regions"] and len(words) == 11:
+            totals = {"regions": int(words[2]), "parcels": int(words[4]), "pieces": int(words[6]), "area": words[8], "eligible": words[10]}
+    return regions, totals
+
+
+def files_of(folder, tiling):
+    names = [f"{region}/{name}" for region in tiling.folders for name in (*(f"{table}.csv" for table in FILES), "cert.txt")]
+    return report.digests({name: os.path.join(folder, name) for name in ["country.txt", *names]})
+
+
+def make(command, folder):
+    """Runs `lpis country`, and reports what is known of the country."""
+    began = datetime.datetime.now(datetime.timezone.utc)
+    tiling = tiling_of(folder)
+    files = files_of(folder, tiling)
+    run = subprocess.run([*command, "country", folder], capture_output=True, text=True, check=False)
+    if files_of(folder, tiling) != files:
+        raise report.Trouble("a table or a certificate changed while it was read: make the report again")
+    answer, (passed, totals) = report.answer_of(run), lines_of(run.stdout)
+    regions = {name: read_region(folder, name, number, tiling) for number, name in enumerate(tiling.folders) if os.path.isfile(os.path.join(folder, name, "parcels.csv"))}
+    count, area = sum(len(region.corners) for region in regions.values()), decimal(sum(region.doubled for region in regions.values()), AREA)
+    if answer == "yes" and ((totals.get("parcels"), totals.get("area")) != (count, area) or list(passed) != tiling.folders):
+        raise report.Trouble(f"lpis reports {totals} of {len(passed)} regions, and the tables have {count} parcels with {area} m2 of {len(regions)} by this tool: one of the two is wrong")
+    facts = {"date": began.strftime("%Y-%m-%dT%H:%M:%SZ"), "folder": os.path.abspath(folder), "program": report.of_program(command), "files": files, "answer": answer, "status": run.returncode,
+             "country": totals, "regions": [{"region": name, **passed.get(name, {})} for name in tiling.folders]}
+    country = Country(facts, tiling, regions)
+    if answer != "yes":
+        explained = Explained(answer, folder)
+        facts["refusal"] = {"line": answer, "words": explained.words}
+        country.place = explained.place
+    return country
+
+
+def lines(country):
+    """What is printed."""
+    facts = country.facts
+    counted = [f"region {row['region']}" + (f" parcels {row['parcels']} pieces {row['pieces']} area {row['area']} ({hectares(row['area'])})" if "area" in row else " has no answer") for row in facts["regions"]]
+    totals = facts["country"]
+    return [facts["answer"], *(f"  {words}" for words in facts.get("refusal", {}).get("words", [])), *counted,
+            *([f"country regions {totals['regions']} parcels {totals['parcels']} area {totals['area']} ({hectares(totals['area'])})"] if totals else [])]
+
+
+def chart_of(country):
+    boxes = [region.box for region in country.regions.values() if region.box]
+    whole = (min(b[0] for b in boxes), min(b[1] for b in boxes), max(b[2] for b in boxes), max(b[3] for b in boxes)) if boxes else (0, 0, 1, 1)
+    layer = page.Layer(words=[])
+    for row, tile in zip(country.facts["regions"], country.tiling.boxes()):
+        box = [max(tile[0], whole[0]), max(tile[1], whole[1]), min(tile[2], whole[2]), min(tile[3], whole[3])]
+        if box[0] >= box[2] or box[1] >= box[3]:  # of a tile without land a mere point
+            box[2], box[3] = box[0], box[1]
+        left, low, right, high = box
+        words = f"{row['parcels']} parcels, {hectares(row['area'])}" if "area" in row else "has no answer"
+        layer.add(row["region"], [[[(left, low), (right, low), (right, high), (left, high), (left, low)]]], words)
+    side, counts = max(whole[2] - whole[0], whole[3] - whole[1]) // CELLS + 1, {}
+    for region in country.regions.values():
+        for x, y in region.corners:
+            cell = (x - whole[0]) // side, (whole[3] - y) // side
+            counts[cell] = counts.get(cell, 0) + 1
+    marks = [(*map(float, country.place), country.facts["answer"])] if country.place else []
+    return page.Map(tiles=layer, marks=marks, cells=(side, [(x, y, count) for (x, y), count in sorted(counts.items())]))
+
+
+def write(path, country):
+    """The page of a country."""
+    facts, made, totals = country.facts, country.facts["program"], country.facts["country"]
+    name = " ".join(filter(None, [made["version"], made["commit"] and f"commit {made['commit']}", made["kit"]])) or made["path"]
+    head = [("made", facts["date"]), ("country", facts["folder"]), ("answer of lpis country", f"{facts['answer']} (status {facts['status']})"), ("program", name), ("sha256 of the program", made["sha256"])]
+    if totals:
+        head += [("regions", totals["regions"]), ("parcels", totals["parcels"]), ("pieces", totals["pieces"]), ("area", both(totals["area"])), ("eligible area", both(totals["eligible"]))]
+    head += [("", words) for words in facts.get("refusal", {}).get("words", [])]
+    heads = {3: f"in the country {hectares(totals['area'])}", 4: f"in the country {hectares(totals['eligible'])}"} if totals else {}
+    rows = [[row["region"], *(row.get(key, "") for key in ("parcels", "pieces", "area", "eligible"))] for row in facts["regions"]]
+    regions = page.Table("Regions (a parcel that meets several tiles counts in each of them, and once in the country)",
+                         ["region", "#parcels", "#pieces", "#area m\u00b2", "#eligible m\u00b2"], rows, [("tiles", number) for number in range(len(rows))], heads)
+    files = page.Table("Files", ["file", "#bytes", "sha256"], [[name, file["bytes"], file["sha256"]] for name, file in facts["files"].items()])
+    title = f"Country {os.path.basename(facts['folder'])}"
+    release_page.write(path, page.page(title, facts["answer"], facts["answer"] == "yes", head, chart_of(country), [regions, files]))

@@ -1,0 +1,63 @@
+"""What the tests of a source found: each a row of prepared.csv, by layer, row and identifier, with area and place."""
+
+from __future__ import annotations
+
+import csv
+from collections import Counter
+
+MOST_SHOWN = 20
+NOTES = {"curve": "arcs made straight, within half a millimetre", "z": "heights dropped", "m": "measures dropped"}
+COLUMNS = ["kind", "layer", "row", "identifier", "area_m2", "x", "y", "words", "done"]
+
+
+class Finding:
+    """Something that the tests found. Mended: without asking; else only where that is accepted; `done` is empty where it cannot be."""
+
+    __slots__ = ("area", "done", "is_mended", "key", "kind", "layer", "name", "place", "row", "words")
+
+    def __init__(self, kind, layer, row, name, words, done="", is_mended=False, area=None, place=None, key="row"):
+        self.kind, self.layer, self.row, self.name, self.words, self.done, self.is_mended = kind, layer, row, name, words, done, is_mended
+        self.area, self.place, self.key = area, place, key
+
+    def is_grave(self):
+        return not self.is_mended
+
+    def is_hopeless(self):
+        return not self.is_mended and not self.done
+
+    def line(self, accept):
+        who = " ".join(word for word in (self.layer, self.name, f"({self.key} {self.row})" if self.row is not None else "") if word)
+        size = f" ({self.area:.3f} m2)" if self.area is not None else ""
+        at = f" at {self.place[0]:.3f} {self.place[1]:.3f}" if self.place else ""
+        done = self.done if self.is_mended or (accept and self.done) else ""
+        return f"{self.kind}: {who}{size}{at}: {self.words}" + (f": {done}" if done else "")
+
+    def record(self, accept):
+        done = (self.done or NOTES.get(self.kind, "")) if self.is_mended or accept else ""
+        area = "" if self.area is None else f"{self.area:.3f}"
+        x, y = (f"{value:.3f}" for value in self.place) if self.place else ("", "")
+        return [self.kind, self.layer, "" if self.row is None else self.row, self.name, area, x, y, self.words, done]
+
+
+def write(findings, path, accept):
+    """The table prepared.csv."""
+    with open(path, "w", newline="", encoding="utf-8") as file:
+        table = csv.writer(file, lineterminator="\n")
+        table.writerow(COLUMNS)
+        table.writerows(finding.record(accept) for finding in findings)
+
+
+def lines_of(findings, accept):
+    """The findings for people: notes counted, the rest by identifier."""
+    lines, shown, notes = [], Counter(), {}
+    for finding in findings:
+        if finding.kind in NOTES:
+            notes.setdefault((finding.kind, finding.layer), []).append(finding)
+            continue
+        shown[finding.kind] += 1
+        if shown[finding.kind] <= MOST_SHOWN:
+            lines.append(finding.line(accept))
+    lines += [f"{kind}: and {count - MOST_SHOWN} more, see prepared.csv" for kind, count in shown.items() if count > MOST_SHOWN]
+    for (kind, layer), found in notes.items():
+        lines.append(f"{kind}: {len(found)} of {layer} ({found[0].name}{' and others' if len(found) > 1 else ''}): {NOTES[kind]}")
+    return lines

@@ -1,0 +1,112 @@
+"""The log beside a register: a line a published year, each with the digest of the line before, and what the register held then."""
+
+import fcntl
+import hashlib
+import json
+import os
+from contextlib import contextmanager
+
+from . import registers
+
+FIRST = "0" * 64
+ORDERED = {
+    "lpis_format": "one, version", "lpis_release": "year", "lpis_span": "id, since, until", "lpis_row": "year, pos, old, new",
+    "lpis_text": "id, wkt", "lpis_mark": "year, pos",
+}
+
+
+def path_of(register):
+    return f"{register}.log"
+
+
+def digest_of(path):
+    """The sha256 of a file."""
+    digest = hashlib.sha256()
+    with open(path, "rb") as file:
+        while block := file.read(1 << 20):
+            digest.update(block)
+    return digest.hexdigest()
+
+
+def content_of(register):
+    """The sha256 of each table's rows, in the order of their keys: the same for the same content, however the file is laid out."""
+    base = registers.opened(register)
+    try:
+        there = {name for (name,) in base.execute("SELECT name FROM sqlite_schema WHERE type = 'table'")}
+        digests = {}
+        for table, columns in ORDERED.items():
+            if table in there:
+                digest = hashlib.sha256()
+                for row in base.execute(f"SELECT {columns} FROM {table} ORDER BY {columns}"):
+                    digest.update((json.dumps(row, ensure_ascii=True) + "\n").encode())
+                digests[table] = digest.hexdigest()
+        return digests
+    finally:
+        base.close()
+
+
+def lines_of(register):
+    """The lines of the log, as bytes without their ends."""
+    try:
+        with open(path_of(register), "rb") as file:
+            return file.read().splitlines()
+    except FileNotFoundError:
+        return []
+
+
+def own_digest(entry):
+    return hashlib.sha256(json.dumps({key: entry[key] for key in sorted(entry) if key != "own"}).encode()).hexdigest()
+
+
+@contextmanager
+def held(register):
+    """The log, open at its end, held by one process at a time."""
+    with open(path_of(register), "ab") as file:
+        fcntl.flock(file, fcntl.LOCK_EX)
+        yield file
+
+
+def add(file, register, entry):
+    """Adds a line, and answers its digest."""
+    lines = lines_of(register)
+    entry = {**entry, "before": hashlib.sha256(lines[-1]).hexdigest() if lines else FIRST}
+    line = json.dumps({**entry, "own": own_digest(entry)}).encode()
+    file.write(line + b"\n")
+    file.flush()
+    os.fsync(file.fileno())
+    return hashlib.sha256(line).hexdigest()
+
+
+def entries_of(lines):
+    """The lines as dictionaries, and what is wrong with the chain."""
+    entries, faults, before = [], [], FIRST
+    for number, line in enumerate(lines, 1):
+        try:
+            entry = json.loads(line)
+            is_whole = isinstance(entry, dict) and entry["own"] == own_digest(entry)
+        except (ValueError, KeyError):
+            entry, is_whole = {}, False
+        if not is_whole:
+            faults.append(f"line {number} was changed since it was written")
+        elif entry["before"] != before:
+            faults.append(f"line {number} does not follow the line before it: one was changed, taken out or put in")
+        entries.append(entry)
+        before = hashlib.sha256(line).hexdigest()
+    return entries, faults
+
+
+def faults_of(register):
+    """What does not agree between a register and its log."""
+    lines = lines_of(register)
+    if not lines:
+        return [f"{path_of(register)}: no line: the register has no log"]
+    entries, faults = entries_of(lines)
+    known = entries[-1].get("content", {})
+    now = content_of(register)
+    changed = sorted(table for table in {*known, *now} if known.get(table) != now.get(table))
+    if changed:
+        faults.append(f"the register is not as the last line has it, by {entries[-1].get('year', '?')}: {', '.join(changed)} changed since")
+    rising = [entry.get("year", 0) for entry in entries]
+    if rising != sorted(set(rising)):
+        faults.append("the years of the lines do not rise")
+    return faults

@@ -1,0 +1,226 @@
+"""Identifiers on their way to the tables: trimmed alike in all of them, given one where a name is none, and what they name joined."""
+
+from __future__ import annotations
+
+import csv
+import unicodedata
+from collections import Counter
+
+from shapely import wkb as shapely_wkb
+from shapely.ops import unary_union
+
+from . import identifiers, sheets, wkb
+from .conflicts import members_of
+from .findings import Finding
+
+COLUMNS = (("parcels", ["parcel"]), ("covers", ["piece", "parcel", "class"]))
+KINDS = ("parcel", "piece", "class")
+
+
+def alike(name):
+    """What names have in common that people take for one: cases, forms of letters, blanks, the point behind a whole number."""
+    return unicodedata.normalize("NFKC", name).casefold().strip().removesuffix(".0")
+
+
+class Names:
+    """Gives each name that is no identifier an identifier, the same in all tables."""
+
+    def __init__(self, work, given):
+        self.work, self.given = work, given
+        self.renamed = {kind: {} for kind in KINDS}
+        self.used = {kind: set() for kind in KINDS}
+
+    def run(self):
+        for name, columns in COLUMNS:
+            for column in columns:
+                self.trim(name, column)
+        for name, columns in COLUMNS:
+            for row in self.work.layers[name].rows:
+                for column in columns:
+                    if row[column] not in self.given[column] and identifiers.is_one(row[column]):
+                        self.used[column].add(row[column])
+        for name, columns in COLUMNS:
+            kept = []
+            for row in self.work.layers[name].rows:
+                if all([self.rename(name, row, column) for column in columns]):
+                    kept.append(row)
+            self.work.layers[name].rows = kept
+        self.in_case_alone()
+
+    def trim(self, name, column):
+        """Takes blanks off before and behind."""
+        trimmed = []
+        for row in self.work.layers[name].rows:
+            old = row[column]
+            new = old.strip()
+            if new != old and new and old not in self.given[column]:
+                trimmed.append((row, old))
+                row.fields[column] = new
+                self.renamed[column][old] = new
+        if trimmed:
+            row, old = trimmed[0]
+            layer = self.work.layers[name]
+            self.work.findings.append(Finding("blanks", name, row.number, row[column], f"{len(trimmed)} of the column {column} have blanks before or behind, such as {old!r}", "taken off, the same in all tables", True, key=layer.key))
+
+    def new_name(self, column, old):
+        return self.given[column].get(old) or self.renamed[column].get(old) or (old if identifiers.is_one(old) else identifiers.made_of(old))
+
+    def rename(self, layer, row, column):
+        """Whether the row's field is an identifier at last."""
+        old, work = row[column], self.work
+        if not old.strip():
+            if column == "piece":
+                made = f"{work.layers[layer].key}-{row.number}"
+                work.find("nameless", layer, row, "no piece identifier", f"named {made}")
+                row.fields[column] = made
+                return True
+            work.find("nameless", layer, row, f"no {column} identifier")
+            return False
+        new = self.new_name(column, old)
+        row.fields[column] = new
+        if new != old and old not in self.renamed[column]:
+            is_taken = new in self.used[column]
+            self.renamed[column][old] = new
+            self.used[column].add(new)
+            key = work.layers[layer].key
+            work.findings.append(Finding("identifier", layer, row.number, old, f"{column} {old!r} is no identifier" if not identifiers.is_one(old) else f"{column} {old!r}", f"now {new}", True, key=key))
+            if is_taken or not identifiers.is_one(new):
+                work.find("identifier", layer, row, f"{column} {old!r} would be {new}, which is another's or no identifier: name another by --identifiers", "")
+        return True
+
+    def in_case_alone(self):
+        """Names those that people may take for one."""
+        for layer, column in (("parcels", "parcel"), ("covers", "piece"), ("covers", "class")):
+            groups = {}
+            for name in {row[column] for row in self.work.layers[layer].rows}:
+                groups.setdefault(alike(name), []).append(name)
+            for names in sorted(sorted(names) for names in groups.values() if len(names) > 1):
+                self.work.findings.append(Finding("alike", layer, None, names[0], f"the {column}s {' and '.join(names)} differ in case, or in .0, alone", "kept as they are", True))
+
+
+def join(work, whole):
+    """Doubled identifiers, pieces of parcels that are not there, parcels without pieces."""
+    parcels, covers = work.layers["parcels"], work.layers["covers"]
+    doubled_parcels(work, parcels, whole)
+    doubled_pieces(work, covers, whole)
+    known = {row["parcel"] for row in parcels.rows}
+    near = {}
+    for name in known:
+        near.setdefault(alike(name), name)
+    for row in covers.rows:
+        if row["parcel"] not in known:
+            other = near.get(alike(row["parcel"]))
+            work.find("stranger", "covers", row, f"its parcel {row['parcel']} is not there" + (f"; {other} is, which differs in case, or in .0, alone" if other else ""))
+    covers.rows = [row for row in covers.rows if row["parcel"] in known and row.found]
+    named = {row["parcel"] for row in covers.rows}
+    for row in parcels.rows:
+        if row["parcel"] not in named:
+            work.find("bare", "parcels", row, "no piece with a shape names it")
+    parcels.rows = [row for row in parcels.rows if row["parcel"] in named]
+
+
+def doubled_parcels(work, layer, whole):
+    first = {}
+    for row in layer.rows:
+        before = first.setdefault(row["parcel"], row)
+        if before is not row:
+            work.find("doubled", "parcels", row, f"{layer.key} {before.number} has this identifier too", "the two are joined")
+            join_rows(before, row, whole)
+    layer.rows = list(first.values())
+
+
+def doubled_pieces(work, layer, whole):
+    first, used = {}, {row["piece"] for row in layer.rows}
+    for row in layer.rows:
+        name = row["piece"]
+        before = first.setdefault(name, row)
+        if before is row:
+            continue
+        if (before["parcel"], before["class"]) == (row["parcel"], row["class"]):
+            work.find("doubled", "covers", row, f"{layer.key} {before.number} has this identifier, parcel and class too", "the two are joined")
+            join_rows(before, row, whole)
+            continue
+        new = next(f"{name[:36]}-{number}" for number in range(2, 10**6) if f"{name[:36]}-{number}" not in used)
+        used.add(new)
+        work.find("doubled", "covers", row, f"{layer.key} {before.number} has this identifier too, for another parcel or class", f"now {new}")
+        row.fields["piece"] = new
+        first[new] = row
+    layer.rows = list(first.values())
+
+
+def join_rows(before, row, whole):
+    """The land of a row goes on in another."""
+    whole.join(before, row)
+    if before.found and row.found:
+        shapes = [shapely_wkb.loads(one.found.blob) for one in (before, row)]
+        before.found = wkb.Found(members_of(unary_union([shape if shape.is_valid else shape.buffer(0) for shape in shapes])))
+    else:
+        before.found = before.found or row.found
+
+
+# Tables of names and of classes.
+
+def table_of(path):
+    """A table of classes or identifiers, whatever program wrote it, with the names of its columns in small letters; and its faults."""
+    sheet = sheets.read(path)
+    columns = [name.lower() for name in sheet.columns]
+    doubled = sorted({name for name in columns if columns.count(name) > 1})
+    records = [dict(zip(columns, fields)) for _, fields in sheet.rows()]
+    return records, [*(fault.words + (f" (row {fault.row})" if fault.row else "") for fault in sheet.faults), *(f"two columns are called {name}" for name in doubled)]
+
+
+def given_identifiers(path):
+    """A table kind, old, new of an earlier year."""
+    given = {kind: {} for kind in KINDS}
+    for record in table_of(path)[0] if path else []:
+        if record.get("kind") in given and record.get("old"):
+            given[record["kind"]][record["old"]] = record.get("new") or ""
+    return given
+
+
+def write_identifiers(renamed, path):
+    """The names that were changed, old and new, as they are in the tables."""
+    with open(path, "w", newline="", encoding="utf-8") as file:
+        table = csv.writer(file, lineterminator="\n")
+        table.writerow(["kind", "old", "new"])
+        table.writerows([kind, old, names.get(new, new)] for kind, names in renamed.items() for old, new in names.items())
+
+
+def classes(work, names, table):
+    """The rows of classes.csv, by the new names; None where there is no table."""
+    used = Counter(row["class"] for row in work.layers["covers"].rows)
+    if table is None:
+        return None
+    column = next((name for name in ("percent", "eligible") if any(name in record for record in table)), "percent")
+    rows = {}
+
+    def wrong(kind, name, words):
+        work.findings.append(Finding(kind, "classes", None, name, words))
+
+    for record in table:
+        old, text = (record.get("class") or "").strip(), (record.get(column) or "").strip().rstrip("%").strip()
+        new, value = names.new_name("class", old), share(text, 100 if column == "eligible" else 1)
+        if not old:
+            wrong("nameless", "", "a row without a class")
+        elif value is None:
+            wrong("percent", old, f"its {column} {text!r} is no whole number from 0 to 100")
+        elif new in rows:
+            wrong("doubled", old, "it stands twice")
+        rows[new] = value
+    if rows and column == "percent" and set(rows.values()) <= {0, 1}:
+        wrong("percent", "", "every percent is 0 or 1, which reads as shares: 1 is one percent")
+    near = {alike(name): name for name in rows}
+    for name in sorted(set(used) - set(rows)):
+        other = near.get(alike(name))
+        words = f"{used[name]} pieces have this class, and the table of classes has not" + (f"; it has {other}, which differs in case, or in .0, alone" if other else "")
+        work.findings.append(Finding("class", "covers", None, name, words))
+    return rows
+
+
+def share(text, factor):
+    """A whole number of percent, or None."""
+    try:
+        value = float(text.replace(",", ".")) * factor
+    except ValueError:
+        return None
+    return int(value) if 0 <= value <= 100 and value.is_integer() else None

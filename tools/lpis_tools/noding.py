@@ -1,0 +1,321 @@
+"""Edges in whole millimetres that meet at corners alone: each edge takes the corners that lie in its pixel, and is cut wherever it meets another, until
+nothing changes. By numpy, in whole numbers; no shape is made."""
+
+from __future__ import annotations
+
+import numpy
+
+from . import wkb
+
+PIXEL = 0.7072  # millimetres from an edge to a corner that it takes
+PART = 1 << 16  # edges or shapes at once
+MOST_PASSES = 100
+WIDE = 1 << 31  # differences below it have products that fit a number of 64 bits
+
+
+class Restless(Exception):
+    """The borders do not come to rest."""
+
+
+class Rings:
+    """The rings of shapes in one array of points, in metres."""
+
+    def __init__(self, founds, first=0):
+        parts, sizes, owners, holes = [], [], [], []
+        for owner, found in enumerate(founds, first):
+            for at, count, is_hole in wkb.rings_of(found.blob):
+                parts.append(found.blob[at : at + 16 * count])
+                sizes.append(count)
+                owners.append(owner)
+                holes.append(is_hole)
+        self.points = numpy.frombuffer(b"".join(parts), "<f8").reshape(-1, 2)
+        self.sizes, self.owners, self.holes = numpy.array(sizes, int), numpy.array(owners, int), numpy.array(holes, bool)
+        self.starts = numpy.cumsum(self.sizes) - self.sizes
+
+    def edges(self):
+        """Each edge as x, y, x, y with its owner, which lies to its left."""
+        ring = numpy.repeat(numpy.arange(len(self.sizes)), self.sizes)
+        inner = numpy.nonzero(ring[:-1] == ring[1:])[0]
+        first, second = self.points[inner], self.points[inner + 1]
+        ring = ring[inner]
+        about = self.points[self.starts][ring]
+        doubled = numpy.bincount(ring, (first[:, 0] - about[:, 0]) * (second[:, 1] - about[:, 1]) - (second[:, 0] - about[:, 0]) * (first[:, 1] - about[:, 1]), len(self.sizes))
+        backwards = ((doubled < 0) != self.holes)[ring]
+        edges = numpy.where(backwards[:, None], numpy.hstack([second, first]), numpy.hstack([first, second])) + 0.0
+        return edges, self.owners[ring]
+
+
+def edges_of(founds):
+    """The edges of many shapes, some of them at a time."""
+    parts = [Rings(founds[start : start + PART], start).edges() for start in range(0, len(founds), PART)]
+    return (numpy.concatenate(some) for some in zip(*parts)) if parts else (numpy.zeros((0, 4)), numpy.zeros(0, int))
+
+
+def numbered(keys):
+    """Different keys, ascending, and the number of each."""
+    return numpy.unique(keys, return_inverse=True)
+
+
+def expanded(counts):
+    """For each of so many things its place in the list, and its number among its own."""
+    which = numpy.repeat(numpy.arange(len(counts)), counts)
+    return which, numpy.arange(len(which)) - numpy.repeat(numpy.cumsum(counts) - counts, counts)
+
+
+def unique_edges(edges):
+    """The edges without direction, each once; the number of each, and whether it is walked backwards."""
+    backwards = (edges[:, 0] > edges[:, 2]) | ((edges[:, 0] == edges[:, 2]) & (edges[:, 1] > edges[:, 3]))
+    edges[backwards] = edges[backwards][:, [2, 3, 0, 1]]
+    bits, key = edges.view(numpy.uint64), numpy.zeros(len(edges), numpy.uint64)
+    for column in range(4):
+        key = (key ^ bits[:, column]) * numpy.uint64(0x9E3779B97F4A7C15)
+        key ^= key >> numpy.uint64(29)
+    _, first, number = numpy.unique(key, return_index=True, return_inverse=True)
+    if any((edges[first[number[at : at + PART]]] != edges[at : at + PART]).any() for at in range(0, len(edges), PART)):  # two edges of one key
+        _, first, number = numpy.unique(edges, axis=0, return_index=True, return_inverse=True)
+    return edges[first], number, backwards
+
+
+class Corners:
+    """Different points in whole millimetres, numbered by x and then y."""
+
+    def __init__(self, points):
+        points = numpy.unique(points, axis=0) if len(points) and numpy.ptp(points, axis=0).max() >= WIDE else self.packed(points)
+        self.points = points
+
+    @staticmethod
+    def packed(points):
+        if not len(points):
+            return points.reshape(-1, 2)
+        least = points.min(axis=0)
+        moved = points - least
+        keys = numpy.unique((moved[:, 0] << 32) | moved[:, 1])
+        return numpy.stack([keys >> 32, keys & 0xFFFFFFFF], axis=1) + least
+
+    def numbers(self, points):
+        """The number of each of some points, which are among the corners."""
+        if not len(points):
+            return numpy.zeros(0, int)
+        if numpy.ptp(self.points, axis=0).max() >= WIDE:
+            places = {tuple(point): number for number, point in enumerate(self.points.tolist())}
+            return numpy.array([places[tuple(point)] for point in points.tolist()], int)
+        least = self.points[:, 0].min(), self.points[:, 1].min()
+        keys = ((self.points[:, 0] - least[0]) << 32) | (self.points[:, 1] - least[1])
+        return numpy.searchsorted(keys, ((points[:, 0] - least[0]) << 32) | (points[:, 1] - least[1]))
+
+
+def size_of_cells(edges):
+    """The side of a cell in millimetres: about the middle length of an edge."""
+    if not len(edges):
+        return 1000
+    lengths = numpy.abs(edges[:, 2:] - edges[:, :2]).max(axis=1)
+    return int(max(1000, numpy.median(lengths), lengths.mean() / 4, lengths.max() / 100_000))
+
+
+def cells_along(edges, side):
+    """The cells that each edge comes within two millimetres of: pairs of an edge's number and a cell's column and row."""
+    swap = edges[:, 0] > edges[:, 2]
+    ax, ay, bx, by = (numpy.where(swap, edges[:, i], edges[:, j]).astype(float) for i, j in ((2, 0), (3, 1), (0, 2), (1, 3)))
+    slope = numpy.divide(by - ay, bx - ax, out=numpy.zeros(len(ax)), where=bx > ax)
+    low = numpy.floor((ax - 2) / side).astype(int)
+    edge, step = expanded(numpy.floor((bx + 2) / side).astype(int) - low + 1)
+    column = low[edge] + step
+    left, right = (numpy.clip(value, ax[edge], bx[edge]) for value in (column * side - 2.0, (column + 1) * side + 2.0))
+    ends = [numpy.where(bx[edge] > ax[edge], ay[edge] + slope[edge] * (end - ax[edge]), other) for end, other in ((left, ay[edge]), (right, by[edge]))]
+    bottom = numpy.floor((numpy.minimum(*ends) - 4) / side).astype(int)
+    entry, step = expanded(numpy.floor((numpy.maximum(*ends) + 4) / side).astype(int) - bottom + 1)
+    return edge[entry], column[entry], bottom[entry] + step
+
+
+def key_of(column, row):
+    return (column << 32) + row
+
+
+def with_corners(edges):
+    """The edges rounded, each going over the rounded corners that lie within its pixel: else junctions open. The corners, and the ways: the edge and
+    the corners at both ends of each part."""
+    scaled = edges * 1000
+    ends = numpy.rint(scaled).astype(int)
+    corners = Corners(ends.reshape(-1, 2))
+    side = size_of_cells(scaled)
+    keys = key_of(corners.points[:, 0] // side, corners.points[:, 1] // side)
+    order = numpy.argsort(keys, kind="stable")
+    sorted_keys, ways = keys[order], []
+    for start in range(0, len(edges), PART):
+        part = scaled[start : start + PART]
+        edge, column, row = cells_along(part, side)
+        key = key_of(column, row)
+        low = numpy.searchsorted(sorted_keys, key)
+        entry, step = expanded(numpy.searchsorted(sorted_keys, key, "right") - low)
+        corner, edge = order[low[entry] + step], edge[entry]
+        x, y = (corners.points[corner] - part[edge, :2]).T
+        dx, dy = (part[edge, 2:] - part[edge, :2]).T
+        square = dx * dx + dy * dy
+        along = numpy.divide(x * dx + y * dy, square, out=numpy.zeros(len(x)), where=square > 0)
+        on = (along > 0) & (along < 1) & (numpy.abs(x * dy - y * dx) <= PIXEL * numpy.sqrt(square))
+        ways.append(ways_of(corners.numbers(ends[start : start + PART, :2]), corners.numbers(ends[start : start + PART, 2:]), edge[on], along[on], corner[on], start))
+    return corners, tuple(map(numpy.concatenate, zip(*ways))) if ways else (numpy.zeros(0, int),) * 3
+
+
+def ways_of(first, last, edge, along, corner, start=0):
+    """The parts of each edge from its first corner over those along it to its last: the edge's number, and both ends. Parts without length go."""
+    count = len(first)
+    edges = numpy.concatenate([numpy.arange(count), edge, numpy.arange(count)])
+    places = numpy.concatenate([numpy.full(count, -1.0), along, numpy.full(count, 2.0)])
+    order = numpy.lexsort((places, edges))
+    edges, corners = edges[order], numpy.concatenate([first, corner, last])[order]
+    inner = (edges[1:] == edges[:-1]) & (corners[1:] != corners[:-1])
+    return edges[:-1][inner] + start, corners[:-1][inner], corners[1:][inner]
+
+
+class Network:
+    """Edges between numbered corners, each once and from the lesser corner to the greater; and the sides: an edge, an owner and how often the owner
+    lies to its left more than to its right."""
+
+    def __init__(self, corners, first, last, sides):
+        """`sides` are an edge, an owner and a count."""
+        self.points = corners.points
+        self.take(first, last, sides)
+
+    def take(self, first, last, sides):
+        backwards = first > last
+        first, last = numpy.where(backwards, last, first), numpy.where(backwards, first, last)
+        keys, number = numbered((first << 32) | last)
+        self.first, self.last = keys >> 32, keys & 0xFFFFFFFF
+        edge, owner, count = sides
+        count = numpy.where(backwards[edge], -count, count)
+        pairs, place = numbered((number[edge] << 32) | owner)
+        counts = numpy.bincount(place, count, len(pairs)).astype(int)
+        kept = counts != 0
+        self.edge, self.owner, self.count = pairs[kept] >> 32, pairs[kept] & 0xFFFFFFFF, counts[kept]
+        self.starts = numpy.searchsorted(self.edge, numpy.arange(len(self.first) + 1))  # of the sides of each edge
+
+    def cut(self, say):
+        """Cuts the edges wherever they meet, until nothing changes."""
+        fresh = numpy.ones(len(self.first), bool)
+        for number in range(1, MOST_PASSES + 1):
+            say(f"borders: {len(self.first)} edges, pass {number}")
+            edge, x, y = self.meetings(fresh)
+            if not len(edge):
+                return self
+            fresh = self.cut_at(edge, numpy.stack([x, y], axis=1))
+        raise Restless(f"the borders do not come to rest in {MOST_PASSES} passes")
+
+    def cut_at(self, edge, places):
+        """Cuts edges at places. Which edges are new."""
+        corners = Corners(numpy.concatenate([self.points, places]))
+        renumbered = corners.numbers(self.points)
+        corner = corners.numbers(places)
+        first, last = renumbered[self.first], renumbered[self.last]
+        start, way = self.points[self.first[edge]], (self.points[self.last] - self.points[self.first])[edge]
+        along = ((places - start) * way).sum(axis=1) / (way * way).sum(axis=1)
+        old = numpy.sort((first << 32) | last)
+        owner, a, b = ways_of(first, last, edge, numpy.clip(along, 0.0, 1.0), corner)
+        where = numpy.argsort(owner, kind="stable")
+        counts = numpy.bincount(owner, minlength=len(first))
+        starts = numpy.cumsum(counts) - counts
+        side, step = expanded(counts[self.edge])
+        parts = where[starts[self.edge[side]] + step]
+        self.points = corners.points
+        self.take(a, b, (parts, self.owner[side], self.count[side]))
+        keys = (self.first << 32) | self.last
+        place = numpy.minimum(numpy.searchsorted(old, keys), len(old) - 1)
+        return old[place] != keys
+
+    def meetings(self, fresh):
+        """Where edges are to be cut: an edge, and a place in whole millimetres. Only pairs of which one is new are looked at."""
+        ends = numpy.hstack([self.points[self.first], self.points[self.last]])
+        side = size_of_cells(ends)
+        parts = []
+        for start in range(0, len(ends), PART):
+            edge, column, row = cells_along(ends[start : start + PART], side)
+            parts.append((edge + start, key_of(column, row)))
+        edge, key = map(numpy.concatenate, zip(*parts)) if parts else (numpy.zeros(0, int),) * 2
+        wanted = numpy.unique(key[fresh[edge]])
+        if not len(wanted):
+            return (numpy.zeros(0, int),) * 3
+        if not fresh.all():
+            place = numpy.minimum(numpy.searchsorted(wanted, key), len(wanted) - 1)
+            kept = wanted[place] == key
+            edge, key = edge[kept], key[kept]
+        order = numpy.argsort(key, kind="stable")
+        edge, key = edge[order], key[order]
+        behind = numpy.searchsorted(key, key, "right") - numpy.arange(len(key)) - 1
+        told = []
+        for low, high in parts_of(behind):
+            entry, step = expanded(behind[low:high])
+            told += meetings_of(ends, edge[low + entry], edge[low + entry + 1 + step], fresh)
+        edge, x, y = map(numpy.concatenate, zip(*told)) if told else (numpy.zeros(0, int),) * 3
+        _, once = numpy.unique(numpy.stack([edge, x, y], axis=1), axis=0, return_index=True)
+        return edge[once], x[once], y[once]
+
+
+def parts_of(counts, most=1 << 19):
+    """Ranges of a list whose counts are together at most so many, or one alone."""
+    ends, low = numpy.cumsum(counts), 0
+    while low < len(counts):
+        high = max(low + 1, int(numpy.searchsorted(ends, (ends[low - 1] if low else 0) + most, "right")))
+        yield low, high
+        low = high
+
+
+def meetings_of(ends, i, j, fresh):
+    """Where the edges of pairs meet: crossings, and ends of one within the other."""
+    apart = ~(fresh[i] | fresh[j]) | (i == j)
+    for axis in (0, 1):
+        apart |= numpy.maximum(ends[i, axis], ends[i, axis + 2]) < numpy.minimum(ends[j, axis], ends[j, axis + 2])
+        apart |= numpy.maximum(ends[j, axis], ends[j, axis + 2]) < numpy.minimum(ends[i, axis], ends[i, axis + 2])
+    i, j = i[~apart], j[~apart]
+    if not len(i):
+        return []
+    a, b = ends[i], ends[j]
+    if max(numpy.abs(edges[:, 2:] - edges[:, :2]).max() for edges in (a, b)) >= WIDE // 2:
+        a, b = a.astype(object), b.astype(object)
+    found = []
+    sides_of_a = [side_of(a, b[:, :2]), side_of(a, b[:, 2:])]
+    sides_of_b = [side_of(b, a[:, :2]), side_of(b, a[:, 2:])]
+    crossing = is_opposite(*sides_of_a) & is_opposite(*sides_of_b)
+    if crossing.any():
+        c, d = a[crossing], [side[crossing] for side in sides_of_b]
+        part = (d[0] / (d[0] - d[1])).astype(float)
+        x, y = (numpy.rint(c[:, k].astype(float) + part * (c[:, k + 2] - c[:, k]).astype(float)).astype(int) for k in (0, 1))
+        found += [(i[crossing], x, y), (j[crossing], x, y)]
+    for edge, line, sides, others in ((i, a, sides_of_a, b), (j, b, sides_of_b, a)):
+        for side, k in zip(sides, (0, 2)):
+            on = (side == 0) & is_within(line, others[:, k : k + 2])
+            if on.any():
+                found.append((edge[on], others[on, k].astype(int), others[on, k + 1].astype(int)))
+    return found
+
+
+def is_opposite(one, other):
+    return ((one > 0) & (other < 0)) | ((one < 0) & (other > 0))
+
+
+def side_of(lines, points):
+    """Above 0 where a point lies left of its line, 0 where on it; exact."""
+    return (lines[:, 2] - lines[:, 0]) * (points[:, 1] - lines[:, 1]) - (lines[:, 3] - lines[:, 1]) * (points[:, 0] - lines[:, 0])
+
+
+def is_within(lines, points):
+    """Whether points on the lines lie between their ends, and are none of them."""
+    inside = numpy.ones(len(lines), bool)
+    for axis in (0, 1):
+        low, high = numpy.minimum(lines[:, axis], lines[:, axis + 2]), numpy.maximum(lines[:, axis], lines[:, axis + 2])
+        inside &= ((points[:, axis] >= low) & (points[:, axis] <= high)).astype(bool)
+    ends = [((points[:, 0] == lines[:, k]) & (points[:, 1] == lines[:, k + 1])).astype(bool) for k in (0, 2)]
+    return inside & ~ends[0] & ~ends[1]
+
+
+def network_of(founds, say):
+    """The borders of shapes as edges in whole millimetres that meet at corners alone; owners are the shapes' numbers."""
+    edges, owners = edges_of(founds)
+    edges, number, backwards = unique_edges(edges)
+    say(f"borders: {len(edges)} edges, taking corners")
+    corners, (edge, first, last) = with_corners(edges)
+    counts = numpy.bincount(edge, minlength=len(edges))
+    starts = numpy.cumsum(counts) - counts
+    side, step = expanded(counts[number])
+    parts = starts[number[side]] + step
+    network = Network(corners, first, last, (parts, owners[side], numpy.where(backwards, -1, 1)[side]))
+    return network.cut(say)

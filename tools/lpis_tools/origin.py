@@ -1,0 +1,104 @@
+"""What `prepare` or a recipe reported on the way to the tables of a folder: prepared.csv, report.csv and balance.csv beside them, summed by kind. A yes is
+about the tables; what was left out before them shows here alone."""
+
+from __future__ import annotations
+
+import csv
+import os
+
+FILES = ("prepared.csv", "report.csv", "balance.csv", "identifiers.csv")
+GONE = ("lost", "left out")
+NEAR = 0.001  # square metres: the last digit of balance.csv
+LAYERS = {"parcels": "parcels", "covers": "pieces"}
+
+
+def paths(folder):
+    """The files that are there."""
+    return {name: os.path.join(folder, name) for name in FILES if os.path.isfile(os.path.join(folder, name))}
+
+
+def records(folder, name):
+    path = os.path.join(folder, name)
+    if not os.path.isfile(path):
+        return []
+    with open(path, newline="", encoding="utf-8", errors="replace") as file:
+        yield from csv.DictReader(file)
+
+
+def number(text):
+    try:
+        return float(text or 0)
+    except ValueError:
+        return 0.0
+
+
+def by_kind(rows, counted):
+    """Rows and area of each kind and layer; `counted` says which rows count beside."""
+    sums = {}
+    for row in rows:
+        found = sums.setdefault((row.get("kind") or "", row.get("layer") or ""), [0, 0, 0.0])
+        found[0] += 1
+        found[1] += counted(row)
+        found[2] += number(row.get("area_m2"))
+    return sums
+
+
+def facts(folder, classes):
+    """What stands beside the tables of a folder, or None. `classes` are the sums of the tables by class."""
+    if not paths(folder):
+        return None
+    prepared = by_kind(records(folder, "prepared.csv"), lambda row: bool(row.get("done")))
+    report = by_kind(records(folder, "report.csv"), lambda row: row.get("stops") == "1")
+    found = {"prepared": [{"kind": kind, "layer": layer, "rows": rows, "done": done} for (kind, layer), (rows, done, _) in sorted(prepared.items())],
+             "report": [{"kind": kind, "layer": layer, "rows": rows, "stopping": stopping, "area": f"{area:.3f}"} for (kind, layer), (rows, stopping, area) in sorted(report.items())],
+             "balance": list(records(folder, "balance.csv"))}
+    found["gone"] = [{"layer": layer, "rows": sum(report[kind, layer][0] for kind in GONE if (kind, layer) in report), "area": f"{sum(report[kind, layer][2] for kind in GONE if (kind, layer) in report):.3f}"}
+                     for layer in LAYERS if any((kind, layer) in report for kind in GONE)]
+    found["faults"] = faults(found["balance"], classes)
+    return found
+
+
+def faults(balance, classes):
+    """Why a balance does not add up, or is none of these tables."""
+    if not balance:
+        return []
+    wrong = [f"balance.csv does not add up: {row.get('class') or row.get('layer')} by {row.get('unaccounted_m2')} m2" for row in balance if abs(number(row.get("unaccounted_m2"))) >= 0.5]
+    of_balance = {row.get("class"): number(row.get("tables_m2")) for row in balance if row.get("layer") == "covers" and row.get("class")}
+    of_tables = {row["class"]: float(row["area"]) for row in classes if float(row["area"])}
+    wrong += [f"balance.csv, report.csv and prepared.csv are of other tables: {name} has {of_balance.get(name, 0.0):.3f} m2 there, and {of_tables.get(name, 0.0):.3f} here"
+              for name in sorted({*of_balance, *of_tables}) if abs(of_balance.get(name, 0.0) - of_tables.get(name, 0.0)) > NEAR]
+    return wrong
+
+
+def hectares(area):
+    return f"{number(area) / 10_000:,.4f} ha"
+
+
+def lines(found):
+    """In words, for the page and for the terminal."""
+    if found is None:
+        return ["nothing is beside the tables of what was left out or changed before them (prepared.csv, report.csv, balance.csv)"]
+    gone = [f"{one['rows']} {LAYERS[one['layer']]}, {hectares(one['area'])}" for one in found["gone"]]
+    told = ["left out of the source: " + "; ".join(gone)] if gone else []
+    changed = [(row["rows"], row["area"]) for row in found["report"] if row["kind"] == "changed" and row["stopping"]]
+    if changed:
+        told.append(f"changed by more than rounding: {sum(rows for rows, _ in changed)} parcels and pieces, {hectares(sum(number(area) for _, area in changed))}")
+    accepted = sum(row["stopping"] for row in found["report"])
+    if accepted:
+        told.append(f"accepted by --accept: {accepted} rows of report.csv")
+    return [*told, *found["faults"]] or ["nothing of the source was left out or changed by more than rounding"]
+
+
+def rows(found):
+    """The rows of a table: file, kind, layer, rows, how many of them stop or were done, square metres."""
+    told = [["prepared.csv", row["kind"], row["layer"], row["rows"], row["done"], ""] for row in found["prepared"]]
+    return told + [["report.csv", row["kind"], row["layer"], row["rows"], row["stopping"], row["area"]] for row in found["report"]]
+
+
+COLUMNS = ["file", "kind", "layer", "#rows", "#stopping or done", "#m\u00b2"]
+BALANCE = ["layer", "class", "#source m\u00b2", "#mended", "#left out", "#settled", "#tables m\u00b2", "#unaccounted"]
+
+
+def balance_rows(found):
+    names = ("layer", "class", "source_m2", "mended_m2", "left_out_m2", "settled_m2", "tables_m2", "unaccounted_m2")
+    return [[row.get(name) or "" for name in names] for row in found["balance"]]

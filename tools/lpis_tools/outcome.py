@@ -1,0 +1,231 @@
+"""What became of each row of a source in the tables that were made of it: lost, added, made of its pieces, changed by more than rounding does; its
+account in the balance of land; and who has a place that was in conflict."""
+
+from __future__ import annotations
+
+import csv
+import os
+from bisect import bisect_left, bisect_right
+
+from shapely.geometry import Point
+
+from . import land, polygons
+from .conflicts import Loss, Source, by_geos, number_of, polygons_by
+
+ROUNDED = 0.001  # metres: what a border moves by rounding, at most
+PIXEL = 0.75  # millimetres from an edge to a corner that it takes
+TINY = 0.000_001  # square metres: of doubles
+OTHERS = {"parcels": (), "covers": ("parcel", "class")}
+
+
+class Places:
+    """The conflicts by the place of each, so that a piece of the tables finds those that it has."""
+
+    def __init__(self, losses):
+        self.losses = [loss for loss in losses if loss.kind in ("overlap", "gap", "outside") and loss.place()]
+        self.points = sorted((*loss.place(), number) for number, loss in enumerate(self.losses))
+        self.holders = [[] for _ in self.losses]
+
+    def inside(self, box):
+        low, high = bisect_left(self.points, (box[0],)), bisect_right(self.points, (box[2], float("inf")))
+        return [(x, y, number) for x, y, number in self.points[low:high] if box[1] <= y <= box[3]]
+
+    def give(self, name, shape, near):
+        for x, y, number in near:
+            if shape.contains(Point(x, y)):
+                self.holders[number].append(name)
+
+    def tell(self, parcel_of):
+        """Says in each conflict what was done with the place."""
+        for loss, holders in zip(self.losses, self.holders):
+            if loss.kind == "overlap" and len(holders) > 1:
+                loss.is_grave, loss.words = True, "both pieces have this place, in the tables too: lpis refuses them"
+            elif holders:
+                loss.words += f": {' and '.join(holders)} of parcel {parcel_of.get(holders[0], '')} has it in the tables"
+            else:
+                loss.words += ": in the tables nobody has it" + (", it is left out of the parcel" if loss.kind == "gap" else "")
+
+
+class Outcome:
+    """Compares the tables of a folder with a source."""
+
+    def __init__(self, source, folder, whole):
+        self.source, self.folder, self.whole = source, folder, whole
+        self.places, self.found, self.parcel_of = Places(source.losses), {}, {}
+        self.greatest = None
+        self.covers = set()
+
+    def find(self):
+        for name in ("covers", "parcels"):
+            self.table(name, Source.KEYS[name])
+        self.places.tell(self.parcel_of)
+        if self.greatest and not any(loss is self.greatest[1] for loss in self.source.losses):
+            self.source.losses.append(self.greatest[1])
+        return self.found["parcels"], self.found["covers"]
+
+    def table(self, name, column):
+        waiting = {}
+        for row in reversed(self.source.layers[name].rows):
+            waiting.setdefault(row[column], []).append(row)
+        self.found[name] = 0
+        for record, members, area in read_table(self.folder, name):
+            self.found[name] += 1
+            self.whole.add_table(name, record, area)
+            who = record[column]
+            rows = waiting.get(who)
+            if name == "covers":
+                self.parcel_of[who] = record["parcel"]
+                self.hold(who, members)
+            if rows:
+                self.row(name, column, rows.pop(), record, members, area)
+            else:
+                self.add("added", name, [who], "the tables have it, and the source has not", [], self.valid(name, who, members))
+        for row in (row for rows in waiting.values() for row in rows):
+            self.lose(name, column, row)
+
+    def hold(self, who, members):
+        if self.places.points:
+            near = self.places.inside([value / 1000 for value in polygons.box([members])])
+            if near:
+                self.places.give(who, self.valid("covers", who, members), near)
+
+    def add(self, kind, name, names, words, rows, shape, area=None):
+        loss = Loss(kind, names, words, shape, None, shape.area if area is None and shape is not None else area, name, rows)
+        self.source.losses.append(loss)
+        return loss
+
+    def row(self, name, column, row, record, members, area):
+        """A row that has a row in the tables."""
+        for other in OTHERS[name]:
+            if record[other] != row[other]:
+                self.add("changed", name, [row[column]], f"its {other} is {row[other]} in the source and {record[other]} in the tables", [number_of(row)], None).is_grave = True
+        now = self.source.shapes.get(id(row))
+        if now is None:
+            after = self.valid(name, row[column], members)
+            self.add("made", name, [row[column]], f"{row.why or 'it has no shape that can be used'}: it was made of its pieces", [number_of(row)], after)
+            self.whole.book(row, after.area, 0.0)
+            return
+        before = self.before(row, now)
+        if before is now and is_rounded(row.found.members, members):
+            self.whole.book(row, now.area, area - now.area)
+            self.least(name, row, column, before, area)
+            return
+        self.compare(name, row, column, before, now, self.valid(name, row[column], members))
+
+    @staticmethod
+    def valid(name, who, members):
+        """A shape of the tables, in metres."""
+        metres = [[[(x / 1000, y / 1000) for x, y in ring] for ring in member] for member in members]
+        return by_geos("the shape in the tables", [(name, who, None)], polygons_by, metres)
+
+    def before(self, row, now):
+        """The row's shape as it was read, before any repair."""
+        members = self.whole.source_of(row)
+        return now if members is None else by_geos("the shape", [("source", row[Source.KEYS["covers"]] or row[Source.KEYS["parcels"]], row)], polygons_by, members)
+
+    def compare(self, name, row, column, before, now, after):
+        named = [(name, row[column], row)]
+        gone, come = (by_geos("the change", named, one.difference, other) for one, other in ((now, after), (after, now)))
+        self.whole.book(row, now.area, come.area - gone.area)
+        if before is not now:
+            gone, come = (by_geos("the change", named, one.difference, other) for one, other in ((before, after), (after, before)))
+        change, parts = gone.area + come.area, by_geos("the change", named, gone.union, come)
+        words = f"{gone.area:.3f} m2 went and {come.area:.3f} m2 came, from {before.area:.3f} to {after.area:.3f} m2"
+        loss = Loss("changed", [row[column]], words, parts, None, change, name, [number_of(row)])
+        if change > before.length * ROUNDED + TINY:
+            loss.is_grave = True
+            self.source.losses.append(loss)
+        self.keep_greatest(name, change, loss)
+
+    def least(self, name, row, column, before, area):
+        """Of a row that was rounded alone the change is no more than its border has room for."""
+        if name != "parcels":
+            return
+        change = abs(area - before.area)
+        if self.greatest is None or change > self.greatest[0]:
+            words = f"rounded alone, from {before.area:.3f} to {area:.3f} m2"
+            self.keep_greatest(name, change, Loss("changed", [row[column]], words, before, None, change, name, [number_of(row)]))
+
+    def keep_greatest(self, name, change, loss):
+        if name == "parcels" and (self.greatest is None or change > self.greatest[0]):
+            self.greatest = change, loss
+
+    def lose(self, name, column, row):
+        shape = self.source.shapes.get(id(row))
+        self.add("lost", name, [row[column]], self.why_lost(name, row), [number_of(row)], shape, self.whole.area_of(row))
+        self.whole.book(row, self.whole.area_of(row) if shape is None else shape.area, None)
+
+    def why_lost(self, name, row):
+        if row.found is None:
+            return row.why
+        if row.found and self.source.shapes.get(id(row)) is None:
+            return "its shape has no area"
+        if name == "parcels":
+            return "other parcels' pieces have its whole place" if row["parcel"] in self.source.pieces_of else "no piece names it"
+        return "narrower than a millimetre, or other pieces have its whole place"
+
+
+def read_table(folder, name):
+    """The rows of a table with their polygons in millimetres and their area in square metres, to the last digit."""
+    path = os.path.join(folder, f"{name}.csv")
+    if not os.path.exists(path):
+        return
+    with open(path, newline="", encoding="utf-8", errors="replace") as file:
+        table = csv.DictReader(file, strict=True)
+        try:
+            lacking = {"wkt", Source.KEYS[name], *OTHERS[name]} - set(table.fieldnames or ())
+            if lacking:
+                raise land.Trouble(f"{path}: no column {' and '.join(sorted(lacking))}")
+            for number, record in enumerate(table, 1):
+                members = polygons.read((record["wkt"] or "").encode())
+                if members is None:
+                    raise land.Trouble(f"{path} row {number}: {record[Source.KEYS[name]]}: its wkt is no polygon in millimetres")
+                yield record, members, polygons.doubled(members) / 2_000_000
+        except csv.Error as error:
+            raise land.Trouble(f"{path} behind line {table.line_num}: {error}") from None
+
+
+def is_rounded(before, after):
+    """Whether polygons in millimetres are others with each point rounded, and with corners more that lie on their edges within a pixel: quick, and only a
+    yes counts. What changed is then no more than the border's length has room for."""
+    rings, ways = [ring for member in before for ring in member], [ring[:-1] for member in after for ring in member]
+    return len(rings) == len(ways) and all(walks(ring, ways) for ring in rings)
+
+
+def walks(ring, ways):
+    """Whether one of the ways goes along a ring, from the ring's first corner on and either way round."""
+    corners = []
+    for x, y in ring[:-1]:
+        x, y = x * 1000, y * 1000
+        point = round(x), round(y)
+        if not corners or corners[-1][0] != point:
+            corners.append((point, (x, y)))
+    while len(corners) > 1 and corners[-1][0] == corners[0][0]:
+        corners.pop()
+    for way in ways if len(corners) > 2 else ():
+        for place, point in enumerate(way):
+            if point == corners[0][0]:
+                turned = way[place:] + way[:place]
+                if goes_along(corners, turned) or goes_along(corners, turned[:1] + turned[:0:-1]):
+                    return True
+    return False
+
+
+def goes_along(corners, way):
+    """Whether a way from the first corner goes over all corners, in order, and else over points beside the edges alone."""
+    at, count = 0, len(corners)
+    for point in [*way[1:], way[0]]:
+        if at == count:
+            return False
+        if point == corners[(at + 1) % count][0]:
+            at += 1
+        elif not is_beside(point, corners[at][1], corners[(at + 1) % count][1]):
+            return False
+    return at == count
+
+
+def is_beside(point, a, b):
+    dx, dy = b[0] - a[0], b[1] - a[1]
+    square = dx * dx + dy * dy
+    along = (point[0] - a[0]) * dx + (point[1] - a[1]) * dy
+    return -PIXEL * square**0.5 <= along <= square + PIXEL * square**0.5 and abs((point[0] - a[0]) * dy - (point[1] - a[1]) * dx) <= PIXEL * square**0.5

@@ -1,0 +1,135 @@
+"""Proposes rows of lineage from the land that dropped parcels and new ones share. Wants Shapely."""
+
+import csv
+import warnings
+from dataclasses import dataclass
+
+from .changes import Changes
+from .years import Row
+
+warnings.filterwarnings("ignore", message="STRtree")
+
+SLIVER, CLEAR = 0.01, 0.10  # parts of the smaller of two parcels: less is a border that moved, more is a successor
+WHOLE = 0.5  # of a dropped parcel that its successors have at least
+REPORT = ("old", "new", "square_metres", "of_old_percent", "of_new_percent", "kind", "exact", "row")
+
+
+@dataclass(frozen=True)
+class Shared:
+    """The land that a dropped parcel and a new one share, in square metres, and which part of each it is."""
+
+    old: str
+    new: str
+    area: float
+    of_old: float
+    of_new: float
+
+    def part(self):
+        return max(self.of_old, self.of_new)
+
+
+@dataclass
+class Fate:
+    """A dropped parcel: what it shares with new ones, its successors, and why no row is proposed where none is."""
+
+    name: str
+    shared: list
+    successors: list
+    doubt: str = ""
+
+
+class Tree:
+    """Shapes by their boxes: Shapely 1.8 answers with shapes, 2 with numbers."""
+
+    def __init__(self, shapes):
+        from shapely.strtree import STRtree
+
+        self.tree = STRtree(shapes) if shapes else None
+        self.number_of = {id(shape): number for number, shape in enumerate(shapes)}
+
+    def near(self, shape):
+        hits = self.tree.query(shape) if self.tree else ()
+        return [self.number_of[id(hit)] if hasattr(hit, "geom_type") else int(hit) for hit in hits]
+
+
+def shape_of(members):
+    """Polygons in metres, as Shapely has them."""
+    from shapely.geometry import MultiPolygon, Polygon
+
+    rings = [[[(x / 1000, y / 1000) for x, y in ring] for ring in member] for member in members]
+    found = MultiPolygon([Polygon(member[0], member[1:]) for member in rings])
+    return found if found.is_valid else found.buffer(0)
+
+
+def shared_of(name, shape, names, shapes, tree):
+    """What a dropped parcel shares with new ones, the most first."""
+    found = []
+    for number in tree.near(shape):
+        area = shape.intersection(shapes[number]).area
+        if area > 0:
+            found.append(Shared(name, names[number], area, area / shape.area, area / shapes[number].area))
+    return sorted(found, key=lambda it: (-it.area, it.new))
+
+
+def fate_of(name, shape, names, shapes, tree):
+    """The successors of a dropped parcel, where they are clear."""
+    if shape is None:
+        return Fate(name, [], [], "the register keeps no shape of it")
+    if not shape.area > 0:
+        return Fate(name, [], [], "its shape has no area")
+    shared = shared_of(name, shape, names, shapes, tree)
+    successors = [it.new for it in shared if it.part() >= CLEAR]
+    doubtful = [it.new for it in shared if SLIVER <= it.part() < CLEAR]
+    covered = sum(it.of_old for it in shared if it.part() >= CLEAR)
+    if doubtful:
+        return Fate(name, shared, [], f"it shares between {SLIVER:.0%} and {CLEAR:.0%} with {' '.join(doubtful[:5])}")
+    if successors and covered < WHOLE:
+        return Fate(name, shared, [], f"{1 - covered:.0%} of it is in no parcel, or in slivers")
+    return Fate(name, shared, sorted(successors))
+
+
+def fates(old, new):
+    """What became of each dropped parcel, ascending."""
+    dropped = sorted(set(old.shapes) - set(new.shapes))
+    names = sorted(new.shapes)
+    shapes = [shape_of(new.shapes[name]) for name in names] if dropped else []
+    tree = Tree(shapes)
+    return [fate_of(name, shape_of(old.shapes[name]) if old.shapes[name] else None, names, shapes, tree) for name in dropped]
+
+
+def rows_of(found):
+    """A row for each successor; one with none for a parcel whose land no new parcel has."""
+    pairs = [(fate.name, new) for fate in found if not fate.doubt for new in fate.successors or [""]]
+    return [Row(number, old, new, False) for number, (old, new) in enumerate(pairs, 1)]
+
+
+def marked(rows, old, new):
+    """The rows, those of exact splits and merges marked."""
+    changes = Changes(rows, old.shapes, new.shapes)
+    groups = {row: changes.group(row) for row in rows}
+    exact = {group: changes.is_exact(group) for group in set(groups.values()) if group}
+    return [Row(row.number, row.old, row.new, bool(groups[row] and exact[groups[row]])) for row in rows], changes
+
+
+def write_rows(path, rows):
+    """Writes the table; one that is there stays, and is an error."""
+    with open(path, "x", encoding="ascii", newline="") as file:
+        writer = csv.writer(file, lineterminator="\n")
+        writer.writerow(["old", "new", "exact"])
+        writer.writerows([row.old, row.new, int(row.is_marked)] for row in rows)
+
+
+def write_report(path, found, rows, changes):
+    """All that dropped parcels share with new ones, and what is proposed of it."""
+    proposed = {(row.old, row.new): row for row in rows}
+    with open(path, "x", encoding="utf-8", newline="") as file:
+        writer = csv.writer(file, lineterminator="\n")
+        writer.writerow(REPORT)
+        for fate in found:
+            kind = changes.kind(fate.name) or ""
+            for it in fate.shared:
+                row = proposed.get((it.old, it.new))
+                why = fate.doubt or ("proposed" if row else "a sliver")
+                writer.writerow([it.old, it.new, f"{it.area:.2f}", f"{100 * it.of_old:.1f}", f"{100 * it.of_new:.1f}", kind, int(row.is_marked) if row else "", why])
+            if not fate.shared or (fate.name, "") in proposed:
+                writer.writerow([fate.name, "", "0.00" if not fate.shared else "", "", "", kind, "", fate.doubt or "proposed"])

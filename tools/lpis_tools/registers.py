@@ -1,0 +1,76 @@
+"""Registers, as anybody may read them: also who may not write to the folder, in which SQLite would put a file beside a register."""
+
+from __future__ import annotations
+
+import pathlib
+import sqlite3
+
+from . import polygons
+
+SECONDS = 60  # to wait for a publish that holds the register
+
+
+class Unreadable(Exception):
+    """This file is no register that can be read."""
+
+
+def opened(path):
+    """A connection that reads alone. Where the register's folder can't be written, and nobody holds the register, the file is read as one that does
+    not change."""
+    name = pathlib.Path(path).resolve().as_uri()
+    connection = sqlite3.connect(f"{name}?mode=ro", uri=True, timeout=SECONDS)
+    try:
+        connection.execute("SELECT 1 FROM sqlite_schema").fetchone()
+        return connection
+    except sqlite3.OperationalError:
+        if not pathlib.Path(path).is_file() or pathlib.Path(f"{path}-wal").exists():
+            raise
+    connection.close()
+    connection = sqlite3.connect(f"{name}?immutable=1", uri=True)
+    connection.execute("SELECT 1 FROM sqlite_schema").fetchone()
+    return connection
+
+
+def facts(path):
+    """The years of a register, and what it holds of the last of them."""
+    try:
+        connection = opened(path)
+        try:
+            years = [year for (year,) in connection.execute("SELECT year FROM lpis_release ORDER BY year")]
+            (live,), (all_of_them,) = connection.execute("SELECT count(*) FROM lpis_span WHERE until = 0 UNION ALL SELECT count(*) FROM lpis_span")
+            has_texts = connection.execute("SELECT 1 FROM sqlite_schema WHERE name = 'lpis_text'").fetchone()
+            shapes = connection.execute("SELECT count(*) FROM lpis_text").fetchone()[0] if has_texts else 0
+        finally:
+            connection.close()
+    except sqlite3.Error as error:
+        raise Unreadable(f"{path} is no register of version 2 or 3 that can be read: {error}") from None
+    return {"path": path, "years": years, "live": live, "identifiers": all_of_them, "shapes": shapes}
+
+
+def in_words(found):
+    """How many years a register has, in a line."""
+    years = found["years"]
+    if not years:
+        return "no year is published in it"
+    which = f"{years[0]}" if len(years) == 1 else f"{years[0]} to {years[-1]}"
+    return f"{len(years)} year{'s' * (len(years) > 1)} ({which}), {found['live']} live identifiers of {found['identifiers']}, {found['shapes']} shapes"
+
+
+class Kept:
+    """The shapes that a register keeps of the last release. A publish that still holds it is waited for."""
+
+    def __init__(self, path):
+        self.path = path
+        self.connection = opened(path)
+        self.has_texts = bool(self.connection.execute("SELECT name FROM sqlite_schema WHERE name = 'lpis_text'").fetchall())
+
+    def text(self, name):
+        """The text of a shape, as bytes, or None where none is kept."""
+        if not self.has_texts:
+            return None
+        found = self.connection.execute("SELECT wkt FROM lpis_text WHERE id = ?", (name.decode("utf-8", "replace"),)).fetchone()
+        return found[0].encode() if found else None
+
+    def shape(self, name):
+        text = self.text(name)
+        return polygons.read(text) if text is not None else None

@@ -1,0 +1,157 @@
+"""The pages about a release: its report, and its faults."""
+
+from __future__ import annotations
+
+import datetime
+import os
+from collections import Counter
+
+from . import origin, page, polygons, registers
+from . import report as reports
+from .areas import AREA, both, decimal
+
+MOST_STRAYS = 20  # that are named
+
+
+def chart_of(land, marks, old=None, kinds=None):
+    """The map of a release. `old` has shapes of an older one, `kinds` what became of parcels."""
+    kinds = kinds or {}
+    parcels, pieces = page.Layer(), page.Layer(classes=[])
+    for name, members in land.parcels.items():
+        parcels.add(name, members, kind=kinds.get(name))
+    for name, _, land_class, members in land.pieces:
+        pieces.add(name, members)
+        pieces.classes.append(land_class)
+    return page.Map(parcels, pieces, old, marks=marks, strays=reports.strays(land))
+
+
+def numbers_of(land):
+    """What a click on a row shows, by a parcel's identifier."""
+    return {name: ("parcels", number) for number, name in enumerate(land.parcels)}
+
+
+def marks_of(features):
+    """Points of GeoJSON, in metres, as marks in millimetres; and the numbers of the marks of the features."""
+    marks, numbers = [], []
+    for one in features:
+        numbers.append(len(marks) if one["geometry"] else None)
+        if one["geometry"]:
+            x, y = one["geometry"]["coordinates"]
+            marks.append((x * 1000, y * 1000, f"{one['properties']['code']} {one['properties']['names']}: {one['properties']['meaning']}"))
+    return marks, numbers
+
+
+def faults_table(features, numbers, land):
+    parcels, owner = numbers_of(land), {piece[0]: piece[1] for piece in land.pieces}
+    rows, keys = [], []
+    for one, number in zip(features, numbers):
+        words = one["properties"]
+        place = "{:.4f} {:.4f}".format(*one["geometry"]["coordinates"]) if one["geometry"] else ""
+        rows.append([words["code"], words["names"], words["where"], place, words["meaning"]])
+        of_parcel = next((parcels[found] for name in words["names"].split() for found in (name, owner.get(name)) if found in parcels), None)
+        keys.append(of_parcel or (("marks", number) if number is not None else None))
+    return page.Table("Faults", ["code", "identifiers", "row", "place", "meaning"], rows, keys)
+
+
+def write_faults(path, folder, features):
+    """The page of `tools/faults`."""
+    land = reports.read(folder)
+    marks, numbers = marks_of(features)
+    facts = [("release", os.path.abspath(folder)), ("made", datetime.datetime.now(datetime.timezone.utc).strftime("%Y-%m-%d %H:%M UTC")),
+             ("parcels", len(land.parcels)), ("pieces", len(land.pieces)), ("faults", len(features))]
+    title = f"Faults of {os.path.basename(os.path.abspath(folder))}"
+    answer = f"{len(features)} faults" if features else "no faults"
+    write(path, page.page(title, answer, not features, facts, chart_of(land, marks), [faults_table(features, numbers, land)]))
+
+
+def write_release(path, report):
+    """The page of a report."""
+    facts, land = report.facts, report.land
+    marks, numbers = marks_of(report.features)
+    if not marks and "place" in facts.get("refusal", {}):
+        marks = [(*(float(value) * 1000 for value in facts["refusal"]["place"]), facts["refusal"]["line"])]
+    old, kinds = older(report)
+    tables = [faults_table(report.features, numbers, land)] if report.features else []
+    tables.append(classes_table(facts["classes"]))
+    tables += origin_tables(facts["origin"])
+    tables += difference_tables(report, old)
+    tables.append(parcels_table(report))
+    title = f"Release {os.path.basename(facts['folder'])}"
+    write(path, page.page(title, facts["answer"], facts["answer"] == "yes", facts_of(facts), chart_of(land, marks, old, kinds), tables))
+
+
+def write(path, text):
+    with open(path, "w", encoding="utf-8") as file:
+        file.write(text)
+
+
+def facts_of(facts):
+    """The head of the page."""
+    made = facts["program"]
+    name = " ".join(filter(None, [made["version"], made["commit"] and f"commit {made['commit']}", made["kit"]])) or made["path"]
+    rows = [*(("before the tables", words) for words in origin.lines(facts["origin"])), ("made", facts["date"]), ("release", facts["folder"]), ("answer of lpis check", f"{facts['answer']} (status {facts['status']})"), ("program", name),
+            ("sha256 of the program", made["sha256"]), *((f"sha256 of {name}", f"{file['sha256']} ({file['bytes']} bytes)") for name, file in facts["files"].items()),
+            ("parcels", facts["parcels"]), ("pieces", facts["pieces"]), ("area", both(facts["area"])), ("eligible area", both(facts["eligible"]))]
+    if facts["extent"]:
+        rows.append(("extent in metres", "x {least_x} to {greatest_x}, y {least_y} to {greatest_y}: {width} wide, {height} high".format(**facts["extent"])))
+        stray = facts["extent"]["stray"]
+        if stray:
+            more = f" and {len(stray) - MOST_STRAYS} more" if len(stray) > MOST_STRAYS else ""
+            rows.append(("far from all others", " ".join(stray[:MOST_STRAYS]) + more))
+    if "register" in facts:
+        rows.append(("register", f"{facts['register']['path']}: {registers.in_words(facts['register'])}"))
+    return rows + [("", words) for words in facts.get("refusal", {}).get("words", [])]
+
+
+def origin_tables(found):
+    """What was left out, mended and settled before the tables, and the balance of land."""
+    if found is None:
+        return []
+    tables = [page.Table("Before the tables", origin.COLUMNS, origin.rows(found))] if origin.rows(found) else []
+    return tables + ([page.Table("Balance of land", origin.BALANCE, origin.balance_rows(found))] if found["balance"] else [])
+
+
+def classes_table(classes):
+    return page.Table("Classes", ["class", "#percent", "#pieces", "#area m\u00b2", "#eligible m\u00b2"], [["" if value is None else value for value in row.values()] for row in classes])
+
+
+def parcels_table(report):
+    counts = Counter(piece[1] for piece in report.land.pieces)
+    rows = [[name, counts[name], *(report.parcels[name].values() if name in report.parcels else (decimal(polygons.doubled(members), AREA), ""))]
+            for name, members in report.land.parcels.items()]
+    return page.Table("Parcels", ["parcel", "#pieces", "#area m\u00b2", "#eligible m\u00b2"], rows, list(numbers_of(report.land).values()))
+
+
+def older(report):
+    """Shapes of the older release that the map shows, those of gone and of moved parcels; and what became of the parcels that are there."""
+    if report.before is None:
+        return None, {}
+    found, old = report.facts["difference"], page.Layer(words=[])
+    moved = [row["parcel"] for row in found["moved"] or []]
+    for name in [row["parcel"] for row in found["gone"]]:
+        old.add(name, report.before.parcels[name], "gone", "gone")
+    for name in moved:
+        old.add(name, report.before.parcels[name], "before it moved", "moved")
+    kinds = {**{row["parcel"]: "changed" for row in found["changed"]}, **{row["parcel"]: "new" for row in found["new"]}, **dict.fromkeys(moved, "moved")}
+    return old, kinds
+
+
+def difference_tables(report, old):
+    if report.before is None:
+        return []
+    found = report.facts["difference"]
+    rows = [["moved", row["parcel"], "", "", row["words"]] for row in found["moved"] or []]
+    rows += [["new", row["parcel"], "", row["area"], "from " + " ".join(row["from"]) if row["from"] else "in no row of lineage"] for row in found["new"]]
+    rows += [["gone", row["parcel"], row["area"], "", became(row)] for row in found["gone"]]
+    rows += [["changed", row["parcel"], row["before"], row["after"], f"{row['difference']} m\u00b2" + (f", also from {' '.join(row['from'])}" if row["from"] else "")] for row in found["changed"]]
+    others, unlooked = found["other_shape_same_area"], "" if found["moved"] is not None else "; whether kept ones moved was not looked for: Shapely is not there"
+    kept = f"{found['kept']} parcels are as they were" + (f", {len(others)} have another shape of the same area" if others else "") + unlooked
+    numbers = {**{name: ("old", number) for number, name in enumerate(old.names)}, **numbers_of(report.land)}
+    return [page.Table(f"Since {found['old']}: {kept}", ["what", "parcel", "#area before m\u00b2", "#area after m\u00b2", "more"], rows, [numbers.get(row[1]) for row in rows])]
+
+
+def became(row):
+    """What lineage has of a parcel that is gone."""
+    if not row["explained"]:
+        return "no row of lineage explains it"
+    return " ".join(filter(None, ["to " + " ".join(row["to"]) if row["to"] else "", "ended" if row["ended"] else ""]))

@@ -1,0 +1,164 @@
+"""Checks a release or a country, and finds all faults of a release."""
+
+import os
+import tempfile
+
+from qgis.core import (
+    QgsProcessing, QgsProcessingException, QgsProcessingOutputNumber, QgsProcessingOutputString, QgsProcessingParameterFeatureSink,
+    QgsProcessingParameterFile,
+)
+
+from . import places, styles
+from .layers import LINES, POINTS, POLYGONS, TEXT, NUMBER, WHOLE, Styled, features_of, shapes_of
+
+TABLES = ("parcels.csv", "covers.csv", "classes.csv")
+YES, REFUSED, UNREADABLE = 0, 1, 2
+FAULT_COLUMNS = [("code", TEXT), ("names", TEXT), ("meaning", TEXT), ("place", TEXT), ("line", TEXT)]
+SHAPE_COLUMNS = [("kind", TEXT), ("name", TEXT), ("line", TEXT)]
+# What a shape is, what its output is called, and which geometries it takes.
+KINDS = (("POINTS", "points", POINTS, ("Point", "MultiPoint")), ("LINES", "lines", LINES, ("LineString", "MultiLineString")),
+         ("POLYGONS", "polygons", POLYGONS, ("Polygon", "MultiPolygon")))
+
+
+def is_older(cert, folder):
+    """The certificate is not there, or a table is newer."""
+    tables = [os.path.join(folder, name) for name in TABLES]
+    return not os.path.exists(cert) or any(os.path.exists(path) and os.path.getmtime(path) > os.path.getmtime(cert) for path in tables)
+
+
+def by_kind(features, columns):
+    """The rows of each output, by what the shapes are."""
+    rows = {name: [] for name, *_ in KINDS}
+    for properties, shape in features:
+        name = next(name for name, _, kind, _ in KINDS if shape.type() == kind_of(kind))
+        if name != "POINTS":
+            shape.convertToMultiType()
+        rows[name].append(([str(properties.get(column) or "") for column, _ in columns], shape))
+    return rows
+
+
+def kind_of(form):
+    from qgis.core import QgsWkbTypes
+
+    return QgsWkbTypes.geometryType(form)
+
+
+class Folder(Styled):
+    """An algorithm over the folder of a release or a country."""
+
+    FOLDER = "Folder of the release (parcels.csv, covers.csv, classes.csv)"
+
+    def add_folder(self):
+        self.addParameter(QgsProcessingParameterFile("DIR", self.FOLDER, behavior=QgsProcessingParameterFile.Folder))
+
+    def add_shapes(self, words, before=""):
+        for name, kind, form, _ in KINDS:
+            source = {POINTS: QgsProcessing.TypeVectorPoint, LINES: QgsProcessing.TypeVectorLine}.get(form, QgsProcessing.TypeVectorPolygon)
+            self.addParameter(QgsProcessingParameterFeatureSink(before + name, f"{words}: {kind}", source, optional=True, createByDefault=True))
+
+    def fill_shapes(self, place, path, columns, before=""):
+        """Writes the shapes of a GeoJSON file into the outputs of their kinds."""
+        rows = by_kind(features_of(path) if os.path.exists(path) else (), columns)
+        return {before + name: self.fill(before + name, place, columns, form, rows[name]) for name, _, form, _ in KINDS}
+
+    def explained(self, words, line, place, feedback):
+        """The words of a refusal, and its shapes as layers."""
+        with tempfile.TemporaryDirectory() as spare:
+            picture = os.path.join(spare, "fault.geojson")
+            if line.startswith("refused"):
+                places.run([places.tool("explain"), *words, "--geojson", picture], feedback, given=line)
+            return self.fill_shapes(place, picture, SHAPE_COLUMNS, "FAULT_")
+
+
+class CheckRelease(Folder):
+    NAME, TITLE = "checkrelease", "Check a release"
+    HELP = ("Answers yes only where no two parcels overlap, no two pieces overlap, and each parcel is filled by its pieces exactly. The certificate is cut anew where "
+            "a table is newer. The report has each parcel's exact area and eligible area; of a refusal the fault's place and shapes are layers, and its words are in the log.")
+    STYLED = {"REPORT": styles.parcels, "FAULT_POINTS": styles.fault, "FAULT_LINES": styles.fault, "FAULT_POLYGONS": styles.fault}
+
+    def initAlgorithm(self, configuration=None):
+        self.add_folder()
+        self.addParameter(QgsProcessingParameterFile("CERT", "Certificate (DIR/cert.txt where none is named)", optional=True))
+        self.add_system()
+        self.addParameter(QgsProcessingParameterFeatureSink("REPORT", "Report: parcels with their areas", QgsProcessing.TypeVectorPolygon, optional=True, createByDefault=True))
+        self.add_shapes("Fault", "FAULT_")
+        self.addOutput(QgsProcessingOutputString("VERDICT", "Verdict"))
+        self.addOutput(QgsProcessingOutputNumber("STATUS", "Status of lpis"))
+
+    def processAlgorithm(self, parameters, context, feedback):
+        place = parameters, context
+        folder = self.parameterAsFile(parameters, "DIR", context)
+        cert = self.parameterAsFile(parameters, "CERT", context) or os.path.join(folder, "cert.txt")
+        ran = places.Ran(YES, [])
+        if is_older(cert, folder):
+            feedback.setProgressText("cutting: no certificate that is newer than the tables")
+            ran = places.done(places.run([places.lpis(), "cut", folder, cert], feedback), "lpis cut", (REFUSED, UNREADABLE))
+        if ran.status == YES:
+            feedback.setProgressText("checking")
+            ran = places.done(places.run([places.lpis(), "check", folder, cert], feedback, quiet=True), "lpis check", (REFUSED, UNREADABLE))
+        feedback.pushInfo(ran.last())
+        rows = report_rows(folder, ran.lines) if ran.status == YES else []
+        columns = [("parcel", TEXT), ("area", TEXT), ("eligible", TEXT), ("area_m2", NUMBER), ("eligible_m2", NUMBER)]
+        self.written = {"REPORT": self.fill("REPORT", place, columns, POLYGONS, rows), **self.explained([folder, "--cert", cert], ran.last(), place, feedback)}
+        return {**self.written, "VERDICT": ran.last(), "STATUS": ran.status}
+
+
+def report_rows(folder, lines):
+    """The report's lines of parcels, each with its shape. A text that is no yes to its end has none."""
+    if not lines or lines[-1] != "yes":
+        raise QgsProcessingException("the report does not end with yes")
+    shapes = shapes_of(folder)
+    for line in lines:
+        words = line.split()
+        if words[:1] == ["parcel"]:
+            yield [words[1], words[3], words[5], float(words[3]), float(words[5])], shapes[words[1]]
+
+
+class FindFaults(Folder):
+    NAME, TITLE = "allfaults", "All faults of a release"
+    HELP = "Each row's first fault, each parcel's first fault with its pieces, each two parcels that overlap: as points, lines and polygons, styled by their code. Nothing here is part of a yes."
+    STYLED = {"POINTS": styles.faults, "LINES": styles.faults, "POLYGONS": styles.faults}
+
+    def initAlgorithm(self, configuration=None):
+        self.add_folder()
+        self.add_system()
+        self.add_shapes("Faults")
+        self.addOutput(QgsProcessingOutputNumber("COUNT", "Number of faults"))
+        self.addOutput(QgsProcessingOutputString("SUMMARY", "Faults by code"))
+
+    def processAlgorithm(self, parameters, context, feedback):
+        folder = self.parameterAsFile(parameters, "DIR", context)
+        with tempfile.TemporaryDirectory() as spare:
+            path = os.path.join(spare, "faults.geojson")
+            ran = places.done(places.run([places.tool("faults"), folder, path, "--lpis", places.lpis()], feedback), "tools/faults", (REFUSED,))
+            self.written = self.fill_shapes((parameters, context), path, FAULT_COLUMNS)
+        words = ran.last().split()
+        return {**self.written, "COUNT": int(words[1]) if len(words) > 1 else 0, "SUMMARY": "\n".join(ran.lines)}
+
+
+class CheckCountry(Folder):
+    NAME, TITLE = "checkcountry", "Check a country"
+    HELP = "One yes for all regions of a folder with country.txt. The table has the regions that passed, with their counts and sums; of a refusal the shapes at the seam are layers."
+    FOLDER = "Folder of the country (country.txt, classes.csv, a folder for each region with its certificate)"
+    STYLED = {"FAULT_POINTS": styles.fault, "FAULT_LINES": styles.fault, "FAULT_POLYGONS": styles.fault}
+
+    def initAlgorithm(self, configuration=None):
+        self.add_folder()
+        self.add_system()
+        self.addParameter(QgsProcessingParameterFeatureSink("REGIONS", "Regions that passed", QgsProcessing.TypeVector, optional=True, createByDefault=True))
+        self.add_shapes("Fault", "FAULT_")
+        self.addOutput(QgsProcessingOutputString("VERDICT", "Verdict"))
+        self.addOutput(QgsProcessingOutputNumber("STATUS", "Status of lpis"))
+
+    def processAlgorithm(self, parameters, context, feedback):
+        from qgis.core import QgsWkbTypes
+
+        place, folder = (parameters, context), self.parameterAsFile(parameters, "DIR", context)
+        ran = places.done(places.run([places.lpis(), "country", folder], feedback), "lpis country", (REFUSED, UNREADABLE))
+        if ran.status == YES and ran.last() != "yes":
+            raise QgsProcessingException("the report does not end with yes")
+        columns = [("region", TEXT), ("parcels", WHOLE), ("pieces", WHOLE), ("area", TEXT), ("eligible", TEXT)]
+        words = [line.split() for line in ran.lines if line.startswith("region ")]
+        rows = [([line[1], int(line[3]), int(line[5]), line[7], line[9]], None) for line in words]
+        self.written = {"REGIONS": self.fill("REGIONS", place, columns, QgsWkbTypes.NoGeometry, rows), **self.explained([folder], ran.last(), place, feedback)}
+        return {**self.written, "VERDICT": ran.last(), "STATUS": ran.status}

@@ -1,0 +1,132 @@
+"""Layers from what lpis and its tools write: tables of parcels, GeoJSON of faults, a register's shapes."""
+
+import csv
+import json
+import os
+import sqlite3
+
+from qgis.core import (
+    QgsCoordinateReferenceSystem, QgsFeature, QgsField, QgsFields, QgsGeometry, QgsProcessingAlgorithm, QgsProcessingException,
+    QgsProcessingParameterCrs, QgsProcessingUtils, QgsWkbTypes,
+)
+from qgis.PyQt.QtCore import QVariant
+
+TEXT, NUMBER, WHOLE = QVariant.String, QVariant.Double, QVariant.Int
+POINTS, LINES, POLYGONS = QgsWkbTypes.Point, QgsWkbTypes.MultiLineString, QgsWkbTypes.MultiPolygon
+csv.field_size_limit(1 << 30)
+
+
+class Algorithm(QgsProcessingAlgorithm):
+    """What all algorithms share: their names, and how rows and styles come into layers."""
+
+    NAME, TITLE, HELP = "", "", ""
+
+    def name(self):
+        return self.NAME
+
+    def displayName(self):
+        return self.TITLE
+
+    def shortHelpString(self):
+        return self.HELP
+
+    def createInstance(self):
+        return type(self)()
+
+    def add_system(self):
+        self.addParameter(QgsProcessingParameterCrs("CRS", "System of coordinates of the release", optional=True))
+
+    def system(self, parameters, context):
+        found = self.parameterAsCrs(parameters, "CRS", context)
+        return found if found.isValid() else QgsCoordinateReferenceSystem()
+
+    def fill(self, name, place, columns, kind, rows):
+        """Writes rows, each its values and a shape or none, into an output; answers where it is, or None where it is not wanted."""
+        parameters, context = place
+        fields = QgsFields()
+        for column, form in columns:
+            fields.append(QgsField(column, form))
+        sink, where = self.parameterAsSink(parameters, name, context, fields, kind, self.system(parameters, context))
+        if sink is None:
+            return None
+        for values, shape in rows:
+            feature = QgsFeature(fields)
+            feature.setAttributes(values)
+            if shape is not None:
+                feature.setGeometry(shape)
+            if not sink.addFeature(feature):
+                raise QgsProcessingException(f"a row of {name} could not be written: {values}")
+        return where
+
+
+class Styled(Algorithm):
+    """An algorithm whose outputs get a style when they are loaded."""
+
+    STYLED = {}
+
+    def postProcessAlgorithm(self, context, feedback):
+        for name, style in self.STYLED.items():
+            layer = QgsProcessingUtils.mapLayerFromString(self.written.get(name) or "", context)
+            if layer is not None:
+                style(layer)
+                layer.triggerRepaint()
+        return {}
+
+
+def shape_of(text):
+    shape = QgsGeometry.fromWkt(text)
+    shape.convertToMultiType()
+    return shape
+
+
+def rows_of(path):
+    """The rows of a table as dictionaries, by names in lower case."""
+    with open(path, encoding="utf-8-sig", newline="") as file:
+        reader = csv.DictReader(file)
+        reader.fieldnames = [name.lower() for name in reader.fieldnames or []]
+        yield from reader
+
+
+def shapes_of(folder):
+    """The parcels of a release: identifier to shape."""
+    return {row["parcel"]: shape_of(row["wkt"]) for row in rows_of(os.path.join(folder, "parcels.csv"))}
+
+
+def features_of(path):
+    """The features of a GeoJSON file: properties and shape."""
+    with open(path, encoding="utf-8") as file:
+        collection = json.load(file)
+    for feature in collection["features"]:
+        if feature.get("geometry"):
+            yield feature["properties"], QgsGeometry.fromWkt(wkt_of(feature["geometry"]))
+
+
+def wkt_of(geometry):
+    """The text of a GeoJSON geometry."""
+    def points(places):
+        return "(" + ", ".join(f"{place[0]!r} {place[1]!r}" for place in places) + ")"
+
+    def nested(places, depth):
+        return points(places) if depth == 0 else "(" + ", ".join(nested(place, depth - 1) for place in places) + ")"
+
+    kind, places = geometry["type"], geometry["coordinates"]
+    depth = {"Point": -1, "LineString": 0, "MultiPoint": 0, "Polygon": 1, "MultiLineString": 1, "MultiPolygon": 2}[kind]
+    return f"{kind.upper()} " + (points([places]) if depth < 0 else nested(places, depth))
+
+
+def kept_of(register):
+    """The identifiers of a register's last release: first year, and the text of the shape or None."""
+    from pathlib import Path
+
+    if not os.path.isfile(register):
+        raise QgsProcessingException(f"{register} is not there")
+    address = Path(register).resolve().as_uri()
+    for mode in ("mode=ro", "immutable=1"):
+        base = sqlite3.connect(f"{address}?{mode}", uri=True, timeout=60)
+        try:
+            return base.execute("SELECT lpis_span.id, since, wkt FROM lpis_span LEFT JOIN lpis_text USING (id) WHERE until = 0 ORDER BY id").fetchall()
+        except sqlite3.Error as error:
+            reason = error
+        finally:
+            base.close()
+    raise QgsProcessingException(f"{register}: {reason}")

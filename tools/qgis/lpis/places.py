@@ -1,0 +1,102 @@
+"""Where the program and its tools are, and how they are run: with their lines as progress, and ended where the user cancels."""
+
+import os
+import shutil
+import subprocess
+import threading
+
+from processing.core.ProcessingConfig import ProcessingConfig
+from qgis.core import QgsProcessingException
+
+SETTING = "LPIS_FOLDER"
+HERE = os.path.dirname(os.path.realpath(__file__))
+WAIT = 0.2  # seconds between two looks at the button 'Cancel'
+
+
+def folders():
+    """Where tools may lie: as set, beside the plugin (installed, or in the repository), or beside the command on the path."""
+    found = shutil.which("lpis-prepare")
+    beside = os.path.dirname(os.path.realpath(found)) if found else ""
+    up = [os.path.normpath(os.path.join(HERE, *[".."] * steps)) for steps in (2, 3, 4)]
+    return [ProcessingConfig.getSetting(SETTING) or "", os.environ.get("LPIS_FOLDER", ""), *(os.path.join(place, *more) for place in up for more in ((), ("lib", "lpis"))), beside]
+
+
+def tool(name):
+    """The path of a tool."""
+    for folder in folders():
+        path = os.path.join(folder, name) if folder else ""
+        if path and os.path.isfile(path) and os.access(path, os.X_OK):
+            return path
+    raise QgsProcessingException(f"lpis-{name} is not found: install lpis, or set its folder in Settings > Options > Processing > Providers > LPIS release checks")
+
+
+def lpis():
+    """The program itself."""
+    named = os.environ.get("LPIS")
+    if named:
+        return named
+    tools = os.path.dirname(tool("report"))
+    for path in (os.path.join(tools, "program", "lpis"), os.path.join(os.path.dirname(tools), "out", "program", "lpis")):
+        if os.access(path, os.X_OK):
+            return path
+    found = shutil.which("lpis")
+    if not found:
+        raise QgsProcessingException("the program lpis is not found beside its tools, nor on the path")
+    return found
+
+
+def surroundings():
+    """Python of QGIS is not handed on: the tools find their own."""
+    return {name: value for name, value in os.environ.items() if name not in ("PYTHONHOME", "PYTHONPATH")}
+
+
+class Ran:
+    """What a run printed, and its status."""
+
+    def __init__(self, status, lines):
+        self.status, self.lines = status, lines
+
+    def last(self):
+        return self.lines[-1] if self.lines else ""
+
+
+def run(words, feedback, quiet=False, given=None):
+    """Runs a program, with a line on its standard input where one is given. Its lines are shown as they come, unless it is quiet; a cancelled
+    run is ended."""
+    feedback.pushCommandInfo(" ".join(words))
+    source = subprocess.DEVNULL if given is None else subprocess.PIPE
+    with subprocess.Popen(words, stdout=subprocess.PIPE, stderr=subprocess.PIPE, stdin=source, text=True, errors="replace", env=surroundings()) as process:
+        if given is not None:
+            process.stdin.write(given + "\n")
+            process.stdin.close()
+        lines = []
+        readers = [threading.Thread(target=take, args=(process.stdout, lines, None if quiet else feedback.pushInfo)),
+                   threading.Thread(target=take, args=(process.stderr, [], feedback.pushWarning))]
+        for reader in readers:
+            reader.start()
+        while True:
+            try:
+                process.wait(WAIT)
+                break
+            except subprocess.TimeoutExpired:
+                if feedback.isCanceled():
+                    process.terminate()
+        for reader in readers:
+            reader.join()
+    if feedback.isCanceled():
+        raise QgsProcessingException("cancelled")
+    return Ran(process.returncode, lines)
+
+
+def take(stream, lines, show):
+    for line in stream:
+        lines.append(line.rstrip("\n"))
+        if show:
+            show(lines[-1])
+
+
+def done(ran, what, also=()):
+    """Stops the algorithm where a run ended otherwise than it may."""
+    if ran.status not in (0, *also):
+        raise QgsProcessingException(f"{what} ended with status {ran.status}: {ran.last()}")
+    return ran

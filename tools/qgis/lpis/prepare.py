@@ -1,0 +1,97 @@
+"""Prepares a release from two layers."""
+
+import os
+import tempfile
+
+from qgis.core import (
+    QgsCoordinateTransformContext, QgsProcessing, QgsProcessingException, QgsProcessingOutputNumber, QgsProcessingOutputString, QgsProcessingParameterBoolean,
+    QgsProcessingParameterFeatureSink, QgsProcessingParameterFeatureSource, QgsProcessingParameterField, QgsProcessingParameterFile,
+    QgsProcessingParameterFolderDestination, QgsProcessingParameterNumber, QgsVectorFileWriter, QgsWkbTypes,
+)
+
+from . import places, styles
+from .check import Folder
+from .layers import TEXT, rows_of
+
+LOOK = 1
+COLUMNS = {"PARCELS": {"parcel": "PARCEL_ID"}, "COVERS": {"piece": "PIECE_ID", "parcel": "PIECE_PARCEL", "class": "PIECE_CLASS"}}
+REPORT_COLUMNS = [("kind", TEXT), ("what", TEXT), ("name", TEXT), ("area", TEXT), ("done", TEXT)]
+
+
+class PrepareRelease(Folder):
+    NAME, TITLE = "preparerelease", "Prepare a release"
+    HELP = ("From a layer of parcels and one of land cover to the tables of a release: all is tested first and each finding is named. What would change or lose land stops, unless "
+            "'accept' is set. The findings are a table, the places of the report layers.")
+    STYLED = {"REPORT_POINTS": styles.fault, "REPORT_LINES": styles.fault, "REPORT_POLYGONS": styles.fault}
+
+    def initAlgorithm(self, configuration=None):
+        polygons = [QgsProcessing.TypeVectorAnyGeometry]
+        self.addParameter(QgsProcessingParameterFeatureSource("PARCELS", "Parcels", polygons))
+        self.addParameter(QgsProcessingParameterField("PARCEL_ID", "identifier of the parcel", "parcel", "PARCELS"))
+        self.addParameter(QgsProcessingParameterFeatureSource("COVERS", "Pieces of land cover", polygons))
+        self.addParameter(QgsProcessingParameterField("PIECE_ID", "identifier of the piece", "piece", "COVERS"))
+        self.addParameter(QgsProcessingParameterField("PIECE_PARCEL", "identifier of its parcel", "parcel", "COVERS"))
+        self.addParameter(QgsProcessingParameterField("PIECE_CLASS", "its class", "class", "COVERS"))
+        self.addParameter(QgsProcessingParameterFile("CLASSES", "Table of classes (class, percent)", extension="csv", optional=True))
+        self.addParameter(QgsProcessingParameterFile("IDENTIFIERS", "identifiers.csv of an earlier year", extension="csv", optional=True))
+        self.addParameter(QgsProcessingParameterNumber("EPSG", "EPSG number of the release, in metres", QgsProcessingParameterNumber.Integer, optional=True, minValue=1))
+        self.addParameter(QgsProcessingParameterBoolean("ACCEPT", "Accept: mend or leave out what is wrong, and name it", False))
+        self.addParameter(QgsProcessingParameterFolderDestination("OUT", "Folder of the release"))
+        self.addParameter(QgsProcessingParameterFeatureSink("FINDINGS", "Findings", QgsProcessing.TypeVector, optional=True, createByDefault=True))
+        self.add_shapes("Report", "REPORT_")
+        self.addOutput(QgsProcessingOutputNumber("STATUS", "Status"))
+        self.addOutput(QgsProcessingOutputString("SUMMARY", "Summary"))
+
+    def processAlgorithm(self, parameters, context, feedback):
+        out = self.parameterAsString(parameters, "OUT", context)
+        os.makedirs(out, exist_ok=True)
+        with tempfile.TemporaryDirectory() as spare:
+            package = os.path.join(spare, "land.gpkg")
+            for number, layer in enumerate(COLUMNS):
+                self.export(parameters, context, layer, package, number == 0)
+            ran = places.done(places.run([places.tool("prepare"), package, out, *self.options(parameters, context)], feedback), "tools/prepare", (LOOK,))
+        place = parameters, context
+        findings = os.path.join(out, "prepared.csv")
+        rows = list(rows_of(findings)) if os.path.exists(findings) else []
+        columns = [(name, TEXT) for name in (rows[0] if rows else ("kind",))]
+        self.written = {"FINDINGS": self.fill("FINDINGS", place, columns, QgsWkbTypes.NoGeometry, [(list(row.values()), None) for row in rows]),
+                        **self.fill_shapes(place, os.path.join(out, "report.geojson"), REPORT_COLUMNS, "REPORT_")}
+        return {**self.written, "OUT": out, "STATUS": ran.status, "SUMMARY": "\n".join(ran.lines)}
+
+    def options(self, parameters, context):
+        words = ["--accept"] if self.parameterAsBool(parameters, "ACCEPT", context) else []
+        for name, option in (("CLASSES", "--classes"), ("IDENTIFIERS", "--identifiers")):
+            path = self.parameterAsFile(parameters, name, context)
+            words += [option, path] if path else []
+        epsg = self.parameterAsInt(parameters, "EPSG", context) if parameters.get("EPSG") else 0
+        return words + (["--epsg", str(epsg)] if epsg else [])
+
+    def export(self, parameters, context, layer, package, is_first):
+        """Writes a layer into the GeoPackage under the names that the tool reads. All of its features have to arrive."""
+        from qgis.core import QgsFeature, QgsFeatureRequest, QgsField, QgsFields
+
+        source = self.parameterAsSource(parameters, layer, context)
+        if source is None:
+            raise QgsProcessingException(self.invalidSourceError(parameters, layer))
+        fields, taken = QgsFields(), []
+        for column, name in COLUMNS[layer].items():
+            found = self.parameterAsFields(parameters, name, context)[0]
+            taken.append(source.fields().lookupField(found))
+            fields.append(QgsField(column, source.fields().at(taken[-1]).type()))
+        options = QgsVectorFileWriter.SaveVectorOptions()
+        options.driverName, options.layerName = "GPKG", layer.lower()
+        options.actionOnExistingFile = QgsVectorFileWriter.CreateOrOverwriteFile if is_first else QgsVectorFileWriter.CreateOrOverwriteLayer
+        writer = QgsVectorFileWriter.create(package, fields, source.wkbType(), source.sourceCrs(), QgsCoordinateTransformContext(), options)
+        if writer.hasError():
+            raise QgsProcessingException(writer.errorMessage())
+        count = 0
+        for feature in source.getFeatures(QgsFeatureRequest(), source.FlagSkipGeometryValidityChecks):
+            one = QgsFeature(fields)
+            one.setAttributes([feature.attribute(place) for place in taken])
+            one.setGeometry(feature.geometry())
+            if not writer.addFeature(one):
+                raise QgsProcessingException(f"{layer.lower()}: feature {feature.id()}: {writer.errorMessage()}")
+            count += 1
+        del writer
+        if count != source.featureCount():
+            raise QgsProcessingException(f"{layer.lower()}: {source.featureCount()} features, and {count} were handed on")

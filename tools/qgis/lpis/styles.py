@@ -1,0 +1,63 @@
+"""How outputs look: faults by their code, lineage by its kind, the rest in one colour."""
+
+from qgis.core import (
+    QgsCategorizedSymbolRenderer, QgsFillSymbol, QgsLineSymbol, QgsMarkerSymbol, QgsPalLayerSettings, QgsRendererCategory, QgsSingleSymbolRenderer,
+    QgsTextFormat, QgsVectorLayerSimpleLabeling, QgsWkbTypes,
+)
+
+SOUND, FAULT, OTHER = "#1a9641", "#d7191c", "#e7298a"
+FAINT = 64  # of 255: how much a filled shape covers
+COLOURS = (FAULT, "#2c7bb6", "#fdae61", "#7b3294", SOUND, "#a6611a", "#e66101", "#404040")
+KINDS = {"split": "#1b9e77", "merged": "#7570b3", "replaced": "#66a61e", "redrawn": "#e6ab02", "ended": "#666666"}
+
+
+def symbol(layer, colour):
+    kind = layer.geometryType()
+    if kind == QgsWkbTypes.PointGeometry:
+        return QgsMarkerSymbol.createSimple({"name": "cross2", "color": colour, "outline_color": colour, "outline_width": "0.8", "size": "5"})
+    if kind == QgsWkbTypes.LineGeometry:
+        return QgsLineSymbol.createSimple({"color": colour, "width": "1"})
+    red, green, blue = (int(colour[place : place + 2], 16) for place in (1, 3, 5))
+    return QgsFillSymbol.createSimple({"color": f"{red},{green},{blue},{FAINT}", "outline_color": colour, "outline_width": "0.6"})
+
+
+def label(layer, field):
+    settings, form = QgsPalLayerSettings(), QgsTextFormat()
+    form.setSize(8)
+    settings.fieldName = field
+    settings.setFormat(form)
+    layer.setLabeling(QgsVectorLayerSimpleLabeling(settings))
+    layer.setLabelsEnabled(True)
+
+
+def categories(layer, field, colour_of, words_of):
+    """A colour for each value that the layer has."""
+    found = {}
+    for feature in layer.getFeatures():
+        found.setdefault(feature[field] or "", words_of(feature))
+    return [QgsRendererCategory(value, symbol(layer, colour_of(number, value)), words) for number, (value, words) in enumerate(sorted(found.items()))]
+
+
+def one_colour(layer, colour, field):
+    layer.setRenderer(QgsSingleSymbolRenderer(symbol(layer, colour)))
+    label(layer, field)
+
+
+def parcels(layer):
+    one_colour(layer, SOUND, "parcel")
+
+
+def fault(layer):
+    one_colour(layer, FAULT, "name")
+
+
+def faults(layer):
+    shown = categories(layer, "code", lambda number, _: COLOURS[number % len(COLOURS)], lambda feature: f"{feature['code']}: {feature['meaning']}")
+    layer.setRenderer(QgsCategorizedSymbolRenderer("code", shown))
+    label(layer, "names")
+
+
+def lineage(layer):
+    shown = categories(layer, "kind", lambda _, kind: KINDS.get(kind, OTHER), lambda feature: feature["kind"] or "not clear")
+    layer.setRenderer(QgsCategorizedSymbolRenderer("kind", shown))
+    label(layer, "old")
