@@ -18,8 +18,8 @@ use lpis_commands::{
     command_of, named_files, print_failure, run_area, run_check, run_cut, status_of, usage_ends,
 };
 use lpis_country_run::{print_country_failure, run_country};
-use lpis_gate::{refuse_register, run_exact, run_publish, run_trace};
 use lpis_locate::run_locate;
+use lpis_publishing::{refuse_register, run_exact, run_publish, run_trace};
 use lpis_register::Register;
 use sqlite::{Alter, Unknown};
 use std::alloc::Global;

@@ -4,7 +4,7 @@ ghost use Rattle.std.specs.Prelude.{◌≡◌, All, IfErr, IfOk, OnOk};
 ghost use Rattle.lpis_edge_sums.specs.Making.{TurnsAsParts};
 ghost use Rattle.lpis_checker.specs.ExactBlocks.{BlockHolds, ReportsExact, ShowExact};
 ghost use Rattle.lpis_checker.specs.ExactBlocks.{exact_code_text};
-ghost use Rattle.lpis_checker.specs.private.ExactSearches.{IsToldOfBlock};
+ghost use Rattle.lpis_checker.specs.private.ExactSearches.{IsFaultOfBlock};
 ghost use Rattle.lpis_checker.specs.declared.exact.ExactFault.TheVariants.{Memory};
 
 use crate::blocks::first_failing_block;
@@ -84,7 +84,7 @@ fn reported_block(
     found: FailingBlock,
 ) -> Result<ExactFault, AllocError>
     requires { BlockHolds blocks.now parts.now found.condition found.index → ⊥ }
-    ensures { IfOk result (IsToldOfBlock blocks.now parts.now found) }
+    ensures { IfOk result (IsFaultOfBlock blocks.now parts.now found) }
 {
     let id = match (blocks.get(found.index), parts.get(found.index)) {
         (Some(block), _) => block.id.copy()?,

@@ -3,7 +3,7 @@
 ghost use Rattle.std.specs.Prelude.{◌≡◌, IfOk};
 ghost use Rattle.lpis_checker.specs.FirstFault.{location_of};
 ghost use Rattle.lpis_checker.specs.GoodCertificate.{ConditionHolds};
-ghost use Rattle.lpis_checker.specs.private.Searches.{IsToldOf};
+ghost use Rattle.lpis_checker.specs.private.Searches.{IsFaultAt};
 
 use crate::condition::Site;
 use crate::fault::{CheckFault, Location};
@@ -49,7 +49,7 @@ fn located(release: &Release, cert: &Cert, at: Site) -> Result<Location, AllocEr
 /// What is reported of a site at which its condition fails.
 pub(crate) fn reported(release: &Release, cert: &Cert, at: Site) -> Result<CheckFault, AllocError>
     requires { ConditionHolds release.now cert.now at → ⊥ }
-    ensures { IfOk result (IsToldOf release.now cert.now at) }
+    ensures { IfOk result (IsFaultAt release.now cert.now at) }
 {
     let place = located(release, cert, at)?;
     Ok(CheckFault::At {

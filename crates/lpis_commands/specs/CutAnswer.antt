@@ -10,7 +10,7 @@ use Rattle.lpis_cert.specs.declared.cert.Cert.{Cert}
 use Rattle.lpis_cert.specs.declared.part.PiecePart.{PiecePart}
 use Rattle.lpis_cert.specs.Contents.{cert_text}
 use Rattle.lpis_cutter.specs.declared.fault.Refusal.{Refusal}
-use Rattle.lpis_cutter.specs.Refusals.{RefusalSays}
+use Rattle.lpis_cutter.specs.Refusals.{RefusalReports}
 use Rattle.lpis_commands.specs.declared.failure.Failure.{Failure}
 use Rattle.lpis_commands.specs.CutRefusals.{cut_refusal_text}
 use Rattle.lpis_commands.specs.Failures.{IsUnreadRelease}
@@ -41,7 +41,7 @@ pub record CertIsCut (a : Outputs) : Type 0 where
 -- the release is refused, and what the refusal says of it holds
 pub record IsCutRefused (r : Contents) (a : Outputs) : Type 0 where
   pub refusal : Refusal
-  pub says : RefusalSays r refusal
+  pub says : RefusalReports r refusal
   pub no_text : a.cert ≡ None
   pub line : a.line ≡ cut_refusal_text refusal
   pub status : a.status ≡ refused

@@ -12,8 +12,8 @@ use Rattle.lpis_country_plan.specs.Limits.{most_regions}
 use Rattle.lpis_country_plan.specs.Tree.{Tree, folder, by_x, by_y, folders, tiling_of}
 use Rattle.lpis_country_plan.specs.CountryText.{TreeLine, x_line, y_line, region_line, tree_lines, TreeLineFits, is_region_name}
 use Rattle.lpis_country_plan.specs.Plans.{PlanParts, IsPlanOf}
-use Rattle.lpis_country_plan.specs.private.Begun.{names_said, tiles_in, IsCompletedBy, IsPlanBegun, west_of, east_of, south_of, north_of}
-use Rattle.lpis_country_plan.proofs.TreeLemmas.{names_said-append, folders_said}
+use Rattle.lpis_country_plan.specs.private.Begun.{names_listed, tiles_in, IsCompletedBy, IsPlanBegun, west_of, east_of, south_of, north_of}
+use Rattle.lpis_country_plan.proofs.TreeLemmas.{names_listed-append, folders_said}
 
 fits_more : (ls : List TreeLine) (l : TreeLine) → AllByRecursion TreeLineFits ls → TreeLineFits l → AllByRecursion TreeLineFits (ls ++ l ∷ [])
 fits_more [] l h f = (f, tt)
@@ -39,7 +39,7 @@ begun_first = record { fits = tt; names_are = refl; distinct = tt; few = omega a
 -- a cut: its line, and how it cuts the tree and the rectangle
 record IsCutBy (l : TreeLine) (cut : Tree → Tree → Tree) (b first second : Box4) : Type 0 where
   fits : TreeLineFits l
-  no_name : names_said (l ∷ []) ≡ []
+  no_name : names_listed (l ∷ []) ≡ []
   lines : (s t : Tree) → tree_lines (cut s t) ≡ l ∷ (tree_lines s ++ tree_lines t)
   tiles : (s t : Tree) → rectangles (tiling_of (cut s t)) b ≡ rectangles (tiling_of s) first ++ rectangles (tiling_of t) second
 
@@ -47,7 +47,7 @@ begun_cut : (said : List TreeLine) (names : List (List ℕ)) (tiles bs : List Bo
     → IsPlanBegun said names tiles (b ∷ bs) → IsPlanBegun (said ++ l ∷ []) names tiles (first ∷ second ∷ bs)
 begun_cut said names tiles bs l by b first second is h = record {
   fits = fits_more said l h.fits is.fits;
-  names_are = h.names_are ∙ sym (names_said-append said (l ∷ []) ∙ ap (λ (ns : List (List ℕ)). names_said said ++ ns) is.no_name ∙ append-nil (names_said said));
+  names_are = h.names_are ∙ sym (names_listed-append said (l ∷ []) ∙ ap (λ (ns : List (List ℕ)). names_listed said ++ ns) is.no_name ∙ append-nil (names_listed said));
   distinct = h.distinct;
   few = h.few;
   completed = cut;
@@ -84,7 +84,7 @@ pub begun_region : (said : List TreeLine) (names : List (List ℕ)) (tiles : Lis
     → length names < most_regions → IsPlanBegun said names tiles (b ∷ bs) → IsPlanBegun (said ++ region_line name ∷ []) (names ++ name ∷ []) (tiles ++ b ∷ []) bs
 begun_region said names tiles b bs name named new room h = record {
   fits = fits_more said (region_line name) h.fits named;
-  names_are = ap (λ (ns : List (List ℕ)). ns ++ name ∷ []) h.names_are ∙ sym (names_said-append said (region_line name ∷ []));
+  names_are = ap (λ (ns : List (List ℕ)). ns ++ name ∷ []) h.names_are ∙ sym (names_listed-append said (region_line name ∷ []));
   distinct = IsDistinct-push nat_list_eq_equiv names name h.distinct new;
   few = omega (arith, length-append names (name ∷ []));
   completed = λ ts e.
@@ -105,7 +105,7 @@ pub begun_end : (said : List TreeLine) (names : List (List ℕ)) (tiles : List B
 begun_end said names tiles h =
     let whole = h.completed [] refl in
     let lines : tree_lines whole.0 ≡ said = whole.1.lines_are ∙ append-nil said in
-    let same : names ≡ folders whole.0 = h.names_are ∙ ap names_said (sym lines) ∙ sym (folders_said whole.0) in (
+    let same : names ≡ folders whole.0 = h.names_are ∙ ap names_listed (sym lines) ∙ sym (folders_said whole.0) in (
       whole.0,
       lines,
       record {

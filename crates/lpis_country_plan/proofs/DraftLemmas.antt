@@ -16,7 +16,7 @@ use Rattle.lpis_country_plan.specs.Faults.{Owing, owing_after, where_owed}
 unfoldable use Rattle.lpis_country_plan.specs.Faults.{tree_line, owing_with}
 use Rattle.lpis_country_plan.specs.private.Begun.{IsPlanBegun, west_of, east_of, south_of, north_of}
 use Rattle.lpis_country_plan.specs.private.Drafts.{IsDraftOf, IsDraftWith}
-use Rattle.lpis_country_plan.specs.private.Lines.{line_said}
+use Rattle.lpis_country_plan.specs.private.Lines.{line_read}
 use Rattle.lpis_country_plan.proofs.LineLemmas.{line_takes}
 use Rattle.lpis_country_plan.proofs.BegunLemmas.{begun_first, begun_x, begun_y, begun_region}
 
@@ -45,24 +45,24 @@ pub begun_new : (names : List (List ℕ)) (tiles rooms : List Box4) (b : Box4) �
 begun_new names tiles rooms b n t f r = rw (n, t, r, f) begun_first
 
 -- a draft whose next room is cut by a line of one x, into west and east, has read that line
-pub cut_by_x : (said : List TreeLine) (line : Line) (x : ℤ) (old new : Draft) (b w e : Box4) (rest : List Box4) → line ≡ X x → TreeLineFits (line_said line) → IsDraftOf said old
+pub cut_by_x : (said : List TreeLine) (line : Line) (x : ℤ) (old new : Draft) (b w e : Box4) (rest : List Box4) → line ≡ X x → TreeLineFits (line_read line) → IsDraftOf said old
     → old.rooms ≡ b ∷ rest → new.names ≡ old.names → new.tiles.items ≡ old.tiles.items → new.rooms ≡ w ∷ e ∷ rest → w ≡ west_of b x → e ≡ east_of b x
-    → IsDraftOf (said ++ line_said line ∷ []) new
+    → IsDraftOf (said ++ line_read line ∷ []) new
 cut_by_x said line x old new b w e rest is fits begun room names tiles rooms west east =
     rw (is, names, tiles, rooms, west, east) (begun_x said old.names old.tiles.items b rest x (rw is at fits) (rw room at begun))
 
 -- a draft whose next room is cut by a line of one y, into south and north, has read that line
-pub cut_by_y : (said : List TreeLine) (line : Line) (y : ℤ) (old new : Draft) (b s n : Box4) (rest : List Box4) → line ≡ Y y → TreeLineFits (line_said line) → IsDraftOf said old
+pub cut_by_y : (said : List TreeLine) (line : Line) (y : ℤ) (old new : Draft) (b s n : Box4) (rest : List Box4) → line ≡ Y y → TreeLineFits (line_read line) → IsDraftOf said old
     → old.rooms ≡ b ∷ rest → new.names ≡ old.names → new.tiles.items ≡ old.tiles.items → new.rooms ≡ s ∷ n ∷ rest → s ≡ south_of b y → n ≡ north_of b y
-    → IsDraftOf (said ++ line_said line ∷ []) new
+    → IsDraftOf (said ++ line_read line ∷ []) new
 cut_by_y said line y old new b s n rest is fits begun room names tiles rooms south north =
     rw (is, names, tiles, rooms, south, north) (begun_y said old.names old.tiles.items b rest y (rw is at fits) (rw room at begun))
 
 -- a draft whose next room became the tile of a region, of a new name and not one too many, has read its line
 pub region_more : (said : List TreeLine) (line : Line) (name : List ℕ) (old new : Draft) (b : Box4) (rest : List Box4)
-    → line_said line ≡ region_line name → TreeLineFits (line_said line) → IsDraftOf said old
+    → line_read line ≡ region_line name → TreeLineFits (line_read line) → IsDraftOf said old
     → old.rooms ≡ b ∷ rest → list_any (bytes_eq name) old.names ≡ false → length old.names < most_regions → new.names ≡ old.names ++ name ∷ []
-    → new.tiles.items ≡ old.tiles.items ++ b ∷ [] → new.rooms ≡ rest → IsDraftOf (said ++ line_said line ∷ []) new
+    → new.tiles.items ≡ old.tiles.items ++ b ∷ [] → new.rooms ≡ rest → IsDraftOf (said ++ line_read line ∷ []) new
 region_more said line name old new b rest is fits begun room other few names tiles rooms =
     rw (is, names, tiles, rooms) (begun_region said old.names old.tiles.items b rest name (rw is at fits) other few (rw room at begun))
 

@@ -13,7 +13,7 @@ use Rattle.lpis_country_plan.specs.Limits.{most_regions}
 use Rattle.lpis_country_plan.specs.Tree.{Tree}
 use Rattle.lpis_country_plan.specs.CountryText.{TreeLine, x_line, y_line, region_line, tree_lines, tree_line_text, country_head, TreeLineFits, TreeFits, IsCountryText}
 unfoldable use Rattle.lpis_country_plan.specs.CountryText.{tree_lines_text, country_text}
-use Rattle.lpis_country_plan.specs.Faults.{Owing, owing_after, owing_said, or_line, plan_lines, plan_fault}
+use Rattle.lpis_country_plan.specs.Faults.{Owing, owing_after, owing_after_line, or_line, plan_lines, plan_fault}
 unfoldable use Rattle.lpis_country_plan.specs.Faults.{tree_line, owing_with, plan_fault_from, plan_fault_of}
 use Rattle.lpis_country_plan.specs.private.Begun.{IsPlanBegun, owes}
 use Rattle.lpis_country_plan.proofs.TreeLemmas.{same_front}
@@ -63,7 +63,7 @@ unfolding owing_with
 begun_with said names tiles [] line p h e = absurd cc
 begun_with said names tiles (b ∷ bs) line p h e = by (tree_line line) refl e
   where
-    by : (o : Option TreeLine) → tree_line line ≡ o → owing_said (owes (suc (length bs)) names) o ≡ Some p → GoesOn said line p
+    by : (o : Option TreeLine) → tree_line line ≡ o → owing_after_line (owes (suc (length bs)) names) o ≡ Some p → GoesOn said line p
     by None is e = absurd cc
     by (Some l) is e = let t = line_takes line l is in goes_on said names tiles b bs line l p h t.0 t.1 e
 

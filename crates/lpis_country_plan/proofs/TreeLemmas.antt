@@ -4,7 +4,7 @@ use Rattle.lpis_points.specs.declared.boxes.Box4.{Box4}
 use Rattle.lpis_country.specs.Tiling.{rectangles}
 use Rattle.lpis_country_plan.specs.Tree.{Tree, folder, by_x, by_y, folders, tiling_of}
 use Rattle.lpis_country_plan.specs.CountryText.{TreeLine, x_line, y_line, region_line, tree_lines}
-use Rattle.lpis_country_plan.specs.private.Begun.{names_said}
+use Rattle.lpis_country_plan.specs.private.Begun.{names_listed}
 
 joined : {A B : Type 0} (xs ys : List A) (us vs : List B) → length xs ≡ length us → length ys ≡ length vs → length (xs ++ ys) ≡ length (us ++ vs)
 joined xs ys us vs e f = length-append xs ys ∙ ap₂ (λ (m n : ℕ). m + n) e f ∙ sym (length-append us vs)
@@ -16,17 +16,17 @@ as_many_tiles (by_x c s t) b = joined (folders s) (folders t) (rectangles (tilin
 as_many_tiles (by_y c s t) b = joined (folders s) (folders t) (rectangles (tiling_of s) _) (rectangles (tiling_of t) _) (as_many_tiles s _) (as_many_tiles t _)
 
 -- the names that lines and further lines say are those of the first, and then those of the others
-pub names_said-append : (ls ms : List TreeLine) → names_said (ls ++ ms) ≡ names_said ls ++ names_said ms
-names_said-append [] ms = refl
-names_said-append (x_line c ∷ ls) ms = names_said-append ls ms
-names_said-append (y_line c ∷ ls) ms = names_said-append ls ms
-names_said-append (region_line name ∷ ls) ms = ap (λ (ns : List (List ℕ)). name ∷ ns) (names_said-append ls ms)
+pub names_listed-append : (ls ms : List TreeLine) → names_listed (ls ++ ms) ≡ names_listed ls ++ names_listed ms
+names_listed-append [] ms = refl
+names_listed-append (x_line c ∷ ls) ms = names_listed-append ls ms
+names_listed-append (y_line c ∷ ls) ms = names_listed-append ls ms
+names_listed-append (region_line name ∷ ls) ms = ap (λ (ns : List (List ℕ)). name ∷ ns) (names_listed-append ls ms)
 
-said_by_both : (a b : List (List ℕ)) (ls ms : List TreeLine) → a ≡ names_said ls → b ≡ names_said ms → a ++ b ≡ names_said (ls ++ ms)
-said_by_both a b ls ms e f = ap₂ (λ (x y : List (List ℕ)). x ++ y) e f ∙ sym (names_said-append ls ms)
+said_by_both : (a b : List (List ℕ)) (ls ms : List TreeLine) → a ≡ names_listed ls → b ≡ names_listed ms → a ++ b ≡ names_listed (ls ++ ms)
+said_by_both a b ls ms e f = ap₂ (λ (x y : List (List ℕ)). x ++ y) e f ∙ sym (names_listed-append ls ms)
 
 -- the folders of a tree are the names that its lines say
-pub folders_said : (t : Tree) → folders t ≡ names_said (tree_lines t)
+pub folders_said : (t : Tree) → folders t ≡ names_listed (tree_lines t)
 folders_said (folder name) = refl
 folders_said (by_x c s t) = said_by_both (folders s) (folders t) (tree_lines s) (tree_lines t) (folders_said s) (folders_said t)
 folders_said (by_y c s t) = said_by_both (folders s) (folders t) (tree_lines s) (tree_lines t) (folders_said s) (folders_said t)

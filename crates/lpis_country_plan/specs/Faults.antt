@@ -55,9 +55,9 @@ owing_after o (region_line name) =
     cond (list_any (bytes_eq name) o.names || nat_le most_regions (length o.names)) None
     (Some (record { owed = pred o.owed; names = o.names ++ (name ∷ []) }))
 
-abbrev pub owing_said : Owing → Option TreeLine → Option Owing
-owing_said o None = None
-owing_said o (Some l) = owing_after o l
+abbrev pub owing_after_line : Owing → Option TreeLine → Option Owing
+owing_after_line o None = None
+owing_after_line o (Some l) = owing_after o l
 
 abbrev pub where_owed : ℕ → Option Owing → Option Owing
 where_owed zero next = None
@@ -65,7 +65,7 @@ where_owed (suc k) next = next
 
 -- what is owed after a line more, or none where the line can't stand
 unfoldable pub owing_with : Owing → List ℕ → Option Owing
-owing_with o line = where_owed o.owed (owing_said o (tree_line line))
+owing_with o line = where_owed o.owed (owing_after_line o (tree_line line))
 
 -- ---- the first fault
 

@@ -6,7 +6,7 @@ ghost use Rattle.lpis_country_plan.specs.CountryText.{TreeLine, TreeLineFits};
 ghost use Rattle.lpis_country_plan.specs.Faults.{owing_after, owing_first, owing_with, where_owed};
 ghost use Rattle.lpis_country_plan.specs.private.Begun.{west_of, east_of, south_of, north_of};
 ghost use Rattle.lpis_country_plan.specs.private.Drafts.{IsDraftOf, IsDraftWith, owing_of};
-ghost use Rattle.lpis_country_plan.specs.private.Lines.{line_said};
+ghost use Rattle.lpis_country_plan.specs.private.Lines.{line_read};
 
 use crate::line::{Line, line_of};
 use crate::names::Names;
@@ -106,10 +106,10 @@ impl Draft {
     /// With what a line says, if it can stand.
     fn with_line(mut self, alloc: Global, line: Line<'_>) -> Result<Option<Draft>, AllocError>
         ensures owing { IfOk result (λ o. option_map owing_of o
-            ≡ where_owed (length self.rooms) (owing_after (owing_of self) (line_said line.entry))) }
+            ≡ where_owed (length self.rooms) (owing_after (owing_of self) (line_read line.entry))) }
         ensures begun { IfOk result (λ o. IfSome o (λ d. (said : List TreeLine)
-            → TreeLineFits (line_said line.entry) → IsDraftOf said self
-            → IsDraftOf (said ++ line_said line.entry ∷ []) d)) }
+            → TreeLineFits (line_read line.entry) → IsDraftOf said self
+            → IsDraftOf (said ++ line_read line.entry ∷ []) d)) }
     {
         let Some(room) = self.rooms.pop() else {
             return Ok(None);

@@ -8,7 +8,7 @@ ghost use Rattle.std.specs.Str.Parse.{signed_digits_value};
 ghost use Rattle.lpis_points.specs.Range.{limit};
 ghost use Rattle.lpis_country_plan.specs.CountryText.{is_name_byte as name_byte, is_region_name};
 ghost use Rattle.lpis_country_plan.specs.Faults.{coordinate_in, name_in, tree_line};
-ghost use Rattle.lpis_country_plan.specs.private.Lines.{line_said};
+ghost use Rattle.lpis_country_plan.specs.private.Lines.{line_read};
 
 use lpis_points::LIMIT;
 use std::alloc::{AllocError, Global};
@@ -109,7 +109,7 @@ fn name(word: &[u8]) -> Option<&str>
 /// What a line says, if it has the form of one.
 #[tactic(auto, unfolding(crate::specs::Faults::tree_line))]
 pub(crate) fn line_of(alloc: Global, line: &[u8]) -> Result<Option<Line<'_>>, AllocError>
-    ensures { IfOk result (λ o. option_map line_said o ≡ tree_line line.now) }
+    ensures { IfOk result (λ o. option_map line_read o ≡ tree_line line.now) }
 {
     if let Some(word) = line.strip_prefix(b"x ".as_slice()) {
         let Some(x) = coordinate(alloc, word)? else {

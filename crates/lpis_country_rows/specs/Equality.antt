@@ -31,7 +31,7 @@ abbrev pub same_class : Class → Class → Bool
 same_class a b = same_id a.code b.code && a.percent == b.percent
 
 -- each test tells equal values
-pub record TestsTellEqualRows : Type 0 where
+pub record TestsFindEqualRows : Type 0 where
   pub polygons : IsEquality same_polygon
   pub pieces : IsEquality same_pieces
   pub classes : IsEquality same_class

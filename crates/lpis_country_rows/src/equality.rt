@@ -4,7 +4,7 @@ ghost use Rattle.std.specs.Prelude.{◌≡◌, IsTrue, ◌↔◌};
 ghost use Rattle.lpis_parcels.specs.Release.{pieces_named};
 ghost use Rattle.lpis_country_rows.specs.Equality.{same_class, same_pieces, same_polygon};
 
-use crate::laws::tests_tell_equal_rows;
+use crate::laws::tests_find_equal_rows;
 use lpis_covers::{Class, Id, Piece};
 use lpis_parcels::{Release, pieces_of};
 use lpis_points::Point;
@@ -82,7 +82,7 @@ fn are_same_members(a: &[Member], b: &[Member]) -> bool
 pub fn is_same_polygon(a: &Polygon, b: &Polygon) -> bool
     ensures { result ≡ same_polygon a.now b.now }
 {
-    tests_tell_equal_rows();
+    tests_find_equal_rows();
     are_same_members(a.members(), b.members())
 }
 
@@ -124,7 +124,7 @@ fn are_those_of(pieces: &[Piece], release: &Release, parcel: &Id) -> bool
 pub fn are_pieces_of(pieces: &[Piece], release: &Release, parcel: &Id) -> bool
     ensures { result ≡ same_pieces pieces.now (pieces_named release.now parcel.now) }
 {
-    tests_tell_equal_rows();
+    tests_find_equal_rows();
     are_those_of(pieces, release, parcel)
 }
 
@@ -139,6 +139,6 @@ fn are_same_classes(a: &Class, b: &Class) -> bool
 pub fn is_same_class(a: &Class, b: &Class) -> bool
     ensures { result ≡ same_class a.now b.now }
 {
-    tests_tell_equal_rows();
+    tests_find_equal_rows();
     are_same_classes(a, b)
 }

@@ -17,7 +17,7 @@ use Rattle.lpis_country.specs.Country.{country_of, is_new}
 use Rattle.lpis_country.specs.Tiling.{Tiling, rectangles, frame, reaches}
 use Rattle.lpis_country.specs.Union.{IsDouble, IsUnion}
 use Rattle.lpis_country.proofs.Shared.{FitsCountry, IsLate, IsThere, country_is_sound, country_is_union, has_among}
-use Rattle.lpis_country_rows.specs.Equality.{same_pieces, same_polygon, TestsTellEqualRows}
+use Rattle.lpis_country_rows.specs.Equality.{same_pieces, same_polygon, TestsFindEqualRows}
 use Rattle.lpis_country_seam.specs.declared.fault.SeamFault.{SeamFault}
 use Rattle.lpis_country_seam.specs.declared.fault.SeamFault.TheVariants.{At}
 use Rattle.lpis_country_seam.specs.declared.fault.SeamCode.TheVariants.{Differs, Elsewhere, Lacks, Reused}
@@ -103,7 +103,7 @@ one k m e f = ap₂ parcel (sym e) f
     parcel i ms = record { id = i; polygon = ms }
 
 -- a row that was there is the same
-row_same : TestsTellEqualRows → (tiles : List Box4) (n : ℕ) (u r : Contents) (k m : Parcel) → earlier_faults tiles n u r k (Some m) ≡ [] → IsAmong u.parcels m → k.id ≡ m.id → IsDouble u r k
+row_same : TestsFindEqualRows → (tiles : List Box4) (n : ℕ) (u r : Contents) (k m : Parcel) → earlier_faults tiles n u r k (Some m) ≡ [] → IsAmong u.parcels m → k.id ≡ m.id → IsDouble u r k
 row_same tell tiles n u r k m e h i = by (reaches_later tiles n m) refl e
   where
     by : (b : Bool) → reaches_later tiles n m ≡ b → cond b (seam_fault_if (not (is_double u m r k)) (At Differs k.id n)) (At Reused k.id n ∷ []) ≡ [] → IsDouble u r k
@@ -120,7 +120,7 @@ row_same tell tiles n u r k m e h i = by (reaches_later tiles n m) refl e
 row_faultless : (tiles : List Box4) (n : ℕ) (u r : Contents) (k : Parcel) → seam_row_faults tiles n u r k ≡ [] → earlier_faults tiles n u r k (parcel_named u k.id) ≡ []
 row_faultless tiles n u r k e = second_nil (seam_fault_if (not (reaches_own tiles n k)) (At Elsewhere k.id n)) (earlier_faults tiles n u r k (parcel_named u k.id)) e
 
-same_one : TestsTellEqualRows → (tiles : List Box4) (n : ℕ) (u r : Contents) (k : Parcel) → seam_row_faults tiles n u r k ≡ [] → is_new u k.id ≡ false → IsDouble u r k
+same_one : TestsFindEqualRows → (tiles : List Box4) (n : ℕ) (u r : Contents) (k : Parcel) → seam_row_faults tiles n u r k ≡ [] → is_new u k.id ≡ false → IsDouble u r k
 same_one tell tiles n u r k e o = by (parcel_named u k.id) refl (row_faultless tiles n u r k e)
   where
     by : (w : Option Parcel) → parcel_named u k.id ≡ w → earlier_faults tiles n u r k w ≡ [] → IsDouble u r k
@@ -141,7 +141,7 @@ there_one tiles n r k e t at h = by (has_id (parcel_ids r.parcels) k.id) refl
     by true f = refl
     by false f = absurd (clash (is_lacking tiles n r k) (ap (λ (b : Bool). b && not (has_id (parcel_ids r.parcels) k.id)) (ap (reaches_at k) at ∙ h) ∙ ap not f) e)
 
-fits : TestsTellEqualRows → (tiles : List Box4) (classes : List Class) (done : List Contents) (r : Contents) → seam_faults tiles classes done r ≡ []
+fits : TestsFindEqualRows → (tiles : List Box4) (classes : List Class) (done : List Contents) (r : Contents) → seam_faults tiles classes done r ≡ []
     → FitsCountry tiles (length done) (country_of classes done) r
 fits tell tiles classes done r e = record {
   same = All-weaker (IsFaultless) (λ (k : Parcel). is_new u k.id ≡ false → IsDouble u r k) (λ k f. same_one tell tiles n u r k f) r.parcels rows;
@@ -167,12 +167,12 @@ fits tell tiles classes done r e = record {
     rows = all_nil (seam_row_faults tiles n u r) r.parcels (first_nil (flat_map (seam_row_faults tiles n u r) r.parcels) _ rest)
 
 -- sound regions without a fault of the seam, one a tile, make up a sound country
-pub joined_is_sound : TestsTellEqualRows → (tiling : Tiling) (classes : List Class) (regions : List Contents) → AreJoined (rectangles tiling frame) classes regions → All IsSoundMap regions
+pub joined_is_sound : TestsFindEqualRows → (tiling : Tiling) (classes : List Class) (regions : List Contents) → AreJoined (rectangles tiling frame) classes regions → All IsSoundMap regions
     → length regions ≡ length (rectangles tiling frame) → IsSoundMap (country_of classes regions)
 joined_is_sound tell tiling classes regions j s e =
     country_is_sound tiling classes regions j.regions_are s j.classes_are (λ before r after f. fits tell (rectangles tiling frame) classes before r (j.faultless before r after f)) e
 
 -- regions without a fault of the seam make up their union
-pub joined_is_union : TestsTellEqualRows → (tiles : List Box4) (classes : List Class) (regions : List Contents) → AreJoined tiles classes regions → IsUnion regions (country_of classes regions)
+pub joined_is_union : TestsFindEqualRows → (tiles : List Box4) (classes : List Class) (regions : List Contents) → AreJoined tiles classes regions → IsUnion regions (country_of classes regions)
 joined_is_union tell tiles classes regions j =
     country_is_union tiles classes regions j.regions_are j.classes_are (λ before r after f. fits tell tiles classes before r (j.faultless before r after f))

@@ -3,7 +3,7 @@
 
 ghost use Rattle.lpis_country_seam.specs.Laws.{JoinedCountryIsSound, JoinedCountryIsUnion};
 
-use lpis_country_rows::laws::tests_tell_equal_rows;
+use lpis_country_rows::laws::tests_find_equal_rows;
 
 /// Regions none of which has a fault of the seam after those before it make a country that is their
 /// union. Where they are sound maps, one for each tile, so is the country.
@@ -11,5 +11,5 @@ pub fn a_country_of_joined_regions_is_sound()
     ensures sound { JoinedCountryIsSound }
     ensures union { JoinedCountryIsUnion }
 {
-    tests_tell_equal_rows();
+    tests_find_equal_rows();
 }

@@ -6,7 +6,7 @@ use Rattle.csv.specs.Reading.{records}
 use Rattle.lpis_covers.proofs.ColumnLemmas.{without-mark}
 use Rattle.lpis_covers.specs.declared.fault.TableCode.TheVariants.{NotCsv, TooManyRows}
 use Rattle.lpis_covers.specs.declared.fault.TableFault.TheVariants.{Memory}
-use Rattle.lpis_covers.specs.private.Columns.{TellsColumn}
+use Rattle.lpis_covers.specs.private.Columns.{NamesColumn}
 use Rattle.lpis_covers.specs.Table.{Record, fault_at, has_column, most_rows, optional_field, reading, rows_from, stopped, table_of, wanted_places, with_row}
 
 rows-read-next : (table : Table) (w : ℕ) (places : List (Option ℕ)) (n : ℕ) (r : Record) (rs : List Record) → length r ≡ w → n ≤ most_rows
@@ -79,7 +79,7 @@ or-empty (Some x) d said z e = rw (← e) refl
 
 -- the fault of a column, as that of the table
 pub column-fault : (table : Table) (names further : List (List ℕ)) (header : Record) (rs all : List Record) (told : TableFault)
-    → all ≡ header ∷ rs → TellsColumn table (wanted_places header names further) told → Answers (Err told) (under_header table names further all)
+    → all ≡ header ∷ rs → NamesColumn table (wanted_places header names further) told → Answers (Err told) (under_header table names further all)
 column-fault table names further header rs all Memory e t = tt
 column-fault table names further header rs all (At code in_table row wkt) e t = rw (e, t.0, t.1) refl
 

@@ -12,7 +12,7 @@ ghost use Rattle.lpis_covers.specs.Table.{field_at_place, places_of, table_of, t
 ghost use Rattle.lpis_covers.specs.Table.{wanted_places};
 ghost use Rattle.lpis_covers.specs.declared.fault.TableCode.TheVariants.{BadGeometry};
 ghost use Rattle.lpis_covers.specs.declared.fault.TableFault.TheVariants.{At};
-ghost use Rattle.lpis_covers.specs.private.Columns.{TellsColumn, after_places};
+ghost use Rattle.lpis_covers.specs.private.Columns.{NamesColumn, after_places};
 ghost use Rattle.lpis_covers.specs.private.Stops.{stop_fault};
 
 use crate::fault::{Table, TableCode, TableFault};
@@ -129,7 +129,7 @@ fn add_places(
     ensures ok { OnOk result (after_places places.old.items
         (places_of needed (fields_of header.now) (texts names.now)) ≡ Ok places.new.items) }
     ensures err { IfErr result
-        (TellsColumn table (places_of needed (fields_of header.now) (texts names.now))) }
+        (NamesColumn table (places_of needed (fields_of header.now) (texts names.now))) }
 {
     for name in names {
         match column_place(header, name, needed) {
@@ -150,7 +150,7 @@ fn column_places(
 ) -> Result<Vec<Option<usize>>, TableFault>
     ensures ok { IfOk result (λ v. wanted_places (fields_of header.now) (texts names.now)
         (texts further.now) ≡ Ok v.items) }
-    ensures err { IfErr result (TellsColumn table
+    ensures err { IfErr result (NamesColumn table
         (wanted_places (fields_of header.now) (texts names.now) (texts further.now))) }
 {
     let mut places = Vec::new(alloc);

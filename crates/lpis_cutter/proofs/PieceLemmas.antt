@@ -8,7 +8,7 @@ use Rattle.lpis_parcels.specs.Release.{Contents}
 use Rattle.lpis_points.specs.Triangles.{most_triangles}
 use Rattle.lpis_cutter.specs.declared.fault.Refusal.TheVariants.{NoCut}
 use Rattle.lpis_cutter.specs.Fans.{IsFan, AreFewFans}
-use Rattle.lpis_cutter.specs.Refusals.{RefusalSays}
+use Rattle.lpis_cutter.specs.Refusals.{RefusalReports}
 use Rattle.lpis_cutter.specs.private.Cutting.{AreFans, IsTooMany, points_in_pieces}
 
 abbrev points : Piece → ℕ
@@ -32,7 +32,7 @@ points_bound_grows xs i x before after within is so_far more =
 pub no_cut_says : (r : Contents) (xs : List Piece) (i : ℕ) (x : Piece) (triangles flats : ℕ) → xs ≡ r.pieces
     → i < length xs → x ≡ get_or xs i x → (AreFans r.pieces → triangles ≤ points_in_pieces (take i xs))
     → (AreFans r.pieces → flats ≤ points_in_pieces (take i xs))
-    → (IsFan x.polygon → IsTooMany x.polygon triangles flats) → RefusalSays r (NoCut x.id)
+    → (IsFan x.polygon → IsTooMany x.polygon triangles flats) → RefusalReports r (NoCut x.id)
 no_cut_says r xs i x triangles flats e within is few_triangles few_flats too_many = (
   (x, record { there = subst (λ (zs : List Piece). Contains zs x) e (subst (λ (z : Piece). Contains xs z) (sym is) (Contains-get_or xs i x within)); named = refl }),
   λ few. by few (too_many (fan_at r.pieces xs i x e within is few.fans)),

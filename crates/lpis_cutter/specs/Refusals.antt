@@ -96,13 +96,13 @@ pub record AreUnseparated (r : Contents) (first second : List ℕ) : Type 0 wher
   pub none : NoEdgeSeparates s t
 
 -- what a refusal says
-abbrev pub RefusalSays : Contents → Refusal → Type 0
-RefusalSays r (NoCut piece) = ((x : Piece) × IsPiece r piece x) × (AreFewFans r → ⊥)
-RefusalSays r (ParcelsOverlap first second at) = ParcelsShare r first second (rational_of at)
-RefusalSays r (PiecesOverlap first second at) = PiecesShare r first second (rational_of at)
-RefusalSays r (NoSeparator first second) = AreUnseparated r first second
-RefusalSays r (Disagreement parcel at) = Disagrees r parcel (rational_of at)
-RefusalSays r (NoFlats parcel) = IsUneven r parcel
+abbrev pub RefusalReports : Contents → Refusal → Type 0
+RefusalReports r (NoCut piece) = ((x : Piece) × IsPiece r piece x) × (AreFewFans r → ⊥)
+RefusalReports r (ParcelsOverlap first second at) = ParcelsShare r first second (rational_of at)
+RefusalReports r (PiecesOverlap first second at) = PiecesShare r first second (rational_of at)
+RefusalReports r (NoSeparator first second) = AreUnseparated r first second
+RefusalReports r (Disagreement parcel at) = Disagrees r parcel (rational_of at)
+RefusalReports r (NoFlats parcel) = IsUneven r parcel
 
 -- what a fault reports: a refusal
 abbrev pub refusal_reported : CutFault → Option Refusal
@@ -111,7 +111,7 @@ refusal_reported (Refused refusal) = Some refusal
 
 -- what is said of a release where there is no certificate
 abbrev pub RefusesRightly : Contents → CutFault → Type 0
-RefusesRightly r fault = UnlessMemory (RefusalSays r) (refusal_reported fault)
+RefusesRightly r fault = UnlessMemory (RefusalReports r) (refusal_reported fault)
 
 -- a point is reported
 abbrev pub HasPoint : CutFault → Type 0

@@ -9,7 +9,7 @@ ghost use Rattle.lpis_checker.specs.SoundMap.{IsSoundEverywhere};
 ghost use Rattle.lpis_cutter.specs.declared.fault.Refusal.TheVariants.{NoCut};
 ghost use Rattle.lpis_cutter.specs.Fans.{IsFan};
 ghost use Rattle.lpis_cutter.specs.Refusals.{HasPoint, RefusesRightly};
-ghost use Rattle.lpis_cutter.specs.private.Cutting.{IsTooMany, SaysIfAny};
+ghost use Rattle.lpis_cutter.specs.private.Cutting.{IsTooMany, ReportsIfAny};
 
 use crate::exact::add_edges;
 use crate::fault::{CutFault, Refusal};
@@ -67,7 +67,7 @@ fn cut_pieces(cutter: &mut Cutter, alloc: Global, release: &Release) -> Result<P
 
 /// A refusal of a parcel that shows no point of a fault: one of its residual edges is counted anew.
 fn refuse_parcel(release: &Release, index: usize, net: &Net) -> Result<Option<Refusal>, AllocError>
-    ensures { IfOk result (SaysIfAny release.now) }
+    ensures { IfOk result (ReportsIfAny release.now) }
 {
     match net.edge_left() {
         Some((a, b)) => unevenness(release, index, a, b),
@@ -100,7 +100,7 @@ fn find_fault(
     release: &Release,
     index: usize,
 ) -> Result<Option<Refusal>, AllocError>
-    ensures { IfOk result (SaysIfAny release.now) }
+    ensures { IfOk result (ReportsIfAny release.now) }
 {
     if tools.net.is_flat() || !tools.budget.search() {
         return Ok(None);
@@ -162,7 +162,7 @@ fn fill_parcels(
     release: &Release,
     parts: Parts,
 ) -> Result<Filled, CutFault>
-    ensures ok { IfOk result (λ filled. SaysIfAny release.now filled.kept) }
+    ensures ok { IfOk result (λ filled. ReportsIfAny release.now filled.kept) }
     ensures err { IfErr result (RefusesRightly release.now) }
 {
     let mut parts = parts;
@@ -190,7 +190,7 @@ fn near_pairs(alloc: Global, triangles: &[Triangle]) -> Result<Vec<(u32, u32)>, 
 
 /// The certificate of these parts with the separators of their near pairs.
 fn join(alloc: Global, budget: Budget, release: &Release, filled: Filled) -> Result<Cert, CutFault>
-    requires kept { SaysIfAny release.now filled.kept }
+    requires kept { ReportsIfAny release.now filled.kept }
     ensures { IfErr result (RefusesRightly release.now) }
 {
     let Filled { parts, kept } = filled;

@@ -1,7 +1,7 @@
 //! Searches for points that show a fault.
 
 ghost use Rattle.std.specs.Prelude.{IfOk};
-ghost use Rattle.lpis_cutter.specs.private.Cutting.{SaysIfAny};
+ghost use Rattle.lpis_cutter.specs.private.Cutting.{ReportsIfAny};
 
 use crate::fault::Refusal;
 use crate::telling::{disagreement, parcels_overlap, pieces_overlap};
@@ -81,7 +81,7 @@ fn first_disagreement(
     size: usize,
     points: &[RatPoint],
 ) -> Result<Option<Refusal>, AllocError>
-    ensures { IfOk result (SaysIfAny release.now) }
+    ensures { IfOk result (ReportsIfAny release.now) }
 {
     for p in points {
         if !budget.look(size) {
@@ -104,7 +104,7 @@ pub(crate) fn find_disagreement(
     index: usize,
     net: &Net,
 ) -> Result<Option<Refusal>, AllocError>
-    ensures { IfOk result (SaysIfAny release.now) }
+    ensures { IfOk result (ReportsIfAny release.now) }
 {
     let size = net.size();
     let points = net.middles(mesher)?;
@@ -146,7 +146,7 @@ fn overlap_at(
     parcels: (usize, usize),
     p: &RatPoint,
 ) -> Result<Option<Refusal>, AllocError>
-    ensures { IfOk result (SaysIfAny release.now) }
+    ensures { IfOk result (ReportsIfAny release.now) }
 {
     let found = parcels_overlap(release, parcels.0, parcels.1, p)?;
     if found.is_some() {
@@ -165,7 +165,7 @@ pub(crate) fn find_overlap(
     s: &Triangle,
     t: &Triangle,
 ) -> Result<Option<Refusal>, AllocError>
-    ensures { IfOk result (SaysIfAny release.now) }
+    ensures { IfOk result (ReportsIfAny release.now) }
 {
     let (Some(x), Some(y)) = (
         release.pieces().get(pieces.0),

@@ -1,7 +1,7 @@
 //! Edges that separate near triangles, and overlaps where none does.
 
 ghost use Rattle.std.specs.Prelude.{IfOk, IfSome};
-ghost use Rattle.lpis_cutter.specs.private.Cutting.{NamesOwners, SaysIfAny};
+ghost use Rattle.lpis_cutter.specs.private.Cutting.{NamesOwners, ReportsIfAny};
 
 use crate::fault::Refusal;
 use crate::numbered::Numbered;
@@ -25,7 +25,7 @@ fn overlap_of(
     i: u32,
     j: u32,
 ) -> Result<Option<Refusal>, AllocError>
-    ensures { IfOk result (SaysIfAny release.now) }
+    ensures { IfOk result (ReportsIfAny release.now) }
 {
     let Some((pieces, s, t)) = numbered.pair(i, j) else {
         return Ok(None);
@@ -78,7 +78,7 @@ fn overlap_with_next(
     placed: &[Placed],
     index: usize,
 ) -> Result<Option<Refusal>, AllocError>
-    ensures { IfOk result (SaysIfAny release.now) }
+    ensures { IfOk result (ReportsIfAny release.now) }
 {
     let Some(own) = placed.get(index) else {
         return Ok(None);
@@ -103,7 +103,7 @@ pub(crate) fn early_overlap(
     release: &Release,
     numbered: &Numbered,
 ) -> Result<Option<Refusal>, AllocError>
-    ensures { IfOk result (SaysIfAny release.now) }
+    ensures { IfOk result (ReportsIfAny release.now) }
 {
     let placed = firsts_in_order(alloc, numbered)?;
     for index in 0..placed.len() {
@@ -138,7 +138,7 @@ fn unseparated(
     i: u32,
     j: u32,
 ) -> Result<Option<Refusal>, AllocError>
-    ensures says { IfOk result (SaysIfAny release.now) }
+    ensures says { IfOk result (ReportsIfAny release.now) }
     ensures named { IfOk result (λ o. IfSome o (NamesOwners release.now numbered.now i j)) }
 {
     match numbered.pair(i, j) {
@@ -156,8 +156,8 @@ fn first_unseparated(
     i: u32,
     j: u32,
 ) -> Result<Option<Refusal>, AllocError>
-    requires { SaysIfAny release.now kept }
-    ensures { IfOk result (SaysIfAny release.now) }
+    requires { ReportsIfAny release.now kept }
+    ensures { IfOk result (ReportsIfAny release.now) }
 {
     match kept {
         Some(refusal) => Ok(Some(refusal)),
@@ -174,8 +174,8 @@ pub(crate) fn separate(
     numbered: &Numbered,
     near: &[(u32, u32)],
 ) -> Result<Separated, AllocError>
-    ensures found { IfOk result (λ s. SaysIfAny release.now s.found) }
-    ensures kept { IfOk result (λ s. SaysIfAny release.now s.kept) }
+    ensures found { IfOk result (λ s. ReportsIfAny release.now s.found) }
+    ensures kept { IfOk result (λ s. ReportsIfAny release.now s.kept) }
 {
     let mut lines = Vec::with_capacity(alloc, near.len())?;
     let mut kept = None;

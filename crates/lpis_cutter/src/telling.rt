@@ -9,7 +9,7 @@ ghost use Rattle.lpis_parcels.specs.Release.{pieces_named};
 ghost use Rattle.lpis_edge_sums.specs.Making.{edges_of_all};
 ghost use Rattle.lpis_checker.specs.GoodCertificate.{polygons_of};
 ghost use Rattle.lpis_cutter.specs.Refusals.{IsCovered, IsOn, IsUncovered, NoEdgeSeparates};
-ghost use Rattle.lpis_cutter.specs.private.Cutting.{NamesPieces, SaysIfAny, edge_times};
+ghost use Rattle.lpis_cutter.specs.private.Cutting.{NamesPieces, ReportsIfAny, edge_times};
 
 use crate::fault::Refusal;
 use crate::separator::separator;
@@ -28,7 +28,7 @@ pub(crate) fn pieces_overlap(
     j: usize,
     p: &RatPoint,
 ) -> Result<Option<Refusal>, AllocError>
-    ensures { IfOk result (SaysIfAny release.now) }
+    ensures { IfOk result (ReportsIfAny release.now) }
 {
     let (Some(x), Some(y)) = (release.pieces().get(i), release.pieces().get(j)) else {
         return Ok(None);
@@ -52,7 +52,7 @@ pub(crate) fn parcels_overlap(
     j: usize,
     p: &RatPoint,
 ) -> Result<Option<Refusal>, AllocError>
-    ensures { IfOk result (SaysIfAny release.now) }
+    ensures { IfOk result (ReportsIfAny release.now) }
 {
     let (Some(k), Some(m)) = (release.parcels().get(i), release.parcels().get(j)) else {
         return Ok(None);
@@ -88,7 +88,7 @@ pub(crate) fn disagreement(
     index: usize,
     p: &RatPoint,
 ) -> Result<Option<Refusal>, AllocError>
-    ensures { IfOk result (SaysIfAny release.now) }
+    ensures { IfOk result (ReportsIfAny release.now) }
 {
     let Some(x) = release.parcels().get(index) else {
         return Ok(None);
@@ -166,7 +166,7 @@ pub(crate) fn unevenness(
     a: Point,
     b: Point,
 ) -> Result<Option<Refusal>, AllocError>
-    ensures { IfOk result (SaysIfAny release.now) }
+    ensures { IfOk result (ReportsIfAny release.now) }
 {
     let Some(x) = release.parcels().get(index) else {
         return Ok(None);
@@ -216,7 +216,7 @@ pub(crate) fn no_separator(
     s: &Triangle,
     t: &Triangle,
 ) -> Result<Option<Refusal>, AllocError>
-    ensures says { IfOk result (SaysIfAny release.now) }
+    ensures says { IfOk result (ReportsIfAny release.now) }
     ensures named { IfOk result (λ said. IfSome said
         (NamesPieces release.now pieces.0 pieces.1)) }
 {

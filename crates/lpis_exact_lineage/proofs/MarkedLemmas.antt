@@ -6,7 +6,7 @@ use Rattle.std.proofs.lemmas.List.Elements.{All-nil}
 use Rattle.std.proofs.lemmas.Map.Keys.{sorted_from_all_adjacent}
 use Rattle.lpis_lineage.specs.Changes.{Changes, IsChange, kind_at}
 use Rattle.lpis_lineage.specs.ExactGroups.{AreExactGroups, is_exact_merge, is_exact_split, is_merged, is_other, is_split}
-use Rattle.lpis_lineage.specs.Kinds.{by_counts, heirs, kind, predecessors, successors}
+use Rattle.lpis_lineage.specs.Kinds.{by_counts, named_successors, kind, predecessors, successors}
 use Rattle.lpis_lineage.specs.Lineage.{is_ended, is_row_of, names_successor}
 use Rattle.lpis_lineage.specs.Order.{IsAscending}
 use Rattle.lpis_lineage.specs.declared.exact.Group.{Group}
@@ -65,7 +65,7 @@ no-split last live rows n id = by (list_any (is_row_of id) rows) refl
     by true e = and-not (is_split (kind last live rows id)) (list_all is_marked (filter (is_row_of id) rows)) (unmarked (is_row_of id) rows n e)
     by false e =
         let several : List ℕ → Bool = λ s. nat_lt 1 (predecessors last live rows s) in
-        let none : successors rows id ≡ [] = ap heirs (none-pass (is_row_of id) rows e) in
+        let none : successors rows id ≡ [] = ap named_successors (none-pass (is_row_of id) rows e) in
         let split : is_split (kind last live rows id) ≡ false =
         ap (λ (ss : List (List ℕ)). is_split (kind_by (has_id last id) (has_id live id) (is_ended rows id) several ss)) none
         ∙ not-split (has_id last id) (has_id live id) (is_ended rows id) several in

@@ -52,26 +52,26 @@ reach-skip ids rows r id reach fresh no-old = record {
 }
 
 -- it is, and its successor is added
-pub reach-add : (ids more : List (List ℕ)) (rows : List Row) (r : Row) (id heir : List ℕ) → Reaches ids rows id
-    → IsFreshRow rows r → r.new ≡ Some heir → has_id ids r.old ≡ true
-    → ((q : List ℕ) → has_id more q ≡ cond (same_id heir q) true (has_id ids q)) → Reaches more (rows ++ r ∷ []) id
-reach-add ids more rows r id heir reach fresh some old new = record {
-  sound = λ q h. by-test q (same_id heir q) refl (sym (new q) ∙ h);
+pub reach-add : (ids more : List (List ℕ)) (rows : List Row) (r : Row) (id successor : List ℕ) → Reaches ids rows id
+    → IsFreshRow rows r → r.new ≡ Some successor → has_id ids r.old ≡ true
+    → ((q : List ℕ) → has_id more q ≡ cond (same_id successor q) true (has_id ids q)) → Reaches more (rows ++ r ∷ []) id
+reach-add ids more rows r id successor reach fresh some old new = record {
+  sound = λ q h. by-test q (same_id successor q) refl (sym (new q) ∙ h);
   whole = λ q ch. elim (chain-less rows r id q fresh ch) as (λ _. has_id more q ≡ true) [
-    | inl x ↦ new q ∙ keep (same_id heir q) _ (reach.whole q x)
-    | inr y ↦ new q ∙ ap (λ (b : Bool). cond b true (has_id ids q)) (turn q heir (ap (λ (o : Option (List ℕ)). is_this q o) (sym some) ∙ y.1))
+    | inl x ↦ new q ∙ keep (same_id successor q) _ (reach.whole q x)
+    | inr y ↦ new q ∙ ap (λ (b : Bool). cond b true (has_id ids q)) (turn q successor (ap (λ (o : Option (List ℕ)). is_this q o) (sym some) ∙ y.1))
   ];
 } where
   keep : (b c : Bool) → c ≡ true → cond b true c ≡ true
   keep true c e = refl
   keep false c e = e
 
-  turn : (q heir : List ℕ) → same_id q heir ≡ true → same_id heir q ≡ true
-  turn q heir e = let g : q ≡ heir = same-exact q heir e in let P : List ℕ → Type 0 = λ z. same_id heir z ≡ true in subst P (sym g) (same-refl heir)
+  turn : (q successor : List ℕ) → same_id q successor ≡ true → same_id successor q ≡ true
+  turn q successor e = let g : q ≡ successor = same-exact q successor e in let P : List ℕ → Type 0 = λ z. same_id successor z ≡ true in subst P (sym g) (same-refl successor)
 
-  by-test : (q : List ℕ) (b : Bool) → b ≡ same_id heir q → cond b true (has_id ids q) ≡ true → Chain (rows ++ r ∷ []) id q
+  by-test : (q : List ℕ) (b : Bool) → b ≡ same_id successor q → cond b true (has_id ids q) ≡ true → Chain (rows ++ r ∷ []) id q
   by-test q true e h =
-      let g : heir ≡ q = same-exact heir q (sym e) in
+      let g : successor ≡ q = same-exact successor q (sym e) in
       let names-it : is_this q r.new ≡ true = ap (λ (o : Option (List ℕ)). is_this q o) some ∙ ap (λ (z : List ℕ). same_id q z) g ∙ same-refl q in
       Step r.old q (chain-more rows r id r.old (reach.sound r.old old)) (any-mid (leads r.old q) rows r [] (and_from _ _ (same-refl r.old) names-it))
   by-test q false e h = chain-more rows r id q (reach.sound q h)

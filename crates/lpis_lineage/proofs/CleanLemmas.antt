@@ -145,8 +145,8 @@ clash-end r before id of some e = mono _ (clashes r) before (λ q h.
     let n : not (is_some q.new) ≡ true = (and_parts (is_row_of id q) _ h).1 in
     and_from _ _ s (or_left _ _ (and_from _ _ some n))) e
 
-clash-heir : (r : Row) (before : List Row) (id : List ℕ) → is_row_of id r ≡ true → not (is_some r.new) ≡ true → succeeded before id ≡ true → list_any (clashes r) before ≡ true
-clash-heir r before id of some e = mono _ (clashes r) before (λ q h.
+clash-successor : (r : Row) (before : List Row) (id : List ℕ) → is_row_of id r ≡ true → not (is_some r.new) ≡ true → succeeded before id ≡ true → list_any (clashes r) before ≡ true
+clash-successor r before id of some e = mono _ (clashes r) before (λ q h.
     let s : same_id r.old q.old ≡ true = ap (λ (x : List ℕ). same_id x q.old) (sym (same-exact id r.old of)) ∙ (and_parts _ _ h).0 in
     let n : is_some q.new ≡ true = (and_parts (is_row_of id q) _ h).1 in
     and_from _ _ s (or_right (is_some r.new && not (is_some q.new)) _ (and_from _ _ some n))) e
@@ -163,7 +163,7 @@ apart-step before r clear ap-before id e s =
         | inr sr ↦ let t = clash-end r before id (and_parts _ _ sr).0 (and_parts (is_row_of id r) _ sr).1 eb in sym clear ∙ t
       ]
       | inr er ↦ elim (any-last (λ row. is_row_of id row && is_some row.new) before r s) as (λ _. false ≡ true) [
-        | inl sb ↦ let t = clash-heir r before id (and_parts _ _ er).0 (and_parts (is_row_of id r) _ er).1 sb in sym clear ∙ t
+        | inl sb ↦ let t = clash-successor r before id (and_parts _ _ er).0 (and_parts (is_row_of id r) _ er).1 sb in sym clear ∙ t
         | inr sr ↦ not-both (is_some r.new) (and_parts (is_row_of id r) _ sr).1 (and_parts (is_row_of id r) _ er).1
       ]
     ]
@@ -339,9 +339,9 @@ pub unmarked-clean : (kind_of : List ℕ → Option Kind) (rows : List Row) → 
 unmarked-clean kind_of rows e = clean-marks kind_of rows 1 rows (unmarked kind_of rows rows e)
 
 -- ---- all together
-heir-or-end : (rows : List Row) (id : List ℕ) → list_any (is_row_of id) rows ≡ true → succeeded rows id ≡ false → is_ended rows id ≡ true
-heir-or-end [] id e f = cc e
-heir-or-end (r ∷ rs) id e f = by (is_row_of id r) (is_some r.new) _ _ _ (heir-or-end rs id) e f where
+successor-or-end : (rows : List Row) (id : List ℕ) → list_any (is_row_of id) rows ≡ true → succeeded rows id ≡ false → is_ended rows id ≡ true
+successor-or-end [] id e f = cc e
+successor-or-end (r ∷ rs) id e f = by (is_row_of id r) (is_some r.new) _ _ _ (successor-or-end rs id) e f where
   by : (a b c d g : Bool) → (c ≡ true → d ≡ false → g ≡ true) → (a || c) ≡ true → ((a && b) || d) ≡ false → ((a && not b) || g) ≡ true
   by true true c d g ih e f = cc f
   by true false c d g ih e f = refl
@@ -351,7 +351,7 @@ answered : (rows : List Row) (id : List ℕ) → ((row : Row) → length (filter
 answered rows id once a is =
     elim (cases_Bool (succeeded rows id)) as (λ _. IsAnswered rows id) [
       | inl s ↦ elim (cases_Bool (is_ended rows id)) as (λ _. IsAnswered rows id) [ inl e ↦ absurd (let w = a id e s in cc) | inr n ↦ inr (filter-none _ rows n, s) ]
-      | inr n ↦ let some = filter-some _ rows (heir-or-end rows id is n) in let few = one-ending rows id once in inl (omega (arith, some, few), n)
+      | inr n ↦ let some = filter-some _ rows (successor-or-end rows id is n) in let few = one-ending rows id once in inl (omega (arith, some, few), n)
     ]
 
 -- a release whose lineage has no fault follows the history

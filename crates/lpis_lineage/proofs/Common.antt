@@ -2,7 +2,7 @@
 pub use Rattle.lpis_covers.specs.Ids.{has_id, same_id}
 pub use Rattle.lpis_lineage.specs.Descendants.{all_rows}
 pub use Rattle.lpis_lineage.specs.Faults.{clashes, dropped_faults, fault_before, faults, faults_but_marks, first, marked_row_faults, lineage_row_faults, used_faults}
-pub use Rattle.lpis_lineage.specs.Kinds.{heirs, kind, id_times}
+pub use Rattle.lpis_lineage.specs.Kinds.{named_successors, kind, id_times}
 pub use Rattle.lpis_lineage.specs.Lawful.{IsAnswered, IsLawful, RowsFit}
 pub use Rattle.lpis_lineage.specs.Lineage.{is_ended, entry_at, holds, is_row_of, is_this, last_live, last_year, names_successor, same_row, succeeded}
 pub use Rattle.lpis_lineage.specs.Spans.{first_held, last_held, span_between, span_of}

@@ -5,7 +5,7 @@ use Rattle.std.proofs.lemmas.Bool.{and_from, and_parts, or_right}
 use Rattle.std.proofs.lemmas.List.Elements.{All-cons, All-nil, All-weaker}
 use Rattle.std.proofs.lemmas.List.Folds.{list_any_at, list_any_none}
 use Rattle.std.proofs.lemmas.List.Sums.{AllPass-from_list_all, list_all-from_AllPass}
-use Rattle.lpis_lineage.proofs.Common.{nat_tests, list_any, cases_Bool, or_left, Row, Entry, Follows, has_id, same_id, is_ended, faults, heirs, is_row_of, is_this, kind, last_live, names_successor}
+use Rattle.lpis_lineage.proofs.Common.{nat_tests, list_any, cases_Bool, or_left, Row, Entry, Follows, has_id, same_id, is_ended, faults, named_successors, is_row_of, is_this, kind, last_live, names_successor}
 use Rattle.lpis_lineage.proofs.Common.{succeeded}
 use Rattle.lpis_lineage.specs.Descendants.{leads}
 use Rattle.lpis_lineage.specs.ExactGroups.{is_merge, is_merged, is_split}
@@ -46,9 +46,9 @@ merged-to w l e a b p q r s t = rw (p, q, r, s, t)
 
 -- ---- successors
 -- a successor of an identifier is one that the rows name
-heirs-kept : (rows : List Row) (id s : List ℕ) → has_id (successors rows id) s ≡ true → has_id (heirs rows) s ≡ true
-heirs-kept [] id s e = cc e
-heirs-kept (r ∷ rs) id s e = by (is_row_of id r) e (heirs-kept rs id s)
+named_successors-kept : (rows : List Row) (id s : List ℕ) → has_id (successors rows id) s ≡ true → has_id (named_successors rows) s ≡ true
+named_successors-kept [] id s e = cc e
+named_successors-kept (r ∷ rs) id s e = by (is_row_of id r) e (named_successors-kept rs id s)
   where
     out : (o : Option (List ℕ)) (xs ys : List (List ℕ)) → (has_id xs s ≡ true → has_id ys s ≡ true) → has_id (with_some o xs) s ≡ true → has_id (with_some o ys) s ≡ true
     out None xs ys h e = h e
@@ -58,14 +58,14 @@ heirs-kept (r ∷ rs) id s e = by (is_row_of id r) e (heirs-kept rs id s)
     more None xs h = h
     more (Some t) xs h = or_right (same_id s t) _ h
 
-    by : (b : Bool) → has_id (heirs (cond b (r ∷ filter (is_row_of id) rs) (filter (is_row_of id) rs))) s ≡ true → (has_id (successors rs id) s ≡ true → has_id (heirs rs) s ≡ true)
-        → has_id (heirs (r ∷ rs)) s ≡ true
-    by true e h = out r.new (successors rs id) (heirs rs) h e
-    by false e h = more r.new (heirs rs) (h e)
+    by : (b : Bool) → has_id (named_successors (cond b (r ∷ filter (is_row_of id) rs) (filter (is_row_of id) rs))) s ≡ true → (has_id (successors rs id) s ≡ true → has_id (named_successors rs) s ≡ true)
+        → has_id (named_successors (r ∷ rs)) s ≡ true
+    by true e h = out r.new (successors rs id) (named_successors rs) h e
+    by false e h = more r.new (named_successors rs) (h e)
 
 -- so it has a predecessor
 has-predecessor : (last live : List (List ℕ)) (rows : List Row) (id s : List ℕ) → has_id (successors rows id) s ≡ true → 1 ≤ predecessors last live rows s
-has-predecessor last live rows id s e = let n = filter-some (same_id s) (heirs rows) (heirs-kept rows id s e) in omega (arith, n)
+has-predecessor last live rows id s e = let n = filter-some (same_id s) (named_successors rows) (named_successors-kept rows id s e) in omega (arith, n)
 
 named-leads : (rows : List Row) (id s : List ℕ) → list_any (leads id s) rows ≡ has_id (successors rows id) s
 named-leads rows id s =

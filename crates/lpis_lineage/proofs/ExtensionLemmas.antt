@@ -120,9 +120,9 @@ answers h e law f id i d =
 pub no-row-beyond : (h : List Entry) (i : ℕ) → length h ≤ i → (test : Row → Bool) → list_any test (entry_at h i).rows ≡ false
 no-row-beyond h i le test = ap (λ (x : Entry). list_any test x.rows) (entry-after h i le)
 
-heirs : (h : List Entry) (e : Entry) → IsLawful h → Follows h e.live e.rows → (id : List ℕ) (i : ℕ) → list_any (names_successor id) (entry_at (h ++ e ∷ []) i).rows ≡ true
+named_successors : (h : List Entry) (e : Entry) → IsLawful h → Follows h e.live e.rows → (id : List ℕ) (i : ℕ) → list_any (names_successor id) (entry_at (h ++ e ∷ []) i).rows ≡ true
     → holds (h ++ e ∷ []) i id ≡ true
-heirs h e law f id i named =
+named_successors h e law f id i named =
     let n = longer h e in
     elim (before-at-after i (length h)) as (λ _. holds (h ++ e ∷ []) i id ≡ true) [
       | inl a ↦ hold-before h e i id a ∙ law.successors id i (ap (λ (x : Entry). list_any (names_successor id) x.rows) (sym (entry-before h e i a)) ∙ named)
@@ -139,7 +139,7 @@ lawful-more h e law y f = record {
   years_rise = rise h e law y;
   consecutive = together h e law f;
   continued = answers h e law f;
-  successors = heirs h e law f;
+  successors = named_successors h e law f;
 }
 
 no-rows : (rows : List Row) → ((id : List ℕ) → list_any (is_row_of id) rows ≡ true → false ≡ true) → rows ≡ []

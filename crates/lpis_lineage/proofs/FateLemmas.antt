@@ -1,7 +1,7 @@
 -- The kinds, from the two passes over the rows.
 use Rattle.std.proofs.Common.{◌≡◌, ◌<◌, ◌+◌, refl, arith, ℕ, List, [], ◌∷◌, ◌++◌, length, Bool, true, false, None, Some, cond, get_or, ◌&&◌, ◌||◌, not}
 use Rattle.std.proofs.Common.{is_some, nat_lt}
-use Rattle.lpis_lineage.proofs.Common.{nat_tests, list_any, Row, has_id, same_id, is_row_of, is_ended, names_successor, is_this, id_times, heirs, kind}
+use Rattle.lpis_lineage.proofs.Common.{nat_tests, list_any, Row, has_id, same_id, is_row_of, is_ended, names_successor, is_this, id_times, named_successors, kind}
 use Rattle.lpis_lineage.proofs.Common.{IsTally, AreFates}
 use Rattle.std.proofs.lemmas.List.Folds.{list_any_at}
 use Rattle.std.proofs.lemmas.List.{append-nil}
@@ -42,11 +42,11 @@ fates-end last live all before f g r are none e o s = record {
 }
 
 -- one row more: a successor
-pub fates-heir : (last live : List (List ℕ)) (all before : List Row) (f g : Fates) (r : Row) (s : List ℕ) (b : Bool) → AreFates last live all f before
+pub fates-successor : (last live : List (List ℕ)) (all before : List Row) (f g : Fates) (r : Row) (s : List ℕ) (b : Bool) → AreFates last live all f before
     → r.new ≡ Some s
     → b ≡ is_shared last live all s → g.ended ≡ f.ended → IsTally g.olds (olds before ++ r.old ∷ [])
     → ((q : List ℕ) → has_id g.shared q ≡ cond (b && same_id r.old q) true (has_id f.shared q)) → AreFates last live all g (before ++ r ∷ [])
-fates-heir last live all before f g r s b are some sh e o n = record {
+fates-successor last live all before f g r s b are some sh e o n = record {
   ended_are = λ q. row-more (λ o. not (is_some o)) (Some s) q before r _ _ some (are.ended_are q) (rw e);
   olds_are = rw (olds-push before r, some) o;
   shared_are = λ q. row-more (on_some (is_shared last live all)) (Some s) q before r _ _ some (are.shared_are q) (rw (← sh) (n q));
@@ -64,11 +64,11 @@ pub kind-counted : (last live : List (List ℕ)) (rows : List Row) (id : List �
 kind-counted last live rows id several shared k was gone unended s h c =
     rw (was, gone, unended, successors-count rows id, successors-any (is_shared last live rows) rows id, ← s, ← h, c)
 
-heirs-has : (rows : List Row) (s : List ℕ) → list_any (names_successor s) rows ≡ true → has_id (heirs rows) s ≡ true
-heirs-has [] s e = cc e
-heirs-has (r ∷ rs) s e = grind (arith, heirs-has rs s)
+named_successors-has : (rows : List Row) (s : List ℕ) → list_any (names_successor s) rows ≡ true → has_id (named_successors rows) s ≡ true
+named_successors-has [] s e = cc e
+named_successors-has (r ∷ rs) s e = grind (arith, named_successors-has rs s)
 
 -- the successor of a row is among those that the rows name
-pub heir-named : (rows : List Row) (i : ℕ) (r : Row) → i < length rows → r ≡ get_or rows i r → (s : List ℕ) → is_this s r.new ≡ true
-    → has_id (heirs rows) s ≡ true
-heir-named rows i r lt is s e = heirs-has rows s (list_any_at (names_successor s) rows i r lt (rw (← is) e))
+pub successor-named : (rows : List Row) (i : ℕ) (r : Row) → i < length rows → r ≡ get_or rows i r → (s : List ℕ) → is_this s r.new ≡ true
+    → has_id (named_successors rows) s ≡ true
+successor-named rows i r lt is s e = named_successors-has rows s (list_any_at (names_successor s) rows i r lt (rw (← is) e))

@@ -87,22 +87,22 @@ left_parts true b c e = refl
 left_parts false b c e = cc e
 
 -- the groups of the exact splits, then those of the exact merges, are the exact groups of a change
-pub groups-exact : (last live : List (List ℕ)) (c : Changes) (heirs : List (List ℕ)) (gs ms all : List Group) → IsChange last live c.rows c → IsAscending c.dropped_ids → IsAscending heirs
-    → ((s : List ℕ) → has_id heirs s ≡ list_any (names_successor s) c.rows) → map group_name gs ≡ map (as_group false) (filter (is_exact_of false (kind_at c) c.rows) c.dropped_ids)
-    → map group_name ms ≡ map (as_group true) (filter (is_exact_of true (kind_at c) c.rows) heirs) → All (HasOthers (kind_at c) c.rows false) gs → All (HasOthers (kind_at c) c.rows true) ms
+pub groups-exact : (last live : List (List ℕ)) (c : Changes) (named_successors : List (List ℕ)) (gs ms all : List Group) → IsChange last live c.rows c → IsAscending c.dropped_ids → IsAscending named_successors
+    → ((s : List ℕ) → has_id named_successors s ≡ list_any (names_successor s) c.rows) → map group_name gs ≡ map (as_group false) (filter (is_exact_of false (kind_at c) c.rows) c.dropped_ids)
+    → map group_name ms ≡ map (as_group true) (filter (is_exact_of true (kind_at c) c.rows) named_successors) → All (HasOthers (kind_at c) c.rows false) gs → All (HasOthers (kind_at c) c.rows true) ms
     → all ≡ gs ++ ms → AreExactGroups (kind_at c) c.rows all
-groups-exact last live c heirs gs ms all is da ha are n m o p e = record {
+groups-exact last live c named_successors gs ms all is da ha are n m o p e = record {
   splits = filter (is_exact_of false (kind_at c) c.rows) c.dropped_ids;
-  merges = filter (is_exact_of true (kind_at c) c.rows) heirs;
+  merges = filter (is_exact_of true (kind_at c) c.rows) named_successors;
   listed = ap (λ (xs : List Group). map group_name xs) e ∙ map-append group_name gs ms
       ∙ ap (λ (ns : List (Bool × List ℕ)). ns ++ map group_name ms) n
       ∙ ap (λ (ns : List (Bool × List ℕ)). map as_split (filter (is_exact_of false (kind_at c) c.rows) c.dropped_ids) ++ ns) m;
   splits_ascend = ascending-filter (is_exact_of false (kind_at c) c.rows) c.dropped_ids da;
-  merges_ascend = ascending-filter (is_exact_of true (kind_at c) c.rows) heirs ha;
+  merges_ascend = ascending-filter (is_exact_of true (kind_at c) c.rows) named_successors ha;
   splits_are = λ id. has-filter (is_exact_of false (kind_at c) c.rows) c.dropped_ids id
       ∙ absorbed (has_id c.dropped_ids id) (is_exact_split (kind_at c) c.rows id) (λ t. split-dropped last live c.rows c is id (and_parts (is_split (kind_at c id)) _ t).0);
-  merges_are = λ s. has-filter (is_exact_of true (kind_at c) c.rows) heirs s
-      ∙ absorbed (has_id heirs s) (is_exact_merge (kind_at c) c.rows s) (λ t. are s ∙ left_parts (list_any (names_successor s) c.rows) _ _ t);
+  merges_are = λ s. has-filter (is_exact_of true (kind_at c) c.rows) named_successors s
+      ∙ absorbed (has_id named_successors s) (is_exact_merge (kind_at c) c.rows s) (λ t. are s ∙ left_parts (list_any (names_successor s) c.rows) _ _ t);
   others_ascend = subst (λ (xs : List Group). All (λ (g : Group). IsAscending g.others) xs) (sym e)
       (All-append (λ (g : Group). IsAscending g.others) gs ms (ascends false gs o) (ascends true ms p));
   others = subst (λ (xs : List Group). All (λ (g : Group). (q : List ℕ) → has_id g.others q ≡ is_other (kind_at c) c.rows g q) xs) (sym e)

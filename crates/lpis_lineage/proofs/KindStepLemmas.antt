@@ -1,6 +1,6 @@
 -- The kinds of identifiers, one further.
 use Rattle.std.proofs.Common.{◌≡◌, ◌∙◌, ◌∷◌, ◌+◌, refl, sym, ap, ℕ, List, length, Bool, true, false, Option, None, Some, cond, ◌&&◌, ◌||◌, nat_lt}
-use Rattle.lpis_lineage.proofs.Common.{list_any, has_id, same_id, Row, is_ended, heirs, kind, id_times}
+use Rattle.lpis_lineage.proofs.Common.{list_any, has_id, same_id, Row, is_ended, named_successors, kind, id_times}
 use Rattle.lpis_lineage.specs.declared.kind.Kind.{Kind}
 use Rattle.lpis_lineage.specs.declared.kind.Kind.TheVariants.{Kept, Ended}
 use Rattle.lpis_lineage.specs.Kinds.{by_counts, predecessors, successors}
@@ -29,5 +29,5 @@ kind-live last a b rows id e =
     (list_any (λ s. nat_lt 1 (predecessors last a rows s)) (successors rows id)))))) None) (e id)
     ∙ ap (λ (t : Bool). cond (has_id last id) (Some (cond (has_id b id) Kept (cond (is_ended rows id) Ended (by_counts (nat_lt 1 (length (successors rows id))) t)))) None)
     (any-same (λ s. nat_lt 1 (predecessors last a rows s)) (λ s. nat_lt 1 (predecessors last b rows s))
-    (successors rows id) (λ s. ap (λ (t : Bool). nat_lt 1 (id_times (heirs rows) s + cond (has_id last s && t) 1 0))
+    (successors rows id) (λ s. ap (λ (t : Bool). nat_lt 1 (id_times (named_successors rows) s + cond (has_id last s && t) 1 0))
     (e s)))

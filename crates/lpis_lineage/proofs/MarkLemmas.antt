@@ -61,15 +61,15 @@ marks-none kind_of m n before r are none u e = record {
   by s = rw (any-push (λ (x : Row). names_successor s x && not (is_merged (kind_of x.old) && x.exact)) before r, none) (grind arith)
 
 -- one row more with a successor, which is added to the unmerged ones unless the row is marked and merges
-pub marks-some : (kind_of : List ℕ → Option Kind) (m n : Marks) (before : List Row) (r : Row) (heir : List ℕ) → AreMarks kind_of m before → r.new ≡ Some heir
+pub marks-some : (kind_of : List ℕ → Option Kind) (m n : Marks) (before : List Row) (r : Row) (successor : List ℕ) → AreMarks kind_of m before → r.new ≡ Some successor
     → ((q : List ℕ) → has_id n.unsplit q ≡ cond (not r.exact && same_id r.old q) true (has_id m.unsplit q))
-    → ((s : List ℕ) → has_id n.unmerged s ≡ cond (not (is_merged (kind_of r.old) && r.exact) && same_id heir s) true (has_id m.unmerged s))
+    → ((s : List ℕ) → has_id n.unmerged s ≡ cond (not (is_merged (kind_of r.old) && r.exact) && same_id successor s) true (has_id m.unmerged s))
     → AreMarks kind_of n (before ++ r ∷ [])
-marks-some kind_of m n before r heir are some u v = record {
+marks-some kind_of m n before r successor are some u v = record {
   unsplit_are = λ q. of-more q before r _ _ (are.unsplit_are q) (u q);
   unmerged_are = λ s. by s (has_id m.unmerged s) (has_id n.unmerged s) (are.unmerged_are s) (v s);
 } where
   by : (s : List ℕ) (was is : Bool) → was ≡ list_any (λ (x : Row). names_successor s x && not (is_merged (kind_of x.old) && x.exact)) before
-      → is ≡ cond (not (is_merged (kind_of r.old) && r.exact) && same_id heir s) true was
+      → is ≡ cond (not (is_merged (kind_of r.old) && r.exact) && same_id successor s) true was
       → is ≡ list_any (λ (x : Row). names_successor s x && not (is_merged (kind_of x.old) && x.exact)) (before ++ r ∷ [])
-  by s was is e f = rw (any-push (λ (x : Row). names_successor s x && not (is_merged (kind_of x.old) && x.exact)) before r, some) (grind (arith, same-sym s heir))
+  by s was is e f = rw (any-push (λ (x : Row). names_successor s x && not (is_merged (kind_of x.old) && x.exact)) before r, some) (grind (arith, same-sym s successor))

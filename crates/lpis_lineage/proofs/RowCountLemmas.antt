@@ -37,12 +37,12 @@ filter-some p (x ∷ xs) e = by-test p x xs (p x) (filter-some p xs) e where
 -- endings of one identifier are equal rows
 pub one-ending : (rows : List Row) (id : List ℕ) → ((row : Row) → length (filter (same_row row) rows) ≤ 1) → endings rows id ≤ 1
 one-ending rows id once = let same = filter-alike _ (same_row (record { old = id; new = None; exact = false })) rows
-    (λ r. ap (λ (b : Bool). is_row_of id r && b) (no-heir r.new)) in let few = once (record { old = id; new = None; exact = false }) in
+    (λ r. ap (λ (b : Bool). is_row_of id r && b) (no-successor r.new)) in let few = once (record { old = id; new = None; exact = false }) in
     omega (arith, same, few)
   where
-    no-heir : (o : Option (List ℕ)) → not (is_some o) ≡ same_new None o
-    no-heir None = refl
-    no-heir (Some s) = refl
+    no-successor : (o : Option (List ℕ)) → not (is_some o) ≡ same_new None o
+    no-successor None = refl
+    no-successor (Some s) = refl
 
     filter-alike : (p q : Row → Bool) (rs : List Row) → ((r : Row) → p r ≡ q r) → length (filter p rs) ≡ length (filter q rs)
     filter-alike p q [] alike = refl

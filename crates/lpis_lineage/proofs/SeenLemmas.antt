@@ -36,30 +36,30 @@ pub clash-end-set : (s : Seen) (before : List Row) (r : Row) → IsSeen s before
 clash-end-set s before r seen none = seen.continued_are r.old ∙ any-same _ (clashes r) before (λ q. rw none)
 
 -- a row with a successor clashes with one before exactly where the set of endings has its old identifier
-pub clash-heir-set : (s : Seen) (before : List Row) (r : Row) (heir : List ℕ) → IsSeen s before → r.new ≡ Some heir
+pub clash-successor-set : (s : Seen) (before : List Row) (r : Row) (successor : List ℕ) → IsSeen s before → r.new ≡ Some successor
     → has_id s.ended r.old ≡ list_any (clashes r) before
-clash-heir-set s before r heir seen some = seen.ended_are r.old ∙ any-same _ (clashes r) before (λ q. rw (some, or-false))
+clash-successor-set s before r successor seen some = seen.ended_are r.old ∙ any-same _ (clashes r) before (λ q. rw (some, or-false))
 
 -- the sets with one row more
 pub seen-end : (s t : Seen) (before : List Row) (r : Row) → IsSeen s before → r.new ≡ None
-    → ((q : List ℕ) → has_id t.ended q ≡ cond (same_id r.old q) true (has_id s.ended q)) → t.continued ≡ s.continued → t.heirs.keys ≡ s.heirs.keys
+    → ((q : List ℕ) → has_id t.ended q ≡ cond (same_id r.old q) true (has_id s.ended q)) → t.continued ≡ s.continued → t.named_successors.keys ≡ s.named_successors.keys
     → IsSeen t (before ++ r ∷ [])
 seen-end s t before r seen none e c h = record {
   ended_are = λ q. row-more (λ o. not (is_some o)) None q before r _ _ none (seen.ended_are q) (e q);
   continued_are = λ q. row-more is_some None q before r _ _ none (seen.continued_are q) (rw c);
-  heirs_are = λ a b. row-more (is_this b) None a before r _ _ none (seen.heirs_are a b) (rw h);
+  successors_are = λ a b. row-more (is_this b) None a before r _ _ none (seen.successors_are a b) (rw h);
 }
 
 -- the sets with one row more that has a successor: its old identifier and the pair of both are added
-pub seen-heir : (s t : Seen) (before : List Row) (r : Row) (heir : List ℕ) → IsSeen s before → r.new ≡ Some heir
+pub seen-successor : (s t : Seen) (before : List Row) (r : Row) (successor : List ℕ) → IsSeen s before → r.new ≡ Some successor
     → t.ended ≡ s.ended → ((q : List ℕ) → has_id t.continued q ≡ cond (same_id r.old q) true (has_id s.continued q))
-    → ((a b : List ℕ) → list_any (λ p. same_id a p.0 && same_id b p.1) t.heirs.keys ≡ cond
-    (same_id b heir && same_id r.old a) true (list_any (λ p. same_id a p.0 && same_id b p.1) s.heirs.keys))
+    → ((a b : List ℕ) → list_any (λ p. same_id a p.0 && same_id b p.1) t.named_successors.keys ≡ cond
+    (same_id b successor && same_id r.old a) true (list_any (λ p. same_id a p.0 && same_id b p.1) s.named_successors.keys))
     → IsSeen t (before ++ r ∷ [])
-seen-heir s t before r heir seen some e c h = record {
-  ended_are = λ q. row-more (λ o. not (is_some o)) (Some heir) q before r _ _ some (seen.ended_are q) (rw e);
-  continued_are = λ q. row-more is_some (Some heir) q before r _ _ some (seen.continued_are q) (c q);
-  heirs_are = λ a b. row-more (is_this b) (Some heir) a before r _ _ some (seen.heirs_are a b) (h a b);
+seen-successor s t before r successor seen some e c h = record {
+  ended_are = λ q. row-more (λ o. not (is_some o)) (Some successor) q before r _ _ some (seen.ended_are q) (rw e);
+  continued_are = λ q. row-more is_some (Some successor) q before r _ _ some (seen.continued_are q) (c q);
+  successors_are = λ a b. row-more (is_this b) (Some successor) a before r _ _ some (seen.successors_are a b) (h a b);
 }
 
 -- a pair compares equal where both parts do
@@ -73,13 +73,13 @@ has-pair : (a b : List ℕ) (keys : List (List ℕ × List ℕ))
 has-pair a b keys = any-same _ _ keys (pair-eq a b)
 
 -- a pair of copies is new to the set where no row before is the same
-pub doubled-heir : (s : Seen) (before : List Row) (r : Row) (heir x y : List ℕ) (new : Bool) → IsSeen s before → r.new ≡ Some heir → x ≡ r.old → y ≡ heir
-    → new ≡ not (list_any (λ p. is_eq (ordering_then (slice_cmp nat_cmp x p.0) (slice_cmp nat_cmp y p.1))) s.heirs.keys)
+pub doubled-successor : (s : Seen) (before : List Row) (r : Row) (successor x y : List ℕ) (new : Bool) → IsSeen s before → r.new ≡ Some successor → x ≡ r.old → y ≡ successor
+    → new ≡ not (list_any (λ p. is_eq (ordering_then (slice_cmp nat_cmp x p.0) (slice_cmp nat_cmp y p.1))) s.named_successors.keys)
     → list_any (same_row r) before ≡ not new
-doubled-heir s before r heir x y new seen some e f n =
-    let there : list_any (λ p. same_id x p.0 && same_id y p.1) s.heirs.keys ≡ list_any (same_row r) before =
-    rw (e, f) (seen.heirs_are r.old heir ∙ any-same _ (same_row r) before (λ q. rw some (grind arith))) in
-    let h = has-pair x y s.heirs.keys in grind arith
+doubled-successor s before r successor x y new seen some e f n =
+    let there : list_any (λ p. same_id x p.0 && same_id y p.1) s.named_successors.keys ≡ list_any (same_row r) before =
+    rw (e, f) (seen.successors_are r.old successor ∙ any-same _ (same_row r) before (λ q. rw some (grind arith))) in
+    let h = has-pair x y s.named_successors.keys in grind arith
 
 -- the set with a pair of copies more
 pub one-pair : (a b x y : List ℕ) (old new : List (List ℕ × List ℕ)) → x ≡ a → y ≡ b

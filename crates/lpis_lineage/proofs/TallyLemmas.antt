@@ -1,6 +1,6 @@
 -- A list, one identifier longer.
 use Rattle.std.proofs.Common.{◌≡◌, ◌∙◌, ◌<◌, ◌+◌, refl, sym, ap, subst, arith, ℕ, List, [], ◌∷◌, ◌++◌, length, Bool, true, false, Option, None, Some, cond, take, get_or, ◌||◌, nat_lt}
-use Rattle.lpis_lineage.proofs.Common.{nat_tests, Row, has_id, same_id, id_times, heirs, IsTally}
+use Rattle.lpis_lineage.proofs.Common.{nat_tests, Row, has_id, same_id, id_times, named_successors, IsTally}
 use Rattle.std.proofs.Math.Bool.{or-false}
 use Rattle.lpis_lineage.specs.declared.tally.Tally.{Tally}
 use Rattle.lpis_lineage.specs.Kinds.{with_some}
@@ -56,18 +56,18 @@ tally-new s t ids id tally absent twice new = record {
   by-twice q false e = refl
 
 -- the successors of one row more
-pub heirs-some : (rows : List Row) (i : ℕ) (r : Row) (s : List ℕ) → i < length rows → r ≡ get_or rows i r → r.new ≡ Some s → heirs (take i rows) ++ s ∷ [] ≡ heirs (take (i + 1) rows)
-heirs-some rows i r s lt is some = sym (push (take i rows)) ∙ ap heirs (take-at rows i r lt is) where
-  push : (rs : List Row) → heirs (rs ++ r ∷ []) ≡ heirs rs ++ s ∷ []
+pub named_successors-some : (rows : List Row) (i : ℕ) (r : Row) (s : List ℕ) → i < length rows → r ≡ get_or rows i r → r.new ≡ Some s → named_successors (take i rows) ++ s ∷ [] ≡ named_successors (take (i + 1) rows)
+named_successors-some rows i r s lt is some = sym (push (take i rows)) ∙ ap named_successors (take-at rows i r lt is) where
+  push : (rs : List Row) → named_successors (rs ++ r ∷ []) ≡ named_successors rs ++ s ∷ []
   push [] = ap (λ (o : Option (List ℕ)). with_some o []) some
-  push (x ∷ rs) = ap (λ (l : List (List ℕ)). with_some x.new l) (push rs) ∙ out x.new (heirs rs) where
+  push (x ∷ rs) = ap (λ (l : List (List ℕ)). with_some x.new l) (push rs) ∙ out x.new (named_successors rs) where
     out : (o : Option (List ℕ)) (l : List (List ℕ)) → with_some o (l ++ s ∷ []) ≡ with_some o l ++ s ∷ []
     out None l = refl
     out (Some y) l = refl
 
 -- a row without a successor adds none to those that the rows name
-pub heirs-none : (rows : List Row) (i : ℕ) (r : Row) → i < length rows → r ≡ get_or rows i r → r.new ≡ None → heirs (take i rows) ≡ heirs (take (i + 1) rows)
-heirs-none rows i r lt is none = sym (push (take i rows)) ∙ ap heirs (take-at rows i r lt is) where
-  push : (rs : List Row) → heirs (rs ++ r ∷ []) ≡ heirs rs
+pub named_successors-none : (rows : List Row) (i : ℕ) (r : Row) → i < length rows → r ≡ get_or rows i r → r.new ≡ None → named_successors (take i rows) ≡ named_successors (take (i + 1) rows)
+named_successors-none rows i r lt is none = sym (push (take i rows)) ∙ ap named_successors (take-at rows i r lt is) where
+  push : (rs : List Row) → named_successors (rs ++ r ∷ []) ≡ named_successors rs
   push [] = ap (λ (o : Option (List ℕ)). with_some o []) none
   push (x ∷ rs) = ap (λ (l : List (List ℕ)). with_some x.new l) (push rs)

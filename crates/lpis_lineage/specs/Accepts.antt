@@ -46,7 +46,7 @@ IsAddFault h year live rows (Lineage fault) = (last_year h < year)
     × (first (faults h live rows) ≡ Some fault)
 
 -- what `add` answers
-abbrev pub AddTells : {A : Type 0} → List Entry → ℕ → List (List ℕ) → List Row → Result A AddFault
+abbrev pub AddRefuses : {A : Type 0} → List Entry → ℕ → List (List ℕ) → List Row → Result A AddFault
     → Type 0
-AddTells h year live rows (Ok a) = (last_year h < year) × (faults h live rows ≡ [])
-AddTells h year live rows (Err fault) = IsAddFault h year live rows fault
+AddRefuses h year live rows (Ok a) = (last_year h < year) × (faults h live rows ≡ [])
+AddRefuses h year live rows (Err fault) = IsAddFault h year live rows fault

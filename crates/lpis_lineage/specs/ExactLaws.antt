@@ -24,15 +24,15 @@ pub record IsMerge (last live : List (List ℕ)) (rows : List Row) (s : List ℕ
   pub alone : All (λ row. length (successors rows row.old) ≡ 1) (filter (names_successor s) rows)
 
 -- of rows without a fault, kinds tell which identifiers were split
-abbrev pub KindsTellSplits : Type 0
-KindsTellSplits =
+abbrev pub KindsShowSplits : Type 0
+KindsShowSplits =
     (h : List Entry) (live : List (List ℕ)) (rows : List Row) → faults h live rows ≡ []
     → (id : List ℕ) → (is_split (kind (last_live h) live rows id) ≡ true)
     ↔ IsSplit (last_live h) live rows id
 
 -- and which successors are of merges
-abbrev pub KindsTellMerges : Type 0
-KindsTellMerges =
+abbrev pub KindsShowMerges : Type 0
+KindsShowMerges =
     (h : List Entry) (live : List (List ℕ)) (rows : List Row) → faults h live rows ≡ []
     → (s : List ℕ) → (is_merge (kind (last_live h) live rows) rows s ≡ true)
     ↔ IsMerge (last_live h) live rows s

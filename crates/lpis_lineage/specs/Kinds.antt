@@ -15,9 +15,9 @@ with_some None others = others
 with_some (Some s) others = s ∷ others
 
 -- the successors that rows name, in the rows' order
-abbrev pub heirs : List Row → List (List ℕ)
-heirs [] = []
-heirs (r ∷ rs) = with_some r.new (heirs rs)
+abbrev pub named_successors : List Row → List (List ℕ)
+named_successors [] = []
+named_successors (r ∷ rs) = with_some r.new (named_successors rs)
 
 -- how often a list has an identifier
 abbrev pub id_times : List (List ℕ) → List ℕ → ℕ
@@ -25,11 +25,11 @@ id_times ids id = length (filter (same_id id) ids)
 
 -- the successors of an identifier
 abbrev pub successors : List Row → List ℕ → List (List ℕ)
-successors rows id = heirs (filter (is_row_of id) rows)
+successors rows id = named_successors (filter (is_row_of id) rows)
 
 -- how many predecessors a successor has: the rows that name it, and itself where it is kept
 abbrev pub predecessors : List (List ℕ) → List (List ℕ) → List Row → List ℕ → ℕ
-predecessors last live rows s = id_times (heirs rows) s + cond (has_id last s && has_id live s) 1 0
+predecessors last live rows s = id_times (named_successors rows) s + cond (has_id last s && has_id live s) 1 0
 
 -- by whether there are several successors, and whether one of them has several predecessors
 abbrev pub by_counts : Bool → Bool → Kind

@@ -42,11 +42,11 @@ fn check_row(
     }
     match &row.new {
         None => seen.end(row, number),
-        Some(heir) => {
-            if !live.contains(heir) {
+        Some(successor) => {
+            if !live.contains(successor) {
                 return Err(LineageFault::SuccessorMissing { row: number });
             }
-            seen.continue_in(row, heir, number)
+            seen.continue_in(row, successor, number)
         }
     }
 }

@@ -92,14 +92,14 @@ fn note_row(
 {
     match &row.new {
         None => Ok(()),
-        Some(heir) => {
+        Some(successor) => {
             if !merge {
-                note_pair(alloc, sets, &row.old, heir)?;
+                note_pair(alloc, sets, &row.old, successor)?;
                 return Ok(());
             }
-            note_pair(alloc, sets, heir, &row.old)?;
-            if was_kept(change, heir) {
-                note_pair(alloc, sets, heir, heir)?;
+            note_pair(alloc, sets, successor, &row.old)?;
+            if was_kept(change, successor) {
+                note_pair(alloc, sets, successor, successor)?;
             }
             Ok(())
         }
@@ -217,31 +217,31 @@ fn groups_of(
 }
 
 /// Adds the successor of a row, where there is one.
-fn note_heir(heirs: &mut IdSet, row: &Row) -> Result<(), AllocError>
-    ensures { OnOk result ((s : List ℕ) → has_id heirs.new s
-        ≡ (has_id heirs.old s || names_successor s row.now)) }
+fn note_successor(named_successors: &mut IdSet, row: &Row) -> Result<(), AllocError>
+    ensures { OnOk result ((s : List ℕ) → has_id named_successors.new s
+        ≡ (has_id named_successors.old s || names_successor s row.now)) }
 {
     match &row.new {
         None => Ok(()),
-        Some(heir) => {
-            let copy = heir.copy()?;
-            heirs.add(copy)?;
+        Some(successor) => {
+            let copy = successor.copy()?;
+            named_successors.add(copy)?;
             Ok(())
         }
     }
 }
 
 /// The successors that rows name, ascending.
-fn heirs_of(alloc: Global, change: &Change) -> Result<Vec<Id>, AllocError>
+fn successors_of(alloc: Global, change: &Change) -> Result<Vec<Id>, AllocError>
     ensures ascend { IfOk result (λ v. IsAscending v.items) }
     ensures are { IfOk result (λ v. (s : List ℕ) → has_id v.items s
         ≡ list_any (names_successor s) change.now.rows) }
 {
-    let mut heirs = IdSet::new(alloc);
+    let mut named_successors = IdSet::new(alloc);
     for row in change.rows() {
-        note_heir(&mut heirs, row)?;
+        note_successor(&mut named_successors, row)?;
     }
-    heirs.ids(alloc)
+    named_successors.ids(alloc)
 }
 
 /// The splits all of whose rows are marked, ascending by their old identifiers, and then the merges
@@ -252,8 +252,8 @@ pub fn exact_groups(alloc: Global, change: &Change) -> Result<Vec<Group>, AllocE
 {
     let marks = marks_of(alloc, change)?;
     let mut groups = groups_of(alloc, change, &marks, false, change.dropped())?;
-    let heirs = heirs_of(alloc, change)?;
-    let mut merges = groups_of(alloc, change, &marks, true, heirs.as_slice())?;
+    let named_successors = successors_of(alloc, change)?;
+    let mut merges = groups_of(alloc, change, &marks, true, named_successors.as_slice())?;
     groups.append(&mut merges)?;
     Ok(groups)
 }

@@ -4,14 +4,14 @@ ghost use Rattle.std.specs.Prelude.{◌≡◌, ◌++◌, ◌∷◌, ℕ, List, [
 ghost use Rattle.lpis_lineage.specs.declared.row.Row.{Row};
 ghost use Rattle.lpis_covers.specs.Ids.{has_id};
 ghost use Rattle.lpis_lineage.specs.Lineage.{is_this};
-ghost use Rattle.lpis_lineage.specs.Kinds.{by_counts, heirs, kind};
+ghost use Rattle.lpis_lineage.specs.Kinds.{by_counts, named_successors, kind};
 ghost use Rattle.lpis_lineage.specs.private.Tally.{IsTally};
 ghost use Rattle.lpis_lineage.specs.private.Fates.{AreFates, is_shared};
 
 use crate::id_set::IdSet;
 use crate::kind::Kind;
 use crate::row::Row;
-use crate::tally::{Tally, tally_heirs};
+use crate::tally::{Tally, tally_successors};
 use lpis_covers::Id;
 use std::alloc::{AllocError, Global};
 
@@ -24,13 +24,13 @@ pub(crate) struct Fates {
 }
 
 /// Whether a successor has several predecessors.
-fn shares(last: &IdSet, live: &IdSet, named: &Tally, heir: &Id) -> bool
-    ensures { (all : List Row) → IsTally named.now (heirs all) → has_id (heirs all) heir.now ≡ true
-        → result ≡ is_shared last.now live.now all heir.now }
+fn shares(last: &IdSet, live: &IdSet, named: &Tally, successor: &Id) -> bool
+    ensures { (all : List Row) → IsTally named.now (named_successors all) → has_id (named_successors all) successor.now ≡ true
+        → result ≡ is_shared last.now live.now all successor.now }
 {
-    let twice = named.twice.contains(heir);
-    let was = last.contains(heir);
-    let is = live.contains(heir);
+    let twice = named.twice.contains(successor);
+    let was = last.contains(successor);
+    let is = live.contains(successor);
     twice || (was && is)
 }
 
@@ -71,8 +71,8 @@ fn note_row(
     named: &Tally,
     row: &Row,
 ) -> Result<(), AllocError>
-    ensures { (all : List Row) → (before : List Row) → IsTally named.now (heirs all)
-        → ((s : List ℕ) → is_this s row.now.new ≡ true → has_id (heirs all) s ≡ true)
+    ensures { (all : List Row) → (before : List Row) → IsTally named.now (named_successors all)
+        → ((s : List ℕ) → is_this s row.now.new ≡ true → has_id (named_successors all) s ≡ true)
         → AreFates last.now live.now all fates.old before
         → OnOk result (AreFates last.now live.now all fates.new (before ++ row.now ∷ [])) }
 {
@@ -82,9 +82,9 @@ fn note_row(
             fates.ended.add(old)?;
             Ok(())
         }
-        Some(heir) => {
+        Some(successor) => {
             fates.olds.note(&row.old)?;
-            if shares(last, live, named, heir) {
+            if shares(last, live, named, successor) {
                 let old = row.old.copy()?;
                 fates.shared.add(old)?;
                 Ok(())
@@ -104,7 +104,7 @@ pub(crate) fn all_fates(
 ) -> Result<Fates, AllocError>
     ensures { IfOk result (λ f. AreFates last.now live.now rows.now f rows.now) }
 {
-    let named = tally_heirs(alloc, rows)?;
+    let named = tally_successors(alloc, rows)?;
     let mut fates = Fates {
         ended: IdSet::new(alloc),
         olds: Tally::new(alloc),

@@ -6,7 +6,7 @@ ghost use Rattle.lpis_lineage.specs.declared.row.Entry.{Entry};
 ghost use Rattle.lpis_lineage.specs.declared.row.Row.{Row};
 ghost use Rattle.lpis_lineage.specs.declared.span.Span.{Span};
 ghost use Rattle.lpis_lineage.specs.Accepts.{MayFollow, NeverFollows};
-ghost use Rattle.lpis_lineage.specs.ExactLaws.{KindsTellMerges, KindsTellSplits};
+ghost use Rattle.lpis_lineage.specs.ExactLaws.{KindsShowMerges, KindsShowSplits};
 ghost use Rattle.lpis_lineage.specs.Faults.{faults, first};
 ghost use Rattle.lpis_lineage.specs.Lawful.{IsLawful, RowsFit};
 ghost use Rattle.lpis_lineage.specs.Lineage.{holds};
@@ -25,9 +25,9 @@ pub fn decided_by_faults()
 /// Of rows without a fault, an identifier is of the kind split exactly where it has several
 /// successors, each of which has one predecessor; and a successor is named by rows of the kind
 /// merged alone exactly where it has several predecessors, each of which has no other successor.
-pub fn kinds_tell_splits_and_merges()
-    ensures splits { KindsTellSplits }
-    ensures merges { KindsTellMerges }
+pub fn kinds_show_splits_and_merges()
+    ensures splits { KindsShowSplits }
+    ensures merges { KindsShowMerges }
 {}
 
 /// An identifier has a span exactly where some release holds it.

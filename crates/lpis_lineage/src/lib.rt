@@ -28,7 +28,7 @@ pub use fault::{AddFault, LineageCode, LineageFault};
 pub use history::History;
 pub use id_set::IdSet;
 pub use kind::Kind;
-pub use laws::{decided_by_faults, held_identifiers_have_spans, kinds_tell_splits_and_merges};
+pub use laws::{decided_by_faults, held_identifiers_have_spans, kinds_show_splits_and_merges};
 pub use reading::read_rows;
 pub use row::{Entry, Row};
 pub use span::{Span, live_in};

@@ -79,9 +79,9 @@ fn note_row(marks: &mut Marks, change: &Change, row: &Row) -> Result<(), AllocEr
     add_if(&mut marks.unsplit, !row.exact, &row.old)?;
     match &row.new {
         None => Ok(()),
-        Some(heir) => {
+        Some(successor) => {
             let spoils = !merges(change, row);
-            add_if(&mut marks.unmerged, spoils, heir)?;
+            add_if(&mut marks.unmerged, spoils, successor)?;
             Ok(())
         }
     }
@@ -110,12 +110,12 @@ pub(crate) fn splits_exactly(change: &Change, marks: &Marks, id: &Id) -> bool
 }
 
 /// Whether a successor that a row names is of an exact merge.
-pub(crate) fn merges_exactly(change: &Change, marks: &Marks, heir: &Id) -> bool
+pub(crate) fn merges_exactly(change: &Change, marks: &Marks, successor: &Id) -> bool
     ensures { (rows : List Row) → AreMarks (kind_at change.now) marks.now rows
-        → list_any (names_successor heir.now) rows ≡ true
-        → result ≡ is_exact_merge (kind_at change.now) rows heir.now }
+        → list_any (names_successor successor.now) rows ≡ true
+        → result ≡ is_exact_merge (kind_at change.now) rows successor.now }
 {
-    !marks.unmerged.contains(heir)
+    !marks.unmerged.contains(successor)
 }
 
 /// Whether one of the rows belongs to an exact split or an exact merge.
@@ -129,7 +129,7 @@ fn is_exact(change: &Change, marks: &Marks, row: &Row) -> bool
     }
     match &row.new {
         None => false,
-        Some(heir) => merges_exactly(change, marks, heir),
+        Some(successor) => merges_exactly(change, marks, successor),
     }
 }
 

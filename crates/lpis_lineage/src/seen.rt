@@ -21,7 +21,7 @@ use std::collections::BTreeSet;
 pub(crate) struct Seen {
     pub ended: IdSet,
     pub continued: IdSet,
-    pub heirs: BTreeSet<(Id, Id)>,
+    pub named_successors: BTreeSet<(Id, Id)>,
 }
 
 impl Seen {
@@ -32,7 +32,7 @@ impl Seen {
         Seen {
             ended: IdSet::new(alloc),
             continued: IdSet::new(alloc),
-            heirs: BTreeSet::new(alloc),
+            named_successors: BTreeSet::new(alloc),
         }
     }
 
@@ -61,10 +61,10 @@ impl Seen {
     pub(crate) fn continue_in(
         &mut self,
         row: &Row,
-        heir: &Id,
+        successor: &Id,
         number: usize,
     ) -> Result<(), LineageFault>
-        requires { row.now.new ≡ Some heir.now }
+        requires { row.now.new ≡ Some successor.now }
         ensures tells { (before : List Row) → IsSeen self.old before
             → ReportsFirstOf (fault_before (list_any (same_row row.now) before) (DoubledRow number)
             (fault_before (list_any (clashes row.now) before) (EndingBesideSuccessor number) []))
@@ -73,8 +73,8 @@ impl Seen {
             → OnOk result (IsSeen self.new (before ++ row.now ∷ [])) }
     {
         let old = row.old.copy()?;
-        let new = heir.copy()?;
-        let is_new = self.heirs.insert((old, new))?;
+        let new = successor.copy()?;
+        let is_new = self.named_successors.insert((old, new))?;
         if !is_new {
             return Err(LineageFault::DoubledRow { row: number });
         }

@@ -1,7 +1,7 @@
 //! Which identifiers a list has, and which more than once.
 
 ghost use Rattle.std.specs.Prelude.{◌++◌, ◌∷◌, ℕ, List, [], OnOk, IfOk};
-ghost use Rattle.lpis_lineage.specs.Kinds.{heirs};
+ghost use Rattle.lpis_lineage.specs.Kinds.{named_successors};
 ghost use Rattle.lpis_lineage.specs.private.Tally.{IsTally};
 
 use crate::id_set::IdSet;
@@ -44,14 +44,14 @@ impl Tally {
 }
 
 /// How often rows name their successors.
-pub(crate) fn tally_heirs(alloc: Global, rows: &[Row]) -> Result<Tally, AllocError>
-    ensures { IfOk result (λ t. IsTally t (heirs rows.now)) }
+pub(crate) fn tally_successors(alloc: Global, rows: &[Row]) -> Result<Tally, AllocError>
+    ensures { IfOk result (λ t. IsTally t (named_successors rows.now)) }
 {
     let mut tally = Tally::new(alloc);
     for row in rows {
         match &row.new {
             None => {}
-            Some(heir) => tally.note(heir)?,
+            Some(successor) => tally.note(successor)?,
         }
     }
     Ok(tally)

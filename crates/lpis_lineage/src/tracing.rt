@@ -21,10 +21,10 @@ fn follow_row(reached: &mut IdSet, row: &Row) -> Result<(), AllocError>
 {
     match &row.new {
         None => Ok(()),
-        Some(heir) => {
+        Some(successor) => {
             if reached.contains(&row.old) {
-                let heir = heir.copy()?;
-                reached.add(heir)?;
+                let successor = successor.copy()?;
+                reached.add(successor)?;
                 Ok(())
             } else {
                 Ok(())

@@ -11,7 +11,7 @@ use Rattle.lpis_lineage.specs.Changes.{IsChange}
 use Rattle.lpis_lineage.specs.Faults.{faults, first}
 use Rattle.lpis_lineage.specs.Lineage.{last_year}
 use Rattle.lpis_parcels.specs.Release.{Contents, parcel_ids}
-use Rattle.lpis_register_rows.specs.Tells.{AreFresh, IsWriting}
+use Rattle.lpis_register_rows.specs.Histories.{AreFresh, IsWriting}
 use Rattle.lpis_register.specs.Accepting.{IsStep}
 use Rattle.lpis_register.specs.Faults.{IsRefused}
 use Rattle.lpis_register.specs.declared.accepting.Step.{Step}

@@ -2,7 +2,7 @@
 use Rattle.std.proofs.Common.{◌≡◌, ◌≤◌, ◌∙◌, ℕ, pos, List, Result, Ok, Err, refl, sym, subst, subst₂}
 use Rattle.std.specs.List.{AllByRecursion}
 use Rattle.lpis_register.proofs.Common.{State, Survives, survives_weaker, AreLive, Content, Entry, HoldsRegister, LeavesRegister, PublishFault}
-use Rattle.lpis_register.proofs.Common.{Row, Shape, ShapesAre, Tells, Whole, last_live}
+use Rattle.lpis_register.proofs.Common.{Row, Shape, ShapesAre, HasHistory, Whole, last_live}
 use Rattle.sqlite.specs.declared.error.Error.{Error}
 use Rattle.lpis_parcels.specs.declared.parcel.Parcel.{Parcel}
 use Rattle.lpis_lineage.specs.Lineage.{last_year}
@@ -13,7 +13,7 @@ use Rattle.lpis_lineage.specs.Order.{IsAscending}
 use Rattle.lpis_lineage.specs.Lawful.{IsLawful, RowsFit}
 use Rattle.lpis_register_rows.specs.Content.{TextEdit, marks_from, published, released}
 use Rattle.lpis_register_rows.specs.Shapes.{IsSpelled, shape_ids, text_edits}
-use Rattle.lpis_register_rows.specs.Tells.{IsWriting, last_of_years}
+use Rattle.lpis_register_rows.specs.Histories.{IsWriting, last_of_years}
 use Rattle.lpis_register_sql.specs.Commits.{AllStand, Rewrites}
 use Rattle.lpis_register.specs.Accepting.{IsPrepared}
 use Rattle.lpis_register.specs.Publishing.{FollowsHistory, LeavesRelease, Stores}
@@ -27,8 +27,8 @@ use Rattle.lpis_register.proofs.ResultLemmas.{on_err, on_ok}
 
 -- where tables report a history, they report it with the release at its end once that is written
 abbrev pub TellsMore : Type 0
-TellsMore = (c : Content) (h k : List Entry) (year : ℕ) (live gone fresh : List (List ℕ)) (rows : List Row) → Tells c h → Adds h k year live rows → IsLawful k → RowsFit k → year ≤ last_of_years
-    → IsWriting h live gone fresh → (edits : List TextEdit) → Tells (released edits (marks_from (pos year) 0 rows) (published (pos year) (pos (last_year h)) gone fresh rows c)) k
+TellsMore = (c : Content) (h k : List Entry) (year : ℕ) (live gone fresh : List (List ℕ)) (rows : List Row) → HasHistory c h → Adds h k year live rows → IsLawful k → RowsFit k → year ≤ last_of_years
+    → IsWriting h live gone fresh → (edits : List TextEdit) → HasHistory (released edits (marks_from (pos year) 0 rows) (published (pos year) (pos (last_year h)) gone fresh rows c)) k
 
 -- after a release is written, the texts keep its shapes in place of those before
 abbrev pub PutsTexts : Type 0
@@ -49,13 +49,13 @@ module _ (more : TellsMore) (put : PutsTexts) (lives : LivesOn) (now : List Entr
   abbrev pub whole : Content → Content
   whole c = released (text_edits kept shapes) (marks_from (pos y) 0 rows) (published (pos y) (pos l) gone fresh rows c)
 
-  told : (h : List Entry) (c : Content) → IsToWrite now last a h → Tells c h → Tells (whole c) now
+  told : (h : List Entry) (c : Content) → IsToWrite now last a h → HasHistory c h → HasHistory (whole c) now
   told h c due t =
       let ids = parcel_ids due.parcels in
       let step = due.made.step_is in
       let adds : Adds h now y ids rows = subst₂ (λ v r. Adds h now v ids r) (sym due.made.year_is ∙ sym ey) (sym step.change_is.rows_are ∙ sym er) due.follows.adds in
       let writing = subst₂ (λ g f. IsWriting h ids g f) (sym eg) (sym ef) step.writing in
-      subst (λ v. Tells (released (text_edits kept shapes) (marks_from (pos y) 0 rows) (published (pos y) (pos v) gone fresh rows c)) now) (sym due.last_is ∙ sym el)
+      subst (λ v. HasHistory (released (text_edits kept shapes) (marks_from (pos y) 0 rows) (published (pos y) (pos v) gone fresh rows c)) now) (sym due.last_is ∙ sym el)
       (more c h now y ids gone fresh rows t adds lawful fits low writing (text_edits kept shapes))
 
   spelled : (h : List Entry) (c : Content) → IsToWrite now last a h → ShapesAre c.texts kept → ShapesAre (whole c).texts a.shapes.items

@@ -1,10 +1,10 @@
 -- From rows and texts that were read to what the tables say.
 use Rattle.std.proofs.Common.{◌≡◌, ◌↔◌, ℕ, List, Result, Ok, Err, IfErr, IsTrue, IsPermutation}
 use Rattle.std.proofs.lemmas.List.Sorted.{IsPermutation-sym}
-use Rattle.lpis_register.proofs.Common.{State, HasCleanDisk, Survives, survives_weaker, Entry, AreLive, Content, HoldsRegister, IsStored, Layout, PublishFault, TablesSay, Shape, ShapesAre, StoredText}
+use Rattle.lpis_register.proofs.Common.{State, HasCleanDisk, Survives, survives_weaker, Entry, AreLive, Content, HoldsRegister, IsStored, Layout, PublishFault, TablesHave, Shape, ShapesAre, StoredText}
 use Rattle.lpis_register.proofs.Common.{Unlawful, Version, Third, Whole}
 use Rattle.std.proofs.lemmas.Result.{IfErr-weaker}
-use Rattle.lpis_register_rows.specs.Tells.{IsSameContent, IsSameHistory}
+use Rattle.lpis_register_rows.specs.Histories.{IsSameContent, IsSameHistory}
 use Rattle.lpis_register_rows.specs.Shapes.{TextsStand}
 use Rattle.lpis_register_rows.specs.Content.{without_texts}
 use Rattle.lpis_register_sql.specs.declared.found.Found.{Found}
@@ -15,7 +15,7 @@ use Rattle.lpis_register.specs.private.Finding.{ReadsFound}
 
 -- rows without texts, in another order, report the same histories
 abbrev pub Textless : Type 0
-Textless = (version : Version) (c d : Content) (h : List Entry) → IsSameContent (without_texts c) d → TablesSay version c h ↔ TablesSay version d h
+Textless = (version : Version) (c d : Content) (h : List Entry) → IsSameContent (without_texts c) d → TablesHave version c h ↔ TablesHave version d h
 
 -- texts in another order are those of the same shapes
 abbrev pub Reordered : Type 0
@@ -23,8 +23,8 @@ Reordered = (texts others : List StoredText) (shapes : List Shape) → IsPermuta
 
 -- what rows in another order don't say, these don't either
 pub refused_whole : {X : Type 0} → Textless → (c rows : Content) (r : Result X PublishFault) → IsSameContent (without_texts c) rows
-    → IfErr r (λ e. e ≡ Unlawful → (version : Version) (h : List Entry) → TablesSay version rows h → ⊥)
-    → IfErr r (λ e. e ≡ Unlawful → (version : Version) (h : List Entry) → TablesSay version c h → ⊥)
+    → IfErr r (λ e. e ≡ Unlawful → (version : Version) (h : List Entry) → TablesHave version rows h → ⊥)
+    → IfErr r (λ e. e ≡ Unlawful → (version : Version) (h : List Entry) → TablesHave version c h → ⊥)
 refused_whole less c rows r same none = IfErr-weaker r _ _ (λ e never is version h told. never is version h ((less version c rows h same).0 told)) none
 
 -- where texts in another order are those of shapes of live parcels, so are these
@@ -45,7 +45,7 @@ still_holds old new h shapes holds stored = record { origin = holds.origin; cont
 
 module _ (old new : State) (h : List Entry) (shapes : List Shape) (found : Found) (laid_out : (layout : Layout) → old.now.schema ≡ schema_of layout → IsFound found layout) where
   abbrev pub Reads : Result (List Entry × Version) PublishFault → Type 0
-  Reads = ReadsFound found (λ c it. TablesSay it.1 c it.0) (λ c. (version : Version) (k : List Entry) → TablesSay version c k → ⊥) old new
+  Reads = ReadsFound found (λ c it. TablesHave it.1 c it.0) (λ c. (version : Version) (k : List Entry) → TablesHave version c k → ⊥) old new
 
   there : (holds : HoldsRegister old h shapes) → IsFound found (Whole holds.origin)
   there holds = laid_out (Whole holds.origin) holds.stored.holds.schema
@@ -56,7 +56,7 @@ module _ (old new : State) (h : List Entry) (shapes : List Shape) (found : Found
   quiet : (r : Result (List Entry × Version) PublishFault) → Reads r → HoldsRegister old h shapes → Survives old new (λ _. ⊥)
   quiet r finds holds = survives_weaker old new _ _ (λ clean db none. none (Whole holds.origin) (there holds) holds.content holds.stored) finds.reads.survives
 
-  pub read_again : ((c : Content) (k g : List Entry) (version other : Version) → TablesSay version c k → TablesSay other c g → IsSameHistory k g) → (k : List Entry) (version : Version)
+  pub read_again : ((c : Content) (k g : List Entry) (version other : Version) → TablesHave version c k → TablesHave other c g → IsSameHistory k g) → (k : List Entry) (version : Version)
       → Reads (Ok (k, version)) → ReadsHistory old new h shapes (Ok k)
   read_again one k version finds = record {
     ok = λ clean holds.

@@ -1,6 +1,6 @@
 -- From what tables hold to the history and the shapes that they say.
 use Rattle.std.proofs.Common.{◌≡◌, ◌∙◌, IsTrue, List, ap, arith, inl, refl, subst, sym}
-use Rattle.lpis_register.proofs.Common.{Trees, State, Survives, survives_weaker, Entry, last_live, Content, Tells, AreLive, Shape, ShapesAre, Whole, IsStored, Leaves, HoldsRegister}
+use Rattle.lpis_register.proofs.Common.{Trees, State, Survives, survives_weaker, Entry, last_live, Content, HasHistory, AreLive, Shape, ShapesAre, Whole, IsStored, Leaves, HoldsRegister}
 use Rattle.lpis_register_sql.specs.Holding.{HoldsRows}
 use Rattle.lpis_register_sql.specs.Layouts.{Origin}
 use Rattle.lpis_register.proofs.Common.{Layout, LeavesRegister}
@@ -10,7 +10,7 @@ use Rattle.sqlite.specs.Effect.{Database}
 pub nothing_done : (P : Trees → Type 0) (a : State) → Survives a a P
 nothing_done P a = record { clean = omega arith; shield = λ s. s; counts = omega arith; limit = refl; closes = λ _ up. inl up; crash = λ _ db may. inl may }
 
-module _ (origin : Origin) (c : Content) (h : List Entry) (shapes : List Shape) (tells : Tells c h) (are : ShapesAre c.texts shapes) (live : AreLive (last_live h) shapes) where
+module _ (origin : Origin) (c : Content) (h : List Entry) (shapes : List Shape) (tells : HasHistory c h) (are : ShapesAre c.texts shapes) (live : AreLive (last_live h) shapes) where
   pub holds_with : (new : State) → IsStored (Whole origin) new c → HoldsRegister new h shapes
   holds_with new stored = record { origin = origin; content = c; stored = stored; tells = tells; are = are; live = live }
 

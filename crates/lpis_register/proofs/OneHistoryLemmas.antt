@@ -3,11 +3,11 @@ use Rattle.std.proofs.Common.{◌≡◌, ◌∙◌, ◌↔◌, refl, sym, ap, su
 use Rattle.std.proofs.lemmas.List.Sorted.{IsPermutation-refl}
 use Rattle.lpis_covers.specs.Ids.{has_id}
 use Rattle.lpis_lineage.specs.Lineage.{holds}
-use Rattle.lpis_register.proofs.Common.{State, Entry, last_live, AreLive, Content, TablesSay, Shape, ShapesAre, StoredText, Tells, Whole, IsStored, HoldsRegister, texts_at, Version}
+use Rattle.lpis_register.proofs.Common.{State, Entry, last_live, AreLive, Content, TablesHave, Shape, ShapesAre, StoredText, HasHistory, Whole, IsStored, HoldsRegister, texts_at, Version}
 use Rattle.lpis_register_sql.specs.Layouts.{Origin}
 use Rattle.lpis_register.proofs.Common.{First, Second, Third}
-use Rattle.lpis_register_rows.specs.Tells.{IsSameContent, IsSameHistory, only_format}
-use Rattle.lpis_register.specs.Opening.{SaysNone}
+use Rattle.lpis_register_rows.specs.Histories.{IsSameContent, IsSameHistory, only_format}
+use Rattle.lpis_register.specs.Opening.{HasNoRegister}
 use Rattle.lpis_register_rows.specs.Shapes.{TextsStand}
 use Rattle.lpis_register_rows.specs.Content.{Format, without_live, without_texts}
 
@@ -32,7 +32,7 @@ same_live h k same shapes all = all_live (last_live h) (last_live k) shapes (sam
 
 -- the same rows in one version report one history only
 abbrev pub One : Type 0
-One = (version : Version) (c : Content) (h k : List Entry) → TablesSay version c h → TablesSay version c k → IsSameHistory h k
+One = (version : Version) (c : Content) (h k : List Entry) → TablesHave version c h → TablesHave version c k → IsSameHistory h k
 
 abbrev version_in : List Format → ℤ
 version_in [] = pos 0
@@ -48,7 +48,7 @@ not_2_3 : (fs : List Format) → fs ≡ only_format 2 → fs ≡ only_format 3 �
 not_2_3 fs a b = let same : pos 2 ≡ pos 3 = ap version_in (sym a ∙ b) in cc
 
 -- and so the version, and the history
-pub one_said : One → (c : Content) (h k : List Entry) (version other : Version) → TablesSay version c h → TablesSay other c k → (version ≡ other) × IsSameHistory h k
+pub one_said : One → (c : Content) (h k : List Entry) (version other : Version) → TablesHave version c h → TablesHave other c k → (version ≡ other) × IsSameHistory h k
 one_said one c h k First First a b = (refl, one First c h k a b)
 one_said one c h k Second Second a b = (refl, one Second c h k a b)
 one_said one c h k Third Third a b = (refl, one Third c h k a b)
@@ -60,7 +60,7 @@ one_said one c h k Third First a b = absurd (not_1_3 c.formats b.formats_are a.f
 one_said one c h k Third Second a b = absurd (not_2_3 c.formats b.formats_are a.formats_are)
 
 -- texts that may not be kept beside the history that was read may not be kept beside any
-pub none_kept : One → (c : Content) (h : List Entry) (version : Version) → TablesSay version c h → (TextsStand (texts_at version c) (last_live h) → ⊥) → SaysNone c
+pub none_kept : One → (c : Content) (h : List Entry) (version : Version) → TablesHave version c h → (TextsStand (texts_at version c) (last_live h) → ⊥) → HasNoRegister c
 none_kept one c h version told never other k shapes says =
     let same = one_said one c k h other version says.says told in
     never (shapes, subst (λ v. ShapesAre (texts_at v c) shapes) same.0 says.are, same_live k h same.1 shapes says.live)
@@ -73,7 +73,7 @@ OneContent st = (o p : Origin) (c d : Content) → IsStored (Whole o) st c → I
 
 -- rows of version 3 without live ones and texts, in another order, report the same histories
 abbrev pub Lifeless : Type 0
-Lifeless = (c d : Content) (h : List Entry) → IsSameContent (without_texts (without_live c)) d → Tells c h ↔ Tells d h
+Lifeless = (c d : Content) (h : List Entry) → IsSameContent (without_texts (without_live c)) d → HasHistory c h ↔ HasHistory d h
 
 less_texts : (c d : Content) → IsSameContent (without_live c) (without_live d) → IsSameContent (without_texts (without_live c)) (without_texts (without_live d))
 less_texts c d s = record { formats = s.formats; years = s.years; spans = s.spans; lines = s.lines; live = s.live; texts = IsPermutation-refl []; marks = s.marks }

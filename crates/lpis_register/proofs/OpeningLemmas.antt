@@ -3,18 +3,18 @@ use Rattle.std.proofs.Common.{◌≡◌, inl, inr, List, Result, Ok, Err, IfErr,
 use Rattle.std.proofs.lemmas.List.Sorted.{length_permutation}
 use Rattle.std.specs.List.{AllZip}
 use Rattle.lpis_register.proofs.Common.{Trees, State, HasCleanDisk, Survives, survives_weaker, Entry, Content, HoldsRegister, IsBare, IsFailure, IsStored, Layout, Leaves, LeavesRegister}
-use Rattle.lpis_register.proofs.Common.{PublishFault, TablesSay, Shape, ShapesAre, Tells, Unlawful, Version, First, Second, Third, Whole, texts_at}
+use Rattle.lpis_register.proofs.Common.{PublishFault, TablesHave, Shape, ShapesAre, HasHistory, Unlawful, Version, First, Second, Third, Whole, texts_at}
 use Rattle.lpis_register_rows.specs.Content.{no_content}
 use Rattle.lpis_register_sql.specs.declared.found.Found.{Found}
 use Rattle.lpis_register_sql.specs.Quiet.{IsFound, LeavesNone}
-use Rattle.lpis_register.specs.Opening.{IsOpened, IsOpenedAs, IsUnopened, LeavesSaid, SaysNone, SaysRegister, LeavesOpened}
+use Rattle.lpis_register.specs.Opening.{IsOpened, IsOpenedAs, IsUnopened, LeavesKept, HasNoRegister, HasRegister, LeavesOpened}
 use Rattle.lpis_register.specs.Faults.{IsOpeningFault}
 use Rattle.lpis_register_sql.specs.Layouts.{New}
 use Rattle.sqlite.proofs.StateLemmas.{survives_then}
-use Rattle.lpis_register_rows.specs.Tells.{years_of}
+use Rattle.lpis_register_rows.specs.Histories.{years_of}
 use Rattle.lpis_register_rows.specs.Shapes.{IsTextOfShape}
 use Rattle.lpis_register_sql.specs.Commits.{LeavesMade}
-use Rattle.lpis_register.specs.declared.opening.Told.{Told}
+use Rattle.lpis_register.specs.declared.opening.Loaded.{Loaded}
 use Rattle.lpis_register.specs.private.Commits.{LeavesFound, OpensFound, Settles}
 use Rattle.lpis_register.proofs.HoldingLemmas.{left_with}
 use Rattle.lpis_register.proofs.ResultLemmas.{failure_lawful, opening_failure}
@@ -25,7 +25,7 @@ no_years : (h : List Entry) → IsPermutation [] (years_of h) → h ≡ []
 no_years [] same = refl
 no_years (e ∷ h) same = absurd (let l = length_permutation _ _ same in cc)
 
-none_said : (version : Version) (h : List Entry) → TablesSay version no_content h → h ≡ []
+none_said : (version : Version) (h : List Entry) → TablesHave version no_content h → h ≡ []
 none_said First h told = no_years h told.years_are
 none_said Second h told = no_years h told.years_are
 none_said Third h told = no_years h told.years_are
@@ -46,18 +46,18 @@ none_kept First shapes are = none_spelled shapes are
 none_kept Second shapes are = none_spelled shapes are
 none_kept Third shapes are = none_spelled shapes are
 
-says_nothing : (version : Version) (h : List Entry) (shapes : List Shape) → SaysRegister version no_content h shapes → (h ≡ []) × (shapes ≡ [])
+says_nothing : (version : Version) (h : List Entry) (shapes : List Shape) → HasRegister version no_content h shapes → (h ≡ []) × (shapes ≡ [])
 says_nothing version h shapes says = (none_said version h says.says, none_kept version shapes says.are)
 
 -- and that is something that they may say
-said_empty : Tells no_content [] → ShapesAre [] [] → SaysRegister Third no_content [] []
+said_empty : HasHistory no_content [] → ShapesAre [] [] → HasRegister Third no_content [] []
 said_empty told none = record { says = told; are = none; live = tt }
 
 -- ---- what is read first, and then settled as what was read
 
 module _ (found : Found) (old mid new : State) where
   pub read_not : (e : PublishFault) → (HasCleanDisk mid → IsTrue mid.is_open → (layout : Layout) → IsFound found layout → (c : Content) → IsStored layout old c → IsStored layout mid c)
-      → (HasCleanDisk mid → (layout : Layout) → IsFound found layout → (c : Content) → IsStored layout old c → e ≡ Unlawful → SaysNone c)
+      → (HasCleanDisk mid → (layout : Layout) → IsFound found layout → (c : Content) → IsStored layout old c → e ≡ Unlawful → HasNoRegister c)
       → Survives old mid (LeavesNone (IsFound found) old) → IsOpeningFault e → OpensFound found old mid (Err e)
   read_not e same none crash kind = record {
     ok = λ up layout w c r. tt;
@@ -68,8 +68,8 @@ module _ (found : Found) (old mid new : State) where
     kinds = kind;
   }
 
-  module _ (told : Told) (version : Version)
-      (says : HasCleanDisk mid → (layout : Layout) → IsFound found layout → (c : Content) → IsStored layout old c → SaysRegister version c told.history told.shapes.items × IsStored layout mid c)
+  module _ (told : Loaded) (version : Version)
+      (says : HasCleanDisk mid → (layout : Layout) → IsFound found layout → (c : Content) → IsStored layout old c → HasRegister version c told.history told.shapes.items × IsStored layout mid c)
       (one : Survives old mid (LeavesNone (IsFound found) old)) where
     crashed : (r : Result (Unit {0}) PublishFault) → Settles found version told.history mid new r → Survives old new (LeavesFound found old)
     crashed r two = survives_then old mid new _ _ _ (λ _ db none layout w c r. absurd (none layout w c r))
@@ -100,17 +100,17 @@ module _ (found : Found) (old mid new : State) where
 -- ---- what the calls promise
 
 -- what an opening promises: of Ok that it opened a register, of a fault that it opened none
-abbrev pub Answer : State → State → Result Told PublishFault → Type 0
-Answer old new r = IfOk r (λ (told : Told). IsOpened old new told.history told.shapes.items) × IfErr r (IsUnopened old new)
+abbrev pub Answer : State → State → Result Loaded PublishFault → Type 0
+Answer old new r = IfOk r (λ (told : Loaded). IsOpened old new told.history told.shapes.items) × IfErr r (IsUnopened old new)
 
 -- where the tables stand
-pub opened_there : (found : Found) (old new : State) (r : Result Told PublishFault) → ((layout : Layout) (c : Content) → IsStored layout old c → IsFound found layout) → (IsBare old → ⊥)
+pub opened_there : (found : Found) (old new : State) (r : Result Loaded PublishFault) → ((layout : Layout) (c : Content) → IsStored layout old c → IsFound found layout) → (IsBare old → ⊥)
     → OpensFound found old new r → Answer old new r
 opened_there found old new r with never o = by r o where
   crash : Survives old new (LeavesFound found old) → Survives old new (LeavesOpened old)
   crash = survives_weaker old new _ _ (λ _ db left. record { found = λ layout c r. left layout (with layout c r) c r; bare = λ bare. absurd (never bare) })
 
-  by : (r : Result Told PublishFault) → OpensFound found old new r → Answer old new r
+  by : (r : Result Loaded PublishFault) → OpensFound found old new r → Answer old new r
   by (Ok told) o = (record { bare = λ up bare. absurd (never bare); found = λ up layout c r. o.ok up layout (with layout c r) c r; clean = o.clean; crash = crash o.crash }, tt)
   by (Err e) o = (
     tt,
@@ -125,7 +125,7 @@ opened_there found old new r with never o = by r o where
     },
   )
 
-module _ (found : Found) (told_empty : Tells no_content []) (no_shape : ShapesAre [] []) where
+module _ (found : Found) (told_empty : HasHistory no_content []) (no_shape : ShapesAre [] []) where
   made_left : (db : Trees) → Leaves (Whole New) no_content db → LeavesRegister [] [] db
   made_left db left = left_with New no_content [] [] told_empty no_shape tt db left
 
@@ -150,7 +150,7 @@ module _ (found : Found) (told_empty : Tells no_content []) (no_shape : ShapesAr
   module _ (old mid new : State) (never : (layout : Layout) (c : Content) → IsStored layout old c → ⊥) (fresh : IsBare old → found.format ≡ false) (all : Found)
       (made : HasCleanDisk mid → IsBare old → IsFound all (Whole New) × IsStored (Whole New) mid no_content)
       (clean : HasCleanDisk mid → HasCleanDisk old) (one : Survives old mid (LeavesMade found old)) where
-    said_left : (db : Trees) → LeavesSaid no_content db → LeavesRegister [] [] db
+    said_left : (db : Trees) → LeavesKept no_content db → LeavesRegister [] [] db
     said_left db (h, shapes, version, says, left) =
         let none = says_nothing version h shapes says in
         subst (λ k. LeavesRegister k [] db) none.0 (subst (λ s. LeavesRegister h s db) none.1 left)
@@ -167,7 +167,7 @@ module _ (found : Found) (told_empty : Tells no_content []) (no_shape : ShapesAr
         let none = says_nothing version h shapes says in
         (subst (λ k. HoldsRegister new k []) none.0 (subst (λ s. HoldsRegister new h s) none.1 holds), none.0, none.1)
 
-    pub opened_made : (r : Result Told PublishFault) → OpensFound all mid new r → Answer old new r
+    pub opened_made : (r : Result Loaded PublishFault) → OpensFound all mid new r → Answer old new r
     opened_made (Ok told) o = (
       record {
         bare = λ up bare. let now = made (o.clean up) bare in held told.history told.shapes.items (o.ok up (Whole New) now.0 no_content now.1);

@@ -1,7 +1,7 @@
 -- Tables of version 3, made of those of any version that say a history.
 use Rattle.std.proofs.Common.{◌≡◌, List, Result, Ok, Err, true, sym, subst, arith}
-use Rattle.lpis_register.proofs.Common.{State, Survives, survives_weaker, Entry, Content, IsFailure, IsStored, Layout, PublishFault, TablesSay, Shape, ShapesAre}
-use Rattle.lpis_register.proofs.Common.{Tells, Version, Third, texts_at}
+use Rattle.lpis_register.proofs.Common.{State, Survives, survives_weaker, Entry, Content, IsFailure, IsStored, Layout, PublishFault, TablesHave, Shape, ShapesAre}
+use Rattle.lpis_register.proofs.Common.{HasHistory, Version, Third, texts_at}
 use Rattle.lpis_register_sql.specs.declared.found.Found.{Found}
 use Rattle.lpis_register_sql.specs.Quiet.{IsFound}
 use Rattle.lpis_register_sql.specs.Commits.{Rewrites}
@@ -13,7 +13,7 @@ use Rattle.lpis_register.proofs.HoldingLemmas.{holds_with, left_with, nothing_do
 
 -- a write turns such rows into others, which say the same, and is reported
 module _ (found : Found) (version : Version) (h : List Entry) (old new : State) (IsSuch : Layout → Content → Type 0) (f : Content → Content)
-    (due : (layout : Layout) (c : Content) → IsFound found layout → TablesSay version c h → IsSuch layout c) (tells : (c : Content) → TablesSay version c h → Tells (f c) h)
+    (due : (layout : Layout) (c : Content) → IsFound found layout → TablesHave version c h → IsSuch layout c) (tells : (c : Content) → TablesHave version c h → HasHistory (f c) h)
     (texts : (c : Content) (shapes : List Shape) → ShapesAre (texts_at version c) shapes → ShapesAre (f c).texts shapes) where
   crash : (w : Result (Unit {0}) Error) → Rewrites IsSuch f old new w → Survives old new (LeavesSettled found version h old)
   crash w wrote = survives_weaker old new _ _ (λ _ db left layout there c shapes says r.

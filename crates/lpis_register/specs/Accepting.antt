@@ -13,7 +13,7 @@ use Rattle.lpis_lineage.specs.Lineage.{last_live, last_year}
 use Rattle.lpis_parcels.specs.declared.parcel.Parcel.{Parcel}
 use Rattle.lpis_parcels.specs.Release.{Contents, parcel_ids}
 use Rattle.lpis_register_rows.specs.Shapes.{AreLive, AreShapesOf, IsSpelled, Shape}
-use Rattle.lpis_register_rows.specs.Tells.{IsWriting}
+use Rattle.lpis_register_rows.specs.Histories.{IsWriting}
 use Rattle.lpis_register.specs.declared.accepting.Accepted.{Accepted}
 use Rattle.lpis_register.specs.declared.accepting.Step.{Step}
 

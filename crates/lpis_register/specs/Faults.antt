@@ -37,9 +37,9 @@ module _ (h : List Entry) (kept : List Shape) (year : ℕ) (r : Contents) (block
 
   -- what publishing it answers: Ok exactly where its year is above the last one, its lineage has no
   -- fault, all old shapes are kept and the blocks show what the exact groups ask for
-  abbrev pub PublishTells : {A : Type 0} → Result A PublishFault → Type 0
-  PublishTells (Ok a) = (last_year h < year) × IsShown h kept r blocks rows
-  PublishTells (Err fault) = IsRefused fault
+  abbrev pub PublishRefuses : {A : Type 0} → Result A PublishFault → Type 0
+  PublishRefuses (Ok a) = (last_year h < year) × IsShown h kept r blocks rows
+  PublishRefuses (Err fault) = IsRefused fault
 
 -- what an opening answers in place of a register
 abbrev pub IsOpeningFault : PublishFault → Type 0

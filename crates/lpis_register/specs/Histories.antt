@@ -8,7 +8,7 @@ use Rattle.lpis_lineage.specs.Descendants.{IsDescendant}
 use Rattle.lpis_lineage.specs.Lineage.{holds, last_live}
 use Rattle.lpis_lineage.specs.Order.{IsAscending}
 use Rattle.lpis_register_rows.specs.Content.{Content}
-use Rattle.lpis_register_rows.specs.Tells.{IsSameHistory, Tells}
+use Rattle.lpis_register_rows.specs.Histories.{IsSameHistory, HasHistory}
 use Rattle.lpis_register_rows.specs.Shapes.{AreLive, Shape, ShapesAre}
 use Rattle.lpis_register_sql.specs.Layouts.{Origin, Whole}
 use Rattle.lpis_register_sql.specs.Holding.{IsStored, Leaves}
@@ -22,7 +22,7 @@ pub record HoldsRegister (st : State) (h : List Entry) (shapes : List Shape) : T
   pub origin : Origin
   pub content : Content
   pub stored : IsStored (Whole origin) st content
-  pub tells : Tells content h
+  pub tells : HasHistory content h
   pub are : ShapesAre content.texts shapes
   pub live : AreLive (last_live h) shapes
 
@@ -31,7 +31,7 @@ pub record LeavesRegister (h : List Entry) (shapes : List Shape) (trees : Trees)
   pub origin : Origin
   pub content : Content
   pub leaves : Leaves (Whole origin) content trees
-  pub tells : Tells content h
+  pub tells : HasHistory content h
   pub are : ShapesAre content.texts shapes
   pub live : AreLive (last_live h) shapes
 

@@ -6,7 +6,7 @@ use Rattle.lpis_lineage.specs.declared.row.Entry.{Entry}
 use Rattle.lpis_lineage.specs.Lineage.{last_live}
 use Rattle.lpis_register_rows.specs.Content.{Content, StoredText}
 use Rattle.lpis_register_rows.specs.Shapes.{AreLive, Shape, ShapesAre}
-use Rattle.lpis_register_rows.specs.Tells.{TablesSay}
+use Rattle.lpis_register_rows.specs.Histories.{TablesHave}
 use Rattle.lpis_register_rows.specs.declared.version.Version.{Version}
 use Rattle.lpis_register_rows.specs.declared.version.Version.TheVariants.{First, Second, Third}
 use Rattle.lpis_register_sql.specs.Bare.{IsBare}
@@ -24,16 +24,16 @@ texts_at Second c = []
 texts_at Third c = c.texts
 
 -- the rows say this history and keep these shapes, as their version has it
-pub record SaysRegister (version : Version) (c : Content) (h : List Entry) (shapes : List Shape)
+pub record HasRegister (version : Version) (c : Content) (h : List Entry) (shapes : List Shape)
     : Type 0 where
-  pub says : TablesSay version c h
+  pub says : TablesHave version c h
   pub are : ShapesAre (texts_at version c) shapes
   pub live : AreLive (last_live h) shapes
 
 -- the rows say no history whose parcels' shapes they may keep
-abbrev pub SaysNone : Content → Type 0
-SaysNone c = (version : Version) (h : List Entry) (shapes : List Shape)
-    → SaysRegister version c h shapes → ⊥
+abbrev pub HasNoRegister : Content → Type 0
+HasNoRegister c = (version : Version) (h : List Entry) (shapes : List Shape)
+    → HasRegister version c h shapes → ⊥
 
 -- no transaction is open, and the tables of some version say this
 pub record FindsTables (st : State) (h : List Entry) (shapes : List Shape) : Type 0 where
@@ -41,7 +41,7 @@ pub record FindsTables (st : State) (h : List Entry) (shapes : List Shape) : Typ
   pub content : Content
   pub stored : IsStored layout st content
   pub version : Version
-  pub says : SaysRegister version content h shapes
+  pub says : HasRegister version content h shapes
 
 -- there is no table, or they are there and hold nothing
 abbrev pub FindsNothing : State → Type 0
@@ -49,19 +49,19 @@ FindsNothing st = IsBare st ⊎ FindsTables st [] []
 
 -- a database is opened that held these rows: it holds the history and the shapes that they say
 abbrev pub IsOpenedAs : State → Content → List Entry → List Shape → Type 0
-IsOpenedAs st c h shapes = (version : Version) × SaysRegister version c h shapes
+IsOpenedAs st c h shapes = (version : Version) × HasRegister version c h shapes
     × HoldsRegister st h shapes
 
 -- a crash leaves such a database
-abbrev pub LeavesSaid : Content → Trees → Type 0
-LeavesSaid c trees =
+abbrev pub LeavesKept : Content → Trees → Type 0
+LeavesKept c trees =
     (h : List Entry) × (shapes : List Shape) × (version : Version)
-    × SaysRegister version c h shapes × LeavesRegister h shapes trees
+    × HasRegister version c h shapes × LeavesRegister h shapes trees
 
 -- what an opening commits, if anything: the history that the tables said and the shapes that they
 -- kept, as tables of version 3; where there was no table, the empty ones
 pub record LeavesOpened (old : State) (trees : Trees) : Type 0 where
-  pub found : (layout : Layout) (c : Content) → IsStored layout old c → LeavesSaid c trees
+  pub found : (layout : Layout) (c : Content) → IsStored layout old c → LeavesKept c trees
   pub bare : IsBare old → LeavesRegister [] [] trees
 
 -- an opening that made this history and these shapes of a database
@@ -79,7 +79,7 @@ pub record IsUnopened (old new : State) (fault : PublishFault) : Type 0 where
       → IsStored layout old c → IsStored layout new c
   -- rows are refused only where they say nothing
   pub unlawful : fault ≡ Unlawful → HasCleanDisk new → (layout : Layout) (c : Content)
-      → IsStored layout old c → SaysNone c
+      → IsStored layout old c → HasNoRegister c
   pub lawful : fault ≡ Unlawful → HasCleanDisk new → IsBare old → ⊥
   pub clean : HasCleanDisk new → HasCleanDisk old
   pub crash : Survives old new (LeavesOpened old)

@@ -15,7 +15,7 @@ use Rattle.lpis_lineage.specs.Lineage.{last_live}
 use Rattle.lpis_parcels.specs.declared.parcel.Parcel.{Parcel}
 use Rattle.lpis_parcels.specs.Release.{Contents, parcel_ids}
 use Rattle.lpis_register_rows.specs.Shapes.{AreShapesOf, Shape}
-use Rattle.lpis_register.specs.Faults.{PublishTells}
+use Rattle.lpis_register.specs.Faults.{PublishRefuses}
 use Rattle.lpis_register.specs.Histories.{HoldsRegister, LeavesRegister}
 use Rattle.lpis_register.specs.declared.fault.PublishFault.{PublishFault}
 
@@ -49,7 +49,7 @@ module _ (h : List Entry) (year : ℕ) (parcels : List Parcel) (rows : List Row)
 pub record Publishes (h : List Entry) (kept : List Shape) (year : ℕ) (r : Contents)
     (blocks : List ExactBlock) (rows : List Row) (k : List Entry) (shapes : List Shape)
     (answer : Result Changes PublishFault) : Type 0 where
-  pub tells : PublishTells h kept year r blocks rows answer
+  pub tells : PublishRefuses h kept year r blocks rows answer
   pub change : IfOk answer (IsChange (last_live h) (parcel_ids r.parcels) rows)
   pub follows : OnOk answer (FollowsHistory h year r.parcels rows k shapes)
   -- its exact splits and merges are those of points, by the shapes of before and its own

@@ -26,7 +26,7 @@ use lpis_exact_lineage::{
 };
 use lpis_lineage::{Change, History, Row, accept};
 use lpis_parcels::{Parcel, Release};
-use lpis_register_rows::{changes_tell_what_is_written, fresh_ids, shapes_in};
+use lpis_register_rows::{changes_are_what_is_written, fresh_ids, shapes_in};
 use lpis_rings::Polygon;
 use std::alloc::{AllocError, Global};
 
@@ -89,7 +89,7 @@ fn step_of(
     let live = ids_of(alloc, release.parcels())?;
     let change = accept(alloc, history, live.as_slice(), rows)?;
     let fresh = fresh_ids(alloc, history, live.as_slice())?;
-    changes_tell_what_is_written();
+    changes_are_what_is_written();
     Ok(Step {
         live,
         change,

@@ -6,8 +6,8 @@ ghost use Rattle.lpis_register.specs.Opening.{IsOpened, IsUnopened};
 ghost use Rattle.lpis_register.specs.private.Commits.{OpensFound};
 
 use crate::fault::PublishFault;
-use crate::finding::find_told;
-use crate::opening::{Told, fault_of};
+use crate::finding::find_loaded;
+use crate::opening::{Loaded, fault_of};
 use crate::register::Register;
 use crate::settling::settle;
 use lpis_register_rows::{order_of_rows_is_free, texts_keep_one_list_of_shapes};
@@ -20,12 +20,12 @@ fn open_found<S: Alter>(
     alloc: Global,
     conn: &mut Connection<S>,
     found: &Found,
-) -> Result<Told, PublishFault>
+) -> Result<Loaded, PublishFault>
     requires autocommit { conn.old.in_transaction ≡ false }
     ensures autocommit { conn.new.in_transaction ≡ false }
     ensures opens { OpensFound found.now (state S.Store conn.old) (state S.Store conn.new) result }
 {
-    let (told, version) = find_told(alloc, conn, found)?;
+    let (told, version) = find_loaded(alloc, conn, found)?;
     settle(alloc, conn, found, version, &told.history)?;
     Ok(told)
 }
@@ -35,7 +35,7 @@ fn open_found<S: Alter>(
 pub(crate) fn open_tables<S: Alter>(
     alloc: Global,
     conn: &mut Connection<S>,
-) -> Result<Told, PublishFault>
+) -> Result<Loaded, PublishFault>
     requires autocommit { conn.old.in_transaction ≡ false }
     ensures autocommit { conn.new.in_transaction ≡ false }
     ensures opened { IfOk result (λ told. IsOpened (state S.Store conn.old)

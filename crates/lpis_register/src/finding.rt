@@ -6,19 +6,19 @@ ghost use Rattle.lpis_lineage.specs.declared.row.Entry.{Entry};
 ghost use Rattle.lpis_lineage.specs.Lineage.{last_live};
 ghost use Rattle.lpis_lineage.specs.Order.{IsAscending};
 ghost use Rattle.lpis_register_rows.specs.Shapes.{AreLive, ShapesAre, TextsStand, shape_ids};
-ghost use Rattle.lpis_register_rows.specs.Tells.{TablesSay};
+ghost use Rattle.lpis_register_rows.specs.Histories.{TablesHave};
 ghost use Rattle.lpis_register.specs.Faults.{IsOpeningFault};
-ghost use Rattle.lpis_register.specs.Opening.{SaysNone, SaysRegister, texts_at};
+ghost use Rattle.lpis_register.specs.Opening.{HasNoRegister, HasRegister, texts_at};
 ghost use Rattle.lpis_register.specs.private.Finding.{ReadsFound};
 ghost use Rattle.lpis_register.specs.declared.fault.PublishFault.TheVariants.{Unlawful};
 
 use crate::fault::PublishFault;
-use crate::opening::{Told, fault_of};
+use crate::opening::{Loaded, fault_of};
 use lpis_covers::Id;
 use lpis_lineage::History;
 use lpis_register_rows::{
     Rows, RowsFault, TextRow, Version, history_of, order_of_rows_is_free, shapes_of,
-    tables_say_one_history, texts_keep_one_list_of_shapes,
+    tables_have_one_history, texts_keep_one_list_of_shapes,
 };
 use lpis_register_sql::{Found, load_found, load_texts};
 use lpis_rings::Polygon;
@@ -27,9 +27,9 @@ use std::alloc::Global;
 
 /// The history of rows, and their version.
 fn history_at(alloc: Global, rows: &Rows) -> Result<(History, Version), PublishFault>
-    ensures says { IfOk result (λ found. TablesSay found.1 rows.now found.0) }
+    ensures says { IfOk result (λ found. TablesHave found.1 rows.now found.0) }
     ensures unlawful { IfErr result (λ e. e ≡ Unlawful → (version : _) (h : List Entry)
-        → TablesSay version rows.now h → ⊥) }
+        → TablesHave version rows.now h → ⊥) }
     ensures kinds { IfErr result IsOpeningFault }
 {
     match history_of(alloc, rows, Version::Third) {
@@ -57,8 +57,8 @@ pub(crate) fn find_rows<S: Alter>(
 ) -> Result<(History, Version), PublishFault>
     requires autocommit { conn.old.in_transaction ≡ false }
     ensures autocommit { conn.new.in_transaction ≡ false }
-    ensures finds { ReadsFound found.now (λ c it. TablesSay it.1 c it.0)
-        (λ c. (version : _) (h : _) → TablesSay version c h → ⊥)
+    ensures finds { ReadsFound found.now (λ c it. TablesHave it.1 c it.0)
+        (λ c. (version : _) (h : _) → TablesHave version c h → ⊥)
         (state S.Store conn.old) (state S.Store conn.new) result }
 {
     order_of_rows_is_free();
@@ -134,19 +134,19 @@ fn find_shapes<S: Alter>(
 }
 
 /// What the tables say, and their version.
-pub(crate) fn find_told<S: Alter>(
+pub(crate) fn find_loaded<S: Alter>(
     alloc: Global,
     conn: &mut Connection<S>,
     found: &Found,
-) -> Result<(Told, Version), PublishFault>
+) -> Result<(Loaded, Version), PublishFault>
     requires autocommit { conn.old.in_transaction ≡ false }
     ensures autocommit { conn.new.in_transaction ≡ false }
     ensures finds { ReadsFound found.now
-        (λ c it. SaysRegister it.1 c it.0.history it.0.shapes.items) SaysNone
+        (λ c it. HasRegister it.1 c it.0.history it.0.shapes.items) HasNoRegister
         (state S.Store conn.old) (state S.Store conn.new) result }
 {
-    tables_say_one_history();
+    tables_have_one_history();
     let (history, version) = find_rows(alloc, conn, found)?;
     let shapes = find_shapes(alloc, conn, found, version, &history)?;
-    Ok((Told { history, shapes }, version))
+    Ok((Loaded { history, shapes }, version))
 }

@@ -7,14 +7,14 @@ ghost use Rattle.lpis_exact_lineage.specs.ExactLineage.{ShapesTurnOnce};
 ghost use Rattle.lpis_exact_lineage.specs.Shapes.{shape_named};
 ghost use Rattle.lpis_lineage.specs.declared.row.Entry.{Entry};
 ghost use Rattle.lpis_register_rows.specs.Content.{Content};
-ghost use Rattle.lpis_register_rows.specs.Tells.{IsSameHistory, TablesSay};
+ghost use Rattle.lpis_register_rows.specs.Histories.{IsSameHistory, TablesHave};
 ghost use Rattle.lpis_register.specs.Calls.{AllLead, AreReleasesOf, Call, accepted};
 ghost use Rattle.lpis_register.specs.Histories.{HoldsRegister, LeavesRegister};
 ghost use Rattle.lpis_register_rows.specs.Shapes.{Shape};
 ghost use Rattle.lpis_register_rows.specs.declared.version.Version.{Version};
 
 use lpis_register_rows::{
-    order_of_rows_is_free, tables_say_one_history, texts_keep_one_list_of_shapes,
+    order_of_rows_is_free, tables_have_one_history, texts_keep_one_list_of_shapes,
 };
 use lpis_register_sql::a_database_holds_one_content;
 use sqlite::{Alter, Connection};
@@ -40,11 +40,11 @@ pub fn kept_shapes_turn_once()
 {}
 
 /// Rows say one history, whichever version they are of.
-pub fn rows_say_one_history()
+pub fn rows_have_one_history()
     ensures { (c : Content) (h k : List Entry) (version other : Version)
-        → TablesSay version c h → TablesSay other c k → IsSameHistory h k }
+        → TablesHave version c h → TablesHave other c k → IsSameHistory h k }
 {
-    tables_say_one_history();
+    tables_have_one_history();
 }
 
 /// While a database holds a history and shapes, a crash leaves tables that hold them, and nothing
@@ -67,5 +67,5 @@ pub fn a_database_holds_one_register<S: Alter>(conn: &Connection<S>)
     a_database_holds_one_content(conn);
     order_of_rows_is_free();
     texts_keep_one_list_of_shapes();
-    tables_say_one_history();
+    tables_have_one_history();
 }

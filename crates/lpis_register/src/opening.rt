@@ -15,7 +15,7 @@ use sqlite::{Error, ErrorCode};
 
 /// What tables say: a history, and the shapes that they keep.
 #[derive(Drop)]
-pub(crate) struct Told {
+pub(crate) struct Loaded {
     pub(crate) history: History,
     pub(crate) shapes: Vec<(Id, Polygon)>,
     ghost ascending: { IsAscending (shape_ids shapes.items) } by { Prim.hlevel props },

@@ -8,7 +8,7 @@ ghost use Rattle.lpis_register.specs.Histories.{ReadsHistory};
 
 use crate::fault::PublishFault;
 use crate::finding::find_rows;
-use crate::laws::rows_say_one_history;
+use crate::laws::rows_have_one_history;
 use lpis_covers::Id;
 use lpis_lineage::History;
 use lpis_register_sql::tables_in;
@@ -26,7 +26,7 @@ pub(crate) fn read_history<S: Alter>(
     ensures reads { (h : List Entry) (shapes : List Shape)
         → ReadsHistory (state S.Store conn.old) (state S.Store conn.new) h shapes result }
 {
-    rows_say_one_history();
+    rows_have_one_history();
     let found = tables_in(conn.schema());
     match find_rows(alloc, conn, &found) {
         Ok((history, _version)) => Ok(history),

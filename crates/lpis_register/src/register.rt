@@ -11,7 +11,7 @@ ghost use Rattle.lpis_parcels.specs.Release.{Contents};
 ghost use Rattle.lpis_register_rows.specs.Shapes.{shape_ids};
 ghost use Rattle.lpis_register.specs.Accepting.{IsAccepted, WasMadeFor};
 ghost use Rattle.lpis_register.specs.Failing.{FailsToStore, HasStoreCause};
-ghost use Rattle.lpis_register.specs.Faults.{IsStoreFault, PublishTells};
+ghost use Rattle.lpis_register.specs.Faults.{IsStoreFault, PublishRefuses};
 ghost use Rattle.lpis_register.specs.Histories.{IsTrace, IsUnknown, ReadsHistory};
 ghost use Rattle.lpis_register.specs.Publishing.{Publishes, Stores};
 ghost use Rattle.lpis_register.specs.declared.fault.PublishFault.TheVariants.{Memory, Store};
@@ -20,7 +20,7 @@ ghost use Rattle.lpis_register.specs.declared.fault.PublishFault.TheVariants.{St
 use crate::accepting::{Accepted, accept_release};
 use crate::committing::commit_release;
 use crate::fault::PublishFault;
-use crate::opening::Told;
+use crate::opening::Loaded;
 use crate::reading::{copied_shapes, read_history};
 use crate::tracing::trace;
 use lpis_cert::Cert;
@@ -48,13 +48,13 @@ pub struct Register<S: Alter> {
 
 impl<S: Alter> Register<S> {
     /// The register of a database whose tables say this.
-    pub(crate) fn of(alloc: Global, conn: Connection<S>, told: Told) -> Register<S>
+    pub(crate) fn of(alloc: Global, conn: Connection<S>, told: Loaded) -> Register<S>
         requires autocommit { conn.in_transaction ≡ false }
         ensures conn { result.conn ≡ conn }
         ensures history { result.history ≡ told.history }
         ensures shapes { result.shapes ≡ told.shapes }
     {
-        let Told { history, shapes } = told;
+        let Loaded { history, shapes } = told;
         Register {
             conn,
             history,
@@ -103,7 +103,7 @@ impl<S: Alter> Register<S> {
         rows: &[Row],
         cert: &Cert,
     ) -> Result<Accepted, PublishFault>
-        ensures tells { PublishTells self.now.history self.now.shapes.items year yes.now
+        ensures tells { PublishRefuses self.now.history self.now.shapes.items year yes.now
             cert.now.exact rows.now result }
         ensures made { IfOk result (IsAccepted self.now.history self.now.shapes.items year yes.now
             cert.now.exact rows.now) }

@@ -2,7 +2,7 @@
 
 ghost use Rattle.std.specs.Prelude.{◌≡◌, false};
 ghost use Rattle.sqlite.specs.Held.{state};
-ghost use Rattle.lpis_register_rows.specs.Tells.{SpansTell};
+ghost use Rattle.lpis_register_rows.specs.Histories.{AreSpansOf};
 ghost use Rattle.lpis_register.specs.private.Commits.{IsReported, Settles};
 ghost use Rattle.lpis_register_rows.specs.declared.version.Version.TheVariants.{First, Second};
 ghost use Rattle.lpis_register_rows.specs.declared.version.Version.TheVariants.{Third};
@@ -33,7 +33,7 @@ fn move_with<S: Alter>(
     rows: &[SpanRow],
 ) -> Result<(), PublishFault>
     requires autocommit { conn.old.in_transaction ≡ false }
-    requires spans { SpansTell rows.now history.now }
+    requires spans { AreSpansOf rows.now history.now }
     ensures autocommit { conn.new.in_transaction ≡ false }
     ensures settles { Settles found.now First history.now (state S.Store conn.old)
         (state S.Store conn.new) result }

@@ -8,12 +8,12 @@ pub use Rattle.lpis_lineage.specs.Spans.{first_held, last_held, span_of}
 pub use Rattle.lpis_lineage.specs.declared.row.Entry.{Entry}
 pub use Rattle.lpis_lineage.specs.declared.row.Row.{Row}
 pub use Rattle.lpis_register_rows.specs.Content.{Content, Line, Live, Mark, StoredSpan, lines_from, successor_text}
-pub use Rattle.lpis_register_rows.specs.Tells.{IsKeptHistory, IsSameHistory, IsSpanRow, LiveTells, SpansTell, TellsLive, TellsSpans, last_of_years, lineage_lines, marks_of, only_format, shown_span}
-pub use Rattle.lpis_register_rows.specs.Tells.{years_of}
+pub use Rattle.lpis_register_rows.specs.Histories.{IsKeptHistory, IsSameHistory, IsSpanRow, AreLiveOf, AreSpansOf, HasHistoryByLive, HasHistoryBySpans, last_of_years, lineage_lines, marks_of, only_format, shown_span}
+pub use Rattle.lpis_register_rows.specs.Histories.{years_of}
 pub use Rattle.lpis_register_rows.specs.declared.known.KnownLine.{KnownLine}
 pub use Rattle.lpis_register_rows.specs.declared.known.KnownSpan.{KnownSpan}
 pub use Rattle.lpis_register_rows.specs.private.Covering.{covers}
-pub use Rattle.lpis_register_rows.specs.private.Fronts.{SaysHistory}
+pub use Rattle.lpis_register_rows.specs.private.Fronts.{HasKnownHistory}
 pub use Rattle.lpis_register_rows.specs.private.Known.{HasText, SetsAre, all_live, known_from, known_of, line_in, one_year, span_in}
 pub use Rattle.lpis_register_rows.specs.private.Marking.{marks_in, walked}
 pub use Rattle.std.proofs.Math.Bool.{and-false}

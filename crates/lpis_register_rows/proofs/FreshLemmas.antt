@@ -6,7 +6,7 @@ use Rattle.std.specs.Cmp.Lexicographic.{nat_list_cmp_total, nat_list_eq_equiv, t
 use Rattle.std.proofs.lemmas.List.Elements.{All-contains}
 use Rattle.std.proofs.lemmas.List.Kept.{Contains-dedup, Contains-from_dedup, IsStrictlySortedBy-dedup}
 use Rattle.lpis_lineage.proofs.Shared.{has-filter}
-use Rattle.lpis_register_rows.specs.Tells.{AreFresh}
+use Rattle.lpis_register_rows.specs.Histories.{AreFresh}
 
 has-contained : (xs : List (List ℕ)) (q : List ℕ) → Contains xs q → has_id xs q ≡ true
 has-contained xs q there = All-contains (λ z. has_id xs z ≡ true) xs q (All-from_recursion (λ z. has_id xs z ≡ true) xs (among xs (λ z h. h))) there where

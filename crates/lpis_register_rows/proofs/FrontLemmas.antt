@@ -6,18 +6,18 @@ use Rattle.lpis_register_rows.proofs.Common.{AllByRecursion, list_any, map-appen
 use Rattle.lpis_register_rows.proofs.Common.{first_held}
 use Rattle.lpis_register_rows.proofs.Common.{last_held, span_of, entry-after, entry-before, entry-here, in-history, longer, before-at-after, take-at, KnownSpan}
 use Rattle.lpis_register_rows.proofs.Common.{KnownLine, StoredSpan, known_from, IsSameHistory}
-use Rattle.lpis_register_rows.proofs.Common.{known_of, years_of, covers, SaysHistory, span_in}
+use Rattle.lpis_register_rows.proofs.Common.{known_of, years_of, covers, HasKnownHistory, span_in}
 use Rattle.std.proofs.lemmas.List.{append-nil, append_assoc, append_cancel_left, length-take-le, get_or_default, take-append-le}
 use Rattle.lpis_lineage.specs.declared.fault.LineageFault.{LineageFault}
 use Rattle.lpis_lineage.specs.declared.fault.AddFault.{AddFault}
 use Rattle.lpis_lineage.specs.declared.fault.AddFault.TheVariants.{Memory as WantsMemory, Year, Lineage}
-use Rattle.lpis_lineage.specs.Accepts.{AddTells}
+use Rattle.lpis_lineage.specs.Accepts.{AddRefuses}
 use Rattle.lpis_lineage.specs.Faults.{faults, first}
 use Rattle.lpis_lineage.specs.Lawful.{IsAnswered}
 use Rattle.lpis_lineage.specs.declared.kind.Kind.{Kind}
 use Rattle.lpis_lineage.specs.declared.kind.Kind.TheVariants.{Kept, Ended}
 use Rattle.lpis_lineage.specs.ExactGroups.{MarksHold, is_outside}
-use Rattle.lpis_lineage.specs.Kinds.{by_counts, heirs, kind, predecessors, successors, id_times}
+use Rattle.lpis_lineage.specs.Kinds.{by_counts, named_successors, kind, predecessors, successors, id_times}
 use Rattle.lpis_lineage.specs.Lineage.{is_ended, is_row_of, last_year, same_row}
 use Rattle.lpis_lineage.proofs.Shared.{never-follows}
 use Rattle.lpis_register_rows.specs.private.Fronts.{IsDue, IsFront, IsRun}
@@ -65,7 +65,7 @@ kinds-alike l m a b rows last live = λ i id. one id i where
   one id =
       ap₂ (λ (x y : Bool). by id x y (list_any (λ s. nat_lt 1 (predecessors l a rows s)) (successors rows id))) (last id) (live id)
       ∙ ap (λ (z : Bool). by id (has_id m id) (has_id b id) z) (any-alike (λ s. nat_lt 1 (predecessors l a rows s)) (λ s. nat_lt 1 (predecessors m b rows s)) (successors rows id)
-      (λ s. ap₂ (λ (x y : Bool). nat_lt 1 (id_times (heirs rows) s + cond (x && y) 1 0)) (last s) (live s)))
+      (λ s. ap₂ (λ (x y : Bool). nat_lt 1 (id_times (named_successors rows) s + cond (x && y) 1 0)) (last s) (live s)))
 
 front-fits : (g h : List Entry) → IsFront g h → RowsFit h → RowsFit g
 front-fits g h f fit = record {
@@ -281,7 +281,7 @@ rows-cut y front rows others back whole read next n w r o =
       alike = append_cancel_left front (known_from (pos y) 0 others) mid (
           sym o ∙ r ∙ ap (take next) (w ∙ sym (append_assoc front mid back)) ∙ take-append-le next (front ++ mid) back (omega (arith, long)) ∙ take-whole (front ++ mid) next (omega (arith, long)))
 
-module _ (spans : List KnownSpan) (lines : List KnownLine) (g h : List Entry) (from year : ℕ) (said : SaysHistory spans lines h) (due : IsDue g lines from year h) (within : from ≤ length lines) where
+module _ (spans : List KnownSpan) (lines : List KnownLine) (g h : List Entry) (from year : ℕ) (said : HasKnownHistory spans lines h) (due : IsDue g lines from year h) (within : from ≤ length lines) where
   begins : from ≡ length (known_of g)
   begins = let e = ap length due.lines_are in let t = length-take-le from lines within in omega (arith, e, t)
 
@@ -326,9 +326,9 @@ module _ (spans : List KnownSpan) (lines : List KnownLine) (g h : List Entry) (f
       (front-lawful (g ++ e ∷ []) h f said.kept.lawful) (front-fits (g ++ e ∷ []) h f said.kept.fits)
 
 -- what `add` refuses was not due
-pub due-refused : (spans : List KnownSpan) (lines : List KnownLine) (g h : List Entry) (from year : ℕ) → SaysHistory spans lines h
+pub due-refused : (spans : List KnownSpan) (lines : List KnownLine) (g h : List Entry) (from year : ℕ) → HasKnownHistory spans lines h
     → IsDue g lines from year h → from ≤ length lines → (live : List (List ℕ)) (rows : List Row) (fault : AddFault)
-    → AreLive live year spans → rows ≡ (entry_at h (length g)).rows → AddTells {A = Unit {0}} g year live rows (Err fault) → (fault ≡ WantsMemory → ⊥) → ⊥
+    → AreLive live year spans → rows ≡ (entry_at h (length g)).rows → AddRefuses {A = Unit {0}} g year live rows (Err fault) → (fault ≡ WantsMemory → ⊥) → ⊥
 due-refused spans lines g h from year said due within live rows WantsMemory alive r t f = f refl
 due-refused spans lines g h from year said due within live rows (Year last) alive r t f = due-year spans lines g h from year said due within t.0
 due-refused spans lines g h from year said due within live rows (Lineage fault) alive r t f = due-fault spans lines g h from year said due within live rows fault alive r t.1
@@ -375,7 +375,7 @@ same-lines (x ∷ g) (y ∷ h) f n =
 same-lines _ _ f n = absurd (omega (arith, n))
 
 -- with no release left no line is left
-pub lines-whole : (spans : List KnownSpan) (lines : List KnownLine) (g h : List Entry) (from : ℕ) → SaysHistory spans lines h → IsFront g h
+pub lines-whole : (spans : List KnownSpan) (lines : List KnownLine) (g h : List Entry) (from : ℕ) → HasKnownHistory spans lines h → IsFront g h
     → length g ≡ length h → known_of g ≡ take from lines → from < length lines → ⊥
 lines-whole spans lines g h from said front n are lt = absurd (let e = ap length (are-same ∙ said.lines_are) in let a =
     ap length are in let t = length-take-le from lines (omega (arith, lt)) in omega (arith, e, a, t, lt)) where

@@ -3,7 +3,7 @@ use Rattle.std.proofs.Common.{◌≡◌, ◌∙◌, ◌<◌, refl, sym, ap, ap�
 use Rattle.std.proofs.Common.{All, Contains}
 use Rattle.lpis_register_rows.proofs.Common.{AllByRecursion, list_any, All-from_recursion, recursion_from_All, both_ways, is_id, same_id, Entry, IsLawful, entry_at, holds, same-exact}
 use Rattle.lpis_register_rows.proofs.Common.{same-refl}
-use Rattle.lpis_register_rows.proofs.Common.{above-zero, KnownLine, KnownSpan, Content, Live, StoredSpan, IsKeptHistory, LiveTells, TellsLive, years_of, covers, SaysHistory, SetsAre}
+use Rattle.lpis_register_rows.proofs.Common.{above-zero, KnownLine, KnownSpan, Content, Live, StoredSpan, IsKeptHistory, AreLiveOf, HasHistoryByLive, years_of, covers, HasKnownHistory, SetsAre}
 use Rattle.lpis_register_rows.proofs.Common.{known_of}
 use Rattle.lpis_register_rows.proofs.Common.{one_year, span_in}
 use Rattle.std.proofs.lemmas.List.Elements.{Contains-get_or}
@@ -13,12 +13,12 @@ use Rattle.lpis_register_rows.proofs.NextReleaseLemmas.{any-map}
 use Rattle.lpis_register_rows.proofs.OneHistoryLemmas.{same-index}
 
 -- live rows of a history that tables may state bear well-formed identifiers
-pub live-ids : (h : List Entry) (live : List Live) → IsKeptHistory h → LiveTells live h → All (λ l. is_id l.id ≡ true) live
+pub live-ids : (h : List Entry) (live : List Live) → IsKeptHistory h → AreLiveOf live h → All (λ l. is_id l.id ≡ true) live
 live-ids h live kept t k d lt = let r = t.right (get_or live k d) (Contains-get_or live k d lt) in kept.ids (get_or live k d).id r.0 r.3
 
 -- ---- sets
 
-live-sets : (h : List Entry) (live : List Live) → IsLawful h → LiveTells live h → SetsAre (map one_year live) h
+live-sets : (h : List Entry) (live : List Live) → IsLawful h → AreLiveOf live h → SetsAre (map one_year live) h
 live-sets h live law t i lt id = both_ways (holds h i id) (list_any (λ s. same_id id s.id && covers s (entry_at h i).year) (map one_year live)) to from where
   test : Live → Bool
   test l = same_id id l.id && covers (one_year l) (entry_at h i).year
@@ -44,8 +44,8 @@ live-sets h live law t i lt id = both_ways (holds h i id) (list_any (λ s. same_
       ap₂ (λ (k : ℕ) (q : List ℕ). holds h k q) (sym (same-index h law r.0 i r.1 lt same)) (same-exact id l.id (and_parts (same_id id l.id) (covers (one_year l) y) found.2).0) ∙ r.3
 
 -- spans read from the live rows of tables of version 1, and the history's lines, state the tables' history
-pub live-said : (c : Content) (h : List Entry) (spans : List KnownSpan) (lines : List KnownLine) → TellsLive c h
-    → map span_in spans ≡ map one_year c.live → known_of h ≡ lines → SaysHistory spans lines h
+pub live-said : (c : Content) (h : List Entry) (spans : List KnownSpan) (lines : List KnownLine) → HasHistoryByLive c h
+    → map span_in spans ≡ map one_year c.live → known_of h ≡ lines → HasKnownHistory spans lines h
 live-said c h spans lines t ss ls = record {
   kept = t.kept;
   sets = subst (λ (l : List StoredSpan). SetsAre l h) (sym ss) (live-sets h c.live t.kept.lawful t.live_are);
@@ -59,7 +59,7 @@ year-contained [] i lt = absurd (omega (arith, lt))
 year-contained (x ∷ h) zero lt = (0, omega arith, refl)
 year-contained (x ∷ h) (suc i) lt = let r = year-contained h i (omega (arith, lt)) in (suc r.0, (let l = r.1 in omega (arith, l)), r.2)
 
-all-years : (h : List Entry) (live : List Live) → LiveTells live h → All (λ l. Contains (years_of h) l.year) live
+all-years : (h : List Entry) (live : List Live) → AreLiveOf live h → All (λ l. Contains (years_of h) l.year) live
 all-years h live t k d lt = let r = t.right (get_or live k d) (Contains-get_or live k d lt) in subst (Contains (years_of h)) (sym r.2) (year-contained h r.0 r.1)
 
 since-years : (spans : List KnownSpan) (live : List Live) (ys : List ℤ) → map span_in spans ≡ map one_year live
@@ -69,7 +69,7 @@ since-years (s ∷ ss) (l ∷ ls) ys e all = (subst (Contains ys) (sym (ap since
 since-years _ _ ys e all = absurd cc
 
 -- where live rows state a history, each span read from them begins with one of its years
-pub live-years : (h : List Entry) (live : List Live) (spans : List KnownSpan) (ys : List ℤ) → LiveTells live h → map span_in spans ≡ map one_year live
+pub live-years : (h : List Entry) (live : List Live) (spans : List KnownSpan) (ys : List ℤ) → AreLiveOf live h → map span_in spans ≡ map one_year live
     → years_of h ≡ ys → All (λ s. Contains ys s.since) spans
 live-years h live spans ys t ss e = All-from_recursion (λ s. Contains ys s.since) spans
     (since-years spans live ys ss (subst (λ (l : List ℤ). AllByRecursion (λ m. Contains l m.year) live) e

@@ -3,7 +3,7 @@ use Rattle.std.proofs.Common.{◌≡◌, ◌∙◌, ◌<◌, ◌≤◌, ◌+◌,
 use Rattle.std.proofs.Common.{◌||◌, nat_eq, nat_le, All, Contains, int_eq}
 use Rattle.lpis_register_rows.proofs.Common.{AllByRecursion, list_any, nat_tests, map-append, All-from_recursion, All-push, recursion_from_All, is_id, same_id, Entry, IsLawful, RowsFit, entry_at}
 use Rattle.lpis_register_rows.proofs.Common.{holds}
-use Rattle.lpis_register_rows.proofs.Common.{in-history, same-exact, same-refl, take-at, above-zero, KnownSpan, KnownLine, Content, Live, StoredSpan, LiveTells, TellsLive, last_of_years}
+use Rattle.lpis_register_rows.proofs.Common.{in-history, same-exact, same-refl, take-at, above-zero, KnownSpan, KnownLine, Content, Live, StoredSpan, AreLiveOf, HasHistoryByLive, last_of_years}
 use Rattle.lpis_register_rows.proofs.Common.{only_format, years_of, covers, Mark, SetsAre, known_of, line_in, marks_in, marks_of, one_year, span_in}
 use Rattle.std.specs.Int.Signed.{le_z}
 use Rattle.std.proofs.lemmas.List.Elements.{All-contains}
@@ -59,7 +59,7 @@ covers-one m = grind (arith, nat_tests)
 pub live-row-covers : (l : Live) (m y : ℕ) → l.year ≡ pos m → covers (one_year l) y ≡ (nat_le m y && (nat_eq m 0 || nat_le y m))
 live-row-covers l m y e = ap (λ (z : ℤ). le_z z (pos y) && (int_eq z (pos 0) || le_z (pos y) z)) e ∙ covers-years (record { first = m; last = m }) y
 
-live-told : (h : List Entry) (live : List Live) → IsLawful h → SetsAre (map one_year live) h → ((l : Live) → Contains live l → Contains (years_of h) l.year) → LiveTells live h
+live-told : (h : List Entry) (live : List Live) → IsLawful h → SetsAre (map one_year live) h → ((l : Live) → Contains live l → Contains (years_of h) l.year) → AreLiveOf live h
 live-told h live law sets years = record { right = right; whole = whole } where
   test : List ℕ → ℕ → Live → Bool
   test id y l = same_id id l.id && covers (one_year l) y
@@ -110,7 +110,7 @@ pub live-says : (c : Content) (h : List Entry) (years : List ℕ) (spans : List 
     → AllByRecursion (λ y. y ≤ last_of_years) years → c.formats ≡ only_format 1
     → IsPermutation c.years (map (λ y. pos y) years) → map span_in spans ≡ map one_year c.live → All (λ s. is_id s.id ≡ true) spans → IsPermutation c.lines (map line_in lines)
     → years_of h ≡ map (λ y. pos y) years → SetsAre (map span_in spans) h → IsPermutation [] (marks_in lines) → known_of h ≡ lines
-    → All (λ s. Contains (map (λ y. pos y) years) s.since) spans → TellsLive c h
+    → All (λ s. Contains (map (λ y. pos y) years) s.since) spans → HasHistoryByLive c h
 live-says c h years spans lines law fit small formats ys ss ids ls years-are sets marks lines-are known = record {
   kept = kept-said h years spans law fit small ids years-are sets;
   formats_are = formats;

@@ -1,10 +1,10 @@
 -- Rows in another order; moving from version 1 to 3; tables with no release.
 use Rattle.std.proofs.Common.{◌≡◌, ◌∙◌, ◌↔◌, refl, sym, ap, subst, arith, ℕ, pos, zero, suc, List, [], ◌∷◌, length, map, IsPermutation, Contains}
-use Rattle.lpis_register_rows.proofs.Common.{IsPermutation-sym, Entry, Content, Live, Mark, StoredSpan, LiveTells, SpansTell, TellsLive, TellsSpans, only_format}
+use Rattle.lpis_register_rows.proofs.Common.{IsPermutation-sym, Entry, Content, Live, Mark, StoredSpan, AreLiveOf, AreSpansOf, HasHistoryByLive, HasHistoryBySpans, only_format}
 use Rattle.std.proofs.lemmas.List.{append-nil}
 use Rattle.std.proofs.lemmas.List.Sorted.{IsPermutation-refl, Contains-permutation, length_permutation}
 use Rattle.lpis_register_rows.specs.Content.{Format, at_version, moved, no_content, raised, without_live, without_spans, without_texts}
-use Rattle.lpis_register_rows.specs.Tells.{IsSameContent, TablesSay, Tells}
+use Rattle.lpis_register_rows.specs.Histories.{IsSameContent, TablesHave, HasHistory}
 use Rattle.lpis_register_rows.proofs.FoldLemmas.{rev-moved, rev_onto, whole-spans-made}
 use Rattle.lpis_register_rows.specs.declared.version.Version.{Version}
 use Rattle.lpis_register_rows.specs.declared.version.Version.TheVariants.{First, Second, Third}
@@ -30,7 +30,7 @@ one-format fs gs version m e = by gs (length_permutation fs gs m ∙ ap length e
   by (f ∷ []) n c = ap (λ (x : Format). x ∷ []) (same f (subst (λ (l : List Format). Contains l f) e (c f (0, omega arith, refl))))
   by _ n c = absurd (omega (arith, n))
 
-reordered-tells : (version : ℕ) (xs ys : List Mark) (c d : Content) (h : List Entry) → IsSameHistoryRows c d → IsPermutation xs ys → TellsSpans version xs c h → TellsSpans version ys d h
+reordered-tells : (version : ℕ) (xs ys : List Mark) (c d : Content) (h : List Entry) → IsSameHistoryRows c d → IsPermutation xs ys → HasHistoryBySpans version xs c h → HasHistoryBySpans version ys d h
 reordered-tells version xs ys c d h m ms t = record {
   kept = t.kept;
   formats_are = one-format c.formats d.formats version m.formats t.formats_are;
@@ -40,13 +40,13 @@ reordered-tells version xs ys c d h m ms t = record {
   marks_are = both-orders xs ys _ ms t.marks_are;
 }
 
-live-moved : (xs ys : List Live) (h : List Entry) → IsPermutation xs ys → LiveTells xs h → LiveTells ys h
+live-moved : (xs ys : List Live) (h : List Entry) → IsPermutation xs ys → AreLiveOf xs h → AreLiveOf ys h
 live-moved xs ys h m t = record {
   right = λ l there. t.right l (Contains-permutation ys xs l (IsPermutation-sym xs ys m) there);
   whole = λ id i held. Contains-permutation xs ys _ m (t.whole id i held);
 }
 
-reordered-tells-live : (c d : Content) (h : List Entry) → IsSameHistoryRows c d → IsPermutation c.live d.live → TellsLive c h → TellsLive d h
+reordered-tells-live : (c d : Content) (h : List Entry) → IsSameHistoryRows c d → IsPermutation c.live d.live → HasHistoryByLive c h → HasHistoryByLive d h
 reordered-tells-live c d h m live t = record {
   kept = t.kept;
   formats_are = one-format c.formats d.formats 1 m.formats t.formats_are;
@@ -56,13 +56,13 @@ reordered-tells-live c d h m live t = record {
   unmarked = t.unmarked;
 }
 
-reordered : (version : Version) (c d : Content) (h : List Entry) → IsSameHistoryRows c d → IsPermutation c.live d.live → IsPermutation c.marks d.marks → TablesSay version c h → TablesSay version d h
+reordered : (version : Version) (c d : Content) (h : List Entry) → IsSameHistoryRows c d → IsPermutation c.live d.live → IsPermutation c.marks d.marks → TablesHave version c h → TablesHave version d h
 reordered First c d h m live marks t = reordered-tells-live c d h m live t
 reordered Second c d h m live marks t = reordered-tells 2 [] [] c d h m (IsPermutation-refl []) t
 reordered Third c d h m live marks t = reordered-tells 3 c.marks d.marks c d h m marks t
 
 -- in each version, tables with the same rows in another order state the same history
-pub reordered-says : (version : Version) (c d : Content) (h : List Entry) → IsSameContent c d → TablesSay version c h → TablesSay version d h
+pub reordered-says : (version : Version) (c d : Content) (h : List Entry) → IsSameContent c d → TablesHave version c h → TablesHave version d h
 reordered-says version c d h m t = reordered version c d h (record { formats = m.formats; years = m.years; spans = m.spans; lines = m.lines }) m.live m.marks t
 
 back : (c d : Content) → IsSameHistoryRows c d → IsSameHistoryRows d c
@@ -74,7 +74,7 @@ back c d m = record {
 }
 
 -- in each version, tables state the same histories without their texts, in whatever order of rows
-pub textless-says : (version : Version) (c d : Content) (h : List Entry) → IsSameContent (without_texts c) d → TablesSay version c h ↔ TablesSay version d h
+pub textless-says : (version : Version) (c d : Content) (h : List Entry) → IsSameContent (without_texts c) d → TablesHave version c h ↔ TablesHave version d h
 textless-says version c d h m = (
   λ t. reordered version c d h rows m.live m.marks t,
   λ t. reordered version d c h (back c d rows) (IsPermutation-sym c.live d.live m.live) (IsPermutation-sym c.marks d.marks m.marks) t,
@@ -83,7 +83,7 @@ textless-says version c d h m = (
   rows = record { formats = m.formats; years = m.years; spans = m.spans; lines = m.lines }
 
 -- tables of version 3 state the same histories without texts and live rows, in whatever order of rows
-pub lifeless-tells : (c d : Content) (h : List Entry) → IsSameContent (without_texts (without_live c)) d → Tells c h ↔ Tells d h
+pub lifeless-tells : (c d : Content) (h : List Entry) → IsSameContent (without_texts (without_live c)) d → HasHistory c h ↔ HasHistory d h
 lifeless-tells c d h m = (
   λ t. reordered-tells 3 c.marks d.marks c d h rows m.marks t,
   λ t. reordered-tells 3 d.marks c.marks d c h (back c d rows) (IsPermutation-sym c.marks d.marks m.marks) t,
@@ -94,10 +94,10 @@ lifeless-tells c d h m = (
 -- ---- moving
 
 -- tables of version 1, moved to version 3 with the spans of their history, state that history
-pub moved-tells : (c : Content) (spans : List StoredSpan) (h : List Entry) → TellsLive c h → SpansTell spans h → Tells (moved spans c) h
+pub moved-tells : (c : Content) (spans : List StoredSpan) (h : List Entry) → HasHistoryByLive c h → AreSpansOf spans h → HasHistory (moved spans c) h
 moved-tells c spans h t s =
     let made = whole-spans-made spans (without_spans c) in
-    subst (λ (d : Content). Tells (raised (without_live d)) h) (sym made) (record {
+    subst (λ (d : Content). HasHistory (raised (without_live d)) h) (sym made) (record {
       kept = t.kept;
       formats_are = ap (λ (fs : List Format). map (at_version (pos 3)) fs) t.formats_are;
       years_are = t.years_are;
@@ -111,7 +111,7 @@ pub moved-texts : (c : Content) (spans : List StoredSpan) → (moved spans c).te
 moved-texts c spans = refl
 
 -- tables of version 2, raised to version 3, state the same history
-pub raised-tells : (c : Content) (h : List Entry) → TellsSpans 2 [] c h → Tells (raised c) h
+pub raised-tells : (c : Content) (h : List Entry) → HasHistoryBySpans 2 [] c h → HasHistory (raised c) h
 raised-tells c h t = record {
   kept = t.kept;
   formats_are = ap (λ (fs : List Format). map (at_version (pos 3)) fs) t.formats_are;
@@ -122,7 +122,7 @@ raised-tells c h t = record {
 }
 
 -- tables that were just made state the history with no release
-pub nothing-tells : Tells no_content []
+pub nothing-tells : HasHistory no_content []
 nothing-tells = record {
   kept = record {
     lawful = record {

@@ -4,15 +4,15 @@ use Rattle.std.proofs.Common.{nat_le, nat_eq, IsPermutation, int_eq}
 use Rattle.lpis_register_rows.proofs.Common.{AllByRecursion, list_any, nat_tests, both_ways, and-false, has_id, same_id, Entry, IsLawful, entry_at, holds}
 use Rattle.lpis_register_rows.proofs.Common.{span_of}
 use Rattle.lpis_register_rows.proofs.Common.{entry-after, in-history, same-exact, before-at-after, Content, Live, StoredSpan}
-use Rattle.lpis_register_rows.proofs.Common.{IsKeptHistory, IsSameHistory, IsSpanRow, LiveTells, SpansTell, TellsSpans}
-use Rattle.lpis_register_rows.proofs.Common.{TellsLive, lineage_lines, shown_span, years_of, covers, Mark, known_from, known_of, marks_of}
+use Rattle.lpis_register_rows.proofs.Common.{IsKeptHistory, IsSameHistory, IsSpanRow, AreLiveOf, AreSpansOf, HasHistoryBySpans}
+use Rattle.lpis_register_rows.proofs.Common.{HasHistoryByLive, lineage_lines, shown_span, years_of, covers, Mark, known_from, known_of, marks_of}
 use Rattle.std.specs.Int.Signed.{le_z}
 use Rattle.std.proofs.lemmas.Int.{ints}
 use Rattle.lpis_lineage.specs.declared.span.Span.{Span as Years}
 use Rattle.lpis_lineage.specs.Spans.{in_span}
 use Rattle.lpis_lineage.proofs.Shared.{span-tells}
 use Rattle.lpis_register_rows.proofs.AscendingLemmas.{Ascends, number_below, below-alone, same-ascending, both-orders}
-use Rattle.lpis_register_rows.specs.Tells.{TablesSay}
+use Rattle.lpis_register_rows.specs.Histories.{TablesHave}
 use Rattle.lpis_register_rows.specs.declared.version.Version.{Version}
 use Rattle.lpis_register_rows.specs.declared.version.Version.TheVariants.{First, Second, Third}
 use Rattle.lpis_register_rows.proofs.KnownRowLemmas.{known-above, rows-apart}
@@ -51,7 +51,7 @@ row-covers h law s is i lt = by (span_of h s.id) refl is where
       ∙ covers-years y year ∙ span-tells h law s.id y (sym eo) i lt
 
 -- the identifiers of a release are those whose row covers its year
-pub sets-told : (h : List Entry) (spans : List StoredSpan) → IsLawful h → SpansTell spans h → (i : ℕ) → i < length h → (id : List ℕ)
+pub sets-told : (h : List Entry) (spans : List StoredSpan) → IsLawful h → AreSpansOf spans h → (i : ℕ) → i < length h → (id : List ℕ)
     → holds h i id ≡ list_any (λ s. same_id id s.id && covers s (entry_at h i).year) spans
 sets-told h spans law t i lt id = sym (with-test spans t.right ∙ by (list_any (λ s. same_id id s.id) spans) refl (holds h i id) refl) where
   one : (s : StoredSpan) → IsSpanRow h s → (b : Bool) → b ≡ same_id id s.id → (same_id id s.id && covers s (entry_at h i).year) ≡ (same_id id s.id && holds h i id)
@@ -120,7 +120,7 @@ same-history c h k kept also_kept h_years k_years h_lines k_lines ms h_marks k_m
     let alike = same-years h k years in
     record { lengths = alike.0; years = alike.1; sets = sets alike.0 alike.1; rows = same-rows h k years up also (known-same h k kept also_kept lines marks) }
 
-one-spans-history : (version : ℕ) (ms : List Mark) (c : Content) (h k : List Entry) → TellsSpans version ms c h → TellsSpans version ms c k → IsSameHistory h k
+one-spans-history : (version : ℕ) (ms : List Mark) (c : Content) (h k : List Entry) → HasHistoryBySpans version ms c h → HasHistoryBySpans version ms c k → IsSameHistory h k
 one-spans-history version ms c h k s t = same-history c h k s.kept t.kept s.years_are t.years_are s.lines_are t.lines_are ms s.marks_are t.marks_are sets where
   beyond : (l : List Entry) (i : ℕ) (id : List ℕ) → length l ≤ i → holds l i id ≡ false
   beyond l i id le = ap (λ (e : Entry). has_id e.live id) (entry-after l i le)
@@ -151,7 +151,7 @@ nat-of : (m n : ℕ) → pos m ≡ pos n → m ≡ n
 nat-of m n e = cc
 
 -- what one of them holds the other holds
-live-held : (h k : List Entry) (live : List Live) → LiveTells live h → LiveTells live k → IsLawful k → length h ≡ length k
+live-held : (h k : List Entry) (live : List Live) → AreLiveOf live h → AreLiveOf live k → IsLawful k → length h ≡ length k
     → ((i : ℕ) → (entry_at h i).year ≡ (entry_at k i).year) → (i : ℕ) (id : List ℕ) → holds h i id ≡ true → holds k i id ≡ true
 live-held h k live a b law lengths years i id held =
     let at = b.right _ (a.whole id i held) in
@@ -160,14 +160,14 @@ live-held h k live a b law lengths years i id held =
     let same = same-index k law i at.0 (omega (arith, lt, lengths)) at.1 year in
     ap (λ (n : ℕ). holds k n id) same ∙ at.3
 
-one-live-history : (c : Content) (h k : List Entry) → TellsLive c h → TellsLive c k → IsSameHistory h k
+one-live-history : (c : Content) (h k : List Entry) → HasHistoryByLive c h → HasHistoryByLive c k → IsSameHistory h k
 one-live-history c h k s t = same-history c h k s.kept t.kept s.years_are t.years_are s.lines_are t.lines_are [] (no-marks h s.unmarked) (no-marks k t.unmarked)
     (λ n years i id. both_ways (holds h i id) (holds k i id)
     (live-held h k c.live s.live_are t.live_are t.kept.lawful n years i id)
     (live-held k h c.live t.live_are s.live_are s.kept.lawful (sym n) (λ j. sym (years j)) i id))
 
 -- two histories that the same tables state, in any one version, are the same
-pub one-history : (version : Version) (c : Content) (h k : List Entry) → TablesSay version c h → TablesSay version c k → IsSameHistory h k
+pub one-history : (version : Version) (c : Content) (h k : List Entry) → TablesHave version c h → TablesHave version c k → IsSameHistory h k
 one-history First c h k s t = one-live-history c h k s t
 one-history Second c h k s t = one-spans-history 2 [] c h k s t
 one-history Third c h k s t = one-spans-history 3 c.marks c h k s t

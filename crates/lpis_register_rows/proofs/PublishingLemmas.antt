@@ -5,7 +5,7 @@ use Rattle.lpis_register_rows.proofs.Common.{AllByRecursion, list_any, slice_cmp
 use Rattle.lpis_register_rows.proofs.Common.{IsLawful}
 use Rattle.lpis_register_rows.proofs.Common.{RowsFit, entry_at, holds, last_live, first_held, last_held, span_of, entry-after, entry-before, entry-here}
 use Rattle.lpis_register_rows.proofs.Common.{same-exact, same-refl, filter-none, longer, before-at-after}
-use Rattle.lpis_register_rows.proofs.Common.{Content, Line, StoredSpan, lines_from, IsKeptHistory, IsSpanRow, Mark, SpansTell, TellsSpans, last_of_years, lineage_lines, marks_of, shown_span, years_of}
+use Rattle.lpis_register_rows.proofs.Common.{Content, Line, StoredSpan, lines_from, IsKeptHistory, IsSpanRow, Mark, AreSpansOf, HasHistoryBySpans, last_of_years, lineage_lines, marks_of, shown_span, years_of}
 use Rattle.std.specs.List.Sorted.{IsStrictlySortedBy}
 use Rattle.std.proofs.lemmas.List.{append-nil, append_assoc}
 use Rattle.std.proofs.lemmas.List.Sorted.{IsPermutation-cons, IsPermutation-to_front, IsPermutation-append_right, IsPermutation-append_comm}
@@ -21,7 +21,7 @@ use Rattle.lpis_country_rows.specs.Equality.{same_polygon}
 use Rattle.lpis_points.specs.Chain.{IsEquality}
 use Rattle.lpis_register_rows.specs.Shapes.{AreLive, IsLive, IsSpelled, Shape, ShapesAre, shape_ids, text_edits}
 use Rattle.lpis_register_rows.specs.Content.{StoredText, TextEdit, Deletes, Replaces, Inserts, edited, published, released, with_mark, with_marks, with_replaced, with_text, without_text, marks_from}
-use Rattle.lpis_register_rows.specs.Tells.{IsWriting, Tells}
+use Rattle.lpis_register_rows.specs.Histories.{IsWriting, HasHistory}
 use Rattle.lpis_register_rows.proofs.AscendingLemmas.{all-append, all-map}
 use Rattle.lpis_register_rows.proofs.EditLemmas.{shapes-follow}
 use Rattle.lpis_register_rows.proofs.FoldLemmas.{end_among, fresh_span, published-is, rev-moved, rev_onto}
@@ -208,7 +208,7 @@ once-ascending id (x ∷ xs) a = by (same_id id x) refl (once-ascending id xs a.
 
 spans-told : (spans : List StoredSpan) (h : List Entry) (e : Entry) (live gone fresh : List (List ℕ))
     → Follows h e.live e.rows → ((q : List ℕ) → has_id e.live q ≡ has_id live q) → IsWriting h live gone fresh
-    → SpansTell spans h → SpansTell (rev_onto (map (fresh_span (pos e.year)) fresh) (map (end_among (pos (last_year h)) gone) spans)) (h ++ e ∷ [])
+    → AreSpansOf spans h → AreSpansOf (rev_onto (map (fresh_span (pos e.year)) fresh) (map (end_among (pos (last_year h)) gone) spans)) (h ++ e ∷ [])
 spans-told spans h e live gone fresh follows alike w t = spans-moved (new ++ old) (rev_onto new old) (h ++ e ∷ []) (rev-moved new old) (record { once = once; right = right; whole = whole }) where
   new : List StoredSpan
   new = map (fresh_span (pos e.year)) fresh
@@ -263,19 +263,19 @@ spans-told spans h e live gone fresh follows alike w t = spans-moved (new ++ old
 
 -- the law, but for the marks
 published-tells : (c : Content) (h k : List Entry) (year : ℕ) (live gone fresh : List (List ℕ)) (rows : List Row)
-    → Tells c h → Adds h k year live rows → IsLawful k → RowsFit k → year ≤ last_of_years → IsWriting h live gone fresh
-    → TellsSpans 3 (rev_onto (marks_from (pos year) 0 rows) c.marks) (published (pos year) (pos (last_year h)) gone fresh rows c) k
+    → HasHistory c h → Adds h k year live rows → IsLawful k → RowsFit k → year ≤ last_of_years → IsWriting h live gone fresh
+    → HasHistoryBySpans 3 (rev_onto (marks_from (pos year) 0 rows) c.marks) (published (pos year) (pos (last_year h)) gone fresh rows c) k
 published-tells c h k year live gone fresh rows t (e, k-is, year-is, is) law fit small w =
     by (subst IsLawful k-is law) (subst RowsFit k-is fit) where
       last : ℤ
       last = pos (last_year h)
 
       at : IsLawful (h ++ e ∷ []) → RowsFit (h ++ e ∷ []) → e.year ≤ last_of_years
-          → TellsSpans 3 (rev_onto (marks_from (pos e.year) 0 e.rows) c.marks) (published (pos e.year) last gone fresh e.rows c) (h ++ e ∷ [])
+          → HasHistoryBySpans 3 (rev_onto (marks_from (pos e.year) 0 e.rows) c.marks) (published (pos e.year) last gone fresh e.rows c) (h ++ e ∷ [])
       at law fit small =
           let follows = follows-back h e law fit in
           let ms : List Mark = rev_onto (marks_from (pos e.year) 0 e.rows) c.marks in
-          subst (λ (d : Content). TellsSpans 3 ms d (h ++ e ∷ [])) (sym (published-is (pos e.year) last gone fresh e.rows c)) (record {
+          subst (λ (d : Content). HasHistoryBySpans 3 ms d (h ++ e ∷ [])) (sym (published-is (pos e.year) last gone fresh e.rows c)) (record {
             kept = kept-more h e live gone fresh t.kept law fit small is.ids w;
             formats_are = t.formats_are;
             years_are = years-told c.years h e t.years_are;
@@ -285,18 +285,18 @@ published-tells c h k year live gone fresh rows t (e, k-is, year-is, is) law fit
           })
 
       by : IsLawful (h ++ e ∷ []) → RowsFit (h ++ e ∷ [])
-          → TellsSpans 3 (rev_onto (marks_from (pos year) 0 rows) c.marks) (published (pos year) last gone fresh rows c) k
+          → HasHistoryBySpans 3 (rev_onto (marks_from (pos year) 0 rows) c.marks) (published (pos year) last gone fresh rows c) k
       by law fit =
-          subst (λ (l : List Entry). TellsSpans 3 (rev_onto (marks_from (pos year) 0 rows) c.marks) (published (pos year) last gone fresh rows c) l) (sym k-is) (
-          subst (λ (y : ℕ). TellsSpans 3 (rev_onto (marks_from (pos y) 0 rows) c.marks) (published (pos y) last gone fresh rows c) (h ++ e ∷ [])) year-is (
-          subst (λ (rs : List Row). TellsSpans 3 (rev_onto (marks_from (pos e.year) 0 rs) c.marks) (published (pos e.year) last gone fresh rs c) (h ++ e ∷ []))
+          subst (λ (l : List Entry). HasHistoryBySpans 3 (rev_onto (marks_from (pos year) 0 rows) c.marks) (published (pos year) last gone fresh rows c) l) (sym k-is) (
+          subst (λ (y : ℕ). HasHistoryBySpans 3 (rev_onto (marks_from (pos y) 0 rows) c.marks) (published (pos y) last gone fresh rows c) (h ++ e ∷ [])) year-is (
+          subst (λ (rs : List Row). HasHistoryBySpans 3 (rev_onto (marks_from (pos e.year) 0 rs) c.marks) (published (pos e.year) last gone fresh rs c) (h ++ e ∷ []))
           is.rows_are (at law fit (omega (arith, small, year-is)))))
 
 marks-made : (ms : List Mark) (c : Content) → with_marks ms c ≡ record c { marks = rev_onto ms c.marks }
 marks-made [] c = refl
 marks-made (m ∷ ms) c = marks-made ms (with_mark c m)
 
-with-texts : (c : Content) (h : List Entry) (texts : List StoredText) → Tells c h → Tells (record c { texts = texts }) h
+with-texts : (c : Content) (h : List Entry) (texts : List StoredText) → HasHistory c h → HasHistory (record c { texts = texts }) h
 with-texts c h texts t = record {
   kept = t.kept;
   formats_are = t.formats_are;
@@ -307,15 +307,15 @@ with-texts c h texts t = record {
 }
 
 -- tables tell the same of a history, whatever their texts
-edited-tells : (c : Content) (h : List Entry) (edits : List TextEdit) → Tells c h → Tells (edited edits c) h
+edited-tells : (c : Content) (h : List Entry) (edits : List TextEdit) → HasHistory c h → HasHistory (edited edits c) h
 edited-tells c h [] t = t
 edited-tells c h (Deletes id ∷ edits) t = edited-tells (without_text c id) h edits (with-texts c h (without_text c id).texts t)
 edited-tells c h (Replaces new ∷ edits) t = edited-tells (with_replaced c new) h edits (with-texts c h (with_replaced c new).texts t)
 edited-tells c h (Inserts new ∷ edits) t = edited-tells (with_text c new) h edits (with-texts c h (with_text c new).texts t)
 
 -- marks, and what becomes of texts
-released-tells : (c : Content) (h : List Entry) (edits : List TextEdit) (marks : List Mark) → TellsSpans 3 (rev_onto marks c.marks) c h → Tells (released edits marks c) h
-released-tells c h edits marks t = edited-tells (with_marks marks c) h edits (subst (λ (d : Content). Tells d h) (sym (marks-made marks c)) (record {
+released-tells : (c : Content) (h : List Entry) (edits : List TextEdit) (marks : List Mark) → HasHistoryBySpans 3 (rev_onto marks c.marks) c h → HasHistory (released edits marks c) h
+released-tells c h edits marks t = edited-tells (with_marks marks c) h edits (subst (λ (d : Content). HasHistory d h) (sym (marks-made marks c)) (record {
   kept = t.kept;
   formats_are = t.formats_are;
   years_are = t.years_are;
@@ -326,13 +326,13 @@ released-tells c h edits marks t = edited-tells (with_marks marks c) h edits (su
 
 -- the law
 pub publishing-tells : (c : Content) (h k : List Entry) (year : ℕ) (live gone fresh : List (List ℕ)) (rows : List Row)
-    → Tells c h → Adds h k year live rows → IsLawful k → RowsFit k → year ≤ last_of_years → IsWriting h live gone fresh → (edits : List TextEdit)
-    → Tells (released edits (marks_from (pos year) 0 rows) (published (pos year) (pos (last_year h)) gone fresh rows c)) k
+    → HasHistory c h → Adds h k year live rows → IsLawful k → RowsFit k → year ≤ last_of_years → IsWriting h live gone fresh → (edits : List TextEdit)
+    → HasHistory (released edits (marks_from (pos year) 0 rows) (published (pos year) (pos (last_year h)) gone fresh rows c)) k
 publishing-tells c h k year live gone fresh rows t adds law fit small w edits =
     let d : Content = published (pos year) (pos (last_year h)) gone fresh rows c in
     let ms : List Mark = marks_from (pos year) 0 rows in
     let same : c.marks ≡ d.marks = ap (λ (x : Content). x.marks) (sym (published-is (pos year) (pos (last_year h)) gone fresh rows c)) in
-    released-tells d k edits ms (subst (λ (l : List Mark). TellsSpans 3 (rev_onto ms l) d k) same (published-tells c h k year live gone fresh rows t adds law fit small w))
+    released-tells d k edits ms (subst (λ (l : List Mark). HasHistoryBySpans 3 (rev_onto ms l) d k) same (published-tells c h k year live gone fresh rows t adds law fit small w))
 
 -- after a release the texts keep its shapes
 pub released-texts : IsEquality same_polygon → (c : Content) (kept shapes : List Shape) (year last : ℕ) (gone fresh : List (List ℕ)) (rows : List Row) → ShapesAre c.texts kept

@@ -3,9 +3,9 @@ use Rattle.std.proofs.Common.{◌≡◌, ◌∙◌, ◌≤◌, ◌+◌, ◌⊎�
 use Rattle.std.proofs.Common.{IsSorted, All, filter, nat_cmp}
 use Rattle.lpis_register_rows.proofs.Common.{AllByRecursion, list_any, All-from_recursion, All-permutation, IsPermutation-sym, or_left, or_right, is_id, same_id, Entry, Row, entry_at, names_successor}
 use Rattle.lpis_register_rows.proofs.Common.{span_of}
-use Rattle.lpis_register_rows.proofs.Common.{same-refl, above-zero, KnownLine, KnownSpan, Content, Line, StoredSpan, lines_from, successor_text, IsKeptHistory, IsSameHistory, IsSpanRow, SpansTell}
-use Rattle.lpis_register_rows.proofs.Common.{TellsSpans, lineage_lines, shown_span}
-use Rattle.lpis_register_rows.proofs.Common.{years_of, SaysHistory, Mark, SetsAre, known_of, span_in}
+use Rattle.lpis_register_rows.proofs.Common.{same-refl, above-zero, KnownLine, KnownSpan, Content, Line, StoredSpan, lines_from, successor_text, IsKeptHistory, IsSameHistory, IsSpanRow, AreSpansOf}
+use Rattle.lpis_register_rows.proofs.Common.{HasHistoryBySpans, lineage_lines, shown_span}
+use Rattle.lpis_register_rows.proofs.Common.{years_of, HasKnownHistory, Mark, SetsAre, known_of, span_in}
 use Rattle.lpis_lineage.specs.declared.span.Span.{Span as Years}
 use Rattle.lpis_lineage.specs.Lineage.{is_row_of, is_this}
 use Rattle.lpis_register_rows.specs.private.Known.{IsReadable, IsReleaseYear}
@@ -41,7 +41,7 @@ told-sorted-years h ys sorted kept up p q = sorted-years ys sorted (years_of h) 
 -- ---- spans
 
 -- rows of spans of a history that tables may state bear well-formed identifiers
-pub told-ids : (h : List Entry) (spans : List StoredSpan) → IsKeptHistory h → SpansTell spans h → All (λ s. is_id s.id ≡ true) spans
+pub told-ids : (h : List Entry) (spans : List StoredSpan) → IsKeptHistory h → AreSpansOf spans h → All (λ s. is_id s.id ≡ true) spans
 told-ids h spans kept t = All-from_recursion (λ s. is_id s.id ≡ true) spans
     (all-map (IsSpanRow h) (λ s. is_id s.id ≡ true) spans (λ s is. let there =
     span-in-release h s.id (some (span_of h s.id) (s.since, s.until) is) in kept.ids s.id there.0 there.1) t.right) where
@@ -86,8 +86,8 @@ readable-lines h ls kept p =
 -- ---- all that was read
 
 -- spans read from tables with spans, and the history's lines, state the tables' history
-pub told-said : {version : ℕ} {ms : List Mark} (c : Content) (h : List Entry) (spans : List KnownSpan) (lines : List KnownLine) → TellsSpans version ms c h → map span_in spans ≡ c.spans
-    → known_of h ≡ lines → SaysHistory spans lines h
+pub told-said : {version : ℕ} {ms : List Mark} (c : Content) (h : List Entry) (spans : List KnownSpan) (lines : List KnownLine) → HasHistoryBySpans version ms c h → map span_in spans ≡ c.spans
+    → known_of h ≡ lines → HasKnownHistory spans lines h
 told-said c h spans lines t ss ls = record {
   kept = t.kept;
   sets = subst (λ (l : List StoredSpan). SetsAre l h) (sym ss) (sets-told h c.spans t.kept.lawful t.spans_are);
@@ -95,7 +95,7 @@ told-said c h spans lines t ss ls = record {
 }
 
 -- among spans read from rows that state a history no identifier has two
-pub told-few : (h : List Entry) (spans : List KnownSpan) (rows : List StoredSpan) → map span_in spans ≡ rows → SpansTell rows h → (id : List ℕ) → length (filter (λ s. same_id id s.id) spans) ≤ 1
+pub told-few : (h : List Entry) (spans : List KnownSpan) (rows : List StoredSpan) → map span_in spans ≡ rows → AreSpansOf rows h → (id : List ℕ) → length (filter (λ s. same_id id s.id) spans) ≤ 1
 told-few h spans rows ss t id = let m = count-map spans id in let e = ap (λ (l : List StoredSpan). length (filter (λ s. same_id id s.id) l)) ss in let o = t.once id in omega (arith, m, e, o)
 
 right-back : (g h : List Entry) (spans : List KnownSpan) → IsSameHistory g h → AllByRecursion (IsSpanRow h) (map span_in spans) → AllByRecursion (λ s. IsSpanRow g (span_in s)) spans
@@ -103,6 +103,6 @@ right-back g h [] same all = tt
 right-back g h (s ∷ ss) same all = (ap shown_span (span-same g h s.id same) ∙ all.0, right-back g h ss same all.1)
 
 -- spans read from rows that state a history are right in any history that is the same
-pub told-right : (g h : List Entry) (spans : List KnownSpan) (rows : List StoredSpan) → map span_in spans ≡ rows → SpansTell rows h → IsSameHistory g h → All (λ s. IsSpanRow g (span_in s)) spans
+pub told-right : (g h : List Entry) (spans : List KnownSpan) (rows : List StoredSpan) → map span_in spans ≡ rows → AreSpansOf rows h → IsSameHistory g h → All (λ s. IsSpanRow g (span_in s)) spans
 told-right g h spans rows ss t same = All-from_recursion (λ s. IsSpanRow g (span_in s)) spans
     (right-back g h spans same (subst (λ (l : List StoredSpan). AllByRecursion (IsSpanRow h) l) (sym ss) t.right))

@@ -2,7 +2,7 @@
 use Rattle.std.proofs.Common.{◌≡◌, ◌∙◌, ◌≤◌, refl, sym, ap, subst, arith, ℕ, zero, suc, ℤ, pos, List, [], ◌∷◌, Bool, true, false, cond, length, map, IsPermutation, ◌&&◌, ◌||◌, All, filter}
 use Rattle.lpis_register_rows.proofs.Common.{AllByRecursion, list_any, recursion_from_All, is_id, same_id, Entry, IsLawful, RowsFit, entry_at, holds, in-history, same-exact, KnownSpan, KnownLine}
 use Rattle.lpis_register_rows.proofs.Common.{Content}
-use Rattle.lpis_register_rows.proofs.Common.{StoredSpan, IsKeptHistory, IsSpanRow, SpansTell, TellsSpans, last_of_years, lineage_lines, only_format, years_of, covers, Line, Mark, SetsAre, known_of}
+use Rattle.lpis_register_rows.proofs.Common.{StoredSpan, IsKeptHistory, IsSpanRow, AreSpansOf, HasHistoryBySpans, last_of_years, lineage_lines, only_format, years_of, covers, Line, Mark, SetsAre, known_of}
 use Rattle.lpis_register_rows.proofs.Common.{line_in, marks_in, marks_of, span_in}
 use Rattle.lpis_register_rows.proofs.MarkLemmas.{lines-in, marks-in}
 
@@ -79,12 +79,12 @@ pub rows-say-history : (version : ℕ) (ms : List Mark) (c : Content) (h : List 
     → AllByRecursion (λ y. y ≤ last_of_years) years → c.formats ≡ only_format version
     → IsPermutation c.years (map (λ y. pos y) years) → map span_in spans ≡ c.spans → All (λ s. is_id s.id ≡ true) spans → ((id : List ℕ) → length (filter (λ s. same_id id s.id) spans) ≤ 1)
     → IsPermutation c.lines (map line_in lines) → years_of h ≡ map (λ y. pos y) years → SetsAre (map span_in spans) h
-    → IsPermutation ms (marks_in lines) → known_of h ≡ lines → All (λ s. IsSpanRow h (span_in s)) spans → TellsSpans version ms c h
+    → IsPermutation ms (marks_in lines) → known_of h ≡ lines → All (λ s. IsSpanRow h (span_in s)) spans → HasHistoryBySpans version ms c h
 rows-say-history version ms c h years spans lines law fit small formats ys ss ids once ls years-are sets marks lines-are right = record {
   kept = kept-said h years spans law fit small ids years-are sets;
   formats_are = formats;
   years_are = subst (IsPermutation c.years) (sym years-are) ys;
-  spans_are = subst (λ (l : List StoredSpan). SpansTell l h) ss (record {
+  spans_are = subst (λ (l : List StoredSpan). AreSpansOf l h) ss (record {
     once = λ id. let e = count-map spans id in let o = once id in omega (arith, e, o);
     right = right-map h spans (recursion_from_All (λ s. IsSpanRow h (span_in s)) spans right);
     whole = spanned;

@@ -3,7 +3,7 @@ use Rattle.std.proofs.Common.{◌≡◌, ◌∙◌, ◌<◌, ◌+◌, refl, sym,
 use Rattle.std.proofs.Common.{◌||◌, is_some, IsSorted, All, filter, nat_cmp}
 use Rattle.lpis_register_rows.proofs.Common.{list_any, slice_cmp, All-push, recursion_from_All, list_any-IsPermutation, has_id, same_id, Entry, holds, last_live, first_held, last_held, span_of}
 use Rattle.lpis_register_rows.proofs.Common.{same-refl}
-use Rattle.lpis_register_rows.proofs.Common.{take-at, StoredSpan, IsSpanRow, SpansTell, all_live}
+use Rattle.lpis_register_rows.proofs.Common.{take-at, StoredSpan, IsSpanRow, AreSpansOf, all_live}
 use Rattle.std.specs.List.{dedup}
 use Rattle.std.specs.Cmp.Lexicographic.{nat_list_cmp_total, texts_ties}
 use Rattle.std.proofs.lemmas.List.{append-nil, append_assoc}
@@ -78,7 +78,7 @@ sorted-has h found sorted q is moved = has-dedup sorted q ∙ sym (list_any-IsPe
 
 -- rows that are the spans of all releases' identifiers, sorted and each once, are those of the history
 pub spans-listed : (h : List Entry) (found sorted : List (List ℕ)) (rows : List StoredSpan) → found ≡ all_live h → IsPermutation found sorted → IsSorted (slice_cmp nat_cmp) sorted
-    → map (λ (s : StoredSpan). s.id) rows ≡ dedup same_id sorted → All (IsSpanRow h) rows → SpansTell rows h
+    → map (λ (s : StoredSpan). s.id) rows ≡ dedup same_id sorted → All (IsSpanRow h) rows → AreSpansOf rows h
 spans-listed h found sorted rows is moved up ids right = record {
   once = λ id. let c = count-ids rows id in let e = ap (λ (l : List (List ℕ)). length (filter (same_id id) l)) ids in
       let o = once-ascending id (dedup same_id sorted) (IsStrictlySortedBy-dedup nat_list_cmp_total texts_ties sorted

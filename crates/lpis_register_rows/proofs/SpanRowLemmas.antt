@@ -1,6 +1,6 @@
 -- Rows of spans against a history.
 use Rattle.std.proofs.Common.{◌≡◌, ◌∙◌, refl, sym, ap, arith, ℕ, ℤ, List, [], ◌∷◌, Bool, true, false, length, Option, None, Some, IsPermutation, ◌||◌, is_some, filter}
-use Rattle.lpis_register_rows.proofs.Common.{AllByRecursion, list_any, list_any-IsPermutation, same_id, Entry, span_of, same-exact, StoredSpan, IsSpanRow, SpansTell, shown_span}
+use Rattle.lpis_register_rows.proofs.Common.{AllByRecursion, list_any, list_any-IsPermutation, same_id, Entry, span_of, same-exact, StoredSpan, IsSpanRow, AreSpansOf, shown_span}
 use Rattle.std.proofs.lemmas.List.Sums.{length-filter}
 use Rattle.std.proofs.lemmas.List.Sorted.{sum_by-IsPermutation}
 use Rattle.lpis_lineage.specs.declared.span.Span.{Span as Years}
@@ -11,7 +11,7 @@ pub count-moved : {A : Type 0} (p : A → Bool) (xs ys : List A) → IsPermutati
 count-moved p xs ys m = length-filter p ys ∙ sum_by-IsPermutation _ xs ys m ∙ sym (length-filter p xs)
 
 -- rows in another order tell the same
-pub spans-moved : (xs ys : List StoredSpan) (h : List Entry) → IsPermutation xs ys → SpansTell xs h → SpansTell ys h
+pub spans-moved : (xs ys : List StoredSpan) (h : List Entry) → IsPermutation xs ys → AreSpansOf xs h → AreSpansOf ys h
 spans-moved xs ys h m t = record {
   once = λ id. let e = count-moved (λ (s : StoredSpan). same_id id s.id) xs ys m in let o = t.once id in omega (arith, e, o);
   right = all-moved (IsSpanRow h) xs ys m t.right;

@@ -4,8 +4,8 @@ ghost use Rattle.std.specs.Prelude.{◌≡◌, ◌≤◌, List, pos, length, map
 ghost use Rattle.lpis_lineage.specs.declared.fault.AddFault.TheVariants.{Memory as WantsMemory};
 ghost use Rattle.lpis_lineage.specs.declared.row.Entry.{Entry};
 ghost use Rattle.lpis_register_rows.specs.declared.fault.RowsFault.TheVariants.{Unlawful};
-ghost use Rattle.lpis_register_rows.specs.Tells.{IsSameHistory, years_of};
-ghost use Rattle.lpis_register_rows.specs.private.Fronts.{AddsYear, IsDue, SaysHistory};
+ghost use Rattle.lpis_register_rows.specs.Histories.{IsSameHistory, years_of};
+ghost use Rattle.lpis_register_rows.specs.private.Fronts.{AddsYear, IsDue, HasKnownHistory};
 ghost use Rattle.lpis_register_rows.specs.private.Known.{SetsAre, known_of, span_in};
 
 use crate::fault::RowsFault;
@@ -28,7 +28,7 @@ fn add_year(
     ensures adds { IfOk result (λ next.
         AddsYear spans.now lines.now year from next history.old history.new) }
     ensures refused { IfErr result (λ e. e ≡ Unlawful → (h : List Entry)
-        → SaysHistory spans.now lines.now h
+        → HasKnownHistory spans.now lines.now h
         → IsDue history.old lines.now from year h → ⊥) }
 {
     let live = live_ids(alloc, spans, year)?;
@@ -60,10 +60,10 @@ pub(crate) fn build(
     ensures years { IfOk result (λ h. years_of h ≡ map (λ y. pos y) years.now) }
     ensures sets { IfOk result (SetsAre (map span_in spans.now)) }
     ensures lines { IfOk result (λ h. known_of h ≡ lines.now) }
-    ensures same { IfOk result (λ g. (h : List Entry) → SaysHistory spans.now lines.now h
+    ensures same { IfOk result (λ g. (h : List Entry) → HasKnownHistory spans.now lines.now h
         → years_of h ≡ map (λ y. pos y) years.now → IsSameHistory g h) }
     ensures refused { IfErr result (λ e. e ≡ Unlawful → (h : List Entry)
-        → SaysHistory spans.now lines.now h
+        → HasKnownHistory spans.now lines.now h
         → years_of h ≡ map (λ y. pos y) years.now → ⊥) }
 {
     let mut history = History::new(alloc);

@@ -3,7 +3,7 @@
 ghost use Rattle.std.specs.Prelude.{◌≡◌, List, [], IfErr, IfOk};
 ghost use Rattle.lpis_lineage.specs.declared.row.Entry.{Entry};
 ghost use Rattle.lpis_register_rows.specs.declared.fault.RowsFault.TheVariants.{Unlawful};
-ghost use Rattle.lpis_register_rows.specs.Tells.{TablesSay, TellsSpans};
+ghost use Rattle.lpis_register_rows.specs.Histories.{TablesHave, HasHistoryBySpans};
 
 use crate::building::build;
 use crate::fault::RowsFault;
@@ -24,9 +24,9 @@ fn spans_history_of(
     version: u16,
     marks: &[MarkRow],
 ) -> Result<History, RowsFault>
-    ensures ok { IfOk result (TellsSpans version marks.now rows.now) }
+    ensures ok { IfOk result (HasHistoryBySpans version marks.now rows.now) }
     ensures unlawful { IfErr result (λ e. e ≡ Unlawful → (h : List Entry)
-        → TellsSpans version marks.now rows.now h → ⊥) }
+        → HasHistoryBySpans version marks.now rows.now h → ⊥) }
 {
     if !has_version(rows.formats(), version) {
         return Err(RowsFault::Unlawful);
@@ -49,9 +49,9 @@ fn spans_history_of(
 /// The history that rows of a version say, in whatever order they are; `Unlawful` exactly where
 /// they say none.
 pub fn history_of(alloc: Global, rows: &Rows, version: Version) -> Result<History, RowsFault>
-    ensures ok { IfOk result (TablesSay version rows.now) }
+    ensures ok { IfOk result (TablesHave version rows.now) }
     ensures unlawful { IfErr result (λ e. e ≡ Unlawful → (h : List Entry)
-        → TablesSay version rows.now h → ⊥) }
+        → TablesHave version rows.now h → ⊥) }
 {
     match version {
         Version::First => live_history_of(alloc, rows),

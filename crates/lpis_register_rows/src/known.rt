@@ -9,7 +9,7 @@ ghost use Rattle.std.specs.Ordering.{nat_cmp};
 ghost use Rattle.lpis_covers.specs.Ids.{is_id, same_id};
 ghost use Rattle.lpis_register_rows.specs.declared.fault.RowsFault.TheVariants.{Unlawful};
 ghost use Rattle.lpis_register_rows.specs.Content.{successor_text};
-ghost use Rattle.lpis_register_rows.specs.Tells.{last_of_years};
+ghost use Rattle.lpis_register_rows.specs.Histories.{last_of_years};
 ghost use Rattle.lpis_register_rows.specs.private.Covering.{covers};
 ghost use Rattle.lpis_register_rows.specs.private.Known.{HasText, IsReadable, IsReleaseYear};
 ghost use Rattle.lpis_register_rows.specs.private.Known.{line_cmp, line_in};

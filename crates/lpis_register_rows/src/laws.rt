@@ -15,22 +15,22 @@ ghost use Rattle.lpis_register_rows.specs.Content.{marks_from, no_content, publi
 ghost use Rattle.lpis_register_rows.specs.Content.{released, without_live, without_texts};
 ghost use Rattle.lpis_register_rows.specs.Shapes.{AreLive, IsSpelled, Shape, ShapesAre};
 ghost use Rattle.lpis_register_rows.specs.Shapes.{shape_ids, text_edits};
-ghost use Rattle.lpis_register_rows.specs.Tells.{AreFresh, IsSameContent, IsSameHistory, IsWriting};
-ghost use Rattle.lpis_register_rows.specs.Tells.{TablesSay, SpansTell, Tells, TellsLive};
-ghost use Rattle.lpis_register_rows.specs.Tells.{TellsSpans};
-ghost use Rattle.lpis_register_rows.specs.Tells.{last_of_years};
+ghost use Rattle.lpis_register_rows.specs.Histories.{AreFresh, IsSameContent, IsSameHistory, IsWriting};
+ghost use Rattle.lpis_register_rows.specs.Histories.{TablesHave, AreSpansOf, HasHistory, HasHistoryByLive};
+ghost use Rattle.lpis_register_rows.specs.Histories.{HasHistoryBySpans};
+ghost use Rattle.lpis_register_rows.specs.Histories.{last_of_years};
 ghost use Rattle.lpis_register_rows.specs.declared.version.Version.{Version};
 
-use lpis_country_rows::laws::tests_tell_equal_rows;
+use lpis_country_rows::laws::tests_find_equal_rows;
 use lpis_wkt::laws::function_of_text;
 
 /// Where tables say a history, they say that history with a release more after what publishing it
 /// writes; and where they keep shapes, they keep those of the release in their place.
 pub fn publishing_adds_the_release()
     ensures tells { (c : Content) (h k : List Entry) (year : ℕ) (live gone fresh : List (List ℕ))
-        (rows : List Row) → Tells c h → Adds h k year live rows → IsLawful k → RowsFit k
+        (rows : List Row) → HasHistory c h → Adds h k year live rows → IsLawful k → RowsFit k
         → year ≤ last_of_years → IsWriting h live gone fresh → (edits : List TextEdit)
-        → Tells (released edits (marks_from (pos year) 0 rows)
+        → HasHistory (released edits (marks_from (pos year) 0 rows)
         (published (pos year) (pos (last_year h)) gone fresh rows c)) k }
     ensures texts { (c : Content) (kept shapes : List Shape) (year last : ℕ)
         (gone fresh : List (List ℕ)) (rows : List Row) → ShapesAre c.texts kept
@@ -41,25 +41,25 @@ pub fn publishing_adds_the_release()
         → Adds h k year live rows → (shapes : List Shape) → AreLive live shapes
         → AreLive (last_live k) shapes }
 {
-    tests_tell_equal_rows();
+    tests_find_equal_rows();
 }
 
 /// Tables say one history.
-pub fn tables_say_one_history()
-    ensures { (version : Version) (c : Content) (h k : List Entry) → TablesSay version c h
-        → TablesSay version c k → IsSameHistory h k }
+pub fn tables_have_one_history()
+    ensures { (version : Version) (c : Content) (h k : List Entry) → TablesHave version c h
+        → TablesHave version c k → IsSameHistory h k }
 {}
 
 /// Rows in another order say the same history, and so they do without the texts, and in version 3
 /// without live rows; tables with no release say the empty one.
 pub fn order_of_rows_is_free()
     ensures reordered { (version : Version) (c d : Content) (h : List Entry) → IsSameContent c d
-        → TablesSay version c h → TablesSay version d h }
+        → TablesHave version c h → TablesHave version d h }
     ensures textless { (version : Version) (c d : Content) (h : List Entry)
-        → IsSameContent (without_texts c) d → TablesSay version c h ↔ TablesSay version d h }
+        → IsSameContent (without_texts c) d → TablesHave version c h ↔ TablesHave version d h }
     ensures lifeless { (c d : Content) (h : List Entry)
-        → IsSameContent (without_texts (without_live c)) d → Tells c h ↔ Tells d h }
-    ensures nothing { Tells no_content [] }
+        → IsSameContent (without_texts (without_live c)) d → HasHistory c h ↔ HasHistory d h }
+    ensures nothing { HasHistory no_content [] }
 {}
 
 /// Texts keep one list of shapes, in whatever order they are.
@@ -77,14 +77,14 @@ pub fn texts_keep_one_list_of_shapes()
 /// Where tables of version 1 or 2 say a history, they say it as version 3 after they are moved, and
 /// keep no text.
 pub fn moving_keeps_the_history()
-    ensures first { (c : Content) (spans : List StoredSpan) (h : List Entry) → TellsLive c h
-        → SpansTell spans h → Tells (moved spans c) h }
-    ensures second { (c : Content) (h : List Entry) → TellsSpans 2 [] c h → Tells (raised c) h }
+    ensures first { (c : Content) (spans : List StoredSpan) (h : List Entry) → HasHistoryByLive c h
+        → AreSpansOf spans h → HasHistory (moved spans c) h }
+    ensures second { (c : Content) (h : List Entry) → HasHistoryBySpans 2 [] c h → HasHistory (raised c) h }
     ensures bare { (c : Content) (spans : List StoredSpan) → (moved spans c).texts ≡ [] }
 {}
 
 /// What a change drops and what is fresh is what publishing writes.
-pub fn changes_tell_what_is_written()
+pub fn changes_are_what_is_written()
     ensures { (h : List Entry) (live fresh : List (List ℕ)) (rows : List Row) (change : Changes)
         → IsChange (last_live h) live rows change → AreFresh h live fresh
         → IsWriting h live change.dropped_ids fresh }

@@ -6,7 +6,7 @@ ghost use Rattle.std.specs.List.{All};
 ghost use Rattle.lpis_covers.specs.Ids.{is_id};
 ghost use Rattle.lpis_lineage.specs.declared.row.Entry.{Entry};
 ghost use Rattle.lpis_register_rows.specs.declared.fault.RowsFault.TheVariants.{Unlawful};
-ghost use Rattle.lpis_register_rows.specs.Tells.{TellsLive};
+ghost use Rattle.lpis_register_rows.specs.Histories.{HasHistoryByLive};
 ghost use Rattle.lpis_register_rows.specs.private.Known.{one_year, span_in};
 
 use crate::building::build;
@@ -71,8 +71,8 @@ fn have_years(years: &[u16], spans: &[KnownSpan]) -> bool
 /// The history that rows of version 1 say, in whatever order they are; `Unlawful` exactly where
 /// they say none.
 pub(crate) fn live_history_of(alloc: Global, rows: &Rows) -> Result<History, RowsFault>
-    ensures ok { IfOk result (TellsLive rows.now) }
-    ensures unlawful { IfErr result (λ e. e ≡ Unlawful → (h : List Entry) → TellsLive rows.now h
+    ensures ok { IfOk result (HasHistoryByLive rows.now) }
+    ensures unlawful { IfErr result (λ e. e ≡ Unlawful → (h : List Entry) → HasHistoryByLive rows.now h
         → ⊥) }
 {
     if !has_version(rows.formats(), 1) {

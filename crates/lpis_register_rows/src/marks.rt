@@ -4,7 +4,7 @@ ghost use Rattle.std.specs.Prelude.{◌≡◌, ◌≤◌, List, length, drop, ma
 ghost use Rattle.std.specs.Prelude.{IsPermutation, IsSorted};
 ghost use Rattle.lpis_lineage.specs.declared.row.Entry.{Entry};
 ghost use Rattle.lpis_register_rows.specs.declared.fault.RowsFault.TheVariants.{Unlawful};
-ghost use Rattle.lpis_register_rows.specs.Tells.{IsKeptHistory, lineage_lines, marks_of};
+ghost use Rattle.lpis_register_rows.specs.Histories.{IsKeptHistory, lineage_lines, marks_of};
 ghost use Rattle.lpis_register_rows.specs.private.Known.{known_of, line_in};
 ghost use Rattle.lpis_register_rows.specs.private.Marking.{is_next, mark_cmp, marks_in, unused};
 ghost use Rattle.lpis_register_rows.specs.private.Marking.{walked};

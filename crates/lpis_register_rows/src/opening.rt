@@ -5,7 +5,7 @@ ghost use Rattle.std.specs.Prelude.{length, take, IfErr, IfOk, IsTrue};
 ghost use Rattle.std.specs.List.{All, list_any};
 ghost use Rattle.lpis_covers.specs.Ids.{has_id, same_id};
 ghost use Rattle.lpis_register_rows.specs.declared.fault.RowsFault.TheVariants.{Unlawful};
-ghost use Rattle.lpis_register_rows.specs.Tells.{IsSpanRow, only_format};
+ghost use Rattle.lpis_register_rows.specs.Histories.{IsSpanRow, only_format};
 ghost use Rattle.lpis_register_rows.specs.private.Covering.{covers};
 ghost use Rattle.lpis_register_rows.specs.private.Fronts.{IsRun};
 ghost use Rattle.lpis_register_rows.specs.private.Known.{known_from, known_line_at, span_in};

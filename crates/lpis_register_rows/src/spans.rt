@@ -4,7 +4,7 @@ ghost use Rattle.std.specs.Prelude.{◌≡◌, ◌++◌, true, is_some, map, ℕ
 ghost use Rattle.std.specs.List.{All};
 ghost use Rattle.lpis_covers.specs.Ids.{has_id};
 ghost use Rattle.lpis_lineage.specs.Spans.{span_of};
-ghost use Rattle.lpis_register_rows.specs.Tells.{IsSpanRow, SpansTell};
+ghost use Rattle.lpis_register_rows.specs.Histories.{IsSpanRow, AreSpansOf};
 ghost use Rattle.lpis_register_rows.specs.private.Known.{all_live};
 
 use crate::rows::SpanRow;
@@ -68,7 +68,7 @@ fn span_rows(alloc: Global, history: &History, ids: &[Id]) -> Result<Vec<SpanRow
 
 /// The spans of a history's identifiers, ascending by identifier.
 pub fn spans_of(alloc: Global, history: &History) -> Result<Vec<SpanRow>, AllocError>
-    ensures { IfOk result (λ v. SpansTell v.items history.now) }
+    ensures { IfOk result (λ v. AreSpansOf v.items history.now) }
 {
     let mut ids = all_ids(alloc, history.releases())?;
     ids.sort_unstable();

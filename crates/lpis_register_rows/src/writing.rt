@@ -4,7 +4,7 @@ ghost use Rattle.std.specs.Prelude.{◌≡◌, not, is_some, true, IfOk};
 ghost use Rattle.std.specs.List.{All, filter};
 ghost use Rattle.lpis_covers.specs.Ids.{is_id};
 ghost use Rattle.lpis_lineage.specs.Spans.{span_of};
-ghost use Rattle.lpis_register_rows.specs.Tells.{AreFresh};
+ghost use Rattle.lpis_register_rows.specs.Histories.{AreFresh};
 
 use lpis_covers::Id;
 use lpis_lineage::History;

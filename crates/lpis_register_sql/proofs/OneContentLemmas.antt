@@ -4,7 +4,7 @@ use Rattle.lpis_register_rows.specs.Content.{without_live}
 use Rattle.lpis_register_sql.proofs.Common.{IsPermutation-map, IsPermutation-refl, IsPermutation-trans, Row, Trees, Schema, State, Content, Origin, New, Moved, Whole, schema_of}
 use Rattle.lpis_register_sql.proofs.Common.{IsStored, format_row, year_row, span_row, line_row, text_row, mark_row}
 use Rattle.std.proofs.lemmas.List.Sorted.{IsPermutation-sym}
-use Rattle.lpis_register_rows.specs.Tells.{IsSameContent}
+use Rattle.lpis_register_rows.specs.Histories.{IsSameContent}
 use Rattle.lpis_register_sql.specs.private.Shown.{year_shown, span_shown, line_shown, text_shown, mark_shown}
 use Rattle.lpis_register_sql.specs.Holding.{Means}
 use Rattle.lpis_register_sql.proofs.ShowingLemmas.{format_kept, reads_back}

@@ -4,7 +4,7 @@ use Rattle.sqlite.specs.Tree.{Trees}
 use Rattle.sqlite.specs.State.{HasCleanDisk, State, Survives}
 use Rattle.sqlite.specs.declared.error.Error.{Error}
 use Rattle.lpis_register_rows.specs.Content.{Content, no_content}
-use Rattle.lpis_register_rows.specs.Tells.{only_format}
+use Rattle.lpis_register_rows.specs.Histories.{only_format}
 use Rattle.lpis_register_sql.specs.Bare.{IsBare}
 use Rattle.lpis_register_sql.specs.Layouts.{Layout, New, Whole, has_marks, made_whole}
 use Rattle.lpis_register_sql.specs.Holding.{IsStored, Leaves}

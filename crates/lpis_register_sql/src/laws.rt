@@ -5,7 +5,7 @@ ghost use Rattle.sqlite.specs.Held.{state};
 ghost use Rattle.sqlite.specs.State.{IsLive, Opens};
 ghost use Rattle.sqlite_trees.specs.Objects.{catalog_tree};
 ghost use Rattle.lpis_register_rows.specs.Content.{Content, without_live};
-ghost use Rattle.lpis_register_rows.specs.Tells.{IsSameContent};
+ghost use Rattle.lpis_register_rows.specs.Histories.{IsSameContent};
 ghost use Rattle.lpis_register_sql.specs.Layouts.{Origin, Layout, Whole};
 ghost use Rattle.lpis_register_sql.specs.Holding.{IsStored, Leaves};
 ghost use Rattle.lpis_register_sql.specs.Bare.{IsBare};

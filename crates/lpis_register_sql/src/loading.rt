@@ -3,7 +3,7 @@
 ghost use Rattle.std.specs.Prelude.{◌≡◌, false, IsPermutation};
 ghost use Rattle.sqlite.specs.Held.{state};
 ghost use Rattle.lpis_register_rows.specs.Content.{without_texts};
-ghost use Rattle.lpis_register_rows.specs.Tells.{IsSameContent};
+ghost use Rattle.lpis_register_rows.specs.Histories.{IsSameContent};
 ghost use Rattle.lpis_register_sql.specs.Quiet.{IsFound, ReadsRows};
 
 use crate::found::Found;

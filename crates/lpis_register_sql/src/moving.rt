@@ -6,7 +6,7 @@ ghost use Rattle.sqlite.specs.State.{HasCleanDisk};
 ghost use Rattle.lpis_register_rows.specs.Content.{in_spans, moved, raised, with_version};
 ghost use Rattle.lpis_register_rows.specs.Content.{with_whole_span, with_whole_spans};
 ghost use Rattle.lpis_register_rows.specs.Content.{without_live, without_spans};
-ghost use Rattle.lpis_register_rows.specs.Tells.{only_format};
+ghost use Rattle.lpis_register_rows.specs.Histories.{only_format};
 ghost use Rattle.lpis_register_sql.specs.Layouts.{Moved, Whole, is_moved, made_whole};
 ghost use Rattle.lpis_register_sql.specs.Quiet.{IsFound};
 ghost use Rattle.lpis_register_sql.specs.private.Inside.{Inside, IsQuiet, Turns};

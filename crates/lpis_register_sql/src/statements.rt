@@ -93,10 +93,10 @@ pub(crate) fn end_span<S: Alter>(
 }
 
 /// The text of a successor, empty for an ending.
-fn heir_text(heir: &Option<Id>) -> &str
-    ensures { result.now ≡ successor_text heir.now }
+fn text_of_successor(successor: &Option<Id>) -> &str
+    ensures { result.now ≡ successor_text successor.now }
 {
-    match heir {
+    match successor {
         Some(id) => id.as_str(),
         None => "",
     }
@@ -143,6 +143,6 @@ pub(crate) fn insert_row<S: Alter>(
     ensures quiet { IsQuiet (state S.Store tx.old.conn.now) (state S.Store tx.new.conn.now) }
 {
     let old = row.old.as_str();
-    let new = heir_text(&row.new);
+    let new = text_of_successor(&row.new);
     insert_line(tx, year, position, old, new)
 }

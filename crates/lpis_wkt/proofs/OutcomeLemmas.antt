@@ -8,7 +8,7 @@ use Rattle.lpis_wkt.specs.Table.{FirstFault}
 use Rattle.lpis_wkt.specs.Text.{PolygonText, TextFault, IsTextFault}
 use Rattle.lpis_wkt.specs.Answer.{polygon_of, Gives}
 use Rattle.lpis_wkt.specs.private.Machine.{members_of, parse_answer, located, parse_outcome}
-use Rattle.lpis_wkt.specs.private.Parsing.{Told}
+use Rattle.lpis_wkt.specs.private.Parsing.{IsOutcome}
 use Rattle.lpis_wkt.proofs.StepLemmas.{then-ok, limited-append, cond-err}
 use Rattle.lpis_wkt.proofs.CountingLemmas.{taken_is_viable, viable_is_taken, finished_is_accepted, accepted_is_finished}
 use Rattle.lpis_wkt.proofs.RowLemmas.{table_code}
@@ -161,7 +161,7 @@ pub never_both : (text : List ℕ) (ms : List Member) (code : WktCode) (offset :
 never_both text ms code offset h k = let e = polygon-answer text ms h in let f = fault-answer text code offset k in cc
 
 -- what the parser answers is what the text says
-pub gives : (text : List ℕ) (r : Result (List Member) WktFault) → Told r (parse_outcome AtKeyword (tokens text)) → Gives r (polygon_of text)
+pub gives : (text : List ℕ) (r : Result (List Member) WktFault) → IsOutcome r (parse_outcome AtKeyword (tokens text)) → Gives r (polygon_of text)
 unfolding polygon_of
 gives text (Err Memory) h = tt
 gives text _ h = rw h refl

@@ -5,7 +5,7 @@ ghost use Rattle.lpis_rings.specs.declared.polygon.Member.{Member};
 ghost use Rattle.lpis_wkt.specs.declared.fault.WktFault.TheVariants.{Memory};
 ghost use Rattle.lpis_wkt.specs.Tokens.{tokens};
 ghost use Rattle.lpis_wkt.specs.private.Machine.{AtKeyword, parse_outcome};
-ghost use Rattle.lpis_wkt.specs.private.Parsing.{Told};
+ghost use Rattle.lpis_wkt.specs.private.Parsing.{IsOutcome};
 ghost use Rattle.lpis_wkt.specs.Text.{PolygonText, IsTextFault};
 ghost use Rattle.lpis_wkt.specs.Answer.{Gives, polygon_of};
 
@@ -17,7 +17,7 @@ use std::alloc::Global;
 
 /// The polygon of all tokens.
 fn parse(alloc: Global, text: &[u8]) -> Result<Polygon, WktFault>
-    ensures { Told result (parse_outcome AtKeyword (tokens text.now)) }
+    ensures { IsOutcome result (parse_outcome AtKeyword (tokens text.now)) }
 {
     let mut tokens = Tokens::new(text);
     let mut parser = Parser::new(alloc);

@@ -18,6 +18,6 @@ FindsExact bs xs n o =
     MatchOption o (ExactBelow bs xs n) (λ f. IsExactFault bs xs f.condition f.index)
 
 -- what is reported of it
-abbrev pub IsToldOfBlock : List ExactBlock → List ExactPart → FailingBlock → ExactFault → Type 0
-IsToldOfBlock bs xs f Memory = ⊥
-IsToldOfBlock bs xs f (At code id) = (code ≡ f.condition) × (id ≡ exact_id bs xs f.index)
+abbrev pub IsFaultOfBlock : List ExactBlock → List ExactPart → FailingBlock → ExactFault → Type 0
+IsFaultOfBlock bs xs f Memory = ⊥
+IsFaultOfBlock bs xs f (At code id) = (code ≡ f.condition) × (id ≡ exact_id bs xs f.index)

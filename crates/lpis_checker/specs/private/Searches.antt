@@ -60,6 +60,6 @@ abbrev pub FindsUntil : Contents → Cert → ℕ → Option Site → Type 0
 FindsUntil r c n o = MatchOption o (HoldUntil r c n) (λ at. (search_of at < n) × IsFault r c at)
 
 -- what is reported of it
-abbrev pub IsToldOf : Contents → Cert → Site → CheckFault → Type 0
-IsToldOf r c at Memory = ⊥
-IsToldOf r c at (At code place) = (code ≡ condition_of at) × (place ≡ location_of r c at)
+abbrev pub IsFaultAt : Contents → Cert → Site → CheckFault → Type 0
+IsFaultAt r c at Memory = ⊥
+IsFaultAt r c at (At code place) = (code ≡ condition_of at) × (place ≡ location_of r c at)

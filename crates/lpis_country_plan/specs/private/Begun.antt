@@ -12,11 +12,11 @@ use Rattle.lpis_country_plan.specs.CountryText.{tree_lines, TreeLineFits}
 use Rattle.lpis_country_plan.specs.Faults.{Owing}
 
 -- the names that lines say
-abbrev pub names_said : List TreeLine → List (List ℕ)
-names_said [] = []
-names_said (x_line c ∷ ls) = names_said ls
-names_said (y_line c ∷ ls) = names_said ls
-names_said (region_line name ∷ ls) = name ∷ names_said ls
+abbrev pub names_listed : List TreeLine → List (List ℕ)
+names_listed [] = []
+names_listed (x_line c ∷ ls) = names_listed ls
+names_listed (y_line c ∷ ls) = names_listed ls
+names_listed (region_line name ∷ ls) = name ∷ names_listed ls
 
 -- the tiles of trees, each in its own rectangle
 abbrev pub tiles_in : List Box4 → List Tree → List Box4
@@ -37,7 +37,7 @@ pub record IsPlanBegun (said : List TreeLine) (names : List (List ℕ)) (tiles r
     : Type 0
   where
     pub fits : AllByRecursion TreeLineFits said
-    pub names_are : names ≡ names_said said
+    pub names_are : names ≡ names_listed said
     pub distinct : IsDistinct bytes_eq names
     pub few : length names ≤ most_regions
     pub completed : (ts : List Tree) → length ts ≡ length rooms

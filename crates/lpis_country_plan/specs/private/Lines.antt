@@ -3,7 +3,7 @@ use Rattle.lpis_country_plan.specs.declared.line.Line.{Line}
 use Rattle.lpis_country_plan.specs.declared.line.Line.TheVariants.{X, Y, Region}
 use Rattle.lpis_country_plan.specs.CountryText.{TreeLine, x_line, y_line, region_line}
 
-abbrev pub line_said : Line → TreeLine
-line_said (X c) = x_line c
-line_said (Y c) = y_line c
-line_said (Region name) = region_line name.now
+abbrev pub line_read : Line → TreeLine
+line_read (X c) = x_line c
+line_read (Y c) = y_line c
+line_read (Region name) = region_line name.now

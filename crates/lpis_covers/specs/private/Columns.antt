@@ -12,7 +12,7 @@ abbrev pub after_places : List (Option ℕ) → Result (List (Option ℕ)) Table
 after_places front more = and_then more (λ back. Ok (front ++ back))
 
 -- the fault reports, in row 0, what was said of the columns, or that memory ran out
-abbrev pub TellsColumn : Table → Result (List (Option ℕ)) TableCode → TableFault → Type 0
-TellsColumn table said Memory = Unit {0}
-TellsColumn table said (At code in_table row wkt) = (said ≡ Err code)
+abbrev pub NamesColumn : Table → Result (List (Option ℕ)) TableCode → TableFault → Type 0
+NamesColumn table said Memory = Unit {0}
+NamesColumn table said (At code in_table row wkt) = (said ≡ Err code)
     × (At code in_table row wkt ≡ fault_at code table 0)

@@ -13,11 +13,11 @@ use Rattle.lpis_cutter.specs.declared.fault.Refusal.{Refusal}
 use Rattle.lpis_cutter.specs.declared.numbered.Numbered.{Numbered}
 use Rattle.lpis_cutter.specs.declared.fault.Refusal.TheVariants.{NoSeparator}
 use Rattle.lpis_cutter.specs.Fans.{IsFan}
-use Rattle.lpis_cutter.specs.Refusals.{RefusalSays}
+use Rattle.lpis_cutter.specs.Refusals.{RefusalReports}
 
 -- what is refused, if anything is, is so
-abbrev pub SaysIfAny : Contents → Option Refusal → Type 0
-SaysIfAny r o = IfSome o (RefusalSays r)
+abbrev pub ReportsIfAny : Contents → Option Refusal → Type 0
+ReportsIfAny r o = IfSome o (RefusalReports r)
 
 -- the refusal is of these two pieces in this order, the ones at two places
 abbrev pub NamesPieces : Contents → ℕ → ℕ → Refusal → Type 0

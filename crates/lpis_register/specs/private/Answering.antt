@@ -6,7 +6,7 @@ use Rattle.lpis_lineage.specs.declared.row.Entry.{Entry}
 use Rattle.lpis_parcels.specs.Release.{Contents}
 use Rattle.lpis_register_rows.specs.Shapes.{Shape}
 use Rattle.lpis_register.specs.Accepting.{IsAccepted}
-use Rattle.lpis_register.specs.Faults.{PublishTells}
+use Rattle.lpis_register.specs.Faults.{PublishRefuses}
 use Rattle.lpis_register.specs.declared.accepting.Accepted.{Accepted}
 use Rattle.lpis_register.specs.declared.fault.PublishFault.{PublishFault}
 use Rattle.lpis_register.specs.declared.fault.PublishFault.TheVariants.{Store, StoreMemory}
@@ -16,6 +16,6 @@ use Rattle.lpis_register.specs.declared.fault.PublishFault.TheVariants.{Store, S
 pub record AnswersRelease (h : List Entry) (kept : List Shape) (year : ℕ) (r : Contents)
     (blocks : List ExactBlock) (rows : List Row) (answer : Result Accepted PublishFault) : Type 0
   where
-    pub tells : PublishTells h kept year r blocks rows answer
+    pub tells : PublishRefuses h kept year r blocks rows answer
     pub made : IfOk answer (IsAccepted h kept year r blocks rows)
     pub no_store : IfErr answer (λ fault. (fault ≢ Store) × (fault ≢ StoreMemory))

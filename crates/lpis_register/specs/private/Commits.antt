@@ -13,46 +13,46 @@ use Rattle.lpis_register_sql.specs.Holding.{IsStored}
 use Rattle.lpis_register_sql.specs.Quiet.{IsFound}
 use Rattle.lpis_register.specs.Faults.{IsFailure, IsOpeningFault}
 use Rattle.lpis_register.specs.Histories.{HoldsRegister, LeavesRegister}
-use Rattle.lpis_register.specs.Opening.{IsOpenedAs, LeavesSaid, SaysNone, SaysRegister}
+use Rattle.lpis_register.specs.Opening.{IsOpenedAs, LeavesKept, HasNoRegister, HasRegister}
 use Rattle.lpis_register.specs.declared.fault.PublishFault.{PublishFault}
 use Rattle.lpis_register.specs.declared.fault.PublishFault.TheVariants.{Unlawful}
-use Rattle.lpis_register.specs.declared.opening.Told.{Told}
+use Rattle.lpis_register.specs.declared.opening.Loaded.{Loaded}
 
 -- tables of version 3 that say this history and keep the shapes, where the tables said so
 abbrev pub LeavesSettled : Found → Version → List Entry → State → Trees → Type 0
 LeavesSettled found version h old trees =
     (layout : Layout) → IsFound found layout → (c : Content) (shapes : List Shape)
-    → SaysRegister version c h shapes → IsStored layout old c → LeavesRegister h shapes trees
+    → HasRegister version c h shapes → IsStored layout old c → LeavesRegister h shapes trees
 
 -- tables of version 3 that say what the tables said
 abbrev pub LeavesFound : Found → State → Trees → Type 0
 LeavesFound found old trees =
     (layout : Layout) → IsFound found layout → (c : Content) → IsStored layout old c
-    → LeavesSaid c trees
+    → LeavesKept c trees
 
 -- tables that say this history, in this version, are made to say it in version 3
 pub record Settles (found : Found) (version : Version) (h : List Entry) (old new : State)
     (r : Result (Unit {0}) PublishFault) : Type 0 where
   pub ok : HasCleanDisk new → (layout : Layout) → IsFound found layout → (c : Content)
-      (shapes : List Shape) → SaysRegister version c h shapes → IsStored layout old c
+      (shapes : List Shape) → HasRegister version c h shapes → IsStored layout old c
       → OnOk r (HoldsRegister new h shapes)
   pub err : HasCleanDisk new → IsTrue new.is_open → (layout : Layout) → IsFound found layout
-      → (c : Content) (shapes : List Shape) → SaysRegister version c h shapes
+      → (c : Content) (shapes : List Shape) → HasRegister version c h shapes
       → IsStored layout old c → OnErr r (IsStored layout new c)
   pub clean : HasCleanDisk new → HasCleanDisk old
   pub crash : Survives old new (LeavesSettled found version h old)
   pub failure : IfErr r IsFailure
 
 -- what the tables that were found say is opened
-pub record OpensFound (found : Found) (old new : State) (r : Result Told PublishFault) : Type 0
+pub record OpensFound (found : Found) (old new : State) (r : Result Loaded PublishFault) : Type 0
   where
     pub ok : HasCleanDisk new → (layout : Layout) → IsFound found layout → (c : Content)
         → IsStored layout old c
-        → IfOk r (λ (told : Told). IsOpenedAs new c told.history told.shapes.items)
+        → IfOk r (λ (told : Loaded). IsOpenedAs new c told.history told.shapes.items)
     pub err : HasCleanDisk new → IsTrue new.is_open → (layout : Layout) → IsFound found layout
         → (c : Content) → IsStored layout old c → OnErr r (IsStored layout new c)
     pub unlawful : HasCleanDisk new → (layout : Layout) → IsFound found layout → (c : Content)
-        → IsStored layout old c → IfErr r (λ e. e ≡ Unlawful → SaysNone c)
+        → IsStored layout old c → IfErr r (λ e. e ≡ Unlawful → HasNoRegister c)
     pub clean : HasCleanDisk new → HasCleanDisk old
     pub crash : Survives old new (LeavesFound found old)
     pub kinds : IfErr r IsOpeningFault

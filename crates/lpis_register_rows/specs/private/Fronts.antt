@@ -4,7 +4,7 @@ use Rattle.lpis_lineage.specs.declared.row.Entry.{Entry}
 use Rattle.lpis_lineage.specs.Lineage.{entry_at, holds}
 use Rattle.lpis_register_rows.specs.declared.known.KnownLine.{KnownLine}
 use Rattle.lpis_register_rows.specs.declared.known.KnownSpan.{KnownSpan}
-use Rattle.lpis_register_rows.specs.Tells.{IsKeptHistory, years_of}
+use Rattle.lpis_register_rows.specs.Histories.{IsKeptHistory, years_of}
 use Rattle.lpis_register_rows.specs.private.Known.{SetsAre, known_of, known_line_at, span_in}
 
 -- the lines from one position up to another are those of a year, by their positions from 0, and the
@@ -23,7 +23,7 @@ pub record IsFront (g h : List Entry) : Type 0 where
   pub rows : (i : ℕ) → i < length g → (entry_at g i).rows ≡ (entry_at h i).rows
 
 -- the spans and the sorted lines say this history
-pub record SaysHistory (spans : List KnownSpan) (lines : List KnownLine)
+pub record HasKnownHistory (spans : List KnownSpan) (lines : List KnownLine)
     (h : List Entry) : Type 0 where
   pub kept : IsKeptHistory h
   pub sets : SetsAre (map span_in spans) h
@@ -46,5 +46,5 @@ pub record AddsYear (spans : List KnownSpan) (lines : List KnownLine) (year from
   pub years : years_of new ≡ years_of old ++ pos year ∷ []
   pub sets : SetsAre (map span_in spans) old → SetsAre (map span_in spans) new
   pub lines_are : known_of old ≡ take from lines → known_of new ≡ take next lines
-  pub front : (h : List Entry) → SaysHistory spans lines h → IsDue old lines from year h
+  pub front : (h : List Entry) → HasKnownHistory spans lines h → IsDue old lines from year h
       → IsFront new h

@@ -12,7 +12,7 @@ use Rattle.lpis_lineage.specs.Lineage.{entry_at, holds}
 use Rattle.lpis_register_rows.specs.declared.known.KnownSpan.{KnownSpan}
 use Rattle.lpis_register_rows.specs.declared.known.KnownLine.{KnownLine}
 use Rattle.lpis_register_rows.specs.Content.{Line, Live, StoredSpan, successor_text}
-use Rattle.lpis_register_rows.specs.Tells.{last_of_years}
+use Rattle.lpis_register_rows.specs.Histories.{last_of_years}
 use Rattle.lpis_register_rows.specs.private.Covering.{covers}
 
 abbrev pub span_in : KnownSpan → StoredSpan

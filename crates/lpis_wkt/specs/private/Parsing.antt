@@ -110,8 +110,8 @@ IsAfterRing (AfterRing b) = Unit {0}
 IsAfterRing _ = ⊥
 
 -- what a call returned is the outcome of a whole text, unless memory ran out
-abbrev pub Told : Result (List Member) WktFault → Result ParserState (WktCode × ℕ) → Type 0
-Told answer r =
+abbrev pub IsOutcome : Result (List Member) WktFault → Result ParserState (WktCode × ℕ) → Type 0
+IsOutcome answer r =
     AnswersUnless wkt_fault_reported (λ (ms : List Member). r ≡ Ok (Finished ms)) (λ f. r
     ≡ Err f) answer
 

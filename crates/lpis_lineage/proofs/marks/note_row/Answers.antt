@@ -9,5 +9,5 @@ returns-in-None c = λ before are. marks-none (kind_at c.args.change.now) c.args
 
 pub returns-in_ok-add_if-in-Some : goal.returns-in_ok-add_if-in-Some
 returns-in_ok-add_if-in-Some c = λ before are.
-    marks-some (kind_at c.args.change.now) c.args.marks.now _ before c.args.row.now c.in-Some.heir are c.in-Some.is c.in_ok-add_if.ensures
-    (λ s. c.in_ok-add_if-in-Some.ensures s ∙ ap (λ (b : Bool). cond (not b && same_id c.in-Some.heir s) true (has_id c.args.marks.now.unmerged s)) c.merges-spoils.ensures)
+    marks-some (kind_at c.args.change.now) c.args.marks.now _ before c.args.row.now c.in-Some.successor are c.in-Some.is c.in_ok-add_if.ensures
+    (λ s. c.in_ok-add_if-in-Some.ensures s ∙ ap (λ (b : Bool). cond (not b && same_id c.in-Some.successor s) true (has_id c.args.marks.now.unmerged s)) c.merges-spoils.ensures)

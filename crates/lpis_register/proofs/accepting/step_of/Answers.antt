@@ -21,4 +21,4 @@ returns-clause-step c =
     let ids = parcel_ids c.args.release.now.parcels in
     let live = c.in_ok-live.ensures ∙ ap parcel_ids c.parcels.ensures.parcels in
     step_is_made h ids c.as_slice.result.now c.as_slice-2.result.now c.args.rows.now _ (c.as_slice.ensures.value ∙ live) (c.as_slice-2.ensures.value ∙ live) live
-    c.in_ok-change.ensures.tells c.in_ok-change.ensures.change (c.changes_tell_what_is_written.ensures h ids c.in_ok-fresh.fresh.items c.args.rows.now c.in_ok-change.change) c.in_ok-fresh.ensures
+    c.in_ok-change.ensures.tells c.in_ok-change.ensures.change (c.changes_are_what_is_written.ensures h ids c.in_ok-fresh.fresh.items c.args.rows.now c.in_ok-change.change) c.in_ok-fresh.ensures

@@ -4,7 +4,7 @@ use Rattle.lpis_register.proofs.laws.a_database_holds_one_register.Goals as goal
 
 pub returns-clause-history : goal.returns-clause-history
 returns-clause-history g c = λ h k shapes others a b.
-    one_history (state g.S.Store c.args.conn.now) h k shapes others c.a_database_holds_one_content.ensures c.order_of_rows_is_free.ensures.lifeless c.tables_say_one_history.ensures a b
+    one_history (state g.S.Store c.args.conn.now) h k shapes others c.a_database_holds_one_content.ensures c.order_of_rows_is_free.ensures.lifeless c.tables_have_one_history.ensures a b
 
 pub returns-clause-shapes : goal.returns-clause-shapes
 returns-clause-shapes g c = λ h k shapes others a b. one_list (state g.S.Store c.args.conn.now) h k shapes others c.a_database_holds_one_content.ensures c.texts_keep_one_list_of_shapes.ensures.one a b

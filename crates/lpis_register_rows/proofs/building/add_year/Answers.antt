@@ -1,6 +1,6 @@
 use Rattle.std.proofs.Common.{ℕ, List, Err, subst₂, take}
 use Rattle.lpis_register_rows.proofs.Common.{err_from_is_err_and, Row}
-use Rattle.lpis_lineage.specs.Accepts.{AddTells}
+use Rattle.lpis_lineage.specs.Accepts.{AddRefuses}
 use Rattle.lpis_register_rows.proofs.NextReleaseLemmas.{lines-added, sets-added, year-added}
 use Rattle.lpis_register_rows.proofs.FrontLemmas.{due-added, due-refused, due-rows, due-run}
 use Rattle.lpis_register_rows.proofs.building.add_year.Goals as goal
@@ -41,6 +41,6 @@ returns-clause-refused c = λ e h said due.
     c.in_ok-live.ensures
     (due-rows c.args.spans.now c.args.lines.now c.args.history.now h c.args.from c.args.year said due c.requires.within
     c.in_ok-rows.rows.items c.in_ok-rows.next (c.in_ok-rows.ensures.run _ run) c.in_ok-rows.ensures.rows)
-    (subst₂ (λ (l : List (List ℕ)) (r : List Row). AddTells {A = Unit {0}} c.args.history.now c.args.year l r (Err c.in-Err.fault))
+    (subst₂ (λ (l : List (List ℕ)) (r : List Row). AddRefuses {A = Unit {0}} c.args.history.now c.args.year l r (Err c.in-Err.fault))
     c.as_slice.ensures.value c.as_slice-2.ensures.value c.in-Err.ensures.tells)
     (c.fault_of.ensures e)

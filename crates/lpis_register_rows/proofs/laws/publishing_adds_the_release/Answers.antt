@@ -5,7 +5,7 @@ pub returns-clause-tells : goal.returns-clause-tells
 returns-clause-tells c = publishing-tells
 
 pub returns-clause-texts : goal.returns-clause-texts
-returns-clause-texts c = released-texts c.tests_tell_equal_rows.ensures.polygons
+returns-clause-texts c = released-texts c.tests_find_equal_rows.ensures.polygons
 
 pub returns-clause-live : goal.returns-clause-live
 returns-clause-live c = released-live

@@ -1,7 +1,7 @@
 use Rattle.std.proofs.Common.{[], sym, subst}
 use Rattle.lpis_register_sql.proofs.Common.{IsPermutation-refl}
 use Rattle.lpis_register_rows.specs.Content.{without_texts}
-use Rattle.lpis_register_rows.specs.Tells.{IsSameContent}
+use Rattle.lpis_register_rows.specs.Histories.{IsSameContent}
 use Rattle.std.proofs.lemmas.Result.{err_from_is_err_and}
 use Rattle.lpis_register_sql.proofs.QuietLemmas.{answered, nothing_yet, then, then_fails}
 use Rattle.lpis_register_sql.proofs.loading.load_found.Goals as goal

@@ -1,6 +1,6 @@
 use Rattle.std.proofs.Common.{rules, ℤ, sym, ap, ◌∙◌}
 use Rattle.lpis_country_plan.specs.private.Begun.{west_of, east_of, south_of, north_of}
-use Rattle.lpis_country_plan.specs.private.Lines.{line_said}
+use Rattle.lpis_country_plan.specs.private.Lines.{line_read}
 use Rattle.lpis_country_plan.proofs.NumberLemmas.{handed_on_as_is}
 use Rattle.lpis_country_plan.proofs.DraftLemmas.{cut_by_x, cut_by_y, region_more}
 use Rattle.lpis_country_plan.proofs.draft.Draft.with_line.Goals as goal
@@ -24,5 +24,5 @@ returns-in_ok-cut-in-Y-clause-begun c = λ said fits begun.
 pub returns-in_ok-region-in-Region-clause-begun : goal.returns-in_ok-region-in-Region-clause-begun
 returns-in_ok-region-in-Region-clause-begun c = λ said fits begun.
     let e = c.in_ok-region-in-Region.ensures in
-    region_more said c.args.line c.in-Region.name.now c.args.self c.in_ok-region-in-Region.field-0 c.in-Some.room c.pop.new.self (ap line_said c.in-Region.is) fits begun c.in-Some.ensures
+    region_more said c.args.line c.in-Region.name.now c.args.self c.in_ok-region-in-Region.field-0 c.in-Some.room c.pop.new.self (ap line_read c.in-Region.is) fits begun c.in-Some.ensures
     (sym c.has.ensures ∙ c.if-has.false) (search rules) e.names e.tiles e.rooms

@@ -1,0 +1,167 @@
+-- What a history answers to a release, and what is known of a release that was added to it.
+use Rattle.std.proofs.Common.{◌≡◌, ◌∙◌, ◌++◌, ◌∷◌, [], inl, inr, refl, sym, ap, ap₂, subst, subst₂, ℕ, List, Bool, Option, Result, Ok, Err, IfErr, IfOk, flat_map, true}
+use Rattle.lpis_publishing.proofs.Common.{Answer, Cert, Contents, kind_at, lineage_line}
+use Rattle.sqlite.specs.Held.{Held}
+use Rattle.sqlite.specs.State.{HasCleanDisk, State}
+use Rattle.sqlite_trees.specs.declared.store.Store.{Ghosts}
+use Rattle.lpis_cert.specs.declared.part.ExactBlock.{ExactBlock}
+use Rattle.std.specs.List.{list_any}
+use Rattle.std.specs.Prelude.{IsTrue}
+use Rattle.std.proofs.lemmas.Bool.{and_parts}
+use Rattle.std.proofs.lemmas.List.Concat.{flat_map-cons}
+use Rattle.lpis_covers.specs.Ids.{has_id}
+use Rattle.lpis_parcels.specs.Release.{parcel_ids}
+use Rattle.lpis_exact_lineage.specs.ExactLineage.{ShapesTurnOnce}
+use Rattle.lpis_exact_lineage.specs.Shapes.{shape_named}
+use Rattle.lpis_lineage.specs.declared.kind.Kind.{Kind}
+use Rattle.lpis_lineage.specs.declared.row.Entry.{Entry}
+use Rattle.lpis_lineage.specs.declared.row.Row.{Row}
+use Rattle.lpis_lineage.specs.Changes.{Changes, IsChange, dropped}
+use Rattle.lpis_lineage.specs.Descendants.{leads}
+use Rattle.lpis_lineage.specs.Faults.{faults}
+use Rattle.lpis_lineage.specs.Kinds.{kind}
+use Rattle.lpis_lineage.specs.Lawful.{IsAnswered}
+use Rattle.lpis_lineage.specs.Lineage.{is_row_of, last_live, last_year, names_successor}
+use Rattle.lpis_lineage.specs.Order.{IsAscending}
+use Rattle.lpis_lineage.proofs.Shared.{follows-from-clean, mono, counted-ended}
+use Rattle.lpis_checker.specs.GoodCertificate.{IsGood}
+use Rattle.lpis_checker.specs.SoundMap.{IsSoundMap}
+use Rattle.lpis_commands.specs.Report.{report_text}
+use Rattle.lpis_publishing.specs.LineageLines.{is_left_exactly, dropped_lines, published_line}
+use Rattle.lpis_commands.specs.declared.answer.Answer.{Answer as Answered}
+use Rattle.lpis_commands.specs.declared.failure.Failure.{Failure}
+use Rattle.lpis_commands.specs.declared.failure.Failure.TheVariants.{Store, StoreMemory}
+use Rattle.lpis_publishing.specs.PublishAnswer.{FailsToPublish, IsContinued, IsHistoryAnswer, IsPublished}
+use Rattle.lpis_publishing.specs.Stored.{IsStoreFailure, RegisterState}
+use Rattle.lpis_publishing.specs.Submission.{IsSubmitted, Submission}
+use Rattle.lpis_commands.specs.Status.{done}
+use Rattle.lpis_publishing.specs.private.Marked.{is_marked}
+use Rattle.lpis_publishing.specs.private.PublishRuns.{IsAdded, IsMemoryOrStore, PublishLeaves}
+use Rattle.lpis_publishing.proofs.MarkedLemmas.{left-exactly}
+use Rattle.lpis_register.specs.Accepting.{IsAccepted}
+use Rattle.lpis_register.specs.Failing.{FailsToStore, HasStoreCause}
+use Rattle.lpis_register.specs.Histories.{HoldsRegister}
+use Rattle.lpis_register.specs.Publishing.{FollowsHistory}
+use Rattle.lpis_register.specs.declared.accepting.Accepted.{Accepted}
+use Rattle.lpis_register_rows.specs.Shapes.{Shape}
+
+-- ---- the lines of a change
+same-lines : {A : Type 0} (f g : A → List ℕ) (xs : List A) → ((x : A) → f x ≡ g x) → flat_map f xs ≡ flat_map g xs
+same-lines f g [] e = refl
+same-lines f g (x ∷ xs) e = flat_map-cons f x xs ∙ ap₂ (λ (a b : List ℕ). a ++ b) (e x) (same-lines f g xs e) ∙ sym (flat_map-cons g x xs)
+
+-- of rows without a fault, a change has the lines of the identifiers that are dropped
+change-lines : (h : List Entry) (live : List (List ℕ)) (rows : List Row) (c : Changes) → faults h live rows ≡ [] → IsChange (last_live h) live rows c
+    → flat_map (lineage_line (kind_at c) (is_marked c.rows)) c.dropped_ids ≡ dropped_lines (last_live h) live rows
+change-lines h live rows c clean is =
+    ap (flat_map (lineage_line (kind_at c) (is_marked c.rows))) is.dropped_are ∙ same-lines _ _ (dropped (last_live h) live) line
+  where
+    K : List ℕ → Option Kind
+    K = kind (last_live h) live rows
+
+    mark : (id : List ℕ) → is_marked c.rows id ≡ is_left_exactly K rows id
+    mark id = ap (λ (rs : List Row). is_marked rs id) is.rows_are ∙ sym (left-exactly K rows id (follows-from-clean h live rows clean).marked)
+
+    line : (id : List ℕ) → lineage_line (kind_at c) (is_marked c.rows) id ≡ lineage_line K (is_left_exactly K rows) id
+    line id = ap₂ (λ (k : Option Kind) (b : Bool). lineage_line (λ _. k) (λ _. b) id) (is.kinds_are id) (mark id)
+
+-- ---- the answer of a history
+answer-parts : {t u : List ℕ} {n m : ℕ} → t ≡ u → n ≡ m → ◌≡◌ {A = Answer} (t, n) (u, m)
+answer-parts a b = cc (a, b)
+
+-- what is reported of the change of a release that was accepted is the answer
+pub answer-accepted : (h : List Entry) (s : List Shape) (year : ℕ) (r : Contents) (c : Cert) (rows : List Row) (a : Accepted) (change : Changes) (text : List ℕ) (status : ℕ)
+    → IsAccepted h s year r c.exact rows a → change ≡ a.step.change
+    → text ≡ report_text r ++ flat_map (lineage_line (kind_at change) (is_marked change.rows)) change.dropped_ids ++ published_line year → status ≡ done
+    → IsHistoryAnswer h s year r c rows (text, status)
+answer-accepted h s year r c rows a change text status made is line is_done =
+    let step = made.prepared.step_is in
+    let lines = change-lines h (parcel_ids r.parcels) rows change step.faultless (subst (IsChange (last_live h) (parcel_ids r.parcels) rows) (sym is) step.change_is) in
+    inr (made.prepared.later, made.shown, answer-parts (line ∙ ap (λ (t : List ℕ). report_text r ++ t ++ published_line year) lines) is_done)
+
+-- ---- answers of calls
+pub both-ok : {A E : Type 0} (r : Result A E) (P Q : A → Type 0) → IfOk r P → IfOk r Q → IfOk r (λ a. P a × Q a)
+both-ok (Ok a) P Q p q = (p, q)
+both-ok (Err e) P Q p q = tt
+
+-- ---- a release that was added
+continued-of : (live : List (List ℕ)) (rows : List Row) (id : List ℕ) → ((s : List ℕ) → list_any (names_successor s) rows ≡ true → has_id live s ≡ true) → IsAnswered rows id → IsContinued live rows id
+continued-of live rows id named (inl ending) = inl (counted-ended rows id ending.0)
+continued-of live rows id named (inr named_successors) = inr (named_successors.1, λ s is. named s (mono (leads id s) (names_successor s) rows (λ row h. (and_parts (is_row_of id row) (names_successor s row) h).1) is))
+
+-- a submitted sound map with a good certificate that was added to the history is published
+pub published-of : (x : Submission) (year : ℕ) (r : Contents) (c : Cert) (rows : List Row) (h : List Entry) (s : List Shape) (k : List Entry) (t : List Shape) → IsSubmitted x r c rows
+    → IsSoundMap r → IsGood r c → IsAdded year r rows h s k t → IsPublished x year h s k t
+published-of x year r c rows h s k t said sound good added =
+    let live = parcel_ids r.parcels in
+    let follows = follows-from-clean h live rows added.clean in
+    record {
+      release = r;
+      proved = record { tables = said.tables; sound = sound; certificate = c; text = said.text; good = good };
+      rows = rows;
+      lineage = said.lineage;
+      later = added.later;
+      follows = added.follows;
+      once = added.once;
+      exact = added.exact;
+      continued = λ id was gone. continued-of live rows id follows.named (follows.answered id was gone);
+      unused = λ id i now held. follows.not_used id i held now;
+      ascend = added.ascend;
+    }
+
+-- a release that was accepted was added where it is published
+pub added-accepted : (h k : List Entry) (year : ℕ) (r : Contents) (c : Cert) (rows : List Row) (s t : List Shape) (a : Accepted) (change : Changes) → IsAccepted h s year r c.exact rows a
+    → change ≡ a.step.change → IsAscending change.dropped_ids → FollowsHistory h year r.parcels rows k t → ShapesTurnOnce (shape_named t) → IsAdded year r rows h s k t
+added-accepted h k year r c rows s t a change made is ascend follows once =
+    let step = made.prepared.step_is in
+    let was = subst (IsChange (last_live h) (parcel_ids r.parcels) rows) (sym is) step.change_is in
+    record { later = made.prepared.later; clean = step.faultless; follows = follows; once = once; exact = made.exact; ascend = subst IsAscending was.dropped_are ascend }
+
+-- ---- what a call leaves
+-- the database holds what was made of the register
+pub leaves-committed : (a : Answered) (old new : State) (h k : List Entry) (s t : List Shape) → a.status ≡ done → (HasCleanDisk new → HoldsRegister old h s → HoldsRegister new k t)
+    → PublishLeaves (Ok a) old h s new k t
+leaves-committed a old new h k s t is held =
+    record { same = λ other. absurd (other is); failure = tt; stored = record { holds = λ clean opened. held clean; served = λ other. held } }
+
+-- or what it held
+pub leaves-kept : (failure : Failure) (old new : State) (h k : List Entry) (s t : List Shape) → IsMemoryOrStore failure → (k ≡ h) × (t ≡ s)
+    → (HasCleanDisk new → IsTrue new.is_open → HoldsRegister old h s → HoldsRegister new k t)
+    → ((IsStoreFailure failure → ⊥) → HoldsRegister old h s → HoldsRegister new k t) → PublishLeaves (Err failure) old h s new k t
+leaves-kept failure old new h k s t stopped kept opened served =
+    record { same = tt; failure = (stopped, kept.0, kept.1); stored = record { holds = opened; served = λ other clean. served other } }
+
+-- a database left as it was holds the history and the shapes, where they are left too
+pub still-held : (old new : State) (h k : List Entry) (s t : List Shape) → new ≡ old → (k ≡ h) × (t ≡ s) → HoldsRegister old h s → HoldsRegister new k t
+still-held old new h k s t same kept held = rw (same, kept.0, kept.1) held
+
+-- ---- why the database failed
+-- that the database ran out of memory is not that it failed
+pub memory-no-store : {X : Type 0} → ◌≡◌ {A = Failure} StoreMemory Store → X
+memory-no-store is = absurd cc
+
+-- a release that was accepted could not be stored
+pub fails-accepted : {S A : Type 0} (g : Ghosts S) (h : List Entry) (kept : List Shape) (year : ℕ) (r : Contents) (blocks : List ExactBlock) (rows : List Row) (a : Accepted) (old new : Held S)
+    (answer : Result A Failure) → IsAccepted h kept year r blocks rows a → IfErr answer (λ failure. HasStoreCause g (last_year h) kept a old new (failure ≡ Store))
+    → IfErr answer (λ failure. IsStoreFailure failure → FailsToStore g h kept year r blocks rows old new (failure ≡ Store))
+fails-accepted g h kept year r blocks rows a old new (Ok x) made fails = tt
+fails-accepted g h kept year r blocks rows a old new (Err e) made fails = λ is. (a, made, fails)
+
+-- it is a sound map with a good certificate, which was handed in
+pub fails-said : {S A : Type 0} (g : Ghosts S) (h : List Entry) (kept : List Shape) (year : ℕ) (r v : Contents) (c : Cert) (rows more : List Row) (old new : Held S)
+    (answer : Result A Failure) → r ≡ v → rows ≡ more → IsSoundMap v → IsGood v c
+    → IfErr answer (λ failure. IsStoreFailure failure → FailsToStore g h kept year r c.exact rows old new (failure ≡ Store))
+    → IfErr answer (λ failure. IsStoreFailure failure → IsSoundMap v × IsGood v c × FailsToStore g h kept year v c.exact more old new (failure ≡ Store))
+fails-said g h kept year r v c rows more old new (Ok x) same also sound good fails = tt
+fails-said g h kept year r v c rows more old new (Err e) same also sound good fails =
+    λ is. (sound, good, subst₂ (λ v more. FailsToStore g h kept year v c.exact more old new (e ≡ Store)) same also (fails is))
+
+-- and what was submitted
+pub fails-submitted : {S A : Type 0} (g : Ghosts S) (x : Submission) (year : ℕ) (r : Contents) (c : Cert) (rows : List Row) (old new : RegisterState S) (answer : Result A Failure)
+    → IsSubmitted x r c rows
+    → IfErr answer (λ failure. IsStoreFailure failure → IsSoundMap r × IsGood r c × FailsToStore g old.history old.shapes year r c.exact rows old.conn new.conn (failure ≡ Store))
+    → IfErr answer (λ failure. IsStoreFailure failure → FailsToPublish g x year old new (failure ≡ Store))
+fails-submitted g x year r c rows old new (Ok a) said fails = tt
+fails-submitted g x year r c rows old new (Err e) said fails = λ is.
+    let failed = fails is in
+    record { release = r; cert = c; rows = rows; submitted = said; sound = failed.0; good = failed.1; fails = failed.2 }

@@ -1,0 +1,6 @@
+-- Machinery, cited by private contracts alone: no promise rests on it.
+pub mod Blocks
+pub mod ExactRuns
+pub mod Marked
+pub mod PublishRuns
+pub mod Submitting

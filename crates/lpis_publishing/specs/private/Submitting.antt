@@ -1,0 +1,27 @@
+-- What a submission says, or the answer where it says nothing.
+use Rattle.std.specs.Prelude.{IfErr, IfOk, Result}
+use Rattle.lpis_commands.specs.CheckAnswer.{Answer}
+use Rattle.lpis_commands.specs.Inputs.{inputs_of}
+use Rattle.lpis_commands.specs.declared.failure.Failure.{Failure}
+use Rattle.lpis_publishing.specs.Submission.{AreAllRead, Readers, IsSubmissionAnswer, IsUnreadSubmission}
+use Rattle.lpis_publishing.specs.Submission.{Submission}
+use Rattle.lpis_publishing.specs.declared.submission.SubmissionBytes.{SubmissionBytes}
+use Rattle.lpis_publishing.specs.declared.submission.UnreadSubmission.{UnreadSubmission}
+use Rattle.lpis_publishing.specs.declared.submission.UnreadSubmission.TheVariants.{Memory, Refused}
+
+abbrev pub submission_of : SubmissionBytes → Submission
+submission_of b = record { checked = inputs_of b.checked; lineage = b.lineage.items }
+
+-- the bytes of what five readers gave, or why some is not read
+pub record IsReadAll (given : Readers) (result : Result SubmissionBytes Failure) : Type 0 where
+  pub bytes : IfOk result (λ b. AreAllRead given (submission_of b))
+  pub failure : IfErr result (IsUnreadSubmission given)
+
+-- memory ran out, or the answer is one of these
+abbrev pub IsUnreadSubmission : (Answer → Type 0) → UnreadSubmission → Type 0
+IsUnreadSubmission Is Memory = Unit {0}
+IsUnreadSubmission Is (Refused a) = Is (a.text.items, a.status)
+
+-- the answer to a submission that says nothing
+abbrev pub IsFaultAnswer : Submission → Answer → Type 0
+IsFaultAnswer = IsSubmissionAnswer (λ r c rows a. ⊥)

@@ -1,0 +1,259 @@
+//! The run of `publish`, over any register, readers and writer.
+
+ghost use Rattle.std.specs.Prelude.{◌≡◌, ◌++◌, IfErr, IfOk, List, OnOk};
+ghost use Rattle.std.specs.Io.KnownBytes.{Appends};
+ghost use Rattle.std.specs.List.{flat_map};
+ghost use Rattle.sqlite.specs.Held.{state};
+ghost use Rattle.lpis_covers.specs.Ids.{has_id};
+ghost use Rattle.lpis_checker.specs.GoodCertificate.{IsGood};
+ghost use Rattle.lpis_checker.specs.SoundMap.{IsSoundMap};
+ghost use Rattle.lpis_lineage.specs.Changes.{kind_at};
+ghost use Rattle.lpis_lineage.specs.Lineage.{last_year};
+ghost use Rattle.lpis_lineage.specs.Order.{IsAscending};
+ghost use Rattle.lpis_lineage.specs.declared.row.Row.{Row};
+ghost use Rattle.lpis_register.specs.Accepting.{IsAccepted, WasMadeFor};
+ghost use Rattle.lpis_register.specs.Failing.{FailsToStore, HasStoreCause};
+ghost use Rattle.lpis_commands.specs.declared.failure.Failure.TheVariants.{Store};
+ghost use Rattle.lpis_commands.specs.CheckAnswer.{IsCheckAnswer};
+ghost use Rattle.lpis_commands.specs.Report.{report_text};
+ghost use Rattle.lpis_commands.specs.Status.{done};
+ghost use Rattle.lpis_publishing.specs.LineageLines.{lineage_line, published_line};
+ghost use Rattle.lpis_publishing.specs.PublishAnswer.{FailsToPublish, IsHistoryAnswer};
+ghost use Rattle.lpis_publishing.specs.PublishAnswer.{IsPublishAnswer, MovesRegister, RunsPublish};
+ghost use Rattle.lpis_publishing.specs.Stored.{IsStoreFailure, register_of};
+ghost use Rattle.lpis_publishing.specs.private.Marked.{is_marked};
+ghost use Rattle.lpis_publishing.specs.private.PublishRuns.{IsAdded, PublishLeaves};
+ghost use Rattle.lpis_publishing.specs.private.Submitting.{submission_of};
+
+use crate::lineage_lines::{marked_ids, print_lineage, print_published, refuse};
+use crate::submission::{
+    ReadSubmission, SubmissionBytes, UnreadSubmission, read_submission, understand,
+};
+use lpis_cert::Cert;
+use lpis_checker::{CheckFault, Yes, check};
+use lpis_commands::{Answer, DONE, Failure, PrintFault, REFUSED, refuse_cert, write_report};
+use lpis_covers::Id;
+use lpis_lineage::{Change, Row};
+use lpis_pairs::Sweep;
+use lpis_register::{Accepted, PublishFault, Register};
+use sqlite::Alter;
+use std::alloc::{AllocError, Global};
+use std::collections::HashSet;
+use std::io::{Read, Write};
+
+/// Writes the report of a release, the line of each identifier that it drops, and its year.
+fn print_publication<W: Write>(
+    yes: &Yes<'_>,
+    year: u16,
+    change: &Change,
+    marked: &HashSet<Id>,
+    out: &mut W,
+) -> Result<(), PrintFault>
+    ensures { OnOk result (Appends (W.contents out.old) (W.contents out.new) (report_text yes.now
+        ++ flat_map (lineage_line (kind_at change.now) (has_id marked.now.keys))
+        change.now.dropped_ids ++ published_line year)) }
+{
+    write_report(yes, out)?;
+    print_lineage(change, marked, out)?;
+    print_published(year, out)
+}
+
+/// What is printed of a release that is published.
+fn tell_change(
+    alloc: Global,
+    yes: &Yes<'_>,
+    year: u16,
+    change: &Change,
+) -> Result<Answer, AllocError>
+    ensures text { IfOk result (λ a. a.text.items ≡ report_text yes.now
+        ++ flat_map (lineage_line (kind_at change.now) (is_marked change.now.rows))
+        change.now.dropped_ids ++ published_line year) }
+    ensures status { IfOk result (λ a. a.status ≡ done) }
+    ensures ascend { IsAscending change.now.dropped_ids }
+{
+    // Its dropped identifiers ascend.
+    let _ = change.dropped();
+    let marked = marked_ids(alloc, change.rows())?;
+    let mut text = Vec::new(alloc);
+    match print_publication(yes, year, change, &marked, &mut text) {
+        Ok(()) => Ok(Answer { text, status: DONE }),
+        Err(_) => Err(AllocError),
+    }
+}
+
+/// Publishes a release that was accepted. What is printed is in memory before.
+fn publish_accepted<S: Alter>(
+    alloc: Global,
+    register: &mut Register<S>,
+    year: u16,
+    yes: &Yes<'_>,
+    cert: &Cert,
+    accepted: Accepted,
+) -> Result<Answer, Failure>
+    requires made { WasMadeFor register.old.history register.old.shapes.items accepted }
+    ensures answer { (rows : List Row) → IsAccepted register.old.history register.old.shapes.items
+        year yes.now cert.now.exact rows accepted → IfOk result
+        (λ a. IsHistoryAnswer register.old.history register.old.shapes.items year yes.now cert.now
+        rows (a.text.items, a.status)) }
+    ensures added { (rows : List Row) → IsAccepted register.old.history register.old.shapes.items
+        year yes.now cert.now.exact rows accepted → IfOk result
+        (λ a. IsAdded year yes.now rows register.old.history register.old.shapes.items
+        register.new.history register.new.shapes.items) }
+    ensures leaves { PublishLeaves result (state S.Store register.old.conn) register.old.history
+        register.old.shapes.items (state S.Store register.new.conn) register.new.history
+        register.new.shapes.items }
+    ensures cause { IfErr result (λ failure. HasStoreCause S.Store (last_year register.old.history)
+        register.old.shapes.items accepted register.old.conn register.new.conn
+        (failure ≡ Store)) }
+{
+    let answer = tell_change(alloc, yes, year, accepted.change())?;
+    match register.commit(accepted) {
+        Ok(_) => Ok(answer),
+        Err(PublishFault::Memory) => Err(Failure::Memory),
+        Err(PublishFault::Store) => Err(Failure::Store),
+        // The database's own memory ran out: a commit has no other fault.
+        Err(_) => Err(Failure::StoreMemory),
+    }
+}
+
+/// Publishes a checked release where the history lets it follow, and its certificate shows what its
+/// marked rows ask for.
+fn publish_checked<S: Alter>(
+    alloc: Global,
+    register: &mut Register<S>,
+    year: u16,
+    yes: &Yes<'_>,
+    cert: &Cert,
+    rows: &[Row],
+) -> Result<Answer, Failure>
+    ensures answer { IfOk result (λ a. IsHistoryAnswer register.old.history
+        register.old.shapes.items year yes.now cert.now rows.now (a.text.items, a.status)) }
+    ensures added { IfOk result (λ a. a.status ≡ done → IsAdded year yes.now rows.now
+        register.old.history register.old.shapes.items register.new.history
+        register.new.shapes.items) }
+    ensures leaves { PublishLeaves result (state S.Store register.old.conn) register.old.history
+        register.old.shapes.items (state S.Store register.new.conn) register.new.history
+        register.new.shapes.items }
+    ensures cause { IfErr result (λ failure. IsStoreFailure failure → FailsToStore S.Store
+        register.old.history register.old.shapes.items year yes.now cert.now.exact rows.now
+        register.old.conn register.new.conn (failure ≡ Store)) }
+{
+    match register.accept(year, yes, rows, cert) {
+        Ok(accepted) => publish_accepted(alloc, register, year, yes, cert, accepted),
+        Err(PublishFault::Memory) => Err(Failure::Memory),
+        Err(fault) => Ok(refuse(alloc, &fault, REFUSED)?),
+    }
+}
+
+/// The answer to a release, a certificate and rows of lineage.
+fn answer_to_submission<S: Alter>(
+    alloc: Global,
+    register: &mut Register<S>,
+    year: u16,
+    said: &ReadSubmission,
+) -> Result<Answer, Failure>
+    ensures answer { IfOk result (λ a. IsCheckAnswer said.now.release said.now.cert
+        (IsHistoryAnswer register.old.history register.old.shapes.items year said.now.release
+        said.now.cert said.now.rows.items) (a.text.items, a.status)) }
+    ensures added { IfOk result (λ a. a.status ≡ done → IsSoundMap said.now.release
+        × IsGood said.now.release said.now.cert × IsAdded year said.now.release
+        said.now.rows.items register.old.history register.old.shapes.items
+        register.new.history register.new.shapes.items) }
+    ensures leaves { PublishLeaves result (state S.Store register.old.conn) register.old.history
+        register.old.shapes.items (state S.Store register.new.conn) register.new.history
+        register.new.shapes.items }
+    ensures cause { IfErr result (λ failure. IsStoreFailure failure → IsSoundMap said.now.release
+        × IsGood said.now.release said.now.cert × FailsToStore S.Store register.old.history
+        register.old.shapes.items year said.now.release said.now.cert.exact said.now.rows.items
+        register.old.conn register.new.conn (failure ≡ Store)) }
+{
+    match check(alloc, &said.release, &said.cert, &Sweep) {
+        Ok(yes) => {
+            // What is checked is a sound map.
+            let _ = yes.release();
+            publish_checked(
+                alloc,
+                register,
+                year,
+                &yes,
+                &said.cert,
+                said.rows.as_slice(),
+            )
+        }
+        Err(CheckFault::Memory) => Err(Failure::Memory),
+        Err(fault) => Ok(refuse_cert(alloc, &fault)?),
+    }
+}
+
+/// The answer to what is to be published.
+fn answer_to<S: Alter>(
+    alloc: Global,
+    register: &mut Register<S>,
+    year: u16,
+    submission: SubmissionBytes,
+) -> Result<Answer, Failure>
+    ensures answer { IfOk result (λ a. IsPublishAnswer (submission_of submission) year
+        register.old.history register.old.shapes.items (a.text.items, a.status)) }
+    ensures moves { IfOk result (λ a. MovesRegister (submission_of submission) year a.status
+        register.old.history register.old.shapes.items register.new.history
+        register.new.shapes.items) }
+    ensures leaves { PublishLeaves result (state S.Store register.old.conn) register.old.history
+        register.old.shapes.items (state S.Store register.new.conn) register.new.history
+        register.new.shapes.items }
+    ensures cause { IfErr result (λ failure. IsStoreFailure failure → FailsToPublish S.Store
+        (submission_of submission) year (register_of register.old.conn register.old.history
+        register.old.shapes.items) (register_of register.new.conn register.new.history
+        register.new.shapes.items) (failure ≡ Store)) }
+{
+    match understand(alloc, submission) {
+        Ok(said) => answer_to_submission(alloc, register, year, &said),
+        Err(UnreadSubmission::Memory) => Err(Failure::Memory),
+        Err(UnreadSubmission::Refused(answer)) => Ok(answer),
+    }
+}
+
+/// Checks the release of three tables against a certificate and publishes it in a register, with
+/// its year and the rows of a lineage table. It prints the report of a release that is a sound map,
+/// what became of each identifier that it drops, and its year; or the line of the first fault: of
+/// the tables, of the certificate's text, of the lineage table, of the certificate, of the
+/// register. The certificate has to have the blocks that the marked rows ask for, and no others:
+/// they are checked against the shapes that the register keeps of the last release.
+///
+/// All inputs are read to their ends, in the order in which they stand here, before anything is
+/// decided, and what is printed is whole in memory before the register is written. Ok is the
+/// status: `DONE`, where the release was published and its parcels' shapes are kept, or `REFUSED`
+/// or `UNREADABLE`, where the register is as it was. So it is at each failure but that of the
+/// output: then the release may be published, as `trace` shows.
+pub fn run_publish<
+    S: Alter,
+    P: Read + Drop,
+    C: Read + Drop,
+    K: Read + Drop,
+    E: Read + Drop,
+    L: Read + Drop,
+    W: Write,
+>(
+    alloc: Global,
+    register: &mut Register<S>,
+    year: u16,
+    parcels: P,
+    covers: C,
+    classes: K,
+    cert: E,
+    lineage: L,
+    out: &mut W,
+) -> Result<u8, Failure>
+    ensures { RunsPublish S.Store year (record {
+      parcels = P.remaining parcels;
+      covers = C.remaining covers;
+      classes = K.remaining classes;
+      cert = E.remaining cert;
+      lineage = L.remaining lineage;
+    }) (register_of register.old.conn register.old.history
+        register.old.shapes.items) (register_of register.new.conn register.new.history
+        register.new.shapes.items) (W.contents out.old) (W.contents out.new) result }
+{
+    let submission = read_submission(alloc, parcels, covers, classes, cert, lineage)?;
+    let answer = answer_to(alloc, register, year, submission)?;
+    answer.write_to(out)
+}

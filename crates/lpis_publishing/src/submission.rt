@@ -1,0 +1,164 @@
+//! What is handed in to be published, or to be given the blocks of its marked rows.
+
+ghost use Rattle.std.specs.Prelude.{◌≡◌, IfErr, IfOk, List, Ok, ℕ};
+ghost use Rattle.lpis_covers.specs.Faults.{rows_of};
+ghost use Rattle.lpis_parcels.specs.Release.{release_of};
+ghost use Rattle.lpis_cert.specs.Contents.{IsCertText};
+ghost use Rattle.lpis_cert.specs.Faults.{verdict};
+ghost use Rattle.lpis_lineage.specs.LineageTable.{lineage_table};
+ghost use Rattle.lpis_commands.specs.CheckAnswer.{IsCertAnswer, IsTableAnswer};
+ghost use Rattle.lpis_commands.specs.Inputs.{IsReadAs, inputs_of};
+ghost use Rattle.lpis_publishing.specs.Submission.{IsSubmitted};
+ghost use Rattle.lpis_publishing.specs.private.Submitting.{IsFaultAnswer, IsReadAll, IsUnreadSubmission};
+ghost use Rattle.lpis_publishing.specs.private.Submitting.{submission_of};
+ghost use Rattle.lpis_publishing.specs.declared.submission.UnreadSubmission.{UnreadSubmission};
+
+use lpis_cert::{Cert, CertFault};
+use lpis_commands::{
+    Answer, Failure, InputBytes, Name, TableBytes, cert_in, read_inputs, read_named, refuse_text,
+    release_in,
+};
+use lpis_covers::TableFault;
+use lpis_lineage::{Row, read_rows};
+use lpis_parcels::Release;
+use std::alloc::{AllocError, Global};
+use std::io::Read;
+
+/// The bytes of a release, a certificate and a lineage table.
+#[derive(Drop)]
+pub(crate) struct SubmissionBytes {
+    pub(crate) checked: InputBytes,
+    pub(crate) lineage: Vec<u8>,
+}
+
+/// The release, the certificate and the rows of lineage that they say.
+#[derive(Drop)]
+pub(crate) struct ReadSubmission {
+    pub(crate) release: Release,
+    pub(crate) cert: Cert,
+    pub(crate) rows: Vec<Row>,
+}
+
+/// Why they say none.
+#[derive(Drop)]
+pub(crate) enum UnreadSubmission {
+    /// Memory ran out.
+    Memory,
+    /// The line of their first fault, and its status.
+    Refused(Answer),
+}
+
+impl From<AllocError> for UnreadSubmission {
+    ghost from_gives = { λ _ e. e ≡ UnreadSubmission.Memory };
+
+    fn from(_e: AllocError) -> UnreadSubmission {
+        UnreadSubmission::Memory
+    }
+}
+
+/// All bytes of the inputs, which are read in this order.
+pub(crate) fn read_submission<
+    P: Read + Drop,
+    C: Read + Drop,
+    K: Read + Drop,
+    E: Read + Drop,
+    L: Read + Drop,
+>(
+    alloc: Global,
+    parcels: P,
+    covers: C,
+    classes: K,
+    cert: E,
+    lineage: L,
+) -> Result<SubmissionBytes, Failure>
+    ensures { IsReadAll (record {
+      parcels = P.remaining parcels;
+      covers = C.remaining covers;
+      classes = K.remaining classes;
+      cert = E.remaining cert;
+      lineage = L.remaining lineage;
+    })
+        result }
+{
+    let checked = read_inputs(alloc, parcels, covers, classes, cert)?;
+    let lineage = read_named(alloc, lineage, Name::Lineage)?;
+    Ok(SubmissionBytes { checked, lineage })
+}
+
+/// The release of three tables, or the line of their fault.
+fn understand_release(alloc: Global, tables: TableBytes) -> Result<Release, UnreadSubmission>
+    ensures said { IfOk result (λ r. release_of tables.parcels.items tables.covers.items
+        tables.classes.items ≡ Ok r) }
+    ensures unread { IfErr result (IsUnreadSubmission (IsTableAnswer (λ r a. ⊥)
+        (release_of tables.parcels.items tables.covers.items tables.classes.items))) }
+{
+    match release_in(alloc, tables) {
+        Ok(release) => Ok(release),
+        Err(TableFault::Memory) => Err(UnreadSubmission::Memory),
+        Err(fault) => Err(UnreadSubmission::Refused(Answer::refuse_table(alloc, &fault)?)),
+    }
+}
+
+/// The certificate that a text was read as, or the line of its fault.
+fn understand_cert(alloc: Global, read: Result<Cert, CertFault>) -> Result<Cert, UnreadSubmission>
+    ensures said { (text : List ℕ) → IsReadAs text read → IfOk result (IsCertText text) }
+    ensures unread { (text : List ℕ) → IsReadAs text read
+        → IfErr result (IsUnreadSubmission (IsCertAnswer (λ c a. ⊥) text (verdict text))) }
+{
+    match read {
+        Ok(cert) => Ok(cert),
+        Err(CertFault::Memory) => Err(UnreadSubmission::Memory),
+        Err(fault) => Err(UnreadSubmission::Refused(refuse_text(alloc, &fault)?)),
+    }
+}
+
+/// The rows of a lineage table, whose bytes are let go, or the line of its fault.
+fn understand_rows(alloc: Global, lineage: Vec<u8>) -> Result<Vec<Row>, UnreadSubmission>
+    ensures said { IfOk result (λ v. rows_of lineage_table lineage.items ≡ Ok v.items) }
+    ensures unread { IfErr result (IsUnreadSubmission (IsTableAnswer (λ rows a. ⊥)
+        (rows_of lineage_table lineage.items))) }
+{
+    match read_rows(alloc, &lineage) {
+        Ok(rows) => Ok(rows),
+        Err(TableFault::Memory) => Err(UnreadSubmission::Memory),
+        Err(fault) => Err(UnreadSubmission::Refused(Answer::refuse_table(alloc, &fault)?)),
+    }
+}
+
+/// The release of three tables and the certificate of a text, or the line of their first fault,
+/// which is that of a submission with any lineage table. The certificate is read first, since its
+/// text is the longest as a rule, and the bytes of each input are let go when it is read; the fault
+/// of the tables is told first all the same.
+fn understand_map(alloc: Global, checked: InputBytes) -> Result<(Release, Cert), UnreadSubmission>
+    ensures said { IfOk result (λ map. (release_of checked.tables.parcels.items
+        checked.tables.covers.items checked.tables.classes.items ≡ Ok map.0)
+        × IsCertText checked.cert.items map.1) }
+    ensures unread { (lineage : List ℕ) → IfErr result (IsUnreadSubmission (IsFaultAnswer
+        (record { checked = inputs_of checked; lineage = lineage }))) }
+{
+    let InputBytes { tables, cert } = checked;
+    let read = cert_in(alloc, cert);
+    let release = understand_release(alloc, tables)?;
+    let cert = understand_cert(alloc, read)?;
+    Ok((release, cert))
+}
+
+/// What a submission says. The fault of the release's tables is told first, and that of the lineage
+/// table last.
+pub(crate) fn understand(
+    alloc: Global,
+    submission: SubmissionBytes,
+) -> Result<ReadSubmission, UnreadSubmission>
+    ensures said { IfOk result (λ s. IsSubmitted (submission_of submission) s.release s.cert
+        s.rows.items) }
+    ensures unread { IfErr result (IsUnreadSubmission (IsFaultAnswer (submission_of submission))) }
+{
+    let SubmissionBytes { checked, lineage } = submission;
+    let (release, cert) = understand_map(alloc, checked)?;
+    let rows = understand_rows(alloc, lineage)?;
+    Ok(ReadSubmission {
+        release,
+        cert,
+        rows,
+    })
+}

@@ -1,0 +1,89 @@
+//! The run of `trace`, over any register and writer.
+
+ghost use Rattle.std.specs.Prelude.{◌≡◌, IfErr, IfOk, OnOk};
+ghost use Rattle.std.specs.Io.KnownBytes.{Appends};
+ghost use Rattle.std.specs.List.{flat_map};
+ghost use Rattle.lpis_commands.specs.Status.{done};
+ghost use Rattle.lpis_publishing.specs.TraceAnswer.{TraceHalts, IsTraceAnswer, Traces, id_line};
+
+use crate::lineage_lines::refuse;
+use lpis_commands::{Answer, DONE, Failure, PrintFault, REFUSED};
+use lpis_covers::Id;
+use lpis_register::{PublishFault, Register};
+use sqlite::Alter;
+use std::alloc::{AllocError, Global};
+use std::io::Write;
+
+/// Writes identifiers, each on a line of its own.
+fn print_ids<W: Write>(ids: &[Id], out: &mut W) -> Result<(), PrintFault>
+    ensures { OnOk result (Appends (W.contents out.old) (W.contents out.new)
+        (flat_map id_line ids.now)) }
+{
+    for id in ids {
+        write!(out, "{}\n", id.as_str())?;
+    }
+    Ok(())
+}
+
+/// The lines of identifiers.
+fn list_ids(alloc: Global, ids: &[Id]) -> Result<Answer, AllocError>
+    ensures { IfOk result (λ a. (a.text.items ≡ flat_map id_line ids.now) × (a.status ≡ done)) }
+{
+    let mut text = Vec::new(alloc);
+    let printed = print_ids(ids, &mut text);
+    Answer::of(text, DONE, printed)
+}
+
+/// The answer to an identifier.
+fn answer_to_id<S: Alter>(
+    alloc: Global,
+    register: &Register<S>,
+    id: &Id,
+) -> Result<Answer, AllocError>
+    ensures { IfOk result
+        (λ a. IsTraceAnswer register.now.history id.now (a.text.items, a.status)) }
+{
+    match register.trace(id) {
+        Ok(ids) => list_ids(alloc, ids.as_slice()),
+        Err(PublishFault::Unknown) => refuse(alloc, &PublishFault::Unknown, REFUSED),
+        // Nothing else is reported of an identifier.
+        Err(_) => Err(AllocError),
+    }
+}
+
+/// The answer to a word.
+fn answer_to<S: Alter>(
+    alloc: Global,
+    register: &Register<S>,
+    word: &str,
+) -> Result<Answer, AllocError>
+    ensures { IfOk result
+        (λ a. IsTraceAnswer register.now.history word.now (a.text.items, a.status)) }
+{
+    match Id::read(alloc, word.as_bytes())? {
+        Some(id) => answer_to_id(alloc, register, &id),
+        None => refuse(alloc, &PublishFault::Unknown, REFUSED),
+    }
+}
+
+/// Prints the identifiers of the last release that chains of lineage rows reach from this one,
+/// itself among them where it is live: ascending, a
+/// line each. A word that is no identifier, or one that no release has, is refused.
+///
+/// What is printed is whole in memory before anything is written. Ok is the status: `DONE` or
+/// `REFUSED`. The register stays as it is.
+pub fn run_trace<S: Alter, W: Write>(
+    alloc: Global,
+    register: &Register<S>,
+    id: &str,
+    out: &mut W,
+) -> Result<u8, Failure>
+    ensures answer { IfOk result (λ status. Traces register.now.history id.now status
+        (W.contents out.old) (W.contents out.new)) }
+    // A beginning of the answer was written, or nothing.
+    ensures failure { IfErr result (λ failure. TraceHalts failure register.now.history id.now
+        (W.contents out.old) (W.contents out.new)) }
+{
+    let answer = answer_to(alloc, register, id)?;
+    answer.write_to(out)
+}

@@ -1,0 +1,27 @@
+use Rattle.std.proofs.Common.{arith}
+use Rattle.std.proofs.lemmas.Result.{err_from_is_err_and}
+use Rattle.lpis_register_sql.proofs.Shared.{answered, nothing_yet, then, then_fails}
+use Rattle.lpis_register.proofs.Common.{HasCleanDisk, state}
+use Rattle.lpis_register.proofs.OneHistoryLemmas.{none_kept}
+use Rattle.lpis_register.proofs.finding.find_loaded.Goals as goal
+
+pub returns-in_err-shapes-clause-finds : goal.returns-in_err-shapes-clause-finds
+returns-in_err-shapes-clause-finds g c =
+    let p = err_from_is_err_and c.from_residual-in_err-shapes.result c.from_residual-in_err-shapes.ensures.1 in
+    let rows = c.in_ok-history.ensures.finds.reads in
+    let shapes = c.in_err-shapes.ensures.finds in
+    let told = then (λ s p. p) nothing_yet rows in
+    record {
+      reads = then_fails p (λ s p. p) told shapes.reads;
+      unlawful = λ clean layout found content r.
+          let mid : HasCleanDisk (state g.S.Store c.find_rows.new.conn) = omega (arith, shapes.reads.survives.clean) in
+          let it = rows.ok mid layout found content r in
+          rw (p.1, p.2) (λ e. none_kept c.tables_have_one_history.ensures content c.in_ok-history.history c.in_ok-history.version it.0 (shapes.unlawful clean layout found content it.1 e));
+      kinds = rw (p.1, p.2) shapes.kinds;
+    }
+
+pub returns-clause-finds : goal.returns-clause-finds
+returns-clause-finds g c =
+    let rows = then (λ s p. p) nothing_yet c.in_ok-history.ensures.finds.reads in
+    let texts = then (λ s p. p) rows c.in_ok-shapes.ensures.finds.reads in
+    record { reads = answered texts (λ content all. record { says = all.0.1; are = all.1.0; live = all.1.1 }); unlawful = λ clean layout found content r. tt; kinds = tt }
