@@ -45,7 +45,7 @@ TABLES = {
            "a blank, an umlaut, a NULL written as an empty field, a name with more than 40 letters",
            "replace such letters by a rule that keeps identifiers different, the same rule each year"),
     "34": ("this identifier is in an earlier row too", "a parcel of several parts written as several rows; a join that doubled rows",
-           "one row an identifier: collect the parts into one MULTIPOLYGON"),
+           "one row for each identifier: collect the parts into one MULTIPOLYGON"),
     "35": ("the piece's parcel is not in parcels.csv", "the two tables come from different days or filters; letters that differ in case",
            "export both tables in one go, with the same WHERE"),
     "36": ("the piece's class is not in classes.csv", "a new class of land cover, or letters that differ in case",
