@@ -28,11 +28,11 @@ pub fn publish<S: Alter>(
         rt.alloc(),
         office,
         year,
-        Halting::at(0, inputs.parcels, failing),
-        Halting::at(1, inputs.covers, failing),
-        Halting::at(2, CLASSES, failing),
-        Halting::at(3, inputs.cert, failing),
-        Halting::at(4, inputs.lineage, failing),
+        &mut Halting::at(0, inputs.parcels, failing),
+        &mut Halting::at(1, inputs.covers, failing),
+        &mut Halting::at(2, CLASSES, failing),
+        &mut Halting::at(3, inputs.cert, failing),
+        &mut Halting::at(4, inputs.lineage, failing),
         out,
     )
 }
@@ -50,11 +50,11 @@ pub fn fill<S: Alter>(
     run_exact(
         rt.alloc(),
         office,
-        Halting::at(0, inputs.parcels, failing),
-        Halting::at(1, inputs.covers, failing),
-        Halting::at(2, CLASSES, failing),
-        Halting::at(3, inputs.cert, failing),
-        Halting::at(4, inputs.lineage, failing),
+        &mut Halting::at(0, inputs.parcels, failing),
+        &mut Halting::at(1, inputs.covers, failing),
+        &mut Halting::at(2, CLASSES, failing),
+        &mut Halting::at(3, inputs.cert, failing),
+        &mut Halting::at(4, inputs.lineage, failing),
         cert_out,
         out,
     )
