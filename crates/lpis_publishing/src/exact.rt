@@ -222,16 +222,7 @@ fn answer_to<S: Alter>(
 /// then the line; where there is no certificate, `cert_out` is not written to at all. Ok is the
 /// status: `DONE`, `REFUSED` or `UNREADABLE`. The register stays as it is. A failed read names the
 /// input that failed; the readers behind it are as they were.
-pub fn run_exact<
-    S: Alter,
-    P: Read,
-    C: Read,
-    K: Read,
-    E: Read,
-    L: Read,
-    V: Write,
-    W: Write,
->(
+pub fn run_exact<S: Alter, P: Read, C: Read, K: Read, E: Read, L: Read, V: Write, W: Write>(
     alloc: Global,
     register: &Register<S>,
     parcels: &mut P,

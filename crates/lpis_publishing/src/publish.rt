@@ -227,15 +227,7 @@ fn answer_to<S: Alter>(
 /// or `UNREADABLE`, where the register is as it was. So it is at each failure but that of the
 /// output: then the release may be published, as `trace` shows. A failed read names the input that
 /// failed; the readers behind it are as they were.
-pub fn run_publish<
-    S: Alter,
-    P: Read,
-    C: Read,
-    K: Read,
-    E: Read,
-    L: Read,
-    W: Write,
->(
+pub fn run_publish<S: Alter, P: Read, C: Read, K: Read, E: Read, L: Read, W: Write>(
     alloc: Global,
     register: &mut Register<S>,
     year: u16,

@@ -16,7 +16,9 @@ ghost use Rattle.lpis_publishing.specs.declared.submission.UnreadSubmission.{Unr
 
 use crate::inputs::{read_checked, read_lent};
 use lpis_cert::{Cert, CertFault};
-use lpis_commands::{Answer, Failure, InputBytes, Name, TableBytes, cert_in, refuse_text, release_in};
+use lpis_commands::{
+    Answer, Failure, InputBytes, Name, TableBytes, cert_in, refuse_text, release_in,
+};
 use lpis_covers::TableFault;
 use lpis_lineage::{Row, read_rows};
 use lpis_parcels::Release;
