@@ -8,13 +8,13 @@ PAGE_WORDS = {
     "README.md": 1_000,
     "docs/GUIDE.md": 6_500,
     "docs/FORMATS.md": 7_600,
-    "docs/PROOF.md": 6_100,
-    "docs/ARCHITECTURE.md": 4_400,
+    "docs/PROOF.md": 6_200,
+    "docs/ARCHITECTURE.md": 4_450,
     "docs/DECISIONS.md": 4_000,
-    "CONTRIBUTING.md": 3_450,
-    "CHANGELOG.md": 1_050,
-    "bench/RESULTS.md": 1_800,
-    "docs/*.1": 4_100,  # the pages of the manual together
+    "CONTRIBUTING.md": 3_550,
+    "CHANGELOG.md": 1_100,
+    "bench/RESULTS.md": 1_600,
+    "docs/*.1": 4_000,  # the pages of the manual together
 }
 PAGE_LINES = {"docs/DECISIONS.md": 250, "docs/PROOF.md": 350, "bench/RESULTS.md": 250}
 

@@ -10,7 +10,8 @@ ghost use Rattle.lpis_commands.specs.CheckAnswer.{IsCertAnswer, IsTableAnswer};
 ghost use Rattle.lpis_commands.specs.Inputs.{IsReadAs, inputs_of};
 ghost use Rattle.lpis_publishing.specs.Submission.{IsSubmitted, IsUntouched, before_cert};
 ghost use Rattle.lpis_publishing.specs.Submission.{before_classes, before_covers, before_lineage};
-ghost use Rattle.lpis_publishing.specs.private.Submitting.{IsFaultAnswer, IsReadAll, IsUnreadSubmission};
+ghost use Rattle.lpis_publishing.specs.private.Submitting.{IsFaultAnswer};
+ghost use Rattle.lpis_publishing.specs.private.Submitting.{IsReadAll, IsUnreadSubmission};
 ghost use Rattle.lpis_publishing.specs.private.Submitting.{submission_of};
 ghost use Rattle.lpis_publishing.specs.declared.submission.UnreadSubmission.{UnreadSubmission};
 

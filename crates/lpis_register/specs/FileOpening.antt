@@ -36,8 +36,8 @@ pub record IsFileOpened (image : Image) (new : State) (h : List Entry) (shapes :
   pub left : HoldsRegister new h shapes → (db : Trees) → new.may_leave db
       → LeavesRegister h shapes db
 
--- an opening of these files that failed: unless the database is shut, its tables hold what the files
--- hold
+-- an opening of these files that failed: unless the database is shut, its tables hold what the
+-- files hold
 pub record IsFileUnopened (image : Image) (new : State) (fault : PublishFault) : Type 0 where
   pub none : HasCleanDisk new → IsTrue new.is_open → HoldsNoTable image → FindsNothing new
   pub same : HasCleanDisk new → IsTrue new.is_open → (layout : Layout) (c : Content)

@@ -58,8 +58,8 @@ impl<S: Start> Register<FileStore<FileFrom<S>>> {
     /// Opens the register in the file at a path, or makes one; `start` stands for what the file
     /// holds. A file that is no database, that another program has locked, or whose disk fails is
     /// the register's failure to store. One that was not there begins with no release. Right after
-    /// Ok a crash leaves the register that was opened. Once the database is open, the answer is that
-    /// of `adopt_found`, whose contract says what an error means.
+    /// Ok a crash leaves the register that was opened. Once the database is open, the answer is
+    /// that of `adopt_found`, whose contract says what an error means.
     pub fn open_file(
         rt: &HostRuntime,
         alloc: Global,
