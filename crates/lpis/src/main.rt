@@ -247,20 +247,20 @@ fn fill<S: Alter>(
     submission: &SubmissionFiles,
     filled: &NamedFile,
 ) -> Result<u8, Failure> {
-    let (parcels, covers, classes) = open_tables(rt, &submission.tables)?;
-    let cert = open(rt, &submission.cert)?;
-    let lineage = open(rt, &submission.lineage)?;
+    let (mut parcels, mut covers, mut classes) = open_tables(rt, &submission.tables)?;
+    let mut cert = open(rt, &submission.cert)?;
+    let mut lineage = open(rt, &submission.lineage)?;
     // Where there are no such blocks, a file that stands at this path stays as it is.
     let mut filled = Created::new(rt, filled.path.as_str());
     let mut out = rt.stdout();
     run_exact(
         rt.alloc(),
         register,
-        parcels,
-        covers,
-        classes,
-        cert,
-        lineage,
+        &mut parcels,
+        &mut covers,
+        &mut classes,
+        &mut cert,
+        &mut lineage,
         &mut filled,
         &mut out,
     )
@@ -273,19 +273,19 @@ fn publish<S: Alter>(
     year: u16,
     submission: &SubmissionFiles,
 ) -> Result<u8, Failure> {
-    let (parcels, covers, classes) = open_tables(rt, &submission.tables)?;
-    let cert = open(rt, &submission.cert)?;
-    let lineage = open(rt, &submission.lineage)?;
+    let (mut parcels, mut covers, mut classes) = open_tables(rt, &submission.tables)?;
+    let mut cert = open(rt, &submission.cert)?;
+    let mut lineage = open(rt, &submission.lineage)?;
     let mut out = rt.stdout();
     run_publish(
         rt.alloc(),
         register,
         year,
-        parcels,
-        covers,
-        classes,
-        cert,
-        lineage,
+        &mut parcels,
+        &mut covers,
+        &mut classes,
+        &mut cert,
+        &mut lineage,
         &mut out,
     )
 }

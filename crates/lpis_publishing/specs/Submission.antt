@@ -1,6 +1,6 @@
 -- What is handed in: the tables of a release, the text of a certificate and a table of lineage; and
 -- what they say.
-use Rattle.std.specs.Prelude.{◌≡◌, ℕ, List, Ok, Option}
+use Rattle.std.specs.Prelude.{◌≡◌, ◌∷◌, [], ℕ, List, Ok, Option}
 use Rattle.lpis_covers.specs.Faults.{rows_of}
 use Rattle.lpis_parcels.specs.Release.{Contents, release_of}
 use Rattle.lpis_cert.specs.declared.cert.Cert.{Cert}
@@ -12,6 +12,9 @@ use Rattle.lpis_commands.specs.CheckAnswer.{Answer, AreRead, Inputs, IsCertAnswe
 use Rattle.lpis_commands.specs.Failures.{IsUnpublished}
 use Rattle.lpis_commands.specs.Streams.{IsRead}
 use Rattle.lpis_commands.specs.declared.failure.Failure.{Failure}
+use Rattle.lpis_commands.specs.declared.failure.Failure.TheVariants.{Read}
+use Rattle.lpis_commands.specs.declared.failure.Name.{Name}
+use Rattle.lpis_commands.specs.declared.failure.Name.TheVariants as name
 
 -- the bytes of a release and a certificate, and those of a lineage table
 pub record Submission : Type 0 where
@@ -41,6 +44,25 @@ pub record IsSubmitted (x : Submission) (r : Contents) (c : Cert) (rows : List R
 abbrev pub IsUnreadSubmission : Readers → Failure → Type 0
 IsUnreadSubmission given =
     IsUnpublished given.parcels given.covers given.classes given.cert
+
+-- the inputs before the covers table, the classes table, the certificate and the lineage table
+abbrev pub before_covers : List Name
+before_covers = name.Parcels ∷ []
+
+abbrev pub before_classes : List Name
+before_classes = name.Parcels ∷ name.Covers ∷ []
+
+abbrev pub before_cert : List Name
+before_cert = name.Parcels ∷ name.Covers ∷ name.Classes ∷ []
+
+abbrev pub before_lineage : List Name
+before_lineage = name.Parcels ∷ name.Covers ∷ name.Classes ∷ name.Cert ∷ []
+
+-- where the failure names one of these inputs, a reader is as it was: no byte was asked of it
+abbrev pub IsUntouched : {R : Type 0} → List Name → R → R → Failure → Type 0
+IsUntouched [] old new failure = Unit {0}
+IsUntouched (name ∷ names) old new failure =
+    (failure ≡ Read name → new ≡ old) × IsUntouched names old new failure
 
 -- the line of the first fault: of the release's tables, else of the certificate's text, else of the
 -- lineage table; or the answer to what these say

@@ -17,6 +17,8 @@ ghost use Rattle.lpis_commands.specs.Status.{done, refused};
 ghost use Rattle.lpis_publishing.specs.ExactAnswer.{IsExactAnswer, RunsExact, blocks_line};
 ghost use Rattle.lpis_publishing.specs.ExactAnswer.{unfilled_line};
 ghost use Rattle.lpis_publishing.specs.LineageLines.{publish_refusal_text};
+ghost use Rattle.lpis_publishing.specs.Submission.{IsUntouched, before_cert, before_classes};
+ghost use Rattle.lpis_publishing.specs.Submission.{before_covers, before_lineage};
 ghost use Rattle.lpis_publishing.specs.private.ExactRuns.{IsBlocksOutcome};
 ghost use Rattle.lpis_publishing.specs.private.ExactRuns.{filled_with, refused_with};
 ghost use Rattle.lpis_publishing.specs.private.Submitting.{submission_of};
@@ -219,37 +221,33 @@ fn answer_to<S: Alter>(
 /// inputs are read to their ends, in the order in which they stand here, before anything is
 /// decided, and everything is decided before anything is written. The certificate is written first,
 /// then the line; where there is no certificate, `cert_out` is not written to at all. Ok is the
-/// status: `DONE`, `REFUSED` or `UNREADABLE`. The register stays as it is.
-pub fn run_exact<
-    S: Alter,
-    P: Read + Drop,
-    C: Read + Drop,
-    K: Read + Drop,
-    E: Read + Drop,
-    L: Read + Drop,
-    V: Write,
-    W: Write,
->(
+/// status: `DONE`, `REFUSED` or `UNREADABLE`. The register stays as it is. A failed read names the
+/// input that failed; the readers behind it are as they were.
+pub fn run_exact<S: Alter, P: Read, C: Read, K: Read, E: Read, L: Read, V: Write, W: Write>(
     alloc: Global,
     register: &Register<S>,
-    parcels: P,
-    covers: C,
-    classes: K,
-    cert: E,
-    lineage: L,
+    parcels: &mut P,
+    covers: &mut C,
+    classes: &mut K,
+    cert: &mut E,
+    lineage: &mut L,
     cert_out: &mut V,
     out: &mut W,
 ) -> Result<u8, Failure>
-    ensures { RunsExact (record {
-      parcels = P.remaining parcels;
-      covers = C.remaining covers;
-      classes = K.remaining classes;
-      cert = E.remaining cert;
-      lineage = L.remaining lineage;
+    ensures runs { RunsExact (record {
+      parcels = P.remaining parcels.old;
+      covers = C.remaining covers.old;
+      classes = K.remaining classes.old;
+      cert = E.remaining cert.old;
+      lineage = L.remaining lineage.old;
     })
         register.now.history register.now.shapes.items
         (held (V.contents cert_out.old) (W.contents out.old))
         (held (V.contents cert_out.new) (W.contents out.new)) result }
+    ensures covers_untouched { IfErr result (IsUntouched before_covers covers.old covers.new) }
+    ensures classes_untouched { IfErr result (IsUntouched before_classes classes.old classes.new) }
+    ensures cert_untouched { IfErr result (IsUntouched before_cert cert.old cert.new) }
+    ensures lineage_untouched { IfErr result (IsUntouched before_lineage lineage.old lineage.new) }
 {
     let submission = read_submission(alloc, parcels, covers, classes, cert, lineage)?;
     let outcome = answer_to(alloc, register, submission)?;

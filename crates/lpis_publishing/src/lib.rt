@@ -7,6 +7,7 @@
 
 mod blocks;
 mod exact;
+mod inputs;
 mod lineage_lines;
 mod publish;
 mod submission;

@@ -21,6 +21,8 @@ ghost use Rattle.lpis_publishing.specs.LineageLines.{lineage_line, published_lin
 ghost use Rattle.lpis_publishing.specs.PublishAnswer.{FailsToPublish, IsHistoryAnswer};
 ghost use Rattle.lpis_publishing.specs.PublishAnswer.{IsPublishAnswer, MovesRegister, RunsPublish};
 ghost use Rattle.lpis_publishing.specs.Stored.{IsStoreFailure, register_of};
+ghost use Rattle.lpis_publishing.specs.Submission.{IsUntouched, before_cert, before_classes};
+ghost use Rattle.lpis_publishing.specs.Submission.{before_covers, before_lineage};
 ghost use Rattle.lpis_publishing.specs.private.Marked.{is_marked};
 ghost use Rattle.lpis_publishing.specs.private.PublishRuns.{IsAdded, PublishLeaves};
 ghost use Rattle.lpis_publishing.specs.private.Submitting.{submission_of};
@@ -223,35 +225,32 @@ fn answer_to<S: Alter>(
 /// decided, and what is printed is whole in memory before the register is written. Ok is the
 /// status: `DONE`, where the release was published and its parcels' shapes are kept, or `REFUSED`
 /// or `UNREADABLE`, where the register is as it was. So it is at each failure but that of the
-/// output: then the release may be published, as `trace` shows.
-pub fn run_publish<
-    S: Alter,
-    P: Read + Drop,
-    C: Read + Drop,
-    K: Read + Drop,
-    E: Read + Drop,
-    L: Read + Drop,
-    W: Write,
->(
+/// output: then the release may be published, as `trace` shows. A failed read names the input that
+/// failed; the readers behind it are as they were.
+pub fn run_publish<S: Alter, P: Read, C: Read, K: Read, E: Read, L: Read, W: Write>(
     alloc: Global,
     register: &mut Register<S>,
     year: u16,
-    parcels: P,
-    covers: C,
-    classes: K,
-    cert: E,
-    lineage: L,
+    parcels: &mut P,
+    covers: &mut C,
+    classes: &mut K,
+    cert: &mut E,
+    lineage: &mut L,
     out: &mut W,
 ) -> Result<u8, Failure>
-    ensures { RunsPublish S.Store year (record {
-      parcels = P.remaining parcels;
-      covers = C.remaining covers;
-      classes = K.remaining classes;
-      cert = E.remaining cert;
-      lineage = L.remaining lineage;
+    ensures runs { RunsPublish S.Store year (record {
+      parcels = P.remaining parcels.old;
+      covers = C.remaining covers.old;
+      classes = K.remaining classes.old;
+      cert = E.remaining cert.old;
+      lineage = L.remaining lineage.old;
     }) (register_of register.old.conn register.old.history
         register.old.shapes.items) (register_of register.new.conn register.new.history
         register.new.shapes.items) (W.contents out.old) (W.contents out.new) result }
+    ensures covers_untouched { IfErr result (IsUntouched before_covers covers.old covers.new) }
+    ensures classes_untouched { IfErr result (IsUntouched before_classes classes.old classes.new) }
+    ensures cert_untouched { IfErr result (IsUntouched before_cert cert.old cert.new) }
+    ensures lineage_untouched { IfErr result (IsUntouched before_lineage lineage.old lineage.new) }
 {
     let submission = read_submission(alloc, parcels, covers, classes, cert, lineage)?;
     let answer = answer_to(alloc, register, year, submission)?;

@@ -8,16 +8,17 @@ ghost use Rattle.lpis_cert.specs.Faults.{verdict};
 ghost use Rattle.lpis_lineage.specs.LineageTable.{lineage_table};
 ghost use Rattle.lpis_commands.specs.CheckAnswer.{IsCertAnswer, IsTableAnswer};
 ghost use Rattle.lpis_commands.specs.Inputs.{IsReadAs, inputs_of};
-ghost use Rattle.lpis_publishing.specs.Submission.{IsSubmitted};
+ghost use Rattle.lpis_publishing.specs.Submission.{IsSubmitted, IsUntouched, before_cert};
+ghost use Rattle.lpis_publishing.specs.Submission.{before_classes, before_covers, before_lineage};
 ghost use Rattle.lpis_publishing.specs.private.Submitting.{IsFaultAnswer};
 ghost use Rattle.lpis_publishing.specs.private.Submitting.{IsReadAll, IsUnreadSubmission};
 ghost use Rattle.lpis_publishing.specs.private.Submitting.{submission_of};
 ghost use Rattle.lpis_publishing.specs.declared.submission.UnreadSubmission.{UnreadSubmission};
 
+use crate::inputs::{read_checked, read_lent};
 use lpis_cert::{Cert, CertFault};
 use lpis_commands::{
-    Answer, Failure, InputBytes, Name, TableBytes, cert_in, read_inputs, read_named, refuse_text,
-    release_in,
+    Answer, Failure, InputBytes, Name, TableBytes, cert_in, refuse_text, release_in,
 };
 use lpis_covers::TableFault;
 use lpis_lineage::{Row, read_rows};
@@ -58,31 +59,29 @@ impl From<AllocError> for UnreadSubmission {
 }
 
 /// All bytes of the inputs, which are read in this order.
-pub(crate) fn read_submission<
-    P: Read + Drop,
-    C: Read + Drop,
-    K: Read + Drop,
-    E: Read + Drop,
-    L: Read + Drop,
->(
+pub(crate) fn read_submission<P: Read, C: Read, K: Read, E: Read, L: Read>(
     alloc: Global,
-    parcels: P,
-    covers: C,
-    classes: K,
-    cert: E,
-    lineage: L,
+    parcels: &mut P,
+    covers: &mut C,
+    classes: &mut K,
+    cert: &mut E,
+    lineage: &mut L,
 ) -> Result<SubmissionBytes, Failure>
-    ensures { IsReadAll (record {
-      parcels = P.remaining parcels;
-      covers = C.remaining covers;
-      classes = K.remaining classes;
-      cert = E.remaining cert;
-      lineage = L.remaining lineage;
+    ensures read { IsReadAll (record {
+      parcels = P.remaining parcels.old;
+      covers = C.remaining covers.old;
+      classes = K.remaining classes.old;
+      cert = E.remaining cert.old;
+      lineage = L.remaining lineage.old;
     })
         result }
+    ensures covers_untouched { IfErr result (IsUntouched before_covers covers.old covers.new) }
+    ensures classes_untouched { IfErr result (IsUntouched before_classes classes.old classes.new) }
+    ensures cert_untouched { IfErr result (IsUntouched before_cert cert.old cert.new) }
+    ensures lineage_untouched { IfErr result (IsUntouched before_lineage lineage.old lineage.new) }
 {
-    let checked = read_inputs(alloc, parcels, covers, classes, cert)?;
-    let lineage = read_named(alloc, lineage, Name::Lineage)?;
+    let checked = read_checked(alloc, parcels, covers, classes, cert)?;
+    let lineage = read_lent(alloc, lineage, Name::Lineage)?;
     Ok(SubmissionBytes { checked, lineage })
 }
 

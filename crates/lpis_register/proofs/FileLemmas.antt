@@ -2,8 +2,7 @@
 use Rattle.std.proofs.Common.{◌≡◌, ◌∙◌, ◌<◌, ap, inl, inr, length, sym, subst, [], List, arith}
 use Rattle.lpis_register.proofs.Common.{Content, Entry, HasCleanDisk, HoldsRegister, IsBare, IsStored, Layout, Leaves, LeavesRegister, PublishFault, Shape, State, Trees}
 use Rattle.lpis_register.specs.Opening.{IsOpened, IsUnopened}
-use Rattle.lpis_register.specs.FileOpening.{HoldsNoTable, HoldsContent, IsFileOpened}
-use Rattle.lpis_register.specs.private.FileRefusals.{IsFileUnopened}
+use Rattle.lpis_register.specs.FileOpening.{HoldsNoTable, HoldsContent, IsFileOpened, IsFileUnopened}
 use Rattle.sqlite.specs.Files.{AreFoundIn}
 use Rattle.sqlite.specs.Start.{FindsIn}
 use Rattle.sqlite.specs.State.{IsLive, Opens}
@@ -36,6 +35,8 @@ module _ (image : Image) (old : State) (opened : HasCleanDisk old → Opens old 
 
   pub unopened_file : (new : State) (e : PublishFault) → IsUnopened old new e → IsFileUnopened image new e
   unopened_file new e o = record {
+    none = λ up alive none. o.none up alive (is_bare (o.clean up) none);
+    same = λ up alive layout c rows. o.same up alive layout c (is_stored (o.clean up) layout c rows);
     unlawful = λ is up layout c rows. o.unlawful is up layout c (is_stored (o.clean up) layout c rows);
     lawful = λ is up none. o.lawful is up (is_bare (o.clean up) none);
     kind = o.kind;

@@ -1,5 +1,5 @@
 -- What an opening finds in files.
-use Rattle.std.specs.Prelude.{◌≡◌, ◌⊎◌, [], List}
+use Rattle.std.specs.Prelude.{◌≡◌, ◌⊎◌, [], List, IsTrue}
 use Rattle.sqlite_trees.specs.Objects.{catalog_tree}
 use Rattle.sqlite_wal.specs.Recovery.{Image}
 use Rattle.sqlite.specs.Files.{HoldsDatabase}
@@ -8,10 +8,13 @@ use Rattle.sqlite.specs.Tree.{Trees}
 use Rattle.lpis_lineage.specs.declared.row.Entry.{Entry}
 use Rattle.lpis_register_rows.specs.Content.{Content}
 use Rattle.lpis_register_rows.specs.Shapes.{Shape}
-use Rattle.lpis_register_sql.specs.Holding.{Leaves}
+use Rattle.lpis_register_sql.specs.Holding.{IsStored, Leaves}
 use Rattle.lpis_register_sql.specs.Layouts.{Layout}
+use Rattle.lpis_register.specs.Faults.{IsOpeningFault}
 use Rattle.lpis_register.specs.Histories.{HoldsRegister, LeavesRegister}
-use Rattle.lpis_register.specs.Opening.{IsOpenedAs}
+use Rattle.lpis_register.specs.Opening.{FindsNothing, HasNoRegister, IsOpenedAs}
+use Rattle.lpis_register.specs.declared.fault.PublishFault.{PublishFault}
+use Rattle.lpis_register.specs.declared.fault.PublishFault.TheVariants.{Unlawful}
 
 -- the files hold a database, and its tables these rows
 abbrev pub HoldsContent : Image → Layout → Content → Type 0
@@ -32,3 +35,15 @@ pub record IsFileOpened (image : Image) (new : State) (h : List Entry) (shapes :
   -- right after it a crash leaves tables that hold both, and nothing else
   pub left : HoldsRegister new h shapes → (db : Trees) → new.may_leave db
       → LeavesRegister h shapes db
+
+-- an opening of these files that failed: unless the database is shut, its tables hold what the
+-- files hold
+pub record IsFileUnopened (image : Image) (new : State) (fault : PublishFault) : Type 0 where
+  pub none : HasCleanDisk new → IsTrue new.is_open → HoldsNoTable image → FindsNothing new
+  pub same : HasCleanDisk new → IsTrue new.is_open → (layout : Layout) (c : Content)
+      → HoldsContent image layout c → IsStored layout new c
+  -- rows are refused only where they say nothing
+  pub unlawful : fault ≡ Unlawful → HasCleanDisk new → (layout : Layout) (c : Content)
+      → HoldsContent image layout c → HasNoRegister c
+  pub lawful : fault ≡ Unlawful → HasCleanDisk new → HoldsNoTable image → ⊥
+  pub kind : IsOpeningFault fault

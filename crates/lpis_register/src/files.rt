@@ -5,13 +5,13 @@ ghost use Rattle.sqlite_wal.specs.Files.{image_at};
 ghost use Rattle.sqlite_wal.specs.Recovery.{Image};
 ghost use Rattle.sqlite.specs.Files.{file_state};
 ghost use Rattle.sqlite.specs.Start.{FindsIn};
-ghost use Rattle.sqlite.specs.State.{HasCleanDisk, IsLive, Opens};
+ghost use Rattle.sqlite.specs.State.{HasCleanDisk, IsLive, Opens, Survives};
 ghost use Rattle.sqlite.specs.Held.{state};
 ghost use Rattle.sqlite.specs.Steps.{over_memory};
 ghost use Rattle.lpis_register.specs.Faults.{IsFailure, IsOpeningFault};
-ghost use Rattle.lpis_register.specs.FileOpening.{IsFileOpened};
-ghost use Rattle.lpis_register.specs.private.FileRefusals.{IsFileUnopened};
+ghost use Rattle.lpis_register.specs.FileOpening.{IsFileOpened, IsFileUnopened};
 ghost use Rattle.lpis_register.specs.Histories.{HoldsRegister};
+ghost use Rattle.lpis_register.specs.Opening.{LeavesOpened};
 
 use crate::fault::PublishFault;
 use crate::laws::a_crash_leaves_what_is_held;
@@ -22,29 +22,35 @@ use sqlite::{Alter, Connection, FileFrom, FileStore, MemStore, Start};
 use std::alloc::Global;
 use std::rt::HostRuntime;
 
-/// Opens the register in what was found at the opening of a store. Where its tables are refused the
-/// connection comes back beside the fault. It is of any store: to name that of files costs a prover
-/// much.
-fn adopt_found<S: Alter + Drop>(
-    alloc: Global,
-    conn: Connection<S>,
-) -> Result<Register<S>, (Connection<S>, PublishFault)>
-    requires opened { HasCleanDisk (state S.Store conn) → Opens (state S.Store conn)
-        × IsLive (state S.Store conn) }
-    requires autocommit { conn.in_transaction ≡ false }
-    ensures opened { (image : Image) → (HasCleanDisk (state S.Store conn) → FindsIn image
-        (state S.Store conn)) → IfOk result (λ it. IsFileOpened image (state S.Store it.conn)
-        it.history it.shapes.items) }
-    ensures unopened { (image : Image) → (HasCleanDisk (state S.Store conn) → FindsIn image
-        (state S.Store conn)) → IfErr result (λ e. IsFileUnopened image (state S.Store e.0) e.1) }
-{
-    what_is_left_is_found(&conn);
-    match Register::adopt(alloc, conn) {
-        Ok(register) => {
-            a_crash_leaves_what_is_held(&register.conn);
-            Ok(register)
+impl<S: Alter + Drop> Register<S> {
+    /// Opens the register in a database that was just opened, as `adopt` does, and says of it what
+    /// its files hold: all that `open_file` decides of them. The connection comes back beside a
+    /// fault. It is of any store: to name that of files costs a prover much.
+    pub fn adopt_found(
+        alloc: Global,
+        conn: Connection<S>,
+    ) -> Result<Register<S>, (Connection<S>, PublishFault)>
+        requires opened { HasCleanDisk (state S.Store conn) → Opens (state S.Store conn)
+            × IsLive (state S.Store conn) }
+        requires autocommit { conn.in_transaction ≡ false }
+        ensures opened { (image : Image) → (HasCleanDisk (state S.Store conn) → FindsIn image
+            (state S.Store conn)) → IfOk result (λ it. IsFileOpened image (state S.Store it.conn)
+            it.history it.shapes.items) }
+        ensures unopened { (image : Image) → (HasCleanDisk (state S.Store conn) → FindsIn image
+            (state S.Store conn)) → IfErr result (λ e. IsFileUnopened image (state S.Store e.0)
+            e.1) }
+        ensures survives { IfErr result (λ e. Survives (state S.Store conn) (state S.Store e.0)
+            (LeavesOpened (state S.Store conn))) }
+        ensures autocommit { IfErr result (λ e. e.0.in_transaction ≡ false) }
+    {
+        what_is_left_is_found(&conn);
+        match Register::adopt(alloc, conn) {
+            Ok(register) => {
+                a_crash_leaves_what_is_held(&register.conn);
+                Ok(register)
+            }
+            Err((conn, fault)) => Err((conn, fault)),
         }
-        Err((conn, fault)) => Err((conn, fault)),
     }
 }
 
@@ -52,7 +58,8 @@ impl<S: Start> Register<FileStore<FileFrom<S>>> {
     /// Opens the register in the file at a path, or makes one; `start` stands for what the file
     /// holds. A file that is no database, that another program has locked, or whose disk fails is
     /// the register's failure to store. One that was not there begins with no release. Right after
-    /// Ok a crash leaves the register that was opened.
+    /// Ok a crash leaves the register that was opened. Once the database is open, the answer is
+    /// that of `adopt_found`, whose contract says what an error means.
     pub fn open_file(
         rt: &HostRuntime,
         alloc: Global,
@@ -64,7 +71,7 @@ impl<S: Start> Register<FileStore<FileFrom<S>>> {
         ensures kinds { IfErr result IsOpeningFault }
     {
         match Connection::open_from(rt, path, false, start) {
-            Ok(conn) => match adopt_found(alloc, conn) {
+            Ok(conn) => match Register::adopt_found(alloc, conn) {
                 Ok(register) => Ok(register),
                 Err((_conn, fault)) => Err(fault),
             },

@@ -32,15 +32,15 @@ use sqlite::{Alter, Connection};
 use std::alloc::Global;
 
 /// Releases with their spans and rows, and the shapes of the last one's parcels, over any store of
-/// `sqlite`.
+/// `sqlite`. The calls of this crate alone change them; contracts of crates above name them.
 #[derive(Drop)]
 pub struct Register<S: Alter> {
     /// The database, in which no transaction is open.
-    pub conn: Connection<S>,
+    pub(crate) conn: Connection<S>,
     /// The history that its tables say.
-    pub history: History,
+    history: History,
     /// The shapes that they keep: those of the last release's parcels, ascending by identifier.
-    pub shapes: Vec<(Id, Polygon)>,
+    shapes: Vec<(Id, Polygon)>,
     alloc: Global,
     ghost autocommit: { conn.in_transaction ≡ false },
     ghost ascending: { IsAscending (shape_ids shapes.items) } by { Prim.hlevel props },

@@ -1,6 +1,6 @@
 use Rattle.sqlite.specs.Held.{state}
 use Rattle.lpis_register.proofs.FileLemmas.{opened_file, unopened_file}
-use Rattle.lpis_register.proofs.files.adopt_found.Goals as goal
+use Rattle.lpis_register.proofs.register.Register.adopt_found.Goals as goal
 
 pub returns-in-Ok-clause-opened : goal.returns-in-Ok-clause-opened
 returns-in-Ok-clause-opened g c image finds =
@@ -10,3 +10,6 @@ returns-in-Ok-clause-opened g c image finds =
 pub returns-in-Err-clause-unopened : goal.returns-in-Err-clause-unopened
 returns-in-Err-clause-unopened g c image finds =
     unopened_file image (state g.S.Store c.args.conn) c.requires.opened finds c.what_is_left_is_found.ensures.stored c.what_is_left_is_found.ensures.bare _ _ c.in-Err.ensures.unopened
+
+pub returns-in-Err-clause-survives : goal.returns-in-Err-clause-survives
+returns-in-Err-clause-survives g c = c.in-Err.ensures.unopened.crash
