@@ -33,7 +33,7 @@ fn expect_fault(rt: &HostRuntime, line: &str, kind: ErrorKind) -> Result<(), Fai
 }
 
 /// Lines, and the commands that they ask for.
-static COMMANDS: [(&str, Cmd<'_>); 23] = [
+static COMMANDS: [(&str, Cmd<'_>); 24] = [
     ("lpis area a.csv", Cmd::Area { file: "a.csv" }),
     (
         "lpis cut a b",
@@ -76,6 +76,13 @@ static COMMANDS: [(&str, Cmd<'_>); 23] = [
             dir: "a",
             cert: "b",
             points: "c",
+        },
+    ),
+    (
+        "lpis locate-country a b",
+        Cmd::LocateCountry {
+            dir: "a",
+            points: "b",
         },
     ),
     (
@@ -215,7 +222,7 @@ fn words_ask_for_a_command(rt: HostRuntime) -> Result<(), Fail> {
 }
 
 /// Lines that ask for none, and the kinds of their faults.
-static WORDS: [(&str, ErrorKind); 21] = [
+static WORDS: [(&str, ErrorKind); 23] = [
     ("lpis publish a.db 0 a b", ErrorKind::ValueValidation),
     ("lpis publish a.db 10000 a b", ErrorKind::ValueValidation),
     ("lpis publish a.db  a b", ErrorKind::ValueValidation),
@@ -238,6 +245,8 @@ static WORDS: [(&str, ErrorKind); 21] = [
     ),
     ("lpis locate a b", ErrorKind::MissingRequiredArgument),
     ("lpis locate a b c d", ErrorKind::UnknownArgument),
+    ("lpis locate-country a", ErrorKind::MissingRequiredArgument),
+    ("lpis locate-country a b c", ErrorKind::UnknownArgument),
     ("lpis exact a.db a b", ErrorKind::MissingRequiredArgument),
     ("lpis exact a.db a b c d", ErrorKind::UnknownArgument),
     ("lpis retrace a b", ErrorKind::InvalidSubcommand),

@@ -1,4 +1,3 @@
 -- Machinery, cited by private contracts alone: no promise rests on it.
-pub mod Beginning
 pub mod Progressing
 pub mod Totals

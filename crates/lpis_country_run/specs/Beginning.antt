@@ -1,13 +1,12 @@
 -- What is known before the first region is read.
-use Rattle.std.specs.Prelude.{◌≡◌, ◌≢◌, ◌≤◌, ℕ, List, Ok, Err, Some, length, map}
+use Rattle.std.specs.Prelude.{◌≡◌, ◌≤◌, ◌⊎◌, ℕ, List, Ok, Err, Some, length, map}
 use Rattle.std.specs.String.{string_bytes}
 use Rattle.lpis_covers.specs.Classes.{classes_table}
 use Rattle.lpis_covers.specs.Faults.{rows_of}
 use Rattle.lpis_covers.specs.declared.fault.TableFault.{TableFault}
 use Rattle.lpis_commands.specs.Refusals.{refusal_text}
-use Rattle.lpis_commands.specs.Status.{done, unreadable}
+use Rattle.lpis_commands.specs.Status.{unreadable}
 use Rattle.lpis_commands.specs.declared.answer.Answer.{Answer}
-use Rattle.lpis_commands.specs.declared.command.Detail.{Detail}
 use Rattle.lpis_country.specs.Tiling.{frame, rectangles}
 use Rattle.lpis_country_plan.specs.CountryText.{IsCountryText}
 use Rattle.lpis_country_plan.specs.Faults.{plan_fault}
@@ -16,9 +15,8 @@ use Rattle.lpis_country_plan.specs.Plans.{IsPlanOf, PlanParts}
 use Rattle.lpis_country_plan.specs.Tree.{Tree, folders, tiling_of}
 use Rattle.lpis_country_run.specs.declared.beginning.Begun.{Begun}
 use Rattle.lpis_country_run.specs.declared.beginning.CountryBytes.{CountryBytes}
-use Rattle.lpis_country_run.specs.CountryAnswer.{IsCountryAnswer}
 use Rattle.lpis_country_run.specs.CountryLines.{plan_refusal_text}
-use Rattle.lpis_country_run.specs.Regions.{CountryInputs, Texts}
+use Rattle.lpis_country_run.specs.Regions.{CountryInputs}
 
 abbrev pub country_inputs_of : CountryBytes → CountryInputs
 country_inputs_of b = record { plan = b.plan.items; classes = b.classes.items }
@@ -47,8 +45,7 @@ pub record IsBegun (x : CountryInputs) (b : Begun) : Type 0 where
   pub as_many : length b.names.items ≡ length b.tiles.items
   pub few : length (folders plan) ≤ most_regions
 
--- the answer to inputs that have a fault before the first region
-pub record IsUnbegun (x : CountryInputs) (a : Answer) : Type 0 where
-  pub answer : (texts : List ℕ → Texts) (detail : Detail)
-      → IsCountryAnswer texts detail x (a.text.items, a.status)
-  pub no : a.status ≢ done
+-- the answer to inputs that have a fault before the first region: in the plan, or in the classes
+abbrev pub IsUnbegun : CountryInputs → Answer → Type 0
+IsUnbegun x a = IsPlanRefusal x.plan a
+    ⊎ ((plan : Tree) × IsCountryText x.plan plan × IsClassesRefusal x.classes a)
