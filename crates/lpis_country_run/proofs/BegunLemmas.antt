@@ -24,6 +24,7 @@ use Rattle.lpis_country_run.specs.private.Progressing.{HaveAllPassed, IsStart, R
 use Rattle.lpis_country_run.specs.private.Totals.{AreTotalsOf}
 use Rattle.lpis_country_run.proofs.PassedLemmas.{passed_length, passed_regions, passed_sound}
 
+-- the status of an input that is not read is none of a yes
 pub two_is_not_done : (n : ℕ) → n ≡ 2 → n ≡ 0 → ⊥
 two_is_not_done n two zero = omega arith
 

@@ -11,7 +11,6 @@ use Rattle.lpis_country.specs.Tiling.{frame, rectangles}
 use Rattle.lpis_country_plan.specs.CountryText.{IsCountryText}
 use Rattle.lpis_country_plan.specs.Faults.{plan_fault}
 use Rattle.lpis_country_plan.specs.Limits.{most_regions}
-use Rattle.lpis_country_plan.specs.Plans.{IsPlanOf, PlanParts}
 use Rattle.lpis_country_plan.specs.Tree.{Tree, folders, tiling_of}
 use Rattle.lpis_country_run.specs.declared.beginning.Begun.{Begun}
 use Rattle.lpis_country_run.specs.declared.beginning.CountryBytes.{CountryBytes}
@@ -20,10 +19,6 @@ use Rattle.lpis_country_run.specs.Regions.{CountryInputs}
 
 abbrev pub country_inputs_of : CountryBytes → CountryInputs
 country_inputs_of b = record { plan = b.plan.items; classes = b.classes.items }
-
--- the plan is that of the text
-abbrev pub IsPlanIn : List ℕ → PlanParts → Type 0
-IsPlanIn text p = (t : Tree) × IsCountryText text t × IsPlanOf t p
 
 -- the line of the first fault of the text
 abbrev pub IsPlanRefusal : List ℕ → Answer → Type 0

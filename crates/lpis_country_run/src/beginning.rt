@@ -3,11 +3,11 @@
 ghost use Rattle.std.specs.Prelude.{◌≡◌, IfErr, IfOk, Ok};
 ghost use Rattle.lpis_covers.specs.Classes.{classes_table};
 ghost use Rattle.lpis_covers.specs.Faults.{rows_of};
+ghost use Rattle.lpis_country_run.specs.Beginning.{IsBegun, IsClassesRefusal, IsPlanRefusal};
+ghost use Rattle.lpis_country_run.specs.Beginning.{IsUnbegun, country_inputs_of};
 ghost use Rattle.lpis_country_run.specs.CountryFailures.{IsUnreadTop};
 ghost use Rattle.lpis_country_run.specs.Regions.{AreCountryRead};
-ghost use Rattle.lpis_country_run.specs.Beginning.{IsBegun, IsClassesRefusal, IsPlanIn};
-ghost use Rattle.lpis_country_run.specs.Beginning.{IsPlanRefusal, IsUnbegun};
-ghost use Rattle.lpis_country_run.specs.Beginning.{country_inputs_of};
+ghost use Rattle.lpis_country_run.specs.private.Beginning.{IsPlanIn};
 
 use crate::failure::CountryFailure;
 use crate::refusals::refuse_plan;

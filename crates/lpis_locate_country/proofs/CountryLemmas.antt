@@ -102,6 +102,7 @@ located-by texts x country (Ok points) text status table a e = record {
   is = ap (λ (p : TextStatus). p.0) a.2;
 }
 
+-- where it is a yes, each point has the line of its own place in that country
 pub located : (texts : List ℕ → Texts) (x : LocateCountryInputs) (b : Begun) (begun : IsBegun x.country b) (p : Progress) (text : List ℕ) (status : ℕ) → JoinedCountryIsSound → JoinedCountryIsUnion
     → (out : IsOutcome (begun_setting texts x b begun) x.points p None) → IsPointsAnswer (country_of b.classes.items out.0) (points_of x.points) (text, status) → status ≡ done
     → IsLocatedInCountry texts x text

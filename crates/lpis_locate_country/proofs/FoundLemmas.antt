@@ -35,7 +35,8 @@ one_more before r p None None none nowhere =
     All-append (λ (x : Contents). IsNowhere x p) before (r ∷ []) none (All-cons (λ (x : Contents). IsNowhere x p) r [] nowhere (All-nil (λ (x : Contents). IsNowhere x p)))
 
 -- what was found in regions, and then in one more, is found among all of them
-pub found_more : (before : List Contents) (r : Contents) (ps : List Given) (old new : List (Option Place)) → AreFoundAmong before ps old → AreFoundIn r ps old new → AreFoundAmong (before ++ r ∷ []) ps new
+pub found_more : (before : List Contents) (r : Contents) (ps : List Given) (old new : List (Option Place)) → AreFoundAmong before ps old → AreFoundIn r ps old new
+    → AreFoundAmong (before ++ r ∷ []) ps new
 found_more before r ps old new was is = record { as_many = is.as_many ∙ was.as_many; each = λ i g f at here. by i g f at here }
   where
     by : (i : ℕ) (g : Given) (f : Option Place) → slice_get ps i ≡ Some g → slice_get new i ≡ Some f → IsFoundAmong (before ++ r ∷ []) g.at f

@@ -71,8 +71,8 @@ pub is_refused : (s : Setting) (table : List ℕ) (p q : Progress) (n : ℕ) (na
 is_refused s table p q n name a here lt is refusal = (here.before, here.lines, name, drop (n + 1) s.names, left-of s table p n name here lt is, refusal)
 
 -- the next region is not read
-pub is_stopped_at : (s : Setting) (texts : List ℕ → Texts) (table : List ℕ) (p : Progress) (n : ℕ) (name : List ℕ) (f : CountryFailure) (here : IsHere s table p n) → s.texts ≡ texts → n < length s.names
-    → name ≡ get_or s.names n [] → ((left : List (List ℕ)) → IsStoppedBefore texts (name ∷ left) f) → IsStopped s f
+pub is_stopped_at : (s : Setting) (texts : List ℕ → Texts) (table : List ℕ) (p : Progress) (n : ℕ) (name : List ℕ) (f : CountryFailure) (here : IsHere s table p n) → s.texts ≡ texts
+    → n < length s.names → name ≡ get_or s.names n [] → ((left : List (List ℕ)) → IsStoppedBefore texts (name ∷ left) f) → IsStopped s f
 is_stopped_at s texts table p n name f here same lt is stopped = (
   here.before,
   here.lines,

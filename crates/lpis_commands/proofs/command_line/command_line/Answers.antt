@@ -20,4 +20,5 @@ returns c =
     (c.joined-line-3.ensures two check_app
     (c.joined-line-2.ensures one cut_app
     (c.joined-line.ensures program_app area_app c.program.ensures c.area_command.ensures)
-    c.cut_command.ensures) c.check_command.ensures) c.country_command.ensures) c.locate_command.ensures) c.locate_country_command.ensures) c.exact_command.ensures) c.publish_command.ensures) c.trace_command.ensures
+    c.cut_command.ensures) c.check_command.ensures) c.country_command.ensures) c.locate_command.ensures)
+    c.locate_country_command.ensures) c.exact_command.ensures) c.publish_command.ensures) c.trace_command.ensures

@@ -1,6 +1,8 @@
-use Rattle.std.proofs.Common.{◌≡◌, ◌<◌, ◌≤◌, ◌∙◌, [], ap, arith, get_or, length, map, refl, subst, sym}
+use Rattle.std.proofs.Common.{◌≡◌, ◌<◌, ◌≤◌, ◌∙◌, ◌∷◌, [], ap, arith, get_or, length, map, refl, subst, sym}
 use Rattle.std.proofs.lemmas.List.{length-map}
 use Rattle.std.specs.String.{string_bytes}
+use Rattle.lpis_country_run.specs.CountryFailures.{IsStoppedBefore}
+use Rattle.lpis_country_run.proofs.Shared.{err_is}
 use Rattle.lpis_locate_country.specs.private.Searching.{IsVerdict}
 use Rattle.lpis_locate_country.proofs.PassingLemmas.{all_passed, begun_here, goes_on, is_refused, is_stopped_at, next_region, ready}
 use Rattle.lpis_locate_country.proofs.searching.judge_regions.Goals as goal
@@ -37,7 +39,8 @@ returns-in_err-answer-clause-failure g c = λ s table start.
     let name = get_or (map string_bytes c.loop-index.names.items) c.loop-index.index [] in
     let inside : c.loop-index.index < length c.args.names.now.items = omega (arith, c.loop-index-test.true, c.len-index-end.ensures) in
     let next = next_region s string_bytes c.loop-index.names.items c.args.names.now.items c.loop-index.index c.loop-index.invariant.0 inside start.names_are in
-    is_stopped_at s _ table c.loop-index.progress c.loop-index.index name _ here start.texts_are next.1 next.2 c.in_err-answer.ensures.failure
+    err_is c.from_residual.result _ _ c.from_residual.ensures.1 (λ f of. is_stopped_at s _ table c.loop-index.progress c.loop-index.index name f here start.texts_are next.1 next.2
+    (λ left. subst (λ x. IsStoppedBefore (g.G.Regions.texts c.args.regions.now) (name ∷ left) x) (sym of) (c.in_err-answer.ensures.failure left)))
 
 pub loop-index-preserved : goal.loop-index-preserved
 loop-index-preserved g c = (
