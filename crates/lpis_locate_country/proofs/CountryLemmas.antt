@@ -1,6 +1,7 @@
 -- The search through the regions of a plan, as that in a country.
-use Rattle.std.proofs.Common.{◌≡◌, ◌∙◌, ◌⊎◌, ◌++◌, ◌∷◌, [], refl, sym, ap, ap₂, subst, arith, inl, inr, ℕ, List, Option, Result, Ok, Err, length, map, codes}
+use Rattle.std.proofs.Common.{◌≡◌, ◌∙◌, ◌⊎◌, ◌++◌, ◌∷◌, [], refl, sym, ap, ap₂, subst, arith, inl, inr, ℕ, List, Option, None, Some, Result, Ok, Err, length, map}
 use Rattle.std.proofs.lemmas.List.{append-nil, length-map}
+use Rattle.std.specs.Io.KnownBytes.{Keeps}
 use Rattle.std.specs.String.{string_bytes}
 use Rattle.lpis_covers.specs.declared.class.Class.{Class}
 use Rattle.lpis_covers.specs.declared.fault.TableFault.{TableFault}
@@ -25,7 +26,7 @@ use Rattle.lpis_locating.specs.declared.fault.PointsFault.{PointsFault}
 use Rattle.lpis_locating.specs.Points.{Given, points_of}
 use Rattle.lpis_locate.specs.LocateAnswer.{IsPointsAnswer}
 use Rattle.lpis_locate_country.specs.declared.progress.Progress.{Progress}
-use Rattle.lpis_locate_country.specs.LocateCountryAnswer.{IsLocateCountryAnswer, IsLocatedInCountry, IsRegionsPointsAnswer, LocateCountryInputs}
+use Rattle.lpis_locate_country.specs.LocateCountryAnswer.{AreLocateCountryRead, IsLocateCountryAnswer, IsLocatedInCountry, IsRegionsPointsAnswer, LocateCountryHalts, LocateCountryInputs}
 use Rattle.lpis_locate_country.specs.private.Found.{IsSearched}
 use Rattle.lpis_locate_country.specs.private.Searching.{IsOutcome, IsStart, IsStopped, IsUnanswered}
 
@@ -140,3 +141,14 @@ unbegun_is_answer texts x a (inr (plan, planned, (fault, table, text, status))) 
   subst (λ (said : Result (List Class) TableFault). IsTableAnswer (λ classes. IsRegionsPointsAnswer x.points (setting_of texts Regions plan classes)) said (a.text.items, a.status)) (sym table)
       (ap₂ (λ (t : List ℕ) (n : ℕ). (t, n)) text status),
 )
+
+-- a writer to which nothing was written keeps what it has
+keeps-itself : (out : Option (List ℕ)) → Keeps out out
+keeps-itself None = tt
+keeps-itself (Some xs) = refl
+
+-- where there is no answer, nothing was written
+pub unanswered_halts : (f : CountryFailure) (texts : List ℕ → Texts) (x : LocateCountryInputs) (plan classes points out : Option (List ℕ)) → AreLocateCountryRead x plan classes points → IsUnanswered texts x f
+    → LocateCountryHalts f texts plan classes points out out
+unanswered_halts f texts x plan classes points out told (inl memory) = inl (inl (inl memory), keeps-itself out)
+unanswered_halts f texts x plan classes points out told (inr (lines, left, part, stop)) = inr (x, told, inl (lines, left, part, stop, keeps-itself out))
