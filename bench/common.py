@@ -49,6 +49,14 @@ def make(maker, *words):
     subprocess.run([sys.executable, os.path.join(HERE, maker), *map(str, words)], check=True)
 
 
+def country_maker(folder):
+    """The program that writes countries, built."""
+    compiler = shutil.which("g++") or sys.exit("no g++ (Debian: g++)")
+    program = os.path.join(folder, "make_country")
+    subprocess.run([compiler, "-std=c++17", "-O2", "-o", program, os.path.join(HERE, "make_country.cpp")], check=True)
+    return program
+
+
 def bytes_of(folder, names):
     return sum(os.path.getsize(os.path.join(folder, name)) for name in names)
 

@@ -15,7 +15,7 @@ _lpis() {
   fi
   read -ra row < <(grep "^${COMP_WORDS[1]-} " <<<"$_lpis_words")
   case ${row[COMP_CWORD - 1]-} in
-    country/) _lpis_options '--parcels' -d ;;
+    country/) _lpis_options "$([[ ${COMP_WORDS[1]} != country ]] || echo --parcels)" -d ;;
     */) _lpis_files -d ;;
     -) COMPREPLY=() ;;
     *) _lpis_files -f ;;

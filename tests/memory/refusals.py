@@ -131,6 +131,17 @@ def locate(points):
     return Command(f"locate of {points}", ["locate", EXAMPLES / "square", EXAMPLES / "square" / "cert.txt", points], [pointed])
 
 
+def land(folder):
+    """The country of the examples, with its certificates."""
+    shutil.copytree(EXAMPLES / "country", folder / "land")
+    for region in ("west", "southeast", "northeast"):
+        expect(0, lpis(["cut", f"land/{region}", f"land/{region}/cert.txt"], folder))
+
+
+def locate_country(points):
+    return Command(f"locate-country of {points}", ["locate-country", "land", points], [land, pointed])
+
+
 def publish(name, year, *makers):
     words = ["publish", "years.db", year, EXAMPLES / "years" / year, "cert.txt"]
     return Command(f"publish of {name}", words, [*makers, certificate(f"years/{year}")], "years.db")
@@ -161,6 +172,7 @@ COMMANDS = [
     check("older", own=True),
     Command("check of overlap, without pair lines", ["check", EXAMPLES / "overlap", "cert.txt"], [overlapping]),
     *map(locate, ["points.csv", "bad.csv"]),
+    *map(locate_country, ["points.csv", "bad.csv"]),
     publish("2024, in a new file", "2024"),
     publish("2025, after 2024", "2025", published("2024")),
     Command("publish of 2025 with marks, after 2024", ["publish", "years.db", "2025", "marked", "exact.txt"], [published("2024"), marked], "years.db"),

@@ -17,8 +17,9 @@ use lpis_commands::{
     Cmd, CommandFiles, Detail, FAILED, Failure, Name, NamedFile, SubmissionFiles, TableFiles,
     command_of, named_files, print_failure, run_area, run_check, run_cut, status_of, usage_ends,
 };
-use lpis_country_run::{print_country_failure, run_country};
+use lpis_country_run::{CountryFailure, print_country_failure, run_country};
 use lpis_locate::run_locate;
+use lpis_locate_country::run_locate_country;
 use lpis_publishing::{refuse_register, run_exact, run_publish, run_trace};
 use lpis_register::Register;
 use sqlite::{Alter, Unknown};
@@ -106,6 +107,12 @@ fn perform_on(rt: &HostRuntime, files: &CommandFiles<'_>) -> Result<u8, Failure>
             cert,
             points,
         } => locate(rt, tables, cert, points),
+        CommandFiles::LocateCountry {
+            dir,
+            country,
+            classes,
+            points,
+        } => locate_in_country(rt, dir, country, classes, points),
         CommandFiles::Exact {
             db,
             submission,
@@ -229,12 +236,36 @@ fn check_country(
     let classes = open(rt, classes)?;
     let folders = Folders::new(rt, dir);
     let mut out = rt.stdout();
-    match run_country(rt.alloc(), country, classes, &folders, detail, &mut out) {
-        Ok(status) => Ok(status),
+    let ran = run_country(rt.alloc(), country, classes, &folders, detail, &mut out);
+    Ok(status_of_country(rt, ran))
+}
+
+/// Finds the points of this table in the country of a folder, which is checked first. At one time
+/// four files are open.
+fn locate_in_country(
+    rt: &HostRuntime,
+    dir: &str,
+    country: &NamedFile,
+    classes: &NamedFile,
+    points: &NamedFile,
+) -> Result<u8, Failure> {
+    let country = open(rt, country)?;
+    let classes = open(rt, classes)?;
+    let points = open(rt, points)?;
+    let folders = Folders::new(rt, dir);
+    let mut out = rt.stdout();
+    let ran = run_locate_country(rt.alloc(), country, classes, points, &folders, &mut out);
+    Ok(status_of_country(rt, ran))
+}
+
+/// The status of a run over a country. Where it failed the line of the failure is printed here: it
+/// may name a region, as no other failure does.
+fn status_of_country(rt: &HostRuntime, ran: Result<u8, CountryFailure>) -> u8 {
+    match ran {
+        Ok(status) => status,
         Err(failure) => {
-            // It may name a region, as no other failure does.
             let _ = print_country_failure(&failure, &mut rt.stderr());
-            Ok(FAILED)
+            FAILED
         }
     }
 }

@@ -7,7 +7,8 @@ use Rattle.clap.specs.declared.builder.ArgAction.TheVariants.{Set, SetTrue}
 use Rattle.clap.specs.declared.builder.value_parser.ValueParser.TheVariants.{Unsigned}
 use Rattle.lpis_commands.specs.declared.command.Cmd.{Cmd}
 use Rattle.lpis_commands.specs.declared.command.Cmd.TheVariants.{Area, Cut, Check, Country, Exact}
-use Rattle.lpis_commands.specs.declared.command.Cmd.TheVariants.{Locate, Publish, Trace}
+use Rattle.lpis_commands.specs.declared.command.Cmd.TheVariants.{Locate, LocateCountry, Publish}
+use Rattle.lpis_commands.specs.declared.command.Cmd.TheVariants.{Trace}
 use Rattle.lpis_commands.specs.declared.command.Detail.{Detail}
 use Rattle.lpis_commands.specs.declared.command.Detail.TheVariants.{Parcels, Regions}
 
@@ -46,6 +47,12 @@ locate_release_app = with_rule (with_rule (new_app (codes "locate")) (word_rule 
 -- locate DIR CERT POINTS
 abbrev pub locate_app : App
 locate_app = with_rule locate_release_app (word_rule (codes "points"))
+
+-- locate-country DIR POINTS
+abbrev pub locate_country_app : App
+locate_country_app =
+    with_rule (with_rule (new_app (codes "locate-country")) (word_rule (codes "dir")))
+    (word_rule (codes "points"))
 
 -- exact DB DIR
 abbrev pub exact_release_app : App
@@ -93,8 +100,8 @@ with_command whole one = with_subcommand whole one.top
 -- the program with its commands
 abbrev pub command_line_app : App
 command_line_app = fold with_command program_app
-    (area_app ∷ cut_app ∷ check_app ∷ country_app ∷ locate_app ∷ exact_app ∷ publish_app
-    ∷ trace_app ∷ [])
+    (area_app ∷ cut_app ∷ check_app ∷ country_app ∷ locate_app ∷ locate_country_app ∷ exact_app
+    ∷ publish_app ∷ trace_app ∷ [])
 
 -- the word is a year's: decimal digits, after a plus or none, of a number from 1 to 9999
 abbrev pub IsYearWord : Text → ℕ → Type 0
@@ -120,6 +127,9 @@ IsNamedCommand (Country dir detail) name rows = (name ≡ codes "country")
 IsNamedCommand (Locate dir cert points) name rows =
     (name ≡ codes "locate") × (first_of (codes "dir") rows ≡ Some dir.now)
     × (first_of (codes "cert") rows ≡ Some cert.now)
+    × (first_of (codes "points") rows ≡ Some points.now)
+IsNamedCommand (LocateCountry dir points) name rows =
+    (name ≡ codes "locate-country") × (first_of (codes "dir") rows ≡ Some dir.now)
     × (first_of (codes "points") rows ≡ Some points.now)
 IsNamedCommand (Exact db dir cert out) name rows =
     (name ≡ codes "exact") × (first_of (codes "db") rows ≡ Some db.now)

@@ -51,6 +51,8 @@ files_of (cmd.Check dir cert) = tables_in dir.now ++ (cert.now, Cert) ∷ []
 files_of (cmd.Country dir detail) = country_file dir.now ∷ classes_file dir.now ∷ []
 files_of (cmd.Locate dir cert points) =
     tables_in dir.now ++ (cert.now, Cert) ∷ (points.now, Points) ∷ []
+files_of (cmd.LocateCountry dir points) =
+    country_file dir.now ∷ classes_file dir.now ∷ (points.now, Points) ∷ []
 files_of (cmd.Exact db dir cert out) =
     files_of_submission dir.now cert.now ++ (out.now, Cert) ∷ []
 files_of (cmd.Publish db year dir cert) = files_of_submission dir.now cert.now
@@ -76,6 +78,8 @@ listed (files.Check tables cert) = tables_listed tables ++ shown_file cert ∷ [
 listed (files.Country dir country classes detail) = shown_file country ∷ shown_file classes ∷ []
 listed (files.Locate tables cert points) =
     tables_listed tables ++ shown_file cert ∷ shown_file points ∷ []
+listed (files.LocateCountry dir country classes points) =
+    shown_file country ∷ shown_file classes ∷ shown_file points ∷ []
 listed (files.Exact db submission out) = submission_listed submission ++ shown_file out ∷ []
 listed (files.Publish db year submission) = submission_listed submission
 listed (files.Trace db id) = []
@@ -89,6 +93,7 @@ HasWords (cmd.Check dir cert) (files.Check tables c) = ⊤
 HasWords (cmd.Country dir detail) (files.Country d country classes e) =
     (d.now ≡ dir.now) × (e ≡ detail)
 HasWords (cmd.Locate dir cert points) (files.Locate tables c p) = ⊤
+HasWords (cmd.LocateCountry dir points) (files.LocateCountry d country classes p) = d.now ≡ dir.now
 HasWords (cmd.Exact db dir cert out) (files.Exact d submission o) = d.now ≡ db.now
 HasWords (cmd.Publish db year dir cert) (files.Publish d y submission) =
     (d.now ≡ db.now) × (y ≡ year)

@@ -57,6 +57,13 @@ pub enum Cmd<'a> {
         /// The path of the table of points.
         points: &'a str,
     },
+    /// The places of points in a country, after its check.
+    LocateCountry {
+        /// The path of the folder of the country.
+        dir: &'a str,
+        /// The path of the table of points.
+        points: &'a str,
+    },
     /// The check of a release, and its publication in a register.
     Publish {
         /// The register's path.
@@ -141,6 +148,16 @@ fn locate_named<'a>(matches: &ArgMatches<'a>) -> Option<Cmd<'a>>
     Some(Cmd::Locate { dir, cert, points })
 }
 
+/// `locate-country` with its words.
+fn locate_country_named<'a>(matches: &ArgMatches<'a>) -> Option<Cmd<'a>>
+    ensures { IfSome result (λ c. IsNamedCommand c (codes "locate-country")
+        (rows_of (found_of matches.now))) }
+{
+    let dir = word_of(matches, "dir")?;
+    let points = word_of(matches, "points")?;
+    Some(Cmd::LocateCountry { dir, points })
+}
+
 /// `publish` with its words.
 fn publish_named<'a>(matches: &ArgMatches<'a>) -> Option<Cmd<'a>>
     ensures { IfSome result (λ c. IsNamedCommand c (codes "publish")
@@ -202,6 +219,7 @@ fn command_named<'a>(name: &str, matches: &ArgMatches<'a>) -> Option<Cmd<'a>>
         }
         "country" => country_named(matches),
         "locate" => locate_named(matches),
+        "locate-country" => locate_country_named(matches),
         "exact" => exact_named(matches),
         "publish" => publish_named(matches),
         "trace" => trace_named(matches),

@@ -4,7 +4,7 @@ ghost use Rattle.std.specs.Prelude.{◌≡◌, IfOk, codes, false};
 ghost use Rattle.clap.specs.Words.{App, rule_of};
 ghost use Rattle.lpis_commands.specs.Command.{area_app, check_app, command_line_app, country_app};
 ghost use Rattle.lpis_commands.specs.Command.{cut_app, exact_app, exact_release_app, flag_rule};
-ghost use Rattle.lpis_commands.specs.Command.{locate_app, locate_release_app};
+ghost use Rattle.lpis_commands.specs.Command.{locate_app, locate_country_app, locate_release_app};
 ghost use Rattle.lpis_commands.specs.Command.{program_app, publish_app, publish_year_app};
 ghost use Rattle.lpis_commands.specs.Command.{trace_app, with_command, word_rule, year_rule};
 ghost use Rattle.lpis_commands.specs.private.Commands.{IsCommandOf};
@@ -132,12 +132,20 @@ fn parcels_argument<'a>(alloc: Global) -> Arg<'a>
     described(flag, "Prints a line for each parcel too")
 }
 
+/// The folder of a country.
+fn country_argument<'a>(alloc: Global) -> Arg<'a>
+    ensures rule { rule_of result ≡ word_rule (codes "dir") }
+    ensures local { result.global ≡ false }
+{
+    let text = "A folder with country.txt, classes.csv and a folder for each region";
+    word_argument(alloc, "dir", text)
+}
+
 /// `country DIR`, with or without `--parcels`.
 fn country_command<'a>(alloc: Global) -> Result<Command<'a>, AllocError>
     ensures { IfOk result (λ c. IsCommandOf country_app c) }
 {
-    let text = "A folder with country.txt, classes.csv and a folder for each region";
-    let dir = word_argument(alloc, "dir", text);
+    let dir = country_argument(alloc);
     let parcels = parcels_argument(alloc);
     Command::new(alloc, "country")
         .about("Checks a country that is cut into regions, and prints its sums")
@@ -163,6 +171,18 @@ fn locate_command<'a>(alloc: Global) -> Result<Command<'a>, AllocError>
 {
     let points = points_argument(alloc);
     locate_command_for_release(alloc)?.arg(points)
+}
+
+/// `locate-country DIR POINTS`.
+fn locate_country_command<'a>(alloc: Global) -> Result<Command<'a>, AllocError>
+    ensures { IfOk result (λ c. IsCommandOf locate_country_app c) }
+{
+    let dir = country_argument(alloc);
+    let points = points_argument(alloc);
+    Command::new(alloc, "locate-country")
+        .about("Checks a country, and prints which parcel and piece each point is in")
+        .arg(dir)?
+        .arg(points)
 }
 
 /// `publish` with the register and the year.
@@ -252,6 +272,7 @@ pub(crate) fn command_line<'a>(alloc: Global) -> Result<Command<'a>, AllocError>
     let line = joined(line, check_command(alloc));
     let line = joined(line, country_command(alloc));
     let line = joined(line, locate_command(alloc));
+    let line = joined(line, locate_country_command(alloc));
     let line = joined(line, exact_command(alloc));
     let line = joined(line, publish_command(alloc));
     joined(line, trace_command(alloc))

@@ -94,6 +94,17 @@ pub enum CommandFiles<'a> {
         /// The table of points.
         points: NamedFile,
     },
+    /// Of `locate-country`, beside those of its regions.
+    LocateCountry {
+        /// The path of its folder, in which each region has a folder.
+        dir: &'a str,
+        /// The text that says how it is cut into regions.
+        country: NamedFile,
+        /// The table of classes that all regions have.
+        classes: NamedFile,
+        /// The table of points.
+        points: NamedFile,
+    },
     /// Of `exact`.
     Exact {
         /// The path of the register, which is opened before the files.
@@ -216,6 +227,12 @@ pub fn named_files<'a>(alloc: Global, command: Cmd<'a>) -> Result<CommandFiles<'
         Cmd::Locate { dir, cert, points } => Ok(CommandFiles::Locate {
             tables: tables_of(alloc, dir)?,
             cert: file_at(alloc, cert, Name::Cert)?,
+            points: file_at(alloc, points, Name::Points)?,
+        }),
+        Cmd::LocateCountry { dir, points } => Ok(CommandFiles::LocateCountry {
+            dir,
+            country: country_in(alloc, dir)?,
+            classes: classes_in(alloc, dir)?,
             points: file_at(alloc, points, Name::Points)?,
         }),
         Cmd::Exact { db, dir, cert, out } => Ok(CommandFiles::Exact {

@@ -1,11 +1,12 @@
 -- The run over the regions of a plan, as that over a country.
-use Rattle.std.proofs.Common.{◌≡◌, ◌≤◌, ◌∙◌, [], refl, sym, ap, subst, arith, inl, inr, IfErr, IfOk, ℕ, List, Option, Result, Ok, Err, length, map}
+use Rattle.std.proofs.Common.{◌≡◌, ◌≤◌, ◌∙◌, [], refl, sym, ap, ap₂, subst, arith, inl, inr, IfErr, IfOk, ℕ, List, Option, Result, Ok, Err, length, map}
 use Rattle.std.proofs.lemmas.List.{length-map}
 use Rattle.std.specs.String.{string_bytes}
 use Rattle.lpis_covers.specs.declared.class.Class.{Class}
 use Rattle.lpis_covers.specs.declared.fault.TableFault.{TableFault}
 use Rattle.lpis_parcels.specs.Release.{Contents}
 use Rattle.lpis_commands.specs.CheckAnswer.{Answer, IsTableAnswer}
+use Rattle.lpis_commands.specs.declared.answer.Answer.{Answer as Printed}
 use Rattle.lpis_commands.specs.declared.command.Detail.{Detail}
 use Rattle.lpis_commands.specs.Status.{done}
 use Rattle.lpis_country.specs.Tiling.{frame, rectangles}
@@ -18,10 +19,29 @@ use Rattle.lpis_country_run.specs.declared.progress.Progress.{Progress}
 use Rattle.lpis_country_run.specs.CountryAnswer.{CountryEnds, IsCountryAnswer, IsRegionsAnswer, Setting, setting_of}
 use Rattle.lpis_country_run.specs.CountryFailures.{CountryBreaksOff, CountryHalts}
 use Rattle.lpis_country_run.specs.Regions.{AreCountryRead, CountryInputs, IsCountry, Texts}
-use Rattle.lpis_country_run.specs.private.Beginning.{IsBegun}
+use Rattle.lpis_country_run.specs.Beginning.{IsBegun, IsUnbegun}
 use Rattle.lpis_country_run.specs.private.Progressing.{HaveAllPassed, IsStart, RegionsBreakOff, RegionsEnd}
 use Rattle.lpis_country_run.specs.private.Totals.{AreTotalsOf}
 use Rattle.lpis_country_run.proofs.PassedLemmas.{passed_length, passed_regions, passed_sound}
+
+-- the status of an input that is not read is none of a yes
+pub two_is_not_done : (n : ℕ) → n ≡ 2 → n ≡ 0 → ⊥
+two_is_not_done n two zero = omega arith
+
+-- an answer to inputs that have a fault before the first region is one to the country
+pub unbegun_answer : (texts : List ℕ → Texts) (detail : Detail) (x : CountryInputs) (a : Printed) → IsUnbegun x a → IsCountryAnswer texts detail x (a.text.items, a.status)
+unbegun_answer texts detail x a (inl (line, fault, text, status)) = inl (line, fault, ap₂ (λ (t : List ℕ) (n : ℕ). (t, n)) text status)
+unbegun_answer texts detail x a (inr (plan, planned, (fault, table, text, status))) = inr (
+  plan,
+  planned,
+  subst (λ (said : Result (List Class) TableFault). IsTableAnswer (λ classes. IsRegionsAnswer (setting_of texts detail plan classes)) said (a.text.items, a.status)) (sym table)
+      (ap₂ (λ (t : List ℕ) (n : ℕ). (t, n)) text status),
+)
+
+-- and no yes
+pub unbegun_no : (x : CountryInputs) (a : Printed) → IsUnbegun x a → a.status ≡ done → ⊥
+unbegun_no x a (inl (line, fault, text, status)) e = two_is_not_done a.status status e
+unbegun_no x a (inr (plan, planned, (fault, table, text, status))) e = two_is_not_done a.status status e
 
 -- the setting of what was begun
 pub begun_setting : (List ℕ → Texts) → Detail → (x : CountryInputs) (b : Begun) → IsBegun x b → Setting

@@ -3,3 +3,4 @@ pub mod PassedLemmas
 pub mod PlaceLemmas
 pub mod RunLemmas
 pub mod TotalsLemmas
+pub mod Shared

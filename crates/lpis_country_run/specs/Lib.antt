@@ -1,3 +1,4 @@
+pub mod Beginning
 pub mod CountryAnswer
 pub mod CountryFailures
 pub mod CountryLines

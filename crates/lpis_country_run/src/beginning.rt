@@ -3,11 +3,11 @@
 ghost use Rattle.std.specs.Prelude.{◌≡◌, IfErr, IfOk, Ok};
 ghost use Rattle.lpis_covers.specs.Classes.{classes_table};
 ghost use Rattle.lpis_covers.specs.Faults.{rows_of};
+ghost use Rattle.lpis_country_run.specs.Beginning.{IsBegun, IsClassesRefusal, IsPlanRefusal};
+ghost use Rattle.lpis_country_run.specs.Beginning.{IsUnbegun, country_inputs_of};
 ghost use Rattle.lpis_country_run.specs.CountryFailures.{IsUnreadTop};
 ghost use Rattle.lpis_country_run.specs.Regions.{AreCountryRead};
-ghost use Rattle.lpis_country_run.specs.private.Beginning.{IsBegun, IsClassesRefusal, IsPlanIn};
-ghost use Rattle.lpis_country_run.specs.private.Beginning.{IsPlanRefusal, IsUnbegun};
-ghost use Rattle.lpis_country_run.specs.private.Beginning.{country_inputs_of};
+ghost use Rattle.lpis_country_run.specs.private.Beginning.{IsPlanIn};
 
 use crate::failure::CountryFailure;
 use crate::refusals::refuse_plan;
@@ -20,21 +20,26 @@ use std::io::Read;
 
 /// The bytes of the two files at the top.
 #[derive(Drop)]
-pub(crate) struct CountryBytes {
-    pub(crate) plan: Vec<u8>,
-    pub(crate) classes: Vec<u8>,
+pub struct CountryBytes {
+    /// The plan.
+    pub plan: Vec<u8>,
+    /// The table of classes.
+    pub classes: Vec<u8>,
 }
 
 /// The names of the folders, their tiles, and the classes of all regions.
 #[derive(Drop)]
-pub(crate) struct Begun {
-    pub(crate) names: Vec<String>,
-    pub(crate) tiles: Vec<Box4>,
-    pub(crate) classes: Vec<Class>,
+pub struct Begun {
+    /// The names, in the order of the plan.
+    pub names: Vec<String>,
+    /// The tile of each.
+    pub tiles: Vec<Box4>,
+    /// The classes.
+    pub classes: Vec<Class>,
 }
 
 /// All bytes of the two files, which are read in this order.
-pub(crate) fn read_top<P: Read + Drop, K: Read + Drop>(
+pub fn read_top<P: Read + Drop, K: Read + Drop>(
     alloc: Global,
     country: P,
     classes: K,
@@ -73,7 +78,7 @@ fn classes_in(alloc: Global, table: Vec<u8>) -> Result<Result<Classes, Answer>, 
 }
 
 /// The plan and the classes, or the line of the first fault: of the plan, then of the classes.
-pub(crate) fn begin(alloc: Global, top: CountryBytes) -> Result<Result<Begun, Answer>, AllocError>
+pub fn begin(alloc: Global, top: CountryBytes) -> Result<Result<Begun, Answer>, AllocError>
     ensures begun { IfOk result (λ r. IfOk r (IsBegun (country_inputs_of top))) }
     ensures refusal { IfOk result (λ r. IfErr r (IsUnbegun (country_inputs_of top))) }
 {

@@ -8,16 +8,16 @@ ghost use Rattle.lpis_commands.specs.declared.command.Detail.{Detail};
 ghost use Rattle.lpis_country_run.specs.CountryAnswer.{CountryEnds, Setting};
 ghost use Rattle.lpis_country_run.specs.CountryFailures.{CountryBreaksOff, CountryHalts};
 ghost use Rattle.lpis_country_run.specs.Regions.{AreCountryRead, CountryInputs, Texts};
-ghost use Rattle.lpis_country_run.specs.private.Beginning.{IsBegun, IsUnbegun};
+ghost use Rattle.lpis_country_run.specs.Beginning.{IsBegun, IsUnbegun};
 ghost use Rattle.lpis_country_run.specs.private.Progressing.{AreOfRun, HaveAllPassed, IsAt};
-ghost use Rattle.lpis_country_run.specs.private.Progressing.{IsBrokenOff, IsFailureOf, IsFinished};
+ghost use Rattle.lpis_country_run.specs.private.Progressing.{IsBrokenOff, IsFinished};
 ghost use Rattle.lpis_country_run.specs.private.Progressing.{IsReady, IsStart, IsUnfinished};
 ghost use Rattle.lpis_country_run.specs.private.Progressing.{IsWritten, RegionsBreakOff, RegionsEnd};
 ghost use Rattle.lpis_country_run.specs.private.Totals.{IsPrintable};
 
 use crate::beginning::{Begun, begin, read_top};
 use crate::failure::CountryFailure;
-use crate::folder::Regions;
+use crate::folder::{Regions, of_region};
 use crate::judging::pass;
 use crate::lines::report_country;
 use crate::progress::Progress;
@@ -27,20 +27,6 @@ use lpis_country_seam::OpenSeam;
 use lpis_country_seam::laws::a_country_of_joined_regions_is_sound;
 use std::alloc::Global;
 use std::io::{Read, Write};
-
-/// The failure of the region of this number, whose name may be taken out of the list.
-fn of_region(failure: Failure, names: &mut Vec<String>, index: usize) -> CountryFailure
-    requires { index < length names.old.items }
-    ensures { IsFailureOf failure (get_or (map string_bytes names.old.items) index []) result }
-{
-    match failure {
-        Failure::Read(_) => CountryFailure {
-            failure,
-            region: Some(names.swap_remove(index)),
-        },
-        _ => CountryFailure::from(failure),
-    }
-}
 
 /// Reads and judges the region of this number, and writes what is printed of it. Some is the status
 /// of one that is refused.

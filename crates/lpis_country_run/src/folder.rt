@@ -1,11 +1,16 @@
 //! The folders of a country's regions.
 
-ghost use Rattle.std.specs.Prelude.{IfErr, IfOk, List, ℕ};
+ghost use Rattle.std.specs.Prelude.{◌≡◌, ◌<◌, ◌∷◌, [], IfErr, IfOk, List, OnOk, get_or, length};
+ghost use Rattle.std.specs.Prelude.{map, ℕ};
+ghost use Rattle.std.specs.String.{string_bytes};
 ghost use Rattle.lpis_commands.specs.Failures.{IsUnchecked};
 ghost use Rattle.lpis_commands.specs.Inputs.{inputs_of};
-ghost use Rattle.lpis_country_run.specs.CountryFailures.{IsUnopened, IsUnreadFolder};
+ghost use Rattle.lpis_country_run.specs.CountryFailures.{IsStoppedBefore, IsUnopened};
+ghost use Rattle.lpis_country_run.specs.CountryFailures.{IsUnreadFolder};
 ghost use Rattle.lpis_country_run.specs.Regions.{AreGiven, AreOfFolder, Texts};
+ghost use Rattle.lpis_country_run.specs.private.Progressing.{IsFailureOf};
 
+use crate::failure::CountryFailure;
 use lpis_commands::{Failure, InputBytes, read_inputs};
 use std::alloc::Global;
 use std::io::Read;
@@ -65,4 +70,40 @@ pub(crate) fn read_folder<G: Regions>(
 {
     let folder = regions.open(name)?;
     read_opened(alloc, folder)
+}
+
+/// The failure of the region of this number, whose name may be taken out of the list.
+pub(crate) fn of_region(failure: Failure, names: &mut Vec<String>, index: usize) -> CountryFailure
+    requires { index < length names.old.items }
+    ensures { IsFailureOf failure (get_or (map string_bytes names.old.items) index []) result }
+{
+    match failure {
+        Failure::Read(_) => CountryFailure {
+            failure,
+            region: Some(names.swap_remove(index)),
+        },
+        _ => CountryFailure::from(failure),
+    }
+}
+
+/// All bytes of the files of the folder of this number. Where they are not read, its name may be
+/// taken out of the list.
+pub fn read_region<G: Regions>(
+    alloc: Global,
+    regions: &G,
+    names: &mut Vec<String>,
+    index: usize,
+) -> Result<InputBytes, CountryFailure>
+    requires { index < length names.old.items }
+    ensures names { OnOk result (names.new.items ≡ names.old.items) }
+    ensures bytes { IfOk result (λ i. AreOfFolder (inputs_of i)
+        (G.texts regions.now (get_or (map string_bytes names.old.items) index []))) }
+    ensures failure { (left : List (List ℕ)) → IfErr result (IsStoppedBefore (G.texts regions.now)
+        (get_or (map string_bytes names.old.items) index [] ∷ left)) }
+{
+    let read = read_folder(alloc, regions, names[index].as_str());
+    match read {
+        Ok(inputs) => Ok(inputs),
+        Err(failure) => Err(of_region(failure, names, index)),
+    }
 }

@@ -15,6 +15,8 @@ mod progress;
 mod refusals;
 mod totals;
 
+pub use beginning::{Begun, CountryBytes, begin, read_top};
 pub use country::run_country;
 pub use failure::{CountryFailure, print_country_failure};
-pub use folder::{Folder, Regions};
+pub use folder::{Folder, Regions, read_region};
+pub use refusals::refuse_seam;

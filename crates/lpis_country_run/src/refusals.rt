@@ -70,7 +70,7 @@ fn print_seam_fault<W: Write>(
 }
 
 /// The line of a region of this name that does not fit those before it.
-pub(crate) fn refuse_seam(
+pub fn refuse_seam(
     alloc: Global,
     names: &[String],
     name: &str,

@@ -1,54 +1,9 @@
--- What is known before the first region is read.
-use Rattle.std.specs.Prelude.{◌≡◌, ◌≢◌, ◌≤◌, ℕ, List, Ok, Err, Some, length, map}
-use Rattle.std.specs.String.{string_bytes}
-use Rattle.lpis_covers.specs.Classes.{classes_table}
-use Rattle.lpis_covers.specs.Faults.{rows_of}
-use Rattle.lpis_covers.specs.declared.fault.TableFault.{TableFault}
-use Rattle.lpis_commands.specs.Refusals.{refusal_text}
-use Rattle.lpis_commands.specs.Status.{done, unreadable}
-use Rattle.lpis_commands.specs.declared.answer.Answer.{Answer}
-use Rattle.lpis_commands.specs.declared.command.Detail.{Detail}
-use Rattle.lpis_country.specs.Tiling.{frame, rectangles}
+-- The plan of a text.
+use Rattle.std.specs.Prelude.{ℕ, List}
 use Rattle.lpis_country_plan.specs.CountryText.{IsCountryText}
-use Rattle.lpis_country_plan.specs.Faults.{plan_fault}
-use Rattle.lpis_country_plan.specs.Limits.{most_regions}
 use Rattle.lpis_country_plan.specs.Plans.{IsPlanOf, PlanParts}
-use Rattle.lpis_country_plan.specs.Tree.{Tree, folders, tiling_of}
-use Rattle.lpis_country_run.specs.declared.beginning.Begun.{Begun}
-use Rattle.lpis_country_run.specs.declared.beginning.CountryBytes.{CountryBytes}
-use Rattle.lpis_country_run.specs.CountryAnswer.{IsCountryAnswer}
-use Rattle.lpis_country_run.specs.CountryLines.{plan_refusal_text}
-use Rattle.lpis_country_run.specs.Regions.{CountryInputs, Texts}
-
-abbrev pub country_inputs_of : CountryBytes → CountryInputs
-country_inputs_of b = record { plan = b.plan.items; classes = b.classes.items }
+use Rattle.lpis_country_plan.specs.Tree.{Tree}
 
 -- the plan is that of the text
 abbrev pub IsPlanIn : List ℕ → PlanParts → Type 0
 IsPlanIn text p = (t : Tree) × IsCountryText text t × IsPlanOf t p
-
--- the line of the first fault of the text
-abbrev pub IsPlanRefusal : List ℕ → Answer → Type 0
-IsPlanRefusal text a = (line : ℕ) × (plan_fault text ≡ Some line)
-    × (a.text.items ≡ plan_refusal_text line) × (a.status ≡ unreadable)
-
--- the line of the first fault of the table
-abbrev pub IsClassesRefusal : List ℕ → Answer → Type 0
-IsClassesRefusal table a = (fault : TableFault) × (rows_of classes_table table ≡ Err fault)
-    × (a.text.items ≡ refusal_text fault) × (a.status ≡ unreadable)
-
--- the plan and the classes are those of the inputs
-pub record IsBegun (x : CountryInputs) (b : Begun) : Type 0 where
-  pub plan : Tree
-  pub text : IsCountryText x.plan plan
-  pub names_are : map string_bytes b.names.items ≡ folders plan
-  pub tiles_are : b.tiles.items ≡ rectangles (tiling_of plan) frame
-  pub table : rows_of classes_table x.classes ≡ Ok b.classes.items
-  pub as_many : length b.names.items ≡ length b.tiles.items
-  pub few : length (folders plan) ≤ most_regions
-
--- the answer to inputs that have a fault before the first region
-pub record IsUnbegun (x : CountryInputs) (a : Answer) : Type 0 where
-  pub answer : (texts : List ℕ → Texts) (detail : Detail)
-      → IsCountryAnswer texts detail x (a.text.items, a.status)
-  pub no : a.status ≢ done

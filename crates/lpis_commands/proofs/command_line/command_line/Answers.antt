@@ -1,4 +1,4 @@
-use Rattle.lpis_commands.specs.Command.{area_app, check_app, country_app, cut_app, exact_app, locate_app, program_app, publish_app, trace_app, with_command}
+use Rattle.lpis_commands.specs.Command.{area_app, check_app, country_app, cut_app, exact_app, locate_app, locate_country_app, program_app, publish_app, trace_app, with_command}
 use Rattle.lpis_commands.proofs.command_line.command_line.Goals as goal
 
 pub returns : goal.returns
@@ -8,14 +8,17 @@ returns c =
     let three = with_command two check_app in
     let four = with_command three country_app in
     let five = with_command four locate_app in
-    let six = with_command five exact_app in
-    let seven = with_command six publish_app in
-    c.joined.ensures seven trace_app
-    (c.joined-line-7.ensures six publish_app
-    (c.joined-line-6.ensures five exact_app
+    let six = with_command five locate_country_app in
+    let seven = with_command six exact_app in
+    let eight = with_command seven publish_app in
+    c.joined.ensures eight trace_app
+    (c.joined-line-8.ensures seven publish_app
+    (c.joined-line-7.ensures six exact_app
+    (c.joined-line-6.ensures five locate_country_app
     (c.joined-line-5.ensures four locate_app
     (c.joined-line-4.ensures three country_app
     (c.joined-line-3.ensures two check_app
     (c.joined-line-2.ensures one cut_app
     (c.joined-line.ensures program_app area_app c.program.ensures c.area_command.ensures)
-    c.cut_command.ensures) c.check_command.ensures) c.country_command.ensures) c.locate_command.ensures) c.exact_command.ensures) c.publish_command.ensures) c.trace_command.ensures
+    c.cut_command.ensures) c.check_command.ensures) c.country_command.ensures) c.locate_command.ensures)
+    c.locate_country_command.ensures) c.exact_command.ensures) c.publish_command.ensures) c.trace_command.ensures

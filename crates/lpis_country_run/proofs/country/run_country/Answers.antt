@@ -1,4 +1,4 @@
-use Rattle.lpis_country_run.specs.private.Beginning.{country_inputs_of}
+use Rattle.lpis_country_run.specs.Beginning.{country_inputs_of}
 use Rattle.lpis_country_run.proofs.BegunLemmas.{ends_read, halts_read}
 use Rattle.lpis_country_run.proofs.RunLemmas.{fault_is}
 use Rattle.lpis_country_run.proofs.country.run_country.Goals as goal

@@ -1,0 +1,46 @@
+-- What is known before the first region is read.
+use Rattle.std.specs.Prelude.{◌≡◌, ◌≤◌, ◌⊎◌, ℕ, List, Ok, Err, Some, length, map}
+use Rattle.std.specs.String.{string_bytes}
+use Rattle.lpis_covers.specs.Classes.{classes_table}
+use Rattle.lpis_covers.specs.Faults.{rows_of}
+use Rattle.lpis_covers.specs.declared.fault.TableFault.{TableFault}
+use Rattle.lpis_commands.specs.Refusals.{refusal_text}
+use Rattle.lpis_commands.specs.Status.{unreadable}
+use Rattle.lpis_commands.specs.declared.answer.Answer.{Answer}
+use Rattle.lpis_country.specs.Tiling.{frame, rectangles}
+use Rattle.lpis_country_plan.specs.CountryText.{IsCountryText}
+use Rattle.lpis_country_plan.specs.Faults.{plan_fault}
+use Rattle.lpis_country_plan.specs.Limits.{most_regions}
+use Rattle.lpis_country_plan.specs.Tree.{Tree, folders, tiling_of}
+use Rattle.lpis_country_run.specs.declared.beginning.Begun.{Begun}
+use Rattle.lpis_country_run.specs.declared.beginning.CountryBytes.{CountryBytes}
+use Rattle.lpis_country_run.specs.CountryLines.{plan_refusal_text}
+use Rattle.lpis_country_run.specs.Regions.{CountryInputs}
+
+abbrev pub country_inputs_of : CountryBytes → CountryInputs
+country_inputs_of b = record { plan = b.plan.items; classes = b.classes.items }
+
+-- the line of the first fault of the text
+abbrev pub IsPlanRefusal : List ℕ → Answer → Type 0
+IsPlanRefusal text a = (line : ℕ) × (plan_fault text ≡ Some line)
+    × (a.text.items ≡ plan_refusal_text line) × (a.status ≡ unreadable)
+
+-- the line of the first fault of the table
+abbrev pub IsClassesRefusal : List ℕ → Answer → Type 0
+IsClassesRefusal table a = (fault : TableFault) × (rows_of classes_table table ≡ Err fault)
+    × (a.text.items ≡ refusal_text fault) × (a.status ≡ unreadable)
+
+-- the plan and the classes are those of the inputs
+pub record IsBegun (x : CountryInputs) (b : Begun) : Type 0 where
+  pub plan : Tree
+  pub text : IsCountryText x.plan plan
+  pub names_are : map string_bytes b.names.items ≡ folders plan
+  pub tiles_are : b.tiles.items ≡ rectangles (tiling_of plan) frame
+  pub table : rows_of classes_table x.classes ≡ Ok b.classes.items
+  pub as_many : length b.names.items ≡ length b.tiles.items
+  pub few : length (folders plan) ≤ most_regions
+
+-- the answer to inputs that have a fault before the first region: in the plan, or in the classes
+abbrev pub IsUnbegun : CountryInputs → Answer → Type 0
+IsUnbegun x a = IsPlanRefusal x.plan a
+    ⊎ ((plan : Tree) × IsCountryText x.plan plan × IsClassesRefusal x.classes a)

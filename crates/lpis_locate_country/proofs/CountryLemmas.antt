@@ -1,0 +1,154 @@
+-- The search through the regions of a plan, as that in a country.
+use Rattle.std.proofs.Common.{◌≡◌, ◌∙◌, ◌⊎◌, ◌++◌, ◌∷◌, [], refl, sym, ap, ap₂, subst, arith, inl, inr, ℕ, List, Option, None, Some, Result, Ok, Err, length, map}
+use Rattle.std.proofs.lemmas.List.{append-nil, length-map}
+use Rattle.std.specs.Io.KnownBytes.{Keeps}
+use Rattle.std.specs.String.{string_bytes}
+use Rattle.lpis_covers.specs.declared.class.Class.{Class}
+use Rattle.lpis_covers.specs.declared.fault.TableFault.{TableFault}
+use Rattle.lpis_parcels.specs.Release.{Contents}
+use Rattle.lpis_commands.specs.CheckAnswer.{Answer as TextStatus, IsTableAnswer}
+use Rattle.lpis_commands.specs.declared.answer.Answer.{Answer}
+use Rattle.lpis_commands.specs.declared.command.Detail.TheVariants.{Regions}
+use Rattle.lpis_commands.specs.Status.{done}
+use Rattle.lpis_country.specs.Country.{country_of}
+use Rattle.lpis_country.specs.Tiling.{frame, rectangles}
+use Rattle.lpis_country.specs.Union.{IsUnion}
+use Rattle.lpis_country_plan.specs.Tree.{folders, tiling_of}
+use Rattle.lpis_country_seam.specs.Laws.{JoinedCountryIsSound, JoinedCountryIsUnion}
+use Rattle.lpis_country_seam.specs.Open.{IsSeamOf}
+use Rattle.lpis_country_run.specs.Beginning.{IsBegun, IsUnbegun}
+use Rattle.lpis_country_run.specs.declared.beginning.Begun.{Begun}
+use Rattle.lpis_country_run.specs.declared.failure.CountryFailure.{CountryFailure}
+use Rattle.lpis_country_run.specs.CountryAnswer.{HavePassed, IsReachedBy, IsRefusedRegion, Setting, setting_of}
+use Rattle.lpis_country_run.specs.Regions.{IsCountry, Texts}
+use Rattle.lpis_country_run.proofs.Shared.{passed_length, passed_regions, passed_sound, two_is_not_done}
+use Rattle.lpis_locating.specs.declared.fault.PointsFault.{PointsFault}
+use Rattle.lpis_locating.specs.Points.{Given, points_of}
+use Rattle.lpis_locate.specs.LocateAnswer.{IsPointsAnswer}
+use Rattle.lpis_locate_country.specs.declared.progress.Progress.{Progress}
+use Rattle.lpis_locate_country.specs.LocateCountryAnswer.{AreLocateCountryRead, IsLocateCountryAnswer, IsLocatedInCountry, IsRegionsPointsAnswer, LocateCountryHalts, LocateCountryInputs}
+use Rattle.lpis_locate_country.specs.private.Found.{IsSearched}
+use Rattle.lpis_locate_country.specs.private.Searching.{IsOutcome, IsStart, IsStopped, IsUnanswered}
+
+-- the setting of what was begun
+pub begun_setting : (List ℕ → Texts) → (x : LocateCountryInputs) (b : Begun) → IsBegun x.country b → Setting
+begun_setting texts x b begun = setting_of texts Regions begun.plan b.classes.items
+
+-- a search through its regions can start
+pub starts : (texts : List ℕ → Texts) (x : LocateCountryInputs) (b : Begun) (p : Progress) (begun : IsBegun x.country b) → IsSeamOf b.tiles.items b.classes.items [] p.seam
+    → IsSearched x.points [] p.search → IsStart (begun_setting texts x b begun) texts x.points (map string_bytes b.names.items) p
+unfolding begun_setting
+starts texts x b p begun seam search = record {
+  at = record { seam = subst (λ tiles. IsSeamOf tiles b.classes.items [] p.seam) begun.tiles_are seam; search = search };
+  texts_are = refl;
+  names_are = sym begun.names_are;
+  as_many = length-map b.names.items string_bytes ∙ begun.as_many ∙ ap length begun.tiles_are;
+}
+
+-- ---- the answer
+-- the answer to the regions is that to the country
+whole-answer : (texts : List ℕ → Texts) (x : LocateCountryInputs) (b : Begun) (begun : IsBegun x.country b) (a : TextStatus) → IsRegionsPointsAnswer x.points (begun_setting texts x b begun) a
+    → IsLocateCountryAnswer texts x a
+unfolding begun_setting
+whole-answer texts x b begun a h = inr (
+  begun.plan,
+  begun.text,
+  subst (λ (said : Result (List Class) TableFault). IsTableAnswer (λ classes. IsRegionsPointsAnswer x.points (setting_of texts Regions begun.plan classes)) said a) (sym begun.table) h,
+)
+
+-- the answer to a region that is refused is that to the country
+pub refused_answer : (texts : List ℕ → Texts) (x : LocateCountryInputs) (b : Begun) (begun : IsBegun x.country b) (p : Progress) (a : Answer)
+    → IsOutcome (begun_setting texts x b begun) x.points p (Some a) → IsLocateCountryAnswer texts x (a.text.items, a.status)
+refused_answer texts x b begun p a (regions, lines, name, left, reached, refusal) =
+    whole-answer texts x b begun (a.text.items, a.status) (record { regions = regions; lines = lines; left = name ∷ left; reached = reached; follows = refusal })
+
+-- and no yes
+pub refused_no : (s : Setting) (before : List Contents) (name text : List ℕ) (status : ℕ) → IsRefusedRegion s before name (text, status) → status ≡ done → ⊥
+refused_no s before name text status (x, told, inl (b, refusal, is)) e = refusal.1 (sym (ap (λ (a : TextStatus). a.1) is) ∙ e)
+refused_no s before name text status (x, told, inr seam) e = one-is-not-done status (ap (λ (a : TextStatus). a.1) seam.is) e
+  where
+    one-is-not-done : (n : ℕ) → n ≡ 1 → n ≡ 0 → ⊥
+    one-is-not-done n one zero = omega arith
+
+-- all regions make up their union
+pub all_unite : (texts : List ℕ → Texts) (x : LocateCountryInputs) (b : Begun) (begun : IsBegun x.country b) (p : Progress) → JoinedCountryIsUnion
+    → (out : IsOutcome (begun_setting texts x b begun) x.points p None) → IsUnion out.0 (country_of b.classes.items out.0)
+unfolding begun_setting
+all_unite texts x b begun p unites (all, passed, at) = unites (rectangles (tiling_of begun.plan) frame) b.classes.items all at.seam.joined
+
+-- the answer to the points in their union is that to the country
+pub points_answer : (texts : List ℕ → Texts) (x : LocateCountryInputs) (b : Begun) (begun : IsBegun x.country b) (p : Progress) (a : TextStatus)
+    → (out : IsOutcome (begun_setting texts x b begun) x.points p None) → IsPointsAnswer (country_of b.classes.items out.0) (points_of x.points) a → IsLocateCountryAnswer texts x a
+unfolding begun_setting
+points_answer texts x b begun p a (all, (lines, passed), at) said =
+    whole-answer texts x b begun a (record {
+      regions = all;
+      lines = lines;
+      left = [];
+      reached = record { passed = folders begun.plan; all = sym (append-nil (folders begun.plan)); have_passed = passed };
+      follows = said;
+    })
+
+-- ---- a yes
+-- points in the country of all regions, which is a sound map
+located-by : (texts : List ℕ → Texts) (x : LocateCountryInputs) (country : IsCountry texts x.country) (said : Result (List Given) PointsFault) (text : List ℕ) (status : ℕ) → points_of x.points ≡ said
+    → IsPointsAnswer (country_of country.classes country.regions) said (text, status) → status ≡ done → IsLocatedInCountry texts x text
+located-by texts x country (Err fault) text status table a e = absurd (two_is_not_done status (ap (λ (p : TextStatus). p.1) a) e)
+located-by texts x country (Ok points) text status table a e = record {
+  country = country;
+  points = points;
+  table = table;
+  lines = a.0;
+  are = a.1;
+  is = ap (λ (p : TextStatus). p.0) a.2;
+}
+
+-- where it is a yes, each point has the line of its own place in that country
+pub located : (texts : List ℕ → Texts) (x : LocateCountryInputs) (b : Begun) (begun : IsBegun x.country b) (p : Progress) (text : List ℕ) (status : ℕ) → JoinedCountryIsSound → JoinedCountryIsUnion
+    → (out : IsOutcome (begun_setting texts x b begun) x.points p None) → IsPointsAnswer (country_of b.classes.items out.0) (points_of x.points) (text, status) → status ≡ done
+    → IsLocatedInCountry texts x text
+unfolding begun_setting
+located texts x b begun p text status law unites (all, (lines, passed), at) said e =
+    let s = setting_of texts Regions begun.plan b.classes.items in
+    let tiling = tiling_of begun.plan in
+    let long = sym (passed_length s (folders begun.plan) all lines passed) ∙ ap length (sym begun.names_are) ∙ length-map b.names.items string_bytes ∙ begun.as_many ∙ ap length begun.tiles_are in
+    located-by texts x (record {
+      plan = begun.plan;
+      text = begun.text;
+      classes = b.classes.items;
+      table = begun.table;
+      regions = all;
+      of_folders = passed_regions s (folders begun.plan) all lines passed;
+      same = at.seam.joined.classes_are;
+      union = unites (rectangles tiling frame) b.classes.items all at.seam.joined;
+      sound = law tiling b.classes.items all at.seam.joined (passed_sound s (folders begun.plan) all lines passed) long;
+    }) (points_of x.points) text status refl said e
+
+-- ---- no answer
+-- a search that is stopped gives no answer to the country
+pub stopped : (texts : List ℕ → Texts) (x : LocateCountryInputs) (b : Begun) (begun : IsBegun x.country b) (f : CountryFailure) → IsStopped (begun_setting texts x b begun) f → IsUnanswered texts x f
+unfolding begun_setting
+stopped texts x b begun f (regions, lines, left, reached, stop) =
+    inr (lines, left, record { plan = begun.plan; planned = begun.text; classes = b.classes.items; table = begun.table; regions = regions; reached = reached }, stop)
+
+-- ---- before the first region
+-- an answer to inputs that have a fault before the first region is one to the country
+pub unbegun_is_answer : (texts : List ℕ → Texts) (x : LocateCountryInputs) (a : Answer) → IsUnbegun x.country a → IsLocateCountryAnswer texts x (a.text.items, a.status)
+unbegun_is_answer texts x a (inl (line, fault, text, status)) = inl (line, fault, ap₂ (λ (t : List ℕ) (n : ℕ). (t, n)) text status)
+unbegun_is_answer texts x a (inr (plan, planned, (fault, table, text, status))) = inr (
+  plan,
+  planned,
+  subst (λ (said : Result (List Class) TableFault). IsTableAnswer (λ classes. IsRegionsPointsAnswer x.points (setting_of texts Regions plan classes)) said (a.text.items, a.status)) (sym table)
+      (ap₂ (λ (t : List ℕ) (n : ℕ). (t, n)) text status),
+)
+
+-- a writer to which nothing was written keeps what it has
+keeps-itself : (out : Option (List ℕ)) → Keeps out out
+keeps-itself None = tt
+keeps-itself (Some xs) = refl
+
+-- where there is no answer, nothing was written
+pub unanswered_halts : (f : CountryFailure) (texts : List ℕ → Texts) (x : LocateCountryInputs) (plan classes points out : Option (List ℕ)) → AreLocateCountryRead x plan classes points → IsUnanswered texts x f
+    → LocateCountryHalts f texts plan classes points out out
+unanswered_halts f texts x plan classes points out told (inl memory) = inl (inl (inl memory), keeps-itself out)
+unanswered_halts f texts x plan classes points out told (inr (lines, left, part, stop)) = inr (x, told, inl (lines, left, part, stop, keeps-itself out))

@@ -1,0 +1,90 @@
+-- How a search through regions goes on.
+use Rattle.std.proofs.Common.{◌≡◌, ◌<◌, ◌≤◌, ◌∙◌, ◌++◌, ◌∷◌, ◌+◌, [], refl, sym, ap, ap₂, subst, arith, inr, ℕ, List, IfOk, Option, None, Some, Result, Ok, Err, drop, get_or, length, map, take}
+use Rattle.std.proofs.lemmas.List.{drop_more, length-append, length-map, take_all}
+use Rattle.lpis_parcels.specs.Release.{Contents}
+use Rattle.lpis_commands.specs.CheckAnswer.{Inputs, IsProvedOf}
+use Rattle.lpis_commands.specs.declared.answer.Answer.{Answer}
+use Rattle.lpis_country_run.specs.declared.failure.CountryFailure.{CountryFailure}
+use Rattle.lpis_country_run.specs.CountryAnswer.{HavePassed, None as NonePassed, IsReachedBy, IsRefusedRegion, Setting}
+use Rattle.lpis_country_run.specs.CountryFailures.{IsStoppedBefore}
+use Rattle.lpis_country_run.specs.CountryLines.{region_report}
+use Rattle.lpis_country_run.specs.Regions.{AreOfFolder, Texts}
+use Rattle.lpis_country_run.proofs.Shared.{passed_more, reached_by}
+use Rattle.lpis_country.specs.Country.{country_of}
+use Rattle.lpis_locate_country.specs.declared.progress.Progress.{Progress}
+use Rattle.lpis_locate_country.specs.private.Searching.{FollowsAs, IsAt, IsHere, IsOutcome, IsReady, IsStart, IsStopped, IsVerdict}
+
+-- ---- the verdict
+-- on a region that is a sound map
+pub judged : {E : Type 0} (r : Result (Option Answer) E) (s : Setting) (table : List ℕ) (before : List Contents) (name : List ℕ) (x : Inputs) (region : Contents) (p : Progress)
+    → AreOfFolder x (s.texts name) → IsProvedOf x region → IfOk r (FollowsAs s table before name region p) → IfOk r (IsVerdict s table before name p)
+judged (Err e) s table before name x region p told said h = tt
+judged (Ok None) s table before name x region p told said (fits, at) = (region, record { inputs = x; told = told; said = said; fits = fits }, at)
+judged (Ok (Some a)) s table before name x region p told said (fault, first, text, status) =
+    (x, told, inr (record { region = region; said = said; fault = fault; first = first; is = ap₂ (λ (t : List ℕ) (n : ℕ). (t, n)) text status }))
+
+-- ---- the start
+next-there : (next before n tiles names items : ℕ) → next ≡ before → before ≡ n → items ≡ tiles → names ≡ tiles → n < names → next < items
+next-there next before n tiles names items a b c d lt = omega arith
+
+-- at the start no region has passed
+pub begun_here : (s : Setting) (texts : List ℕ → Texts) (table : List ℕ) (names : List (List ℕ)) (p : Progress) → IsStart s texts table names p → IsHere s table p 0
+begun_here s texts table names p start = record { before = []; lines = []; have_passed = NonePassed; at = start.at; number = refl }
+
+-- the next region can be read
+pub ready : (s : Setting) (texts : List ℕ → Texts) (table : List ℕ) (names : List (List ℕ)) (p q : Progress) (n : ℕ) → IsStart s texts table names p → IsHere s table q n → n < length names → IsReady q
+ready s texts table names p q n start here lt = record {
+  setting = s;
+  table = table;
+  before = here.before;
+  at = here.at;
+  next = next-there _ _ _ _ _ _ here.at.seam.number here.number (ap length here.at.seam.tiles_are) start.as_many lt;
+}
+
+-- ---- going on
+-- over a list that stayed as it was the next index and its name are those of the setting
+pub next_region : {A : Type 0} (s : Setting) (bytes : A → List ℕ) (xs ys : List A) (n : ℕ) → xs ≡ ys → n < length ys → s.names ≡ map bytes ys
+    → (s.names ≡ map bytes xs) × (n < length s.names) × (get_or (map bytes xs) n [] ≡ get_or s.names n [])
+next_region s bytes xs ys n same lt are =
+    let names = are ∙ sym (ap (map bytes) same) in (names, omega (arith, ap length are, length-map ys bytes, lt), ap (λ ks. get_or ks n []) (sym names))
+
+-- a region more
+pub goes_on : (s : Setting) (table : List ℕ) (p q : Progress) (n : ℕ) (name : List ℕ) (here : IsHere s table p n) → n < length s.names → name ≡ get_or s.names n []
+    → IsVerdict s table here.before name q None → IsHere s table q (n + 1)
+goes_on s table p q n name here lt is (r, passes, at) = record {
+  before = here.before ++ r ∷ [];
+  lines = here.lines ++ region_report s.detail (country_of s.classes here.before) name r;
+  have_passed = passed_more s n here.before here.lines name r lt is here.have_passed passes;
+  at = at;
+  number = length-append here.before (r ∷ []) ∙ ap (λ (k : ℕ). k + 1) here.number;
+}
+
+-- what is left behind the regions that passed
+left-of : (s : Setting) (table : List ℕ) (p : Progress) (n : ℕ) (name : List ℕ) (here : IsHere s table p n) → n < length s.names → name ≡ get_or s.names n []
+    → IsReachedBy s here.before here.lines (name ∷ drop (n + 1) s.names)
+left-of s table p n name here lt is =
+    subst (IsReachedBy s here.before here.lines) (drop_more s.names n [] lt ∙ ap (λ (x : List ℕ). x ∷ drop (n + 1) s.names) (sym is)) (reached_by s n here.before here.lines here.have_passed)
+
+-- the next region is refused
+pub is_refused : (s : Setting) (table : List ℕ) (p q : Progress) (n : ℕ) (name : List ℕ) (a : Answer) (here : IsHere s table p n) → n < length s.names → name ≡ get_or s.names n []
+    → IsVerdict s table here.before name q (Some a) → IsOutcome s table q (Some a)
+is_refused s table p q n name a here lt is refusal = (here.before, here.lines, name, drop (n + 1) s.names, left-of s table p n name here lt is, refusal)
+
+-- the next region is not read
+pub is_stopped_at : (s : Setting) (texts : List ℕ → Texts) (table : List ℕ) (p : Progress) (n : ℕ) (name : List ℕ) (f : CountryFailure) (here : IsHere s table p n) → s.texts ≡ texts
+    → n < length s.names → name ≡ get_or s.names n [] → ((left : List (List ℕ)) → IsStoppedBefore texts (name ∷ left) f) → IsStopped s f
+is_stopped_at s texts table p n name f here same lt is stopped = (
+  here.before,
+  here.lines,
+  name ∷ drop (n + 1) s.names,
+  left-of s table p n name here lt is,
+  subst (λ (ts : List ℕ → Texts). IsStoppedBefore ts (name ∷ drop (n + 1) s.names) f) (sym same) (stopped (drop (n + 1) s.names)),
+)
+
+-- where as many regions passed as there are folders, those of all folders passed
+pub all_passed : (s : Setting) (table : List ℕ) (p : Progress) (n : ℕ) → IsHere s table p n → length s.names ≤ n → IsOutcome s table p None
+all_passed s table p n here past = (
+  here.before,
+  (here.lines, subst (λ (ks : List (List ℕ)). HavePassed s ks here.before here.lines) (take_all n s.names past) here.have_passed),
+  here.at,
+)

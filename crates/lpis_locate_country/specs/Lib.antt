@@ -1,0 +1,2 @@
+pub mod LocateCountryAnswer
+pub mod private

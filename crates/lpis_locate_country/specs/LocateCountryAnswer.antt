@@ -1,0 +1,104 @@
+-- The answer to points in a country: text and status, of the bytes of the country's files and of
+-- the table of points.
+use Rattle.std.specs.Prelude.{◌≡◌, ◌⊎◌, ◌++◌, ◌∷◌, [], ℕ, List, Option, Ok, codes}
+use Rattle.std.specs.Io.KnownBytes.{Appends, Keeps}
+use Rattle.lpis_covers.specs.Classes.{classes_table}
+use Rattle.lpis_covers.specs.Faults.{rows_of}
+use Rattle.lpis_parcels.specs.Release.{Contents}
+use Rattle.lpis_commands.specs.CheckAnswer.{Answer, IsTableAnswer}
+use Rattle.lpis_commands.specs.Status.{done}
+use Rattle.lpis_commands.specs.Streams.{Begins, IsRead, IsWithin}
+use Rattle.lpis_commands.specs.declared.command.Detail.TheVariants.{Regions}
+use Rattle.lpis_commands.specs.declared.failure.Failure.TheVariants.{Read, Write}
+use Rattle.lpis_commands.specs.declared.failure.Name.TheVariants.{Out, Points}
+use Rattle.lpis_country.specs.Country.{country_of}
+use Rattle.lpis_country_run.specs.CountryAnswer.{IsPlanAnswer, IsReachedBy, IsRefusedRegion}
+use Rattle.lpis_country_run.specs.CountryAnswer.{Setting, setting_of}
+use Rattle.lpis_country_run.specs.CountryFailures.{IsCountryPart, IsOfNone, IsStoppedBefore}
+use Rattle.lpis_country_run.specs.CountryFailures.{IsUnreadTop}
+use Rattle.lpis_country_run.specs.Regions.{AreCountryRead, CountryInputs, IsCountry, Texts}
+use Rattle.lpis_country_run.specs.declared.failure.CountryFailure.{CountryFailure}
+use Rattle.lpis_locating.specs.Points.{Given, points_of}
+use Rattle.lpis_locate.specs.LocateAnswer.{IsPointsAnswer}
+use Rattle.lpis_locate.specs.LocateLines.{AreLines}
+
+-- the bytes of the two files at the top of a country's folder, and of a table of points
+pub record LocateCountryInputs : Type 0 where
+  pub country : CountryInputs
+  pub points : List ℕ
+
+-- ---- the answer
+-- what follows the regions that passed: where no folder is left the answer to the table of points
+-- in the country of these regions, else the line of the next region, which is refused
+abbrev pub IsPointsEnd : List ℕ → Setting → List Contents → List (List ℕ) → Answer → Type 0
+IsPointsEnd table s regions [] a =
+    IsPointsAnswer (country_of s.classes regions) (points_of table) a
+IsPointsEnd table s regions (name ∷ left) a = IsRefusedRegion s regions name a
+
+-- of regions: what follows the first that pass, and nothing of those. What `country` prints of them
+-- is not printed
+pub record IsRegionsPointsAnswer (table : List ℕ) (s : Setting) (a : Answer) : Type 0 where
+  pub regions : List Contents
+  pub lines : List ℕ
+  pub left : List (List ℕ)
+  pub reached : IsReachedBy s regions lines left
+  pub follows : IsPointsEnd table s regions left a
+
+-- the answer: the faults of the country come first, in the order and with the line that they have
+-- in `country`; then, of a country all of whose regions pass, the points
+abbrev pub IsLocateCountryAnswer : (List ℕ → Texts) → LocateCountryInputs → Answer → Type 0
+IsLocateCountryAnswer texts x =
+    IsPlanAnswer (λ plan. IsTableAnswer (λ classes. IsRegionsPointsAnswer x.points
+    (setting_of texts Regions plan classes)) (rows_of classes_table x.country.classes))
+    x.country.plan
+
+-- the regions make up a country that is a sound map, the points are those of the table, and each
+-- has the line of its own place in the union of the regions
+pub record IsLocatedInCountry (texts : List ℕ → Texts) (x : LocateCountryInputs)
+    (text : List ℕ) : Type 0 where
+  pub country : IsCountry texts x.country
+  pub points : List Given
+  pub table : points_of x.points ≡ Ok points
+  pub lines : List ℕ
+  pub are : AreLines (country_of country.classes country.regions) points lines
+  pub is : text ≡ lines ++ codes "yes\n"
+
+-- ---- the run
+-- the inputs are what three readers reported, as far as it is known
+pub record AreLocateCountryRead (x : LocateCountryInputs) (plan classes points : Option (List ℕ)) :
+    Type 0 where
+  pub of_country : AreCountryRead x.country plan classes
+  pub of_points : IsRead x.points points
+
+-- the run answered with this status, and wrote the text; where it is done, the union of the regions
+-- is a sound map, and each point has the line of its own place in it
+pub record LocateCountryEnds (texts : List ℕ → Texts) (x : LocateCountryInputs) (status : ℕ)
+    (old new : Option (List ℕ)) : Type 0 where
+  pub text : List ℕ
+  pub answer : IsLocateCountryAnswer texts x (text, status)
+  pub written : Appends old new text
+  pub located : status ≡ done → IsLocatedInCountry texts x text
+
+-- a file at the top or the table of points was not read, those before it were; or memory ran out
+abbrev pub IsUnreadInput : (plan classes : Option (List ℕ)) → CountryFailure → Type 0
+IsUnreadInput plan classes f =
+    IsUnreadTop plan f ⊎ (IsWithin plan × IsWithin classes × IsOfNone f (Read Points))
+
+-- after regions that passed the next folder was not read, or memory ran out, and nothing is
+-- written; or the output failed after a beginning of the answer
+abbrev pub LocateCountryBreaksOff : CountryFailure → (List ℕ → Texts) → LocateCountryInputs
+    → Option (List ℕ) → Option (List ℕ) → Type 0
+LocateCountryBreaksOff f texts x old new =
+    ((lines : List ℕ) × (left : List (List ℕ)) × IsCountryPart texts Regions x.country lines left
+    × IsStoppedBefore texts left f × Keeps old new)
+    ⊎ (IsOfNone f (Write Out) × ((a : Answer) × IsLocateCountryAnswer texts x a
+    × Begins old new a.0))
+
+-- the run gave no answer: an input was not read, or memory ran out, before anything was written; or
+-- it broke off
+abbrev pub LocateCountryHalts : CountryFailure → (List ℕ → Texts)
+    → (plan classes points : Option (List ℕ)) → Option (List ℕ) → Option (List ℕ) → Type 0
+LocateCountryHalts f texts plan classes points old new =
+    (IsUnreadInput plan classes f × Keeps old new)
+    ⊎ ((x : LocateCountryInputs) × AreLocateCountryRead x plan classes points
+    × LocateCountryBreaksOff f texts x old new)

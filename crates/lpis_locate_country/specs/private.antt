@@ -1,0 +1,3 @@
+-- Machinery, cited by private contracts alone: no promise rests on it.
+pub mod Found
+pub mod Searching

@@ -1,0 +1,79 @@
+//! The points that are looked for, and what was found of them in the regions so far.
+
+ghost use Rattle.std.specs.Prelude.{◌≡◌, ◌++◌, ◌∷◌, [], IfErr, IfOk, List, OnOk, length, ℕ};
+ghost use Rattle.lpis_checker.specs.SoundMap.{IsSoundMap};
+ghost use Rattle.lpis_country.specs.Union.{IsUnion};
+ghost use Rattle.lpis_locate.specs.LocateAnswer.{IsPointsAnswer};
+ghost use Rattle.lpis_locating.specs.Points.{points_of};
+ghost use Rattle.lpis_parcels.specs.Release.{Contents};
+ghost use Rattle.lpis_locate_country.specs.private.Found.{IsSearched};
+
+use lpis_commands::Answer;
+use lpis_locate::{refuse_points, report_points};
+use lpis_locating::{Place, Points, PointsFault, locate_in, no_places, read_points};
+use lpis_parcels::Release;
+use std::alloc::{AllocError, Global};
+
+/// The points of a table, and what was found of them so far.
+#[derive(Drop)]
+pub(crate) struct Search {
+    pub(crate) points: Points,
+    pub(crate) found: Vec<Option<Place>>,
+}
+
+/// The points, of which nothing was found yet.
+fn search_of(alloc: Global, points: Points) -> Result<Search, AllocError>
+    ensures { (table : List ℕ) → points_of table ≡ Ok points
+        → IfOk result (λ search. IsSearched table [] (Ok search)) }
+{
+    let found = no_places(alloc, points.as_slice().len())?;
+    Ok(Search { points, found })
+}
+
+/// The points of a table, of which nothing was found yet, or the table's first fault.
+pub(crate) fn begin_search(
+    alloc: Global,
+    table: Vec<u8>,
+) -> Result<Result<Search, PointsFault>, AllocError>
+    ensures { IfOk result (IsSearched table.items []) }
+{
+    match read_points(alloc, table.as_slice()) {
+        Ok(points) => Ok(Ok(search_of(alloc, points)?)),
+        Err(PointsFault::Memory) => Err(AllocError),
+        Err(fault) => Ok(Err(fault)),
+    }
+}
+
+/// Looks for the points in one region more, which is a sound map.
+pub(crate) fn search_in(
+    release: &Release,
+    search: &mut Result<Search, PointsFault>,
+) -> Result<(), AllocError>
+    requires sound { IsSoundMap release.now }
+    requires searched { (table : List ℕ) × (before : List Contents)
+        × IsSearched table before search.old }
+    ensures { (table : List ℕ) (before : List Contents) → IsSearched table before search.old
+        → OnOk result (IsSearched table (before ++ release.now ∷ []) search.new) }
+{
+    match search {
+        Ok(search) => locate_in(release, &search.points, &mut search.found),
+        Err(_fault) => Ok(()),
+    }
+}
+
+/// What is said of the points in the union of all regions: where each is, or that their table is
+/// refused.
+pub(crate) fn report_search(
+    alloc: Global,
+    search: &Result<Search, PointsFault>,
+) -> Result<Answer, AllocError>
+    requires { (table : List ℕ) × (all : List Contents) × IsSearched table all search.now }
+    ensures { (table : List ℕ) (all : List Contents) (union : Contents)
+        → IsSearched table all search.now → IsUnion all union → IfOk result
+        (λ a. IsPointsAnswer union (points_of table) (a.text.items, a.status)) }
+{
+    match search {
+        Ok(search) => report_points(alloc, search.points.as_slice(), &search.found),
+        Err(fault) => refuse_points(alloc, *fault),
+    }
+}
