@@ -11,7 +11,7 @@ ghost use Rattle.lpis_commands.specs.Inputs.{IsReadAs, inputs_of};
 ghost use Rattle.lpis_publishing.specs.Submission.{IsSubmitted, IsUntouched, before_cert};
 ghost use Rattle.lpis_publishing.specs.Submission.{before_classes, before_covers, before_lineage};
 ghost use Rattle.lpis_publishing.specs.private.Submitting.{IsFaultAnswer};
-ghost use Rattle.lpis_publishing.specs.private.Submitting.{IsReadAll, IsUnreadSubmission};
+ghost use Rattle.lpis_publishing.specs.private.Submitting.{IsReadAll, IsUnreadAnswer};
 ghost use Rattle.lpis_publishing.specs.private.Submitting.{submission_of};
 ghost use Rattle.lpis_publishing.specs.declared.submission.UnreadSubmission.{UnreadSubmission};
 
@@ -89,7 +89,7 @@ pub(crate) fn read_submission<P: Read, C: Read, K: Read, E: Read, L: Read>(
 fn understand_release(alloc: Global, tables: TableBytes) -> Result<Release, UnreadSubmission>
     ensures said { IfOk result (λ r. release_of tables.parcels.items tables.covers.items
         tables.classes.items ≡ Ok r) }
-    ensures unread { IfErr result (IsUnreadSubmission (IsTableAnswer (λ r a. ⊥)
+    ensures unread { IfErr result (IsUnreadAnswer (IsTableAnswer (λ r a. ⊥)
         (release_of tables.parcels.items tables.covers.items tables.classes.items))) }
 {
     match release_in(alloc, tables) {
@@ -103,7 +103,7 @@ fn understand_release(alloc: Global, tables: TableBytes) -> Result<Release, Unre
 fn understand_cert(alloc: Global, read: Result<Cert, CertFault>) -> Result<Cert, UnreadSubmission>
     ensures said { (text : List ℕ) → IsReadAs text read → IfOk result (IsCertText text) }
     ensures unread { (text : List ℕ) → IsReadAs text read
-        → IfErr result (IsUnreadSubmission (IsCertAnswer (λ c a. ⊥) text (verdict text))) }
+        → IfErr result (IsUnreadAnswer (IsCertAnswer (λ c a. ⊥) text (verdict text))) }
 {
     match read {
         Ok(cert) => Ok(cert),
@@ -115,7 +115,7 @@ fn understand_cert(alloc: Global, read: Result<Cert, CertFault>) -> Result<Cert,
 /// The rows of a lineage table, whose bytes are let go, or the line of its fault.
 fn understand_rows(alloc: Global, lineage: Vec<u8>) -> Result<Vec<Row>, UnreadSubmission>
     ensures said { IfOk result (λ v. rows_of lineage_table lineage.items ≡ Ok v.items) }
-    ensures unread { IfErr result (IsUnreadSubmission (IsTableAnswer (λ rows a. ⊥)
+    ensures unread { IfErr result (IsUnreadAnswer (IsTableAnswer (λ rows a. ⊥)
         (rows_of lineage_table lineage.items))) }
 {
     match read_rows(alloc, &lineage) {
@@ -133,7 +133,7 @@ fn understand_map(alloc: Global, checked: InputBytes) -> Result<(Release, Cert),
     ensures said { IfOk result (λ map. (release_of checked.tables.parcels.items
         checked.tables.covers.items checked.tables.classes.items ≡ Ok map.0)
         × IsCertText checked.cert.items map.1) }
-    ensures unread { (lineage : List ℕ) → IfErr result (IsUnreadSubmission (IsFaultAnswer
+    ensures unread { (lineage : List ℕ) → IfErr result (IsUnreadAnswer (IsFaultAnswer
         (record { checked = inputs_of checked; lineage = lineage }))) }
 {
     let InputBytes { tables, cert } = checked;
@@ -151,7 +151,7 @@ pub(crate) fn understand(
 ) -> Result<ReadSubmission, UnreadSubmission>
     ensures said { IfOk result (λ s. IsSubmitted (submission_of submission) s.release s.cert
         s.rows.items) }
-    ensures unread { IfErr result (IsUnreadSubmission (IsFaultAnswer (submission_of submission))) }
+    ensures unread { IfErr result (IsUnreadAnswer (IsFaultAnswer (submission_of submission))) }
 {
     let SubmissionBytes { checked, lineage } = submission;
     let (release, cert) = understand_map(alloc, checked)?;

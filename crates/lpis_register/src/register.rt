@@ -32,7 +32,8 @@ use sqlite::{Alter, Connection};
 use std::alloc::Global;
 
 /// Releases with their spans and rows, and the shapes of the last one's parcels, over any store of
-/// `sqlite`. The calls of this crate alone change them; contracts of crates above name them.
+/// `sqlite`. Contracts see its database in `conn`, the history that the tables say in `history`, and
+/// the shapes that they keep in `shapes`. The calls of this crate alone change them.
 #[derive(Drop)]
 pub struct Register<S: Alter> {
     /// The database, in which no transaction is open.

@@ -19,9 +19,9 @@ pub record IsReadAll (given : Readers) (result : Result SubmissionBytes Failure)
   pub failure : IfErr result (IsUnreadSubmission given)
 
 -- memory ran out, or the answer is one of these
-abbrev pub IsUnreadSubmission : (Answer → Type 0) → UnreadSubmission → Type 0
-IsUnreadSubmission Is Memory = Unit {0}
-IsUnreadSubmission Is (Refused a) = Is (a.text.items, a.status)
+abbrev pub IsUnreadAnswer : (Answer → Type 0) → UnreadSubmission → Type 0
+IsUnreadAnswer Is Memory = Unit {0}
+IsUnreadAnswer Is (Refused a) = Is (a.text.items, a.status)
 
 -- the answer to a submission that says nothing
 abbrev pub IsFaultAnswer : Submission → Answer → Type 0
