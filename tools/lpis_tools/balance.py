@@ -2,7 +2,7 @@
 out from the others, so land for which nobody accounts shows. Python's standard library alone.
 
     whole = balance.Balance(layers)     what was read, in the tables' system of coordinates and before any repair
-    whole.join(into, row)               where a row's land goes on in another row's
+    whole.join(into, rows)              where rows' land goes on in another row
     losses.report(.., whole)            the rest: rows that the layers have no longer are left out
 """
 
@@ -60,10 +60,13 @@ class Balance:
             for row in layers[name].rows if name in layers else ():
                 self.entries[id(row)] = Entry(name, row, area_of(row.found.members if row.found else ()))
 
-    def join(self, into, row):
-        """The row's land goes on in another row of its layer."""
-        entry, other = self.entries[id(row)], self.entries[id(into)]
-        entry.joined, other.founds = True, other.founds + entry.founds
+    def join(self, into, rows):
+        """The land of rows goes on in another row of their layer."""
+        entries = [self.entries[id(row)] for row in rows]
+        for entry in entries:
+            entry.joined = True
+        first = self.entries[id(into)]
+        first.founds += tuple(found for entry in entries for found in entry.founds)
 
     def area_of(self, row):
         return self.entries[id(row)].area

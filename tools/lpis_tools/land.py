@@ -7,12 +7,11 @@ import os
 import re
 import shutil
 import sqlite3
-import subprocess
 import sys
 from collections import Counter
 from dataclasses import dataclass, field
 
-from . import sheets, systems, wkb, wkt
+from . import ending, sheets, systems, wkb, wkt
 
 COLUMNS = {"parcels": ["parcel"], "covers": ["piece", "parcel", "class"], "classes": ["class", "percent"]}
 SHAPED = ("parcels", "covers")
@@ -107,7 +106,7 @@ def as_package(path, spare, *words):
     if shutil.which("ogr2ogr") is None or spare is None:
         raise Trouble(f"{path} is no GeoPackage and no folder of CSV tables: ogr2ogr reads more (Debian: gdal-bin), and is not there")
     made = os.path.join(spare, f"land{len(os.listdir(spare))}.gpkg")
-    run = subprocess.run(["ogr2ogr", "-q", "-f", "GPKG", made, path, *words], capture_output=True, text=True, check=False)
+    run = ending.run(["ogr2ogr", "-q", "-f", "GPKG", made, path, *words], capture_output=True, text=True, check=False)
     told = [line.strip() for line in run.stderr.splitlines() if line.strip()]
     if run.returncode or not os.path.exists(made):
         raise Trouble(f"{path}: ogr2ogr cannot read it: {told[-1] if told else run.returncode}")

@@ -9,9 +9,9 @@ from shapely.validation import explain_validity
 
 from . import land, systems, wkb
 from .balance import area_of
+from .boxes import Boxes
 from .conflicts import members_of, polygons_by
 from .findings import NOTES, Finding
-from .rounding import Boxes
 
 FAR = 20_000_000.0
 ZONE = 1_000_000.0
@@ -167,7 +167,7 @@ class Preparation:
     def taken_from_neighbours(self, mended):
         """Adds to the finding of a mended piece what other pieces have of its place."""
         rows = [row for row in self.layers["covers"].rows if row.found]
-        boxes = Boxes([row.found for row in rows])
+        boxes = Boxes([row.found.box() for row in rows])
         found = {finding.row: finding for finding in self.findings if finding.kind == "invalid" and finding.layer == "covers"}
         for row in mended:
             shape, taken = shapely_wkb.loads(row.found.blob), []
