@@ -11,18 +11,18 @@ from qgis.core import (
 
 from . import places, styles
 from .check import Folder
-from .layers import TEXT, rows_of
+from .layers import TEXT, rows_of, system_of
 
 LOOK = 1
 COLUMNS = {"PARCELS": {"parcel": "PARCEL_ID"}, "COVERS": {"piece": "PIECE_ID", "parcel": "PIECE_PARCEL", "class": "PIECE_CLASS"}}
-REPORT_COLUMNS = [("kind", TEXT), ("what", TEXT), ("name", TEXT), ("area", TEXT), ("done", TEXT)]
+REPORT_COLUMNS = [(name, TEXT) for name in ("kind", "layer", "row", "identifiers", "width_m", "area_m2", "stops", "words")]
 
 
 class PrepareRelease(Folder):
     NAME, TITLE = "preparerelease", "Prepare a release"
     HELP = ("From a layer of parcels and one of land cover to the tables of a release: all is tested first and each finding is named. What would change or lose land stops, unless "
             "'accept' is set. The findings are a table, the places of the report layers.")
-    STYLED = {"REPORT_POINTS": styles.fault, "REPORT_LINES": styles.fault, "REPORT_POLYGONS": styles.fault}
+    STYLED = {"REPORT_POINTS": styles.report, "REPORT_LINES": styles.report, "REPORT_POLYGONS": styles.report}
 
     def initAlgorithm(self, configuration=None):
         polygons = [QgsProcessing.TypeVectorAnyGeometry]
@@ -34,6 +34,7 @@ class PrepareRelease(Folder):
         self.addParameter(QgsProcessingParameterField("PIECE_CLASS", "its class", "class", "COVERS"))
         self.addParameter(QgsProcessingParameterFile("CLASSES", "Table of classes (class, percent)", extension="csv", optional=True))
         self.addParameter(QgsProcessingParameterFile("IDENTIFIERS", "identifiers.csv of an earlier year", extension="csv", optional=True))
+        self.addParameter(QgsProcessingParameterFile("PREVIOUS", "Last year's folder: borders that did not change stay as they are there", behavior=QgsProcessingParameterFile.Folder, optional=True))
         self.addParameter(QgsProcessingParameterNumber("EPSG", "EPSG number of the release, in metres", QgsProcessingParameterNumber.Integer, optional=True, minValue=1))
         self.addParameter(QgsProcessingParameterBoolean("ACCEPT", "Accept: mend or leave out what is wrong, and name it", False))
         self.addParameter(QgsProcessingParameterFolderDestination("OUT", "Folder of the release"))
@@ -43,7 +44,7 @@ class PrepareRelease(Folder):
         self.addOutput(QgsProcessingOutputString("SUMMARY", "Summary"))
 
     def processAlgorithm(self, parameters, context, feedback):
-        out = self.parameterAsString(parameters, "OUT", context)
+        self.out = out = self.parameterAsString(parameters, "OUT", context)
         os.makedirs(out, exist_ok=True)
         with tempfile.TemporaryDirectory() as spare:
             package = os.path.join(spare, "land.gpkg")
@@ -58,9 +59,12 @@ class PrepareRelease(Folder):
                         **self.fill_shapes(place, os.path.join(out, "report.geojson"), REPORT_COLUMNS, "REPORT_")}
         return {**self.written, "OUT": out, "STATUS": ran.status, "SUMMARY": "\n".join(ran.lines)}
 
+    def system(self, parameters, context):
+        return system_of(self.out)
+
     def options(self, parameters, context):
         words = ["--accept"] if self.parameterAsBool(parameters, "ACCEPT", context) else []
-        for name, option in (("CLASSES", "--classes"), ("IDENTIFIERS", "--identifiers")):
+        for name, option in (("CLASSES", "--classes"), ("IDENTIFIERS", "--identifiers"), ("PREVIOUS", "--previous")):
             path = self.parameterAsFile(parameters, name, context)
             words += [option, path] if path else []
         epsg = self.parameterAsInt(parameters, "EPSG", context) if parameters.get("EPSG") else 0
