@@ -17,6 +17,7 @@ from .rounding import Map, shape_of
 WIDE = 0.02  # metres: a conflict of this width is a fault of the source
 ROUNDING = 0.000_001  # metres: of doubles
 LEAST = 0.001  # metres: conflicts that are narrower are rounding, and no rows
+SPIKE = 0.0005  # metres: narrower than twice that, a part of a shape is no place to show it
 FAR = 20_000_000.0  # metres: the range of the tables
 MOST_NAMESAKES = 10  # parcels of one name, beyond which it is not asked which of them a piece lies outside of: they are rows of their own
 ORDER = ("lost", "left out", "made", "doubled", "identifier", "stranger", "added", "class", "invalid", "overlap", "gap", "outside", "changed", "kept", "column")
@@ -47,7 +48,8 @@ class Loss:
         parts = parts_of(self.shape)
         if not parts and (self.shape is None or self.shape.is_empty):
             return None
-        point = max(parts or [self.shape], key=lambda part: part.area).representative_point()
+        largest = max(parts or [self.shape], key=lambda part: part.area)
+        point = max(parts_of(largest.buffer(-SPIKE)) or [largest], key=lambda part: part.area).representative_point()
         return point.x, point.y
 
 

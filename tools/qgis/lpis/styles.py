@@ -55,6 +55,10 @@ def report(layer):
     one_colour(layer, FAULT, "identifiers")
 
 
+def found(layer):
+    one_colour(layer, OTHER, "identifier")
+
+
 def located(layer):
     one_colour(layer, POINT, "parcel")
 
