@@ -19,7 +19,7 @@ class Explained(OfGroups, OfCountry):
         self.named = []  # identifiers of the row that is refused
         self.refusal = read(line)
         if self.refusal is None:
-            self.say("this line is none that docs/FORMATS.md has")
+            self.say("docs/FORMATS.md has no such line")
             return
         self.place = self.refusal.place
         self.enter(folder, self.refusal.region)

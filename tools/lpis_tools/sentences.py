@@ -19,7 +19,7 @@ SENTENCES = {
     "piece": "its piece {piece}: row {row} of covers.csv, line {line}; {extent}",
     "empty": "{name} is empty",
     "long": "{name} has {count} letters: {value}",
-    "letter": "{name} {value} has a letter that is none of an identifier's, number {number}: {letter}",
+    "letter": "{name} {value} has a letter that no identifier has, number {number}: {letter}",
     "extent": "x {left} to {right}, y {low} to {high}",
     "place": "place in metres: {metres}   POINT({x} {y})",
     "exactly": "x {x}, y {y}",

@@ -52,7 +52,7 @@ class Sheet:
             except csv.Error as error:
                 self.faults.append(Fault(0, f"it cannot be read behind line {line}: {error} (a quotation mark that is not closed?)"))
             except UnicodeError as error:
-                self.faults.append(Fault(0, f"it cannot be read behind line {line}: bytes that are none of {self.encoding} ({error.reason})"))
+                self.faults.append(Fault(0, f"it cannot be read behind line {line}: bytes that are not {self.encoding} ({error.reason})"))
 
     def rows(self):
         """The records behind the header with their numbers. One that is as long as the header alone is told; another is a fault."""

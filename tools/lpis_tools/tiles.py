@@ -85,7 +85,7 @@ def read(text):
             continue
         node = node_of(line)
         if node is None or not owed:
-            raise Unreadable(f"line {number} is none of a tiling: {line[:60]!r}")
+            raise Unreadable(f"line {number} is no line of a tiling: {line[:60]!r}")
         if node[0] == "region":
             if node[1] in names or len(names) == MOST_REGIONS:
                 raise Unreadable(f"line {number}: {node[1]} stands before" if node[1] in names else f"line {number}: more than {MOST_REGIONS} regions")

@@ -148,7 +148,7 @@ class Reader:
         """The order of bytes, the kind and how many numbers a point has."""
         (order,) = self.take("B", "<")
         if order > 1:
-            raise Unreadable("the shape's bytes are none of well-known binary")
+            raise Unreadable("the shape's bytes are no well-known binary")
         order = "<" if order else ">"
         (code,) = self.take("I", order)
         has_z, has_m = bool(code & 0x80000000), bool(code & 0x40000000)
