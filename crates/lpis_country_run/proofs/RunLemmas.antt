@@ -180,7 +180,7 @@ no_other failure (inl e) m r = m e
 no_other failure (inr (file, e)) m r = r file e
 
 -- the folder was not read, or memory ran out
-is_stopped : (texts : List ℕ → Texts) (failure : Failure) (name : List ℕ) (left : List (List ℕ)) (f : CountryFailure) → IsUnreadFolder (texts name) failure → IsFailureOf failure name f
+pub is_stopped : (texts : List ℕ → Texts) (failure : Failure) (name : List ℕ) (left : List (List ℕ)) (f : CountryFailure) → IsUnreadFolder (texts name) failure → IsFailureOf failure name f
     → IsStoppedBefore texts (name ∷ left) f
 is_stopped texts Memory name left f u h = inl h
 is_stopped texts (Read file) name left f u h = inr (subst (IsUnreadFolder (texts name)) (sym h.0) u, λ e. absurd (not_memory (sym h.0 ∙ e)), h.1)

@@ -1,5 +1,5 @@
 -- The search through the regions of a plan, as that in a country.
-use Rattle.std.proofs.Common.{◌≡◌, ◌∙◌, ◌⊎◌, ◌++◌, ◌∷◌, [], refl, sym, ap, ap₂, subst, arith, inl, inr, ℕ, List, Option, None, Some, Result, Ok, Err, length, map}
+use Rattle.std.proofs.Common.{◌≡◌, ◌∙◌, ◌∷◌, [], refl, sym, ap, ap₂, subst, arith, inl, inr, ℕ, List, Option, None, Some, Result, Ok, Err, length, map}
 use Rattle.std.proofs.lemmas.List.{append-nil, length-map}
 use Rattle.std.specs.Io.KnownBytes.{Keeps}
 use Rattle.std.specs.String.{string_bytes}
@@ -19,7 +19,7 @@ use Rattle.lpis_country_seam.specs.Open.{IsSeamOf}
 use Rattle.lpis_country_run.specs.Beginning.{IsBegun, IsUnbegun}
 use Rattle.lpis_country_run.specs.declared.beginning.Begun.{Begun}
 use Rattle.lpis_country_run.specs.declared.failure.CountryFailure.{CountryFailure}
-use Rattle.lpis_country_run.specs.CountryAnswer.{HavePassed, IsReachedBy, IsRefusedRegion, Setting, setting_of}
+use Rattle.lpis_country_run.specs.CountryAnswer.{IsRefusedRegion, Setting, setting_of}
 use Rattle.lpis_country_run.specs.Regions.{IsCountry, Texts}
 use Rattle.lpis_country_run.proofs.Shared.{passed_length, passed_regions, passed_sound, two_is_not_done}
 use Rattle.lpis_locating.specs.declared.fault.PointsFault.{PointsFault}

@@ -1,5 +1,6 @@
 -- What was found of points in regions, and where they are in the union of these.
-use Rattle.std.proofs.Common.{◌≡◌, ◌∙◌, ◌<◌, ◌++◌, ◌∷◌, [], ℕ, List, All, Any, Contains, Option, Some, None, Result, Ok, Err, length, get_or, slice_get, refl, sym, ap, ap₂, subst, arith}
+use Rattle.std.proofs.Common.{◌≡◌, ◌∙◌, ◌<◌, ◌++◌, ◌∷◌, [], ℕ, List, All, Contains, Option, Some, None, Result, Err, drop, length, get_or, slice_get, take, refl, sym, ap, ap₂, subst, arith}
+use Rattle.std.proofs.Math.Seq.{take-append_seam}
 use Rattle.std.proofs.lemmas.List.Elements.{All-append, All-cons, All-contains, All-nil, Contains-append_left, Contains-append_right}
 use Rattle.std.proofs.lemmas.Option.{slice_get-get_or, slice_get_within}
 use Rattle.lpis_points.specs.Plane.{RationalPoint}
@@ -35,7 +36,7 @@ one_more before r p None None none nowhere =
     All-append (λ (x : Contents). IsNowhere x p) before (r ∷ []) none (All-cons (λ (x : Contents). IsNowhere x p) r [] nowhere (All-nil (λ (x : Contents). IsNowhere x p)))
 
 -- what was found in regions, and then in one more, is found among all of them
-pub found_more : (before : List Contents) (r : Contents) (ps : List Given) (old new : List (Option Place)) → AreFoundAmong before ps old → AreFoundIn r ps old new
+found_more : (before : List Contents) (r : Contents) (ps : List Given) (old new : List (Option Place)) → AreFoundAmong before ps old → AreFoundIn r ps old new
     → AreFoundAmong (before ++ r ∷ []) ps new
 found_more before r ps old new was is = record { as_many = is.as_many ∙ was.as_many; each = λ i g f at here. by i g f at here }
   where
@@ -44,6 +45,14 @@ found_more before r ps old new was is = record { as_many = is.as_many ∙ was.as
         let lt : i < length old = omega (arith, is.as_many, slice_get_within new i f here) in
         let there = slice_get-get_or old i f lt in
         one_more before r g.at (get_or old i f) f (was.each i g (get_or old i f) at there) (is.each i g (get_or old i f) f at there here)
+
+-- so it is of a list of which a slice was written back
+pub written_back : (before : List Contents) (r : Contents) (ps : List Given) (items old new : List (Option Place)) (n : ℕ) → length new ≡ n → old ≡ items → AreFoundAmong before ps items
+    → AreFoundIn r ps old new → AreFoundAmong (before ++ r ∷ []) ps (take n (new ++ drop (length new) items))
+written_back before r ps items old new n e same was is =
+    let rest = drop (length new) items in
+    let whole : take n (new ++ rest) ≡ new = ap (λ (k : ℕ). take k (new ++ rest)) (sym e) ∙ take-append_seam new rest in
+    subst (AreFoundAmong (before ++ r ∷ []) ps) (sym whole) (found_more before r ps old new (subst (AreFoundAmong before ps) (sym same) was) is)
 
 -- ---- the union
 -- a parcel of a region has its double in the union

@@ -1,18 +1,20 @@
 -- How a search through regions goes on.
-use Rattle.std.proofs.Common.{◌≡◌, ◌<◌, ◌≤◌, ◌∙◌, ◌++◌, ◌∷◌, ◌+◌, [], refl, sym, ap, ap₂, subst, arith, inr, ℕ, List, IfOk, Option, None, Some, Result, Ok, Err, drop, get_or, length, map, take}
+use Rattle.std.proofs.Common.{◌≡◌, ◌<◌, ◌≤◌, ◌∙◌, ◌++◌, ◌∷◌, ◌+◌, [], refl, sym, ap, ap₂, subst, arith, inr, ℕ, List, IfOk, Option, None, Some, Result, Ok, Err, drop, get_or, length, map}
 use Rattle.std.proofs.lemmas.List.{drop_more, length-append, length-map, take_all}
 use Rattle.lpis_parcels.specs.Release.{Contents}
 use Rattle.lpis_commands.specs.CheckAnswer.{Inputs, IsProvedOf}
+use Rattle.lpis_commands.specs.Inputs.{inputs_of}
 use Rattle.lpis_commands.specs.declared.answer.Answer.{Answer}
+use Rattle.lpis_commands.specs.declared.check.InputBytes.{InputBytes}
 use Rattle.lpis_country_run.specs.declared.failure.CountryFailure.{CountryFailure}
-use Rattle.lpis_country_run.specs.CountryAnswer.{HavePassed, None as NonePassed, IsReachedBy, IsRefusedRegion, Setting}
+use Rattle.lpis_country_run.specs.CountryAnswer.{HavePassed, None as NonePassed, IsReachedBy, Setting}
 use Rattle.lpis_country_run.specs.CountryFailures.{IsStoppedBefore}
 use Rattle.lpis_country_run.specs.CountryLines.{region_report}
 use Rattle.lpis_country_run.specs.Regions.{AreOfFolder, Texts}
 use Rattle.lpis_country_run.proofs.Shared.{passed_more, reached_by}
 use Rattle.lpis_country.specs.Country.{country_of}
 use Rattle.lpis_locate_country.specs.declared.progress.Progress.{Progress}
-use Rattle.lpis_locate_country.specs.private.Searching.{FollowsAs, IsAt, IsHere, IsOutcome, IsReady, IsStart, IsStopped, IsVerdict}
+use Rattle.lpis_locate_country.specs.private.Searching.{FollowsAs, IsHere, IsOutcome, IsReady, IsStart, IsStopped, IsVerdict}
 
 -- ---- the verdict
 -- on a region that is a sound map
@@ -88,3 +90,9 @@ all_passed s table p n here past = (
   (here.lines, subst (λ (ks : List (List ℕ)). HavePassed s ks here.before here.lines) (take_all n s.names past) here.have_passed),
   here.at,
 )
+
+-- what was read of a folder is that of the folder of an equal name, by equal texts
+pub same_folder : (i : InputBytes) (s : Setting) (texts : List ℕ → Texts) (name other : List ℕ) → s.texts ≡ texts → other ≡ name → AreOfFolder (inputs_of i) (texts name)
+    → AreOfFolder (inputs_of i) (s.texts other)
+same_folder i s texts name other same is told =
+    subst (λ (ts : List ℕ → Texts). AreOfFolder (inputs_of i) (ts other)) (sym same) (subst (λ (n : List ℕ). AreOfFolder (inputs_of i) (texts n)) (sym is) told)

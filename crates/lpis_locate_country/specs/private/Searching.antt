@@ -1,8 +1,6 @@
 -- How far a search through regions has come, and what the next region came to.
 use Rattle.std.specs.Prelude.{◌≡◌, ◌⊎◌, ◌++◌, ◌∷◌, [], ℕ, List, Option, Some, None, length, take}
-use Rattle.std.specs.String.{string_bytes}
 use Rattle.lpis_parcels.specs.Release.{Contents}
-use Rattle.lpis_commands.specs.CheckAnswer.{Answer as TextStatus}
 use Rattle.lpis_commands.specs.declared.answer.Answer.{Answer}
 use Rattle.lpis_commands.specs.declared.command.Detail.TheVariants.{Regions}
 use Rattle.lpis_commands.specs.declared.failure.Failure.TheVariants.{Memory}

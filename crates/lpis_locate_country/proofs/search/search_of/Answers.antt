@@ -5,5 +5,5 @@ use Rattle.lpis_locate_country.proofs.search.search_of.Goals as goal
 pub returns : goal.returns
 returns c = λ table is. (
   is,
-  none_found c.args.points c.in_ok-found.found.items (c.in_ok-found.ensures.count ∙ c.len.ensures ∙ ap length c.as_slice.ensures) c.in_ok-found.ensures.none,
+  none_found c.args.points c.in_ok-found.found.items (c.in_ok-found.ensures.count ∙ ap length c.as_slice.ensures) c.in_ok-found.ensures.none,
 )
