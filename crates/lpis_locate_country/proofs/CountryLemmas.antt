@@ -148,7 +148,7 @@ keeps-itself None = tt
 keeps-itself (Some xs) = refl
 
 -- where there is no answer, nothing was written
-pub unanswered_halts : (f : CountryFailure) (texts : List ℕ → Texts) (x : LocateCountryInputs) (plan classes points out : Option (List ℕ)) → AreLocateCountryRead x plan classes points → IsUnanswered texts x f
-    → LocateCountryHalts f texts plan classes points out out
+pub unanswered_halts : (f : CountryFailure) (texts : List ℕ → Texts) (x : LocateCountryInputs) (plan classes points out : Option (List ℕ)) → AreLocateCountryRead x plan classes points
+    → IsUnanswered texts x f → LocateCountryHalts f texts plan classes points out out
 unanswered_halts f texts x plan classes points out told (inl memory) = inl (inl (inl memory), keeps-itself out)
 unanswered_halts f texts x plan classes points out told (inr (lines, left, part, stop)) = inr (x, told, inl (lines, left, part, stop, keeps-itself out))
