@@ -49,15 +49,15 @@ class Previous:
             raise land.Trouble(f"the tables of {folder} have no row")
         self.folder, self.system, self.taken, self.drawn, self.stayed = folder, system_of(folder), [], 0, 0
         self.edges = unique_edges(numpy.array(ends).reshape(-1, 4))[0].astype(int)
-        self.points = numpy.unique(self.edges.reshape(-1, 2), axis=0)
+        self.points = Corners(self.edges.reshape(-1, 2)).points
 
     def why_not(self, work):
         """Why a source cannot have these borders; nothing where it can."""
         if work.epsg and self.system and work.epsg != self.system:
             return f"its tables are in EPSG:{self.system}, and this release is in EPSG:{work.epsg}"
-        points = numpy.concatenate([numpy.zeros((0, 2)), *(Rings([row.found]).points for name in ("parcels", "covers") for row in work.layers[name].rows if row.found)])
-        rounded = numpy.unique(numpy.rint(points * 1000).astype(int), axis=0)
-        if len(numpy.unique(numpy.concatenate([self.points, rounded]), axis=0)) < len(self.points) + len(rounded):
+        points = Rings([row.found for name in ("parcels", "covers") for row in work.layers[name].rows if row.found]).points
+        rounded = Corners(numpy.rint(points * 1000).astype(int)).points
+        if not len(rounded) or len(Corners(numpy.concatenate([self.points, rounded])).points) < len(self.points) + len(rounded):
             return ""
         return f"no corner of its tables, {extent(self.points)}, is one of this source, {extent(rounded)}: is it of another place, or of another system?"
 
