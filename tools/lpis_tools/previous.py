@@ -5,12 +5,13 @@ from __future__ import annotations
 
 import os
 import re
+from array import array
 from dataclasses import dataclass
 
 import numpy
 
 from . import land, outcome
-from .noding import Corners, Rings
+from .noding import Corners, Rings, unique_edges
 
 NEAR = 1.0  # millimetres from a corner of the source to the corner of last year that it is
 ASIDE = 1.5  # millimetres from a rounded border to the corners of last year's way between its ends
@@ -38,25 +39,25 @@ class Previous:
     """Last year's borders: edges between corners in whole millimetres. `taken` are those that this year's rounding has otherwise."""
 
     def __init__(self, folder):
-        edges = set()
+        ends = array("d")
         for name in ("covers", "parcels"):
             if not os.path.isfile(os.path.join(folder, f"{name}.csv")):
                 raise land.Trouble(f"{folder} has no table {name}.csv of last year")
             for _, members, _ in outcome.read_table(folder, name):
-                edges.update((a, b) if a < b else (b, a) for member in members for ring in member for a, b in zip(ring, ring[1:]) if a != b)
-        if not edges:
+                ends.extend(value for member in members for ring in member for a, b in zip(ring, ring[1:]) if a != b for value in (*a, *b))
+        if not ends:
             raise land.Trouble(f"the tables of {folder} have no row")
         self.folder, self.system, self.taken, self.drawn, self.stayed = folder, system_of(folder), [], 0, 0
-        self.edges = numpy.array([(*a, *b) for a, b in edges])
-        self.points = numpy.unique(self.edges.reshape(-1, 2), axis=0)
+        self.edges = unique_edges(numpy.array(ends).reshape(-1, 4))[0].astype(int)
+        self.points = Corners(self.edges.reshape(-1, 2)).points
 
     def why_not(self, work):
         """Why a source cannot have these borders; nothing where it can."""
         if work.epsg and self.system and work.epsg != self.system:
             return f"its tables are in EPSG:{self.system}, and this release is in EPSG:{work.epsg}"
-        points = numpy.concatenate([numpy.zeros((0, 2)), *(Rings([row.found]).points for name in ("parcels", "covers") for row in work.layers[name].rows if row.found)])
-        rounded = numpy.unique(numpy.rint(points * 1000).astype(int), axis=0)
-        if len(numpy.unique(numpy.concatenate([self.points, rounded]), axis=0)) < len(self.points) + len(rounded):
+        points = Rings([row.found for name in ("parcels", "covers") for row in work.layers[name].rows if row.found]).points
+        rounded = Corners(numpy.rint(points * 1000).astype(int)).points
+        if not len(rounded) or len(Corners(numpy.concatenate([self.points, rounded])).points) < len(self.points) + len(rounded):
             return ""
         return f"no corner of its tables, {extent(self.points)}, is one of this source, {extent(rounded)}: is it of another place, or of another system?"
 
@@ -82,19 +83,20 @@ class Previous:
 
     def moved(self, network, sources):
         """Corners that are none of last year's, with the place of one beside them that this year has no longer: the nearest first, each once."""
-        now, then = (set(map(tuple, points.tolist())) for points in (network.points, self.points))
-        loose, gone, found = {}, then - now, []
+        corners = Corners(numpy.concatenate([network.points, self.points]))
+        now, then = (numpy.isin(numpy.arange(len(corners.points)), corners.numbers(points)) for points in (network.points, self.points))
+        gone, origins, found = set(map(tuple, corners.points[then & ~now].tolist())), {}, []
         rounded = numpy.rint(sources).astype(int)
-        for point, source in zip(map(tuple, rounded.tolist()), sources.tolist()):
-            if point not in then:
-                loose.setdefault(point, set()).add(tuple(source))
-        for point, origins in loose.items():
-            places = [place for x, y in AROUND if (place := (point[0] + x, point[1] + y)) in gone]
-            found += [(far, point, place) for place in places if (far := max(length(origin, place) for origin in origins)) <= NEAR]
-        numbers, used, moved = {tuple(point): number for number, point in enumerate(network.points.tolist())}, set(), {}
+        is_loose = ~then[corners.numbers(rounded)]
+        for point, source in zip(Corners(network.points).numbers(rounded[is_loose]).tolist(), sources[is_loose].tolist()):
+            origins.setdefault(point, set()).add(tuple(source))
+        for point, sources_of in origins.items():
+            places = [place for x, y in AROUND if (place := (int(network.points[point, 0]) + x, int(network.points[point, 1]) + y)) in gone]
+            found += [(far, point, place) for place in places if (far := max(length(source, place) for source in sources_of)) <= NEAR]
+        used, moved = set(), {}
         for _, point, place in sorted(found):
-            if numbers[point] not in moved and place not in used:
-                moved[numbers[point]] = place
+            if point not in moved and place not in used:
+                moved[point] = place
                 used.add(place)
         return moved
 
