@@ -1,6 +1,6 @@
 """What the benches share. A bench is a script of this folder that measures one thing. Its docstring says what is measured beside what,
-what is wanted and with which words it is run; constants and a `main` follow. It prints a section of Markdown: a heading, a line on what
-it is, a table, and under it what was wanted and what was got. `bench/all` runs them and puts their sections into bench/RESULTS.md.
+what is wanted and with which words it is run; constants and a `main` follow. It prints a page of Markdown: a heading, a line on what it is,
+a table, and under it what was wanted and what was got. `bench/all` runs them, and keeps the page of NAME as bench/results/NAME.md.
 
 `CUT=PROGRAM` in the environment names another program that knows `cut DIR CERT`, `LPIS=PROGRAM` a proved `lpis` that is built already;
 without them the repository's own is proved and built where that is needed. `BEFORE=PROGRAM` names an `lpis` of before millimetres and
@@ -225,7 +225,7 @@ def wrapped(text, indent=""):
 def section(what):
     """The heading, and a line on what is measured."""
     name = os.path.relpath(os.path.realpath(sys.modules["__main__"].__file__), TOP)
-    print(f"## `{name}`\n\n{wrapped(what)}\n", flush=True)
+    print(f"# `{name}`\n\n{wrapped(what)}\n", flush=True)
 
 
 class Table:

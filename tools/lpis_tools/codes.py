@@ -45,7 +45,7 @@ TABLES = {
            "a blank, an umlaut, a NULL written as an empty field, a name with more than 40 letters",
            "replace such letters by a rule that keeps identifiers different, the same rule each year"),
     "34": ("this identifier is in an earlier row too", "a parcel of several parts written as several rows; a join that doubled rows",
-           "one row an identifier: collect the parts into one MULTIPOLYGON"),
+           "one row for each identifier: collect the parts into one MULTIPOLYGON"),
     "35": ("the piece's parcel is not in parcels.csv", "the two tables come from different days or filters; letters that differ in case",
            "export both tables in one go, with the same WHERE"),
     "36": ("the piece's class is not in classes.csv", "a new class of land cover, or letters that differ in case",
@@ -58,7 +58,7 @@ TABLES = {
            "write 0 or 1 (in SQL: `eligible::int`), or name the column `percent` and write percentages"),
     "3a": ("the table has more than 200,000 rows", "a whole country in one release",
            "make a country of regions of it (`tools/country split`, docs/GUIDE.md)"),
-    "3b": ("`percent` is no whole number from 0 to 100", "a share from 0 to 1, decimals, a sign, leading zeros, a mark `%`, an empty field",
+    "3b": ("`percent` is no whole number from 0 to 100", "a share from 0 to 1, decimals, a sign, leading zeros, `%`, an empty field",
            "write 0 to 100 in digits alone (in SQL: `round(100 * share)::int`)"),
     "3c": ("`exact` in lineage.csv is neither empty nor 0 nor 1", "`yes`, `true`, `x`, a quoted blank",
            "write 1 in each row of a split or merge that is exact, and nothing else; or leave the column out"),
@@ -95,8 +95,8 @@ CUTS = {
 CERTIFICATE_TEXTS = {
     "50": ("line 1 is neither `lpis-cert 1` nor `lpis-cert 2`", "Windows line ends, a byte order mark, another file than a certificate",
            "take the certificate as `lpis cut` wrote it; transfer it as binary"),
-    "51": ("this line is none of a certificate", "the file was edited, or its line ends changed", "cut again"),
-    "52": ("a number is none, or out of its range", "the file was edited", "cut again"),
+    "51": ("this is no line of a certificate", "the file was edited, or its line ends changed", "cut again"),
+    "52": ("this is no number, or one out of its range", "the file was edited", "cut again"),
     "53": ("this line cannot come here", "the file was edited, or two certificates were joined", "cut again"),
     "54": ("the certificate ends too early", "the disk was full, or a copy broke off", "cut or copy again, compare digests"),
     "55": ("there is text behind the certificate's end", "two certificates were joined, or a line was added", "cut or copy again"),
@@ -173,7 +173,7 @@ REGISTERS = {
 }
 
 COUNTRIES = {
-    "90": ("this line cannot stand here in country.txt: it is none of `region`, `x` and `y`, its number or name is none, or a line is missing or too many",
+    "90": ("this line cannot stand here in country.txt: it begins with another word than `region`, `x` or `y`, its number or name is not allowed, or a line is missing or too many",
            "a name with a blank or a dot, a name twice, Windows line ends, a last line without its line feed, more than 10,000 regions",
            "write country.txt as docs/FORMATS.md has it, and name each folder by 1 to 100 of `a-z A-Z 0-9 _ -`"),
     "92": ("this parcel of the region's table does not meet the region's rectangle", "a parcel in the wrong folder, or country.txt with its cuts exchanged",
@@ -200,6 +200,7 @@ GROUPS = [
     ("Certificates", CERTIFICATES), ("Lineage (reported behind 81)", LINEAGES), ("Exact lineage (reported behind 85)", EXACTS),
     ("The register", REGISTERS), ("A country", COUNTRIES),
 ]
+DEFINED = [POLYGON_TEXTS, TABLES, CERTIFICATE_TEXTS, CERTIFICATES, LINEAGES, EXACTS, COUNTRIES]  # by the sections of docs/FORMATS.md before its last one
 CODES = {code: words for _, group in GROUPS for code, words in group.items()}
 
 REFUSED_BY_THE_GATE = {*CUTS, *CERTIFICATES, "80", "81", "83", "85", "92", "93", "94", "95", "96"}
@@ -230,12 +231,14 @@ def lines_of(code):
     return [*lines, f"  lpis ends with status {status_of(f'refused {first}')}"]
 
 
-def table_of_codes():
-    """The tables of all codes as docs/FORMATS.md has them."""
+def table_of_codes(defined=()):
+    """The tables of all codes. The groups that are defined elsewhere on the page have no column of meanings."""
     lines = []
     for title, group in GROUPS:
-        lines += [f"### {title}", "", "| Code | Meaning | Usual cause | Remedy |", "|---|---|---|---|"]
-        lines += [f"| {code} | {meaning} | {cause} | {remedy} |" for code, (meaning, cause, remedy) in group.items()]
+        first = 1 if group in defined else 0
+        columns = ["Code", *("Meaning", "Usual cause", "Remedy")[first:]]
+        lines += [f"### {title}", "", f"| {' | '.join(columns)} |", "|---" * len(columns) + "|"]
+        lines += [f"| {' | '.join([code, *words[first:]])} |" for code, words in group.items()]
         lines.append("")
     return "\n".join(lines)
 
@@ -243,7 +246,7 @@ def table_of_codes():
 def with_codes(page):
     """The text of docs/FORMATS.md with the tables of all codes between its marks."""
     before, rest = page.split(MARKS[0])
-    return before + MARKS[0] + "\n" + table_of_codes() + "\n" + MARKS[1] + rest.split(MARKS[1], 1)[1]
+    return before + MARKS[0] + "\n" + table_of_codes(DEFINED) + "\n" + MARKS[1] + rest.split(MARKS[1], 1)[1]
 
 
 if __name__ == "__main__":

@@ -1,4 +1,4 @@
-"""Identifiers that are none, and the same rule for them each year: German letters as two, accents dropped, other letters as `_`, and behind it
+"""Names that are no identifiers, and the same rule for them each year: German letters as two, accents dropped, other letters as `_`, and behind it
 six digits of a digest of the name as it was, so that different names stay different whatever else is in a release."""
 
 import hashlib

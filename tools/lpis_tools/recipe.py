@@ -31,10 +31,10 @@ def parser(name, text, engine):
     made.epilog = WORDS if engine else COMPARING
     made.add_argument("land", metavar="LAND", help="a GeoPackage with the layers parcels and covers")
     made.add_argument("out", metavar="OUT", help="the folder of the tables and of the report")
-    made.add_argument("--epsg", metavar="N", type=int, help="the coordinate system's number, where the land does not say it")
+    made.add_argument("--epsg", metavar="N", type=int, help="the coordinate system's number, where LAND does not name it")
     if engine:
         made.add_argument("--classes", metavar="FILE", help="the table class, percent: OUT/classes.csv is written anew from it")
-    made.add_argument("--accept", action="store_true", help="status 0 also where something is lost, changed or in conflict" + ", and the tables are written" * bool(engine))
+    made.add_argument("--accept", action="store_true", help="status 0 though something is lost, changed or in conflict" + ", and the tables are written" * bool(engine))
     return made
 
 

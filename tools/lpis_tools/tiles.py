@@ -65,7 +65,7 @@ class Tiling:
 
 
 def node_of(line):
-    """What a line tells, or None where it is none."""
+    """What a line says, or None where it is no line of a country."""
     kind, blank, word = line.partition(" ")
     if kind == "region" and blank and NAME.fullmatch(word):
         return kind, word

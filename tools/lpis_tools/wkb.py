@@ -16,7 +16,7 @@ NO_NOTES = frozenset()
 
 
 class Unreadable(Exception):
-    """A shape that is none of the tables' grammar: why, and a place where it is known."""
+    """A shape that the tables' grammar does not have: why, and a place where it is known."""
 
     def __init__(self, words, place=None):
         super().__init__(words)

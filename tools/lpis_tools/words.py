@@ -1,4 +1,4 @@
-"""The words of a tool's command line: --help, --version, and status 64 for words that are none."""
+"""The words of a tool's command line: --help, --version, and status 64 for words that it does not know."""
 
 import argparse
 import os
@@ -13,7 +13,7 @@ SOURCE = os.path.join("crates", "lpis_commands", "src", "command_line.rt")  # ha
 
 
 class Line(argparse.ArgumentParser):
-    """Ends with the status of trouble where words are none, since 1 and 2 are answers of lpis."""
+    """Ends with the status of trouble where words are not known, since 1 and 2 are answers of lpis."""
 
     def error(self, message):
         self.print_usage(sys.stderr)

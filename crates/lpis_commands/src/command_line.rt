@@ -193,7 +193,7 @@ fn exact_command_for_release<'a>(alloc: Global) -> Result<Command<'a>, AllocErro
     let db = db_argument(alloc);
     let dir = submission_argument(alloc);
     Command::new(alloc, "exact")
-        .about("Gives a certificate the flats for the splits and merges that are marked exact")
+        .about("Adds to a certificate the blocks of the splits and merges that are marked exact")
         .arg(db)?
         .arg(dir)
 }

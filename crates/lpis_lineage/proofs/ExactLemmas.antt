@@ -5,7 +5,8 @@ use Rattle.std.proofs.lemmas.Bool.{and_from, and_parts, or_right}
 use Rattle.std.proofs.lemmas.List.Elements.{All-cons, All-nil, All-weaker}
 use Rattle.std.proofs.lemmas.List.Folds.{list_any_at, list_any_none}
 use Rattle.std.proofs.lemmas.List.Sums.{AllPass-from_list_all, list_all-from_AllPass}
-use Rattle.lpis_lineage.proofs.Common.{nat_tests, list_any, cases_Bool, or_left, Row, Entry, Follows, has_id, same_id, is_ended, faults, named_successors, is_row_of, is_this, kind, last_live, names_successor}
+use Rattle.lpis_lineage.proofs.Common.{nat_tests, list_any, cases_Bool, or_left, Row, Entry, Follows, has_id}
+use Rattle.lpis_lineage.proofs.Common.{same_id, is_ended, faults, named_successors, is_row_of, is_this, kind, last_live, names_successor}
 use Rattle.lpis_lineage.proofs.Common.{succeeded}
 use Rattle.lpis_lineage.specs.Descendants.{leads}
 use Rattle.lpis_lineage.specs.ExactGroups.{is_merge, is_merged, is_split}
@@ -58,8 +59,8 @@ named_successors-kept (r ∷ rs) id s e = by (is_row_of id r) e (named_successor
     more None xs h = h
     more (Some t) xs h = or_right (same_id s t) _ h
 
-    by : (b : Bool) → has_id (named_successors (cond b (r ∷ filter (is_row_of id) rs) (filter (is_row_of id) rs))) s ≡ true → (has_id (successors rs id) s ≡ true → has_id (named_successors rs) s ≡ true)
-        → has_id (named_successors (r ∷ rs)) s ≡ true
+    by : (b : Bool) → has_id (named_successors (cond b (r ∷ filter (is_row_of id) rs) (filter (is_row_of id) rs))) s ≡ true
+        → (has_id (successors rs id) s ≡ true → has_id (named_successors rs) s ≡ true) → has_id (named_successors (r ∷ rs)) s ≡ true
     by true e h = out r.new (successors rs id) (named_successors rs) h e
     by false e h = more r.new (named_successors rs) (h e)
 

@@ -87,8 +87,9 @@ left_parts true b c e = refl
 left_parts false b c e = cc e
 
 -- the groups of the exact splits, then those of the exact merges, are the exact groups of a change
-pub groups-exact : (last live : List (List ℕ)) (c : Changes) (named_successors : List (List ℕ)) (gs ms all : List Group) → IsChange last live c.rows c → IsAscending c.dropped_ids → IsAscending named_successors
-    → ((s : List ℕ) → has_id named_successors s ≡ list_any (names_successor s) c.rows) → map group_name gs ≡ map (as_group false) (filter (is_exact_of false (kind_at c) c.rows) c.dropped_ids)
+pub groups-exact : (last live : List (List ℕ)) (c : Changes) (named_successors : List (List ℕ)) (gs ms all : List Group) → IsChange last live c.rows c → IsAscending c.dropped_ids
+    → IsAscending named_successors → ((s : List ℕ) → has_id named_successors s ≡ list_any (names_successor s) c.rows)
+    → map group_name gs ≡ map (as_group false) (filter (is_exact_of false (kind_at c) c.rows) c.dropped_ids)
     → map group_name ms ≡ map (as_group true) (filter (is_exact_of true (kind_at c) c.rows) named_successors) → All (HasOthers (kind_at c) c.rows false) gs → All (HasOthers (kind_at c) c.rows true) ms
     → all ≡ gs ++ ms → AreExactGroups (kind_at c) c.rows all
 groups-exact last live c named_successors gs ms all is da ha are n m o p e = record {

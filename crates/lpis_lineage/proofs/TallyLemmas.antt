@@ -56,7 +56,8 @@ tally-new s t ids id tally absent twice new = record {
   by-twice q false e = refl
 
 -- the successors of one row more
-pub named_successors-some : (rows : List Row) (i : ℕ) (r : Row) (s : List ℕ) → i < length rows → r ≡ get_or rows i r → r.new ≡ Some s → named_successors (take i rows) ++ s ∷ [] ≡ named_successors (take (i + 1) rows)
+pub named_successors-some : (rows : List Row) (i : ℕ) (r : Row) (s : List ℕ) → i < length rows → r ≡ get_or rows i r → r.new ≡ Some s
+    → named_successors (take i rows) ++ s ∷ [] ≡ named_successors (take (i + 1) rows)
 named_successors-some rows i r s lt is some = sym (push (take i rows)) ∙ ap named_successors (take-at rows i r lt is) where
   push : (rs : List Row) → named_successors (rs ++ r ∷ []) ≡ named_successors rs ++ s ∷ []
   push [] = ap (λ (o : Option (List ℕ)). with_some o []) some

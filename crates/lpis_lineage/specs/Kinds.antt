@@ -29,7 +29,8 @@ successors rows id = named_successors (filter (is_row_of id) rows)
 
 -- how many predecessors a successor has: the rows that name it, and itself where it is kept
 abbrev pub predecessors : List (List ℕ) → List (List ℕ) → List Row → List ℕ → ℕ
-predecessors last live rows s = id_times (named_successors rows) s + cond (has_id last s && has_id live s) 1 0
+predecessors last live rows s = id_times (named_successors rows) s
+    + cond (has_id last s && has_id live s) 1 0
 
 -- by whether there are several successors, and whether one of them has several predecessors
 abbrev pub by_counts : Bool → Bool → Kind

@@ -25,7 +25,8 @@ pub(crate) struct Fates {
 
 /// Whether a successor has several predecessors.
 fn shares(last: &IdSet, live: &IdSet, named: &Tally, successor: &Id) -> bool
-    ensures { (all : List Row) → IsTally named.now (named_successors all) → has_id (named_successors all) successor.now ≡ true
+    ensures { (all : List Row) → IsTally named.now (named_successors all)
+        → has_id (named_successors all) successor.now ≡ true
         → result ≡ is_shared last.now live.now all successor.now }
 {
     let twice = named.twice.contains(successor);

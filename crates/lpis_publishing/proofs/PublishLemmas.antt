@@ -87,7 +87,7 @@ both-ok (Err e) P Q p q = tt
 -- ---- a release that was added
 continued-of : (live : List (List ℕ)) (rows : List Row) (id : List ℕ) → ((s : List ℕ) → list_any (names_successor s) rows ≡ true → has_id live s ≡ true) → IsAnswered rows id → IsContinued live rows id
 continued-of live rows id named (inl ending) = inl (counted-ended rows id ending.0)
-continued-of live rows id named (inr named_successors) = inr (named_successors.1, λ s is. named s (mono (leads id s) (names_successor s) rows (λ row h. (and_parts (is_row_of id row) (names_successor s row) h).1) is))
+continued-of live rows id named (inr other) = inr (other.1, λ s is. named s (mono (leads id s) (names_successor s) rows (λ row h. (and_parts (is_row_of id row) (names_successor s row) h).1) is))
 
 -- a submitted sound map with a good certificate that was added to the history is published
 pub published-of : (x : Submission) (year : ℕ) (r : Contents) (c : Cert) (rows : List Row) (h : List Entry) (s : List Shape) (k : List Entry) (t : List Shape) → IsSubmitted x r c rows

@@ -17,7 +17,8 @@ ghost use Rattle.lpis_commands.specs.Status.{done, refused};
 ghost use Rattle.lpis_publishing.specs.ExactAnswer.{IsExactAnswer, RunsExact, blocks_line};
 ghost use Rattle.lpis_publishing.specs.ExactAnswer.{unfilled_line};
 ghost use Rattle.lpis_publishing.specs.LineageLines.{publish_refusal_text};
-ghost use Rattle.lpis_publishing.specs.private.ExactRuns.{IsBlocksOutcome, filled_with, refused_with};
+ghost use Rattle.lpis_publishing.specs.private.ExactRuns.{IsBlocksOutcome};
+ghost use Rattle.lpis_publishing.specs.private.ExactRuns.{filled_with, refused_with};
 ghost use Rattle.lpis_publishing.specs.private.Submitting.{submission_of};
 
 use crate::blocks::{BlockFault, with_blocks};

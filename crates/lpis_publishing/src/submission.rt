@@ -9,7 +9,8 @@ ghost use Rattle.lpis_lineage.specs.LineageTable.{lineage_table};
 ghost use Rattle.lpis_commands.specs.CheckAnswer.{IsCertAnswer, IsTableAnswer};
 ghost use Rattle.lpis_commands.specs.Inputs.{IsReadAs, inputs_of};
 ghost use Rattle.lpis_publishing.specs.Submission.{IsSubmitted};
-ghost use Rattle.lpis_publishing.specs.private.Submitting.{IsFaultAnswer, IsReadAll, IsUnreadSubmission};
+ghost use Rattle.lpis_publishing.specs.private.Submitting.{IsFaultAnswer};
+ghost use Rattle.lpis_publishing.specs.private.Submitting.{IsReadAll, IsUnreadSubmission};
 ghost use Rattle.lpis_publishing.specs.private.Submitting.{submission_of};
 ghost use Rattle.lpis_publishing.specs.declared.submission.UnreadSubmission.{UnreadSubmission};
 

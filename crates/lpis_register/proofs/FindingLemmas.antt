@@ -1,7 +1,8 @@
 -- From rows and texts that were read to what the tables say.
 use Rattle.std.proofs.Common.{◌≡◌, ◌↔◌, ℕ, List, Result, Ok, Err, IfErr, IsTrue, IsPermutation}
 use Rattle.std.proofs.lemmas.List.Sorted.{IsPermutation-sym}
-use Rattle.lpis_register.proofs.Common.{State, HasCleanDisk, Survives, survives_weaker, Entry, AreLive, Content, HoldsRegister, IsStored, Layout, PublishFault, TablesHave, Shape, ShapesAre, StoredText}
+use Rattle.lpis_register.proofs.Common.{State, HasCleanDisk, Survives, survives_weaker, Entry, AreLive, Content}
+use Rattle.lpis_register.proofs.Common.{HoldsRegister, IsStored, Layout, PublishFault, TablesHave, Shape, ShapesAre, StoredText}
 use Rattle.lpis_register.proofs.Common.{Unlawful, Version, Third, Whole}
 use Rattle.std.proofs.lemmas.Result.{IfErr-weaker}
 use Rattle.lpis_register_rows.specs.Histories.{IsSameContent, IsSameHistory}

@@ -8,7 +8,8 @@ pub use Rattle.lpis_lineage.specs.Spans.{first_held, last_held, span_of}
 pub use Rattle.lpis_lineage.specs.declared.row.Entry.{Entry}
 pub use Rattle.lpis_lineage.specs.declared.row.Row.{Row}
 pub use Rattle.lpis_register_rows.specs.Content.{Content, Line, Live, Mark, StoredSpan, lines_from, successor_text}
-pub use Rattle.lpis_register_rows.specs.Histories.{IsKeptHistory, IsSameHistory, IsSpanRow, AreLiveOf, AreSpansOf, HasHistoryByLive, HasHistoryBySpans, last_of_years, lineage_lines, marks_of, only_format, shown_span}
+pub use Rattle.lpis_register_rows.specs.Histories.{IsKeptHistory, IsSameHistory, IsSpanRow, AreLiveOf, AreSpansOf, HasHistoryByLive}
+pub use Rattle.lpis_register_rows.specs.Histories.{HasHistoryBySpans, last_of_years, lineage_lines, marks_of, only_format, shown_span}
 pub use Rattle.lpis_register_rows.specs.Histories.{years_of}
 pub use Rattle.lpis_register_rows.specs.declared.known.KnownLine.{KnownLine}
 pub use Rattle.lpis_register_rows.specs.declared.known.KnownSpan.{KnownSpan}

@@ -281,7 +281,8 @@ rows-cut y front rows others back whole read next n w r o =
       alike = append_cancel_left front (known_from (pos y) 0 others) mid (
           sym o ∙ r ∙ ap (take next) (w ∙ sym (append_assoc front mid back)) ∙ take-append-le next (front ++ mid) back (omega (arith, long)) ∙ take-whole (front ++ mid) next (omega (arith, long)))
 
-module _ (spans : List KnownSpan) (lines : List KnownLine) (g h : List Entry) (from year : ℕ) (said : HasKnownHistory spans lines h) (due : IsDue g lines from year h) (within : from ≤ length lines) where
+module _ (spans : List KnownSpan) (lines : List KnownLine) (g h : List Entry) (from year : ℕ) (said : HasKnownHistory spans lines h) (due : IsDue g lines from year h)
+    (within : from ≤ length lines) where
   begins : from ≡ length (known_of g)
   begins = let e = ap length due.lines_are in let t = length-take-le from lines within in omega (arith, e, t)
 

@@ -5,7 +5,8 @@ use Rattle.lpis_register_rows.proofs.Common.{AllByRecursion, list_any, slice_cmp
 use Rattle.lpis_register_rows.proofs.Common.{IsLawful}
 use Rattle.lpis_register_rows.proofs.Common.{RowsFit, entry_at, holds, last_live, first_held, last_held, span_of, entry-after, entry-before, entry-here}
 use Rattle.lpis_register_rows.proofs.Common.{same-exact, same-refl, filter-none, longer, before-at-after}
-use Rattle.lpis_register_rows.proofs.Common.{Content, Line, StoredSpan, lines_from, IsKeptHistory, IsSpanRow, Mark, AreSpansOf, HasHistoryBySpans, last_of_years, lineage_lines, marks_of, shown_span, years_of}
+use Rattle.lpis_register_rows.proofs.Common.{Content, Line, StoredSpan, lines_from, IsKeptHistory, IsSpanRow, Mark}
+use Rattle.lpis_register_rows.proofs.Common.{AreSpansOf, HasHistoryBySpans, last_of_years, lineage_lines, marks_of, shown_span, years_of}
 use Rattle.std.specs.List.Sorted.{IsStrictlySortedBy}
 use Rattle.std.proofs.lemmas.List.{append-nil, append_assoc}
 use Rattle.std.proofs.lemmas.List.Sorted.{IsPermutation-cons, IsPermutation-to_front, IsPermutation-append_right, IsPermutation-append_comm}

@@ -2,7 +2,8 @@
 use Rattle.std.proofs.Common.{◌≡◌, ◌∙◌, ◌≤◌, refl, sym, ap, subst, arith, ℕ, zero, suc, ℤ, pos, List, [], ◌∷◌, Bool, true, false, cond, length, map, IsPermutation, ◌&&◌, ◌||◌, All, filter}
 use Rattle.lpis_register_rows.proofs.Common.{AllByRecursion, list_any, recursion_from_All, is_id, same_id, Entry, IsLawful, RowsFit, entry_at, holds, in-history, same-exact, KnownSpan, KnownLine}
 use Rattle.lpis_register_rows.proofs.Common.{Content}
-use Rattle.lpis_register_rows.proofs.Common.{StoredSpan, IsKeptHistory, IsSpanRow, AreSpansOf, HasHistoryBySpans, last_of_years, lineage_lines, only_format, years_of, covers, Line, Mark, SetsAre, known_of}
+use Rattle.lpis_register_rows.proofs.Common.{StoredSpan, IsKeptHistory, IsSpanRow, AreSpansOf, HasHistoryBySpans, last_of_years, lineage_lines}
+use Rattle.lpis_register_rows.proofs.Common.{only_format, years_of, covers, Line, Mark, SetsAre, known_of}
 use Rattle.lpis_register_rows.proofs.Common.{line_in, marks_in, marks_of, span_in}
 use Rattle.lpis_register_rows.proofs.MarkLemmas.{lines-in, marks-in}
 

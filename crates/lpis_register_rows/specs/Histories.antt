@@ -64,14 +64,14 @@ abbrev pub only_format : ℕ → List Format
 only_format version = (record { one = pos 1; version = pos version }) ∷ []
 
 -- what tables of a version with spans say, where these are the marks
-pub record HasHistoryBySpans (version : ℕ) (marks : List Mark) (c : Content) (h : List Entry) : Type 0
-  where
-    pub kept : IsKeptHistory h
-    pub formats_are : c.formats ≡ only_format version
-    pub years_are : IsPermutation c.years (years_of h)
-    pub spans_are : AreSpansOf c.spans h
-    pub lines_are : IsPermutation c.lines (lineage_lines h)
-    pub marks_are : IsPermutation marks (marks_of h)
+pub record HasHistoryBySpans (version : ℕ) (marks : List Mark) (c : Content) (h : List Entry)
+    : Type 0 where
+  pub kept : IsKeptHistory h
+  pub formats_are : c.formats ≡ only_format version
+  pub years_are : IsPermutation c.years (years_of h)
+  pub spans_are : AreSpansOf c.spans h
+  pub lines_are : IsPermutation c.lines (lineage_lines h)
+  pub marks_are : IsPermutation marks (marks_of h)
 
 -- what tables of version 3 say
 abbrev pub HasHistory : Content → List Entry → Type 0

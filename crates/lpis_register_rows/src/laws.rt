@@ -15,8 +15,10 @@ ghost use Rattle.lpis_register_rows.specs.Content.{marks_from, no_content, publi
 ghost use Rattle.lpis_register_rows.specs.Content.{released, without_live, without_texts};
 ghost use Rattle.lpis_register_rows.specs.Shapes.{AreLive, IsSpelled, Shape, ShapesAre};
 ghost use Rattle.lpis_register_rows.specs.Shapes.{shape_ids, text_edits};
-ghost use Rattle.lpis_register_rows.specs.Histories.{AreFresh, IsSameContent, IsSameHistory, IsWriting};
-ghost use Rattle.lpis_register_rows.specs.Histories.{TablesHave, AreSpansOf, HasHistory, HasHistoryByLive};
+ghost use Rattle.lpis_register_rows.specs.Histories.{AreFresh, IsSameContent};
+ghost use Rattle.lpis_register_rows.specs.Histories.{IsSameHistory, IsWriting};
+ghost use Rattle.lpis_register_rows.specs.Histories.{TablesHave, AreSpansOf};
+ghost use Rattle.lpis_register_rows.specs.Histories.{HasHistory, HasHistoryByLive};
 ghost use Rattle.lpis_register_rows.specs.Histories.{HasHistoryBySpans};
 ghost use Rattle.lpis_register_rows.specs.Histories.{last_of_years};
 ghost use Rattle.lpis_register_rows.specs.declared.version.Version.{Version};
@@ -79,7 +81,8 @@ pub fn texts_keep_one_list_of_shapes()
 pub fn moving_keeps_the_history()
     ensures first { (c : Content) (spans : List StoredSpan) (h : List Entry) → HasHistoryByLive c h
         → AreSpansOf spans h → HasHistory (moved spans c) h }
-    ensures second { (c : Content) (h : List Entry) → HasHistoryBySpans 2 [] c h → HasHistory (raised c) h }
+    ensures second { (c : Content) (h : List Entry) → HasHistoryBySpans 2 [] c h
+        → HasHistory (raised c) h }
     ensures bare { (c : Content) (spans : List StoredSpan) → (moved spans c).texts ≡ [] }
 {}
 

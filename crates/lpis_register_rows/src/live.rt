@@ -72,8 +72,8 @@ fn have_years(years: &[u16], spans: &[KnownSpan]) -> bool
 /// they say none.
 pub(crate) fn live_history_of(alloc: Global, rows: &Rows) -> Result<History, RowsFault>
     ensures ok { IfOk result (HasHistoryByLive rows.now) }
-    ensures unlawful { IfErr result (λ e. e ≡ Unlawful → (h : List Entry) → HasHistoryByLive rows.now h
-        → ⊥) }
+    ensures unlawful { IfErr result (λ e. e ≡ Unlawful → (h : List Entry)
+        → HasHistoryByLive rows.now h → ⊥) }
 {
     if !has_version(rows.formats(), 1) {
         return Err(RowsFault::Unlawful);

@@ -12,8 +12,5 @@ mod texts;
 
 pub use expecting::{expect, expect_answer};
 pub use halting::Halting;
-pub use square::{
-    CLASSES, HALVES_CERT, HALVES_CERT_WRITTEN, LEFT, PARCELS_CERT, PARCELS_CERT_WRITTEN, RIGHT,
-    SQUARE, SQUARE_CERT, SQUARE_CERT_WRITTEN,
-};
+pub use square::{CLASSES, LEFT, PARCELS_CERT, PARCELS_CERT_WRITTEN, RIGHT, SQUARE, SQUARE_CERT};
 pub use texts::edited;

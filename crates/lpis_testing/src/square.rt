@@ -22,52 +22,6 @@ s 0 1 2
 end
 ";
 
-/// What is written of the square's certificate.
-pub static SQUARE_CERT_WRITTEN: &str = "lpis-cert 2
-piece C1 2 0
-t 0 0 10000 0 10000 10000
-t 0 0 10000 10000 0 10000
-parcel A 0
-pairs 1
-s 0 1 2
-end
-";
-
-/// For a parcel A that is the square and its pieces L and R, the halves. The parcel's flats are for
-/// the two corners of the halves that it lacks.
-pub static HALVES_CERT: &str = "lpis-cert 1
-piece L 2 0
-t 0 0 500 0 500 1000
-t 0 0 500 1000 0 1000
-piece R 2 0
-t 500 0 1000 0 1000 1000
-t 500 0 1000 1000 500 1000
-parcel A 2
-f 0 0 1000 0 500 0
-f 1000 1000 0 1000 500 1000
-pairs 2
-s 0 1 2
-s 2 3 2
-end
-";
-
-/// What is written of the halves' certificate.
-pub static HALVES_CERT_WRITTEN: &str = "lpis-cert 2
-piece L 2 0
-t 0 0 5000 0 5000 10000
-t 0 0 5000 10000 0 10000
-piece R 2 0
-t 5000 0 10000 0 10000 10000
-t 5000 0 10000 10000 5000 10000
-parcel A 2
-f 0 0 10000 0 5000 0
-f 10000 10000 0 10000 5000 10000
-pairs 2
-s 0 1 2
-s 2 3 2
-end
-";
-
 /// For two parcels B and C that are the halves, each of one piece, b1 and c1.
 pub static PARCELS_CERT: &str = "lpis-cert 1
 piece b1 2 0

@@ -3,7 +3,8 @@ use Rattle.std.specs.Prelude.{IfErr, IfOk, Result}
 use Rattle.lpis_commands.specs.CheckAnswer.{Answer}
 use Rattle.lpis_commands.specs.Inputs.{inputs_of}
 use Rattle.lpis_commands.specs.declared.failure.Failure.{Failure}
-use Rattle.lpis_publishing.specs.Submission.{AreAllRead, Readers, IsSubmissionAnswer, IsUnreadSubmission}
+use Rattle.lpis_publishing.specs.Submission.{AreAllRead, Readers}
+use Rattle.lpis_publishing.specs.Submission.{IsSubmissionAnswer, IsUnreadSubmission}
 use Rattle.lpis_publishing.specs.Submission.{Submission}
 use Rattle.lpis_publishing.specs.declared.submission.SubmissionBytes.{SubmissionBytes}
 use Rattle.lpis_publishing.specs.declared.submission.UnreadSubmission.{UnreadSubmission}

@@ -12,7 +12,8 @@ groups_of-requires-2-clause-named c = λ t. subst (λ (ids : List (List ℕ)). A
 pub returns : goal.returns
 returns c = λ last live is.
     let h = c.args.change.now in
-    groups-exact last live h c.in_ok-named_successors.named_successors.items c.in_ok-groups.groups.items c.in_ok-merges.merges.items _ is c.dropped.ensures.ascending c.in_ok-named_successors.ensures.ascend c.in_ok-named_successors.ensures.are
+    groups-exact last live h c.in_ok-named_successors.named_successors.items c.in_ok-groups.groups.items c.in_ok-merges.merges.items _ is
+    c.dropped.ensures.ascending c.in_ok-named_successors.ensures.ascend c.in_ok-named_successors.ensures.are
     (c.in_ok-groups.ensures.names ∙ ap (λ (ids : List (List ℕ)). map (as_group false) (filter (is_exact_of false (kind_at h) h.rows) ids)) c.dropped.ensures.list)
     (c.in_ok-merges.ensures.names ∙ ap (λ (ids : List (List ℕ)). map (as_group true) (filter (is_exact_of true (kind_at h) h.rows) ids)) c.as_slice.ensures.value)
     c.in_ok-groups.ensures.others c.in_ok-merges.ensures.others c.in_ok-append.ensures.items

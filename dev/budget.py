@@ -1,0 +1,24 @@
+"""How many words and lines each page may have: imported by `dev/lint` and `dev/size`."""
+
+from pathlib import Path
+
+TOP = Path(__file__).resolve().parent.parent
+ALL_WORDS = 40_000
+PAGE_WORDS = {
+    "README.md": 1_000,
+    "docs/GUIDE.md": 6_650,
+    "docs/FORMATS.md": 7_750,
+    "docs/PROOF.md": 6_250,
+    "docs/ARCHITECTURE.md": 4_300,
+    "docs/DECISIONS.md": 4_000,
+    "CONTRIBUTING.md": 3_500,
+    "CHANGELOG.md": 1_000,
+    "bench/RESULTS.md": 1_500,
+    "docs/*.1": 4_050,  # the pages of the manual together
+}
+PAGE_LINES = {"docs/DECISIONS.md": 250, "docs/PROOF.md": 350, "bench/RESULTS.md": 250}
+
+
+def sizes():
+    """Each page, its words, and how many it may have."""
+    return [(name, sum(len(path.read_text(encoding="utf-8").split()) for path in TOP.glob(name)), most) for name, most in PAGE_WORDS.items()]

@@ -1,0 +1,52 @@
+"""The built program, and what is counted of its cases."""
+
+import os
+import subprocess
+from pathlib import Path
+
+TOP = Path(__file__).resolve().parent.parent.parent
+LPIS = os.environ.get("LPIS") or str(TOP / "crates" / "lpis" / "out" / "lpis")
+SECONDS = 120
+
+SQUARE = "POLYGON((0 0,10 0,10 10,0 10,0 0))"
+LEFT, RIGHT = "POLYGON((0 0,5 0,5 10,0 10,0 0))", "POLYGON((5 0,10 0,10 10,5 10,5 0))"
+# A class that counts whole, and one that does not count.
+CLASSES = "class,eligible\nG,1\nW,0\n"
+
+
+class Cases:
+    """How many cases had their answer, and how many had another."""
+
+    def __init__(self):
+        self.passed = self.failed = 0
+
+    def expect(self, name, wanted, found):
+        if wanted == found:
+            self.passed += 1
+        else:
+            self.failed += 1
+            print(f"FAILED {name}: wanted {wanted!r}, found {found!r}")
+
+
+def lpis(*words):
+    """The lines of standard output of a run, with what stands on standard error behind them."""
+    run = subprocess.run([LPIS, *map(str, words)], stdin=subprocess.DEVNULL, capture_output=True, timeout=SECONDS, check=False)
+    return (run.stdout + run.stderr).decode("utf-8", "backslashreplace").splitlines()
+
+
+def write(folder, parcels=None, covers=None, classes=CLASSES, **others):
+    """Writes the tables of a release that are given, as texts or as bytes."""
+    folder.mkdir(exist_ok=True)
+    for name, text in {"parcels": parcels, "covers": covers, "classes": classes, **others}.items():
+        if text is not None:
+            (folder / f"{name}.csv").write_bytes(text if isinstance(text, bytes) else text.encode())
+    return folder
+
+
+def edited(text, edits):
+    """A text in which the first of each pair, which stands in it, is replaced by the second."""
+    for old, new in edits:
+        if old not in text:
+            raise ValueError(f"{old!r} is not in {text!r}")
+        text = text.replace(old, new, 1)
+    return text
