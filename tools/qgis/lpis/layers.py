@@ -14,7 +14,7 @@ from qgis.PyQt.QtCore import QVariant
 
 TEXT, NUMBER, WHOLE = QVariant.String, QVariant.Double, QVariant.Int
 POINTS, LINES, POLYGONS = QgsWkbTypes.Point, QgsWkbTypes.MultiLineString, QgsWkbTypes.MultiPolygon
-LEAST = 5.0  # metres of what is shown around a fault
+LEAST = 50.0  # metres: a fifth of it is shown around a fault that is a point
 csv.field_size_limit(1 << 30)
 
 
