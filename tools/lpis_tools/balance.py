@@ -16,15 +16,17 @@ SHAPED = ("parcels", "covers")
 COLUMNS = ("source", "mended", "left out", "settled", "tables")
 FILE = "balance.csv"
 ZONE = 1_000_000  # metres: eastings may have the number of their zone before them
+MOST = 1e16  # square metres: more than the range of the tables has
 NEAR = 0.5  # square metres: what a balance that adds up may miss
 
 
 def area_of(members):
     """The square metres of polygons by their points: each shell without its holes, whatever lies where."""
     try:
-        return math.fsum((1 if number == 0 else -1) * abs(ring_area(ring)) for member in members or () for number, ring in enumerate(member))
+        area = math.fsum((1 if number == 0 else -1) * abs(ring_area(ring)) for member in members or () for number, ring in enumerate(member))
     except (OverflowError, ValueError):
-        return 0.0  # of coordinates that no sum bears: their row is left out by name
+        area = math.inf
+    return area if abs(area) < MOST else 0.0  # of coordinates that no map has: their row is left out by name
 
 
 def ring_area(ring):

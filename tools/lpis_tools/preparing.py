@@ -134,7 +134,7 @@ class Preparation:
         if are_metres and not reads_as_metres(box):
             self.without_shape("degrees", name, row, f"it lies at {box[0]:.4f} {box[1]:.4f}, which reads as degrees among metres")
         elif max(map(abs, box)) > FAR:
-            self.without_shape("far", name, row, f"a coordinate is beyond 20,000,000 m ({max(map(abs, box)):.0f})")
+            self.without_shape("far", name, row, f"a coordinate is beyond 20,000,000 m ({max(map(abs, box)):.10g})")
         elif row.found.count() > MOST_POINTS:
             self.find("points", name, row, f"more than {MOST_POINTS} points: cut it into pieces", "")
 

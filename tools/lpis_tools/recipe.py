@@ -139,6 +139,7 @@ def put(made, out, names):
 def suited(layers):
     """Refuses tables that cannot be read as they stand, and systems that are no plane in metres with true areas."""
     reasons = [f"table {name}: {fault.words}" + (f" (row {fault.row})" if fault.row else "") for name, layer in layers.items() for fault in layer.faults]
+    reasons += [f"layer {name}: it has no row" for name in land.SHAPED if not layers[name].rows and not layers[name].faults]
     numbers = {}
     for name in land.SHAPED:
         system = layers[name].system
