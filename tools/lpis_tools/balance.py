@@ -2,7 +2,7 @@
 out from the others, so land for which nobody accounts shows. Python's standard library alone.
 
     whole = balance.Balance(layers)     what was read, in the tables' system of coordinates and before any repair
-    whole.join(into, row)               where a row's land goes on in another row's
+    whole.join(into, rows)              where rows' land goes on in another row
     losses.report(.., whole)            the rest: rows that the layers have no longer are left out
 """
 
@@ -16,15 +16,17 @@ SHAPED = ("parcels", "covers")
 COLUMNS = ("source", "mended", "left out", "settled", "tables")
 FILE = "balance.csv"
 ZONE = 1_000_000  # metres: eastings may have the number of their zone before them
+MOST = 1e16  # square metres: more than the range of the tables has
 NEAR = 0.5  # square metres: what a balance that adds up may miss
 
 
 def area_of(members):
     """The square metres of polygons by their points: each shell without its holes, whatever lies where."""
     try:
-        return math.fsum((1 if number == 0 else -1) * abs(ring_area(ring)) for member in members or () for number, ring in enumerate(member))
+        area = math.fsum((1 if number == 0 else -1) * abs(ring_area(ring)) for member in members or () for number, ring in enumerate(member))
     except (OverflowError, ValueError):
-        return 0.0  # of coordinates that no sum bears: their row is left out by name
+        area = math.inf
+    return area if abs(area) < MOST else 0.0  # of coordinates that no map has: their row is left out by name
 
 
 def ring_area(ring):
@@ -60,10 +62,13 @@ class Balance:
             for row in layers[name].rows if name in layers else ():
                 self.entries[id(row)] = Entry(name, row, area_of(row.found.members if row.found else ()))
 
-    def join(self, into, row):
-        """The row's land goes on in another row of its layer."""
-        entry, other = self.entries[id(row)], self.entries[id(into)]
-        entry.joined, other.founds = True, other.founds + entry.founds
+    def join(self, into, rows):
+        """The land of rows goes on in another row of their layer."""
+        entries = [self.entries[id(row)] for row in rows]
+        for entry in entries:
+            entry.joined = True
+        first = self.entries[id(into)]
+        first.founds += tuple(found for entry in entries for found in entry.founds)
 
     def area_of(self, row):
         return self.entries[id(row)].area

@@ -3,7 +3,6 @@ its pieces, or a piece and not its parcel."""
 
 from __future__ import annotations
 
-from collections import Counter
 from dataclasses import dataclass, field
 
 from shapely.errors import ShapelyError
@@ -12,6 +11,7 @@ from shapely.ops import unary_union
 from shapely.validation import explain_validity, make_valid
 
 from . import identifiers, land, wkb
+from .boxes import Boxes
 from .rounding import Map, shape_of
 
 WIDE = 0.02  # metres: a conflict of this width is a fault of the source
@@ -19,7 +19,7 @@ ROUNDING = 0.000_001  # metres: of doubles
 LEAST = 0.001  # metres: conflicts that are narrower are rounding, and no rows
 SPIKE = 0.0005  # metres: narrower than twice that, a part of a shape is no place to show it
 FAR = 20_000_000.0  # metres: the range of the tables
-MOST_NAMESAKES = 10  # parcels of one name, beyond which it is not asked which of them a piece lies outside of: they are rows of their own
+MANY = 100  # pieces of one name, from which on they are asked for by their boxes
 ORDER = ("lost", "left out", "made", "doubled", "identifier", "stranger", "added", "class", "invalid", "overlap", "gap", "outside", "changed", "kept", "column")
 STOPPING = frozenset(ORDER[:9])
 
@@ -127,9 +127,19 @@ class Source:
     def __init__(self, layers):
         self.losses, self.layers, self.shapes = [], layers, Shapes()
         self.parcels, self.covers = ([row for row in layers[name].rows if self.has_land(layers[name], column, row)] for name, column in self.KEYS.items())
-        self.pieces_of = {}
+        self.pieces_of, self.boxes_of = {}, {}
         for row in self.covers:
             self.pieces_of.setdefault(row["parcel"], []).append(row)
+
+    def pieces_near(self, row):
+        """The pieces of a parcel's name, at least those that have a place in it."""
+        name = row["parcel"]
+        pieces = self.pieces_of[name]
+        if len(pieces) < MANY:
+            return pieces
+        if name not in self.boxes_of:
+            self.boxes_of[name] = Boxes([piece.found.box() for piece in pieces])
+        return [pieces[number] for number in self.boxes_of[name].meeting(row.found.box())]
 
     def has_land(self, layer, column, row):
         """Whether a row has a shape with an area, which is mended first where it crosses itself."""
@@ -167,7 +177,8 @@ def find_names(source):
         rows = {}
         for row in source.layers[name].rows:
             rows.setdefault(row[column], []).append(number_of(row))
-        source.losses += [Loss("doubled", [who], f"{len(found)} rows have this identifier: lpis refuses it (34)", layer=name, rows=found) for who, found in rows.items() if len(found) > 1]
+        words = "the tables have one row with the land of all" if name == "parcels" else "lpis refuses it (34)"
+        source.losses += [Loss("doubled", [who], f"{len(found)} rows have this identifier: {words}", layer=name, rows=found) for who, found in rows.items() if len(found) > 1]
     for name, column in (("parcels", "parcel"), ("covers", "piece"), ("covers", "class")):
         rows = {}
         for row in source.layers[name].rows:
@@ -186,14 +197,12 @@ def find_conflicts(source, say, found=None):
     """The places in conflict, by Shapely: of the rows that have one where all borders are rounded together (`found`). What the rounding closes by itself
     is none."""
     found = found or Map(source.parcels, source.covers, say).conflicts()
-    namesakes = Counter(row["parcel"] for row in source.parcels)
-    outsides = [(piece, row) for piece, row in found.outsides if row["parcel"] and namesakes[row["parcel"]] <= MOST_NAMESAKES]
-    say(f"conflicts: {len(found.overlaps)} overlaps, {len(found.gaps)} gaps, {len(outsides)} pieces outside of their parcel to be measured")
+    say(f"conflicts: {len(found.overlaps)} overlaps, {len(found.gaps)} gaps, {len(found.outsides)} pieces outside of their parcel to be measured")
     for first, second in found.overlaps:
         find_overlap(source, first, second)
     for row in found.gaps:
         find_gap(source, row)
-    for piece, row in outsides:
+    for piece, row in found.outsides:
         find_outside(source, piece, row)
     source.losses += [kept_of(border, rows) for border, rows in found.kept]
 
@@ -207,7 +216,7 @@ def find_overlap(source, row, other):
 
 def find_gap(source, row):
     named = [("parcels", row["parcel"], row)]
-    whole = by_geos("the pieces", named, unary_union, [source.shapes.get(id(piece)) for piece in source.pieces_of[row["parcel"]]])
+    whole = by_geos("the pieces", named, unary_union, [source.shapes.get(id(piece)) for piece in source.pieces_near(row)])
     gap = by_geos("the gaps", named, source.shapes.get(id(row)).difference, whole)
     source.losses += pieces_found("gap", [row["parcel"]], [number_of(row)], gap, "the parcel has this place, and none of its pieces")
 

@@ -5,10 +5,9 @@ from __future__ import annotations
 
 import datetime
 import os
-import subprocess
 from dataclasses import dataclass, field
 
-from . import page, release_page, report, streams, tiles
+from . import ending, page, release_page, report, streams, tiles
 from .areas import AREA, both, decimal, hectares
 from .explaining import Explained
 
@@ -84,7 +83,7 @@ def make(command, folder):
     began = datetime.datetime.now(datetime.timezone.utc)
     tiling = tiling_of(folder)
     files = files_of(folder, tiling)
-    run = subprocess.run([*command, "country", folder], capture_output=True, text=True, check=False)
+    run = ending.run([*command, "country", folder], capture_output=True, text=True, check=False)
     if files_of(folder, tiling) != files:
         raise report.Trouble("a table or a certificate changed while it was read: make the report again")
     answer, (passed, totals) = report.answer_of(run), lines_of(run.stdout)

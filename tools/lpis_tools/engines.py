@@ -5,7 +5,7 @@ import shlex
 import shutil
 import subprocess
 
-from . import drawing, finding, tiles
+from . import drawing, ending, finding, tiles
 from .splitting import COUNTS, write
 from .streams import Trouble
 
@@ -99,7 +99,7 @@ def run(command, words, regions):
         engine = ["make", "-k", "--no-print-directory", "-j", str(jobs)]
     if shutil.which(engine[0]) is None:
         raise Trouble(f"there is no {engine[0]}")
-    subprocess.run(engine, cwd=folder, env=surroundings, stdout=2, check=False)
+    ending.run(engine, cwd=folder, env=surroundings, stdout=2, check=False)
 
 
 def faults_of(command, folder, refused, say):
@@ -159,7 +159,7 @@ def check(command, words, say):
     """`lpis country`, line by line as it comes; after a yes the counts of the country beside those of the source."""
     options = ["--parcels"] if words.parcels else []
     told = []
-    with subprocess.Popen([*command, "country", *options, words.folder], stdout=subprocess.PIPE, text=True) as lpis:
+    with ending.start([*command, "country", *options, words.folder], stdout=subprocess.PIPE, text=True) as lpis:
         for line in lpis.stdout:
             print(line, end="", flush=True)
             if line.startswith("country regions "):

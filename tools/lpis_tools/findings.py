@@ -26,7 +26,7 @@ class Finding:
         return not self.is_mended and not self.done
 
     def line(self, accept):
-        who = " ".join(word for word in (self.layer, self.name, f"({self.key} {self.row})" if self.row is not None else "") if word)
+        who = " ".join(word for word in (self.layer, readable(self.name), f"({self.key} {self.row})" if self.row is not None else "") if word)
         size = f" ({self.area:.3f} m2)" if self.area is not None else ""
         at = f" at {self.place[0]:.3f} {self.place[1]:.3f}" if self.place else ""
         done = self.done if self.is_mended or (accept and self.done) else ""
@@ -37,6 +37,11 @@ class Finding:
         area = "" if self.area is None else f"{self.area:.3f}"
         x, y = (f"{value:.3f}" for value in self.place) if self.place else ("", "")
         return [self.kind, self.layer, "" if self.row is None else self.row, self.name, area, x, y, self.words, done]
+
+
+def readable(name):
+    """A name in a line for people: line ends and letters that nobody sees are written out."""
+    return name if name.isprintable() else repr(name)
 
 
 def write(findings, path, accept):
@@ -59,5 +64,5 @@ def lines_of(findings, accept):
             lines.append(finding.line(accept))
     lines += [f"{kind}: and {count - MOST_SHOWN} more, see prepared.csv" for kind, count in shown.items() if count > MOST_SHOWN]
     for (kind, layer), found in notes.items():
-        lines.append(f"{kind}: {len(found)} of {layer} ({found[0].name}{' and others' if len(found) > 1 else ''}): {NOTES[kind]}")
+        lines.append(f"{kind}: {len(found)} of {layer} ({readable(found[0].name)}{' and others' if len(found) > 1 else ''}): {NOTES[kind]}")
     return lines

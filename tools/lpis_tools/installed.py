@@ -16,7 +16,7 @@ NOTE = "> Paths below `bench/`, `crates/`, `dev/` and `tests/` are those of the 
 
 def named(text, prefix):
     """A text with the names that things have below the prefix."""
-    text = re.sub(r"\btools/recipes/(?=\w)", f"{prefix}/lib/lpis/recipes/", text)
+    text = re.sub(r"\btools/recipes\b", f"{prefix}/lib/lpis/recipes", text)
     text = re.sub(rf"\btools/({'|'.join(COMMANDS)})\b", r"lpis-\1", text)
     text = re.sub(r"\btools/(audit\w*\.sql)", rf"{prefix}/lib/lpis/\1", text)
     text = re.sub(r'\./lpis(?= |`|")|"\$(?:OLD)?PWD/lpis"', "lpis", text)

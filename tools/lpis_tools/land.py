@@ -7,12 +7,11 @@ import os
 import re
 import shutil
 import sqlite3
-import subprocess
 import sys
 from collections import Counter
 from dataclasses import dataclass, field
 
-from . import sheets, systems, wkb, wkt
+from . import ending, sheets, systems, wkb, wkt
 
 COLUMNS = {"parcels": ["parcel"], "covers": ["piece", "parcel", "class"], "classes": ["class", "percent"]}
 SHAPED = ("parcels", "covers")
@@ -89,15 +88,24 @@ def is_of_another_program(folder):
 
 
 def connected(path):
-    return sqlite3.connect(f"file:{path.replace('%', '%25').replace('?', '%3f').replace('#', '%23')}?mode=ro", uri=True)
+    """A connection for reading. A file of another user in a folder that only that one may write is read as one that does not change, where no -wal is there."""
+    for mode in ("mode=ro", "immutable=1"):
+        connection = sqlite3.connect(f"file:{path.replace('%', '%25').replace('?', '%3f').replace('#', '%23')}?{mode}", uri=True)
+        try:
+            connection.execute("SELECT count(*) FROM sqlite_master")
+            return connection
+        except sqlite3.Error as error:
+            connection.close()
+            if "locked" in str(error):
+                raise Trouble(f"{path}: another program is writing it ({error})") from None
+            if mode != "mode=ro" or os.path.exists(f"{path}-wal"):
+                raise Trouble(f"{path}: {error}") from None
 
 
 def is_package(path):
     connection = connected(path)
     try:
         return connection.execute("SELECT count(*) FROM sqlite_master WHERE name = 'gpkg_contents'").fetchone() == (1,)
-    except sqlite3.Error:
-        return False
     finally:
         connection.close()
 
@@ -107,10 +115,10 @@ def as_package(path, spare, *words):
     if shutil.which("ogr2ogr") is None or spare is None:
         raise Trouble(f"{path} is no GeoPackage and no folder of CSV tables: ogr2ogr reads more (Debian: gdal-bin), and is not there")
     made = os.path.join(spare, f"land{len(os.listdir(spare))}.gpkg")
-    run = subprocess.run(["ogr2ogr", "-q", "-f", "GPKG", made, path, *words], capture_output=True, text=True, check=False)
+    run = ending.run(["ogr2ogr", "-q", "-f", "GPKG", made, path, *words], capture_output=True, text=True, check=False)
     told = [line.strip() for line in run.stderr.splitlines() if line.strip()]
     if run.returncode or not os.path.exists(made):
-        raise Trouble(f"{path}: ogr2ogr cannot read it: {told[-1] if told else run.returncode}")
+        raise Trouble(f"{path}: ogr2ogr cannot read it: {next((line for line in told if line.startswith(('ERROR', 'FAILURE'))), told[-1] if told else run.returncode)}")
     return made, list(dict.fromkeys(told))
 
 
@@ -157,7 +165,7 @@ def read_package(path, names, wanted):
     connection.text_factory = lambda text: text.decode("utf-8", "backslashreplace")  # letters that are none stay different
     try:
         tables = [name for (name,) in connection.execute("SELECT table_name FROM gpkg_contents ORDER BY rowid")]
-        shapes = {table: (column, srs) for table, column, srs in connection.execute("SELECT table_name, column_name, srs_id FROM gpkg_geometry_columns")}
+        shapes = shapes_of(connection)
         reasons, layers = [], {}
         for name in wanted:
             called = names.get(name, name)
@@ -166,15 +174,16 @@ def read_package(path, names, wanted):
                 if name in SHAPED:
                     reasons.append(f"no layer {called}: there are {', '.join(tables) or 'none'} (--name {name}=LAYER says which it is)")
                 continue
-            columns = {row[1]: row for row in connection.execute(f"PRAGMA table_info({quoted(table)})")}
+            columns = {row[1]: row for row in connection.execute(f"PRAGMA table_xinfo({quoted(table)})")}
             chosen, lacking, _ = chosen_of(list(columns), name, COLUMNS[name], names, f"layer {table}")
             reasons += lacking
-            if name in SHAPED and table not in shapes:
-                reasons.append(f"layer {table}: it has no column of shapes")
+            shape = shapes.get(table.lower(), [])
+            if name in SHAPED and len(shape) != 1:
+                reasons.append(f"layer {table}: {'two columns of shapes: ' + ' and '.join(column for column, _ in shape) if shape else 'it has no column of shapes'}")
             elif not lacking:
                 key = next((column for column, row in columns.items() if row[5] == 1 and str(row[2]).upper() in ("INTEGER", "INT")), None)
-                layers[name] = read_layer(connection, table, Layer(name), chosen, shapes.get(table), key)
-                layers[name].others = [column for column in columns if column not in chosen.values() and column not in (key, (shapes.get(table) or ("",))[0])]
+                layers[name] = read_layer(connection, table, Layer(name), chosen, shape[0] if shape else None, key)
+                layers[name].others = [column for column in columns if column not in chosen.values() and column not in (key, shape[0][0] if shape else "")]
         if reasons:
             raise Trouble(*reasons)
         return layers
@@ -182,6 +191,14 @@ def read_package(path, names, wanted):
         raise Trouble(f"{path}: {error}") from None
     finally:
         connection.close()
+
+
+def shapes_of(connection):
+    """The columns of shapes of each table, by its name in small letters, with the numbers of their systems."""
+    shapes = {}
+    for table, column, srs in connection.execute("SELECT table_name, column_name, srs_id FROM gpkg_geometry_columns ORDER BY rowid"):
+        shapes.setdefault(table.lower(), []).append((column, srs))
+    return shapes
 
 
 def read_layer(connection, table, layer, chosen, shape, key):

@@ -14,6 +14,7 @@ from shapely.geometry import mapping
 
 from . import balance, land, outcome
 from .conflicts import ORDER, Loss, Source, find_conflicts, find_names, number_of, parts_of, polygons_by
+from .findings import readable
 
 __all__ = ["Loss", "conflicts_alone", "line_of", "number_of", "parts_of", "polygons_by", "report"]
 MOST_TOLD = 20
@@ -95,14 +96,14 @@ def told(losses, layers, found, out, counts):
     narrow = [loss for loss in losses if loss.width is not None and not loss.stops()]
     if narrow:
         lines.append(f"conflicts narrower than two centimetres: {len(narrow)}, together {sum(loss.area for loss in narrow):.3f} m2, the widest {max(loss.width for loss in narrow) * 1000:.1f} mm")
-    lines += [f"the greatest change of a parcel: {loss.words} ({' '.join(loss.names)})" for loss in losses if loss.kind == "changed" and not loss.stops()]
+    lines += [f"the greatest change of a parcel: {loss.words} ({' '.join(map(readable, loss.names))})" for loss in losses if loss.kind == "changed" and not loss.stops()]
     lines += [line_of(loss) for loss in losses if loss.kind == "column"]
     lines.append(f"written: {', '.join(os.path.join(out, name) for name in ('report.csv', 'report.geojson', balance.FILE))}")
     return lines
 
 
 def line_of(loss):
-    what, place = f"{loss.kind} {' '.join(loss.names)}".strip(), loss.place()
+    what, place = f"{loss.kind} {' '.join(map(readable, loss.names))}".strip(), loss.place()
     at = f" at {place[0]:.3f} {place[1]:.3f}" if place else ""
     if loss.width is not None:
         return f"{what} {loss.width:.3f} m wide, {loss.area:.3f} m2{at}: {loss.words}"

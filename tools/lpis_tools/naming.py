@@ -120,17 +120,18 @@ def join(work, whole):
 
 
 def doubled_parcels(work, layer, whole):
-    first = {}
+    first, joined = {}, {}
     for row in layer.rows:
         before = first.setdefault(row["parcel"], row)
         if before is not row:
             work.find("doubled", "parcels", row, f"{layer.key} {before.number} has this identifier too", "the two are joined")
-            join_rows(before, row, whole)
+            joined.setdefault(id(before), [before]).append(row)
+    join_rows(joined, whole)
     layer.rows = list(first.values())
 
 
 def doubled_pieces(work, layer, whole):
-    first, used = {}, {row["piece"] for row in layer.rows}
+    first, used, joined, next_of = {}, {row["piece"] for row in layer.rows}, {}, {}
     for row in layer.rows:
         name = row["piece"]
         before = first.setdefault(name, row)
@@ -138,24 +139,28 @@ def doubled_pieces(work, layer, whole):
             continue
         if (before["parcel"], before["class"]) == (row["parcel"], row["class"]):
             work.find("doubled", "covers", row, f"{layer.key} {before.number} has this identifier, parcel and class too", "the two are joined")
-            join_rows(before, row, whole)
+            joined.setdefault(id(before), [before]).append(row)
             continue
-        new = next(f"{name[:36]}-{number}" for number in range(2, 10**6) if f"{name[:36]}-{number}" not in used)
+        number = next(number for number in range(next_of.get(name[:36], 2), 10**6) if f"{name[:36]}-{number}" not in used)
+        new, next_of[name[:36]] = f"{name[:36]}-{number}", number + 1
         used.add(new)
         work.find("doubled", "covers", row, f"{layer.key} {before.number} has this identifier too, for another parcel or class", f"now {new}")
         row.fields["piece"] = new
         first[new] = row
+    join_rows(joined, whole)
     layer.rows = list(first.values())
 
 
-def join_rows(before, row, whole):
-    """The land of a row goes on in another."""
-    whole.join(before, row)
-    if before.found and row.found:
-        shapes = [shapely_wkb.loads(one.found.blob) for one in (before, row)]
-        before.found = wkb.Found(members_of(unary_union([shape if shape.is_valid else shape.buffer(0) for shape in shapes])))
-    else:
-        before.found = before.found or row.found
+def join_rows(joined, whole):
+    """The land of rows goes on in the first of them."""
+    for before, *others in joined.values():
+        whole.join(before, others)
+        founds = [row.found for row in (before, *others) if row.found]
+        shapes = [shapely_wkb.loads(found.blob) for found in founds] if len(founds) > 1 else []
+        if shapes:
+            before.found = wkb.Found(members_of(unary_union([shape if shape.is_valid else shape.buffer(0) for shape in shapes])))
+        elif founds:
+            before.found = founds[0]
 
 
 # Tables of names and of classes.

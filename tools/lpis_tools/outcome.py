@@ -15,6 +15,7 @@ from .conflicts import Loss, Source, by_geos, number_of, polygons_by
 ROUNDED = 0.001  # metres: what a border moves by rounding, at most
 PIXEL = 0.75  # millimetres from an edge to a corner that it takes
 TINY = 0.000_001  # square metres: of doubles
+NAMESAKE = "the tables have fewer rows of its identifier"
 OTHERS = {"parcels": (), "covers": ("parcel", "class")}
 
 
@@ -64,7 +65,7 @@ class Outcome:
         return self.found["parcels"], self.found["covers"]
 
     def table(self, name, column):
-        waiting = {}
+        waiting, told = {}, set()
         for row in reversed(self.source.layers[name].rows):
             waiting.setdefault(row[column], []).append(row)
         self.found[name] = 0
@@ -73,6 +74,7 @@ class Outcome:
             self.whole.add_table(name, record, area)
             who = record[column]
             rows = waiting.get(who)
+            told.add(who)
             if name == "covers":
                 self.parcel_of[who] = record["parcel"]
                 self.hold(who, members)
@@ -80,8 +82,8 @@ class Outcome:
                 self.row(name, column, rows.pop(), record, members, area)
             else:
                 self.add("added", name, [who], "the tables have it, and the source has not", [], self.valid(name, who, members))
-        for row in (row for rows in waiting.values() for row in rows):
-            self.lose(name, column, row)
+        for who, row in ((who, row) for who, rows in waiting.items() for row in rows):
+            self.lose(name, column, row, who in told)
 
     def hold(self, who, members):
         if self.places.points:
@@ -150,9 +152,9 @@ class Outcome:
         if name == "parcels" and (self.greatest is None or change > self.greatest[0]):
             self.greatest = change, loss
 
-    def lose(self, name, column, row):
+    def lose(self, name, column, row, is_told):
         shape = self.source.shapes.get(id(row))
-        self.add("lost", name, [row[column]], self.why_lost(name, row), [number_of(row)], shape, self.whole.area_of(row))
+        self.add("lost", name, [row[column]], NAMESAKE if is_told and row.found else self.why_lost(name, row), [number_of(row)], shape, self.whole.area_of(row))
         self.whole.book(row, self.whole.area_of(row) if shape is None else shape.area, None)
 
     def why_lost(self, name, row):

@@ -9,9 +9,9 @@ from shapely.validation import explain_validity
 
 from . import land, systems, wkb
 from .balance import area_of
+from .boxes import Boxes
 from .conflicts import members_of, polygons_by
 from .findings import NOTES, Finding
-from .rounding import Boxes
 
 FAR = 20_000_000.0
 ZONE = 1_000_000.0
@@ -139,7 +139,7 @@ class Preparation:
         if are_metres and not reads_as_metres(box):
             self.without_shape("degrees", name, row, f"it lies at {box[0]:.4f} {box[1]:.4f}, which reads as degrees among metres")
         elif max(map(abs, box)) > FAR:
-            self.without_shape("far", name, row, f"a coordinate is beyond 20,000,000 m ({max(map(abs, box)):.0f})")
+            self.without_shape("far", name, row, f"a coordinate is beyond 20,000,000 m ({max(map(abs, box)):.10g})")
         elif row.found.count() > MOST_POINTS:
             self.find("points", name, row, f"more than {MOST_POINTS} points: cut it into pieces", "")
 
@@ -172,7 +172,7 @@ class Preparation:
     def taken_from_neighbours(self, mended):
         """Adds to the finding of a mended piece what other pieces have of its place."""
         rows = [row for row in self.layers["covers"].rows if row.found]
-        boxes = Boxes([row.found for row in rows])
+        boxes = Boxes([row.found.box() for row in rows])
         found = {finding.row: finding for finding in self.findings if finding.kind == "invalid" and finding.layer == "covers"}
         for row in mended:
             shape, taken = shapely_wkb.loads(row.found.blob), []

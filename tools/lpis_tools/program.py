@@ -28,7 +28,7 @@ def command(words=""):
         return shlex.split(words)
     script = os.path.join(os.path.dirname(HERE), "lpis")
     if is_program(script) and not is_program(os.path.join(HERE, "program", "lpis")):
-        subprocess.run([script, "--help"], stdout=subprocess.DEVNULL, check=True)
+        ending.run([script, "--help"], stdout=subprocess.DEVNULL, check=True)
     built = beside()
     if built is not None:
         return [built]

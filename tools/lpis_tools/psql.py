@@ -1,7 +1,8 @@
 """psql, and what a server reports without the statements that it repeats."""
 
 import os
-import subprocess
+
+from . import ending
 
 MARKS = ("ERROR:", "FATAL:", "DETAIL:", "error:")
 
@@ -12,7 +13,7 @@ def surroundings(**more):
 
 def run(*words, **more):
     """The status, the text and the reasons."""
-    ended = subprocess.run(["psql", "-X", "-q", *words], capture_output=True, text=True, check=False, env=surroundings(**more))
+    ended = ending.run(["psql", "-X", "-q", *words], capture_output=True, text=True, check=False, env=surroundings(**more))
     return ended.returncode, ended.stdout, reasons(ended.stderr)
 
 

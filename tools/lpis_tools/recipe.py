@@ -4,15 +4,13 @@ import contextlib
 import csv
 import os
 import shutil
-import signal
 import sys
 import tempfile
 from collections import Counter
 
-from . import installed, land, shapely_there, sheets, words
+from . import ending, installed, land, shapely_there, sheets, words
 
-TROUBLE, STOPPED = 64, 130
-STOPPED_WORDS = "stopped: no table is written"
+TROUBLE = 64
 TABLES = ("parcels", "covers", "classes")
 REPORT = "OUT/report.csv, OUT/report.geojson and OUT/balance.csv have what was lost, settled and changed."
 CLASSES = "OUT/classes.csv is that of --classes FILE; else it stays as it is; where there is none it is the table classes of LAND."
@@ -21,7 +19,7 @@ WORDS = f"""{REPORT}
 {CLASSES}
 
 status 0: the tables are written: {SOUND},
-or --accept. 1: there is something to look at, and no table is written. 64: trouble of its own."""
+or --accept. 1: there is something to look at, and no table is written. 64: trouble of its own. 128 and a signal's number: stopped."""
 COMPARING = f"""{REPORT}
 
 status 0: {SOUND}, or --accept.
@@ -46,14 +44,14 @@ def teller(name):
 
 
 def stop_at_once(name, *folders):
-    """Ctrl-C ends the program from now on, with the folders gone: an exception would be lost where a shape is being freed."""
-    def stop(*_):
+    """A signal ends the tool from now on, what it runs and the folders."""
+    def last(stopped):
         for folder in folders:
             shutil.rmtree(folder, ignore_errors=True)
-        os.write(sys.stderr.fileno(), f"{name}: {STOPPED_WORDS}\n".encode())
-        os._exit(STOPPED)
+        os.write(sys.stderr.fileno(), f"{name}: {stopped}: no table is written\n".encode())
+        os._exit(stopped.status)
 
-    signal.signal(signal.SIGINT, stop)
+    ending.listen(last)
 
 
 def run(name, text, engine=None, more=None):
@@ -141,6 +139,7 @@ def put(made, out, names):
 def suited(layers):
     """Refuses tables that cannot be read as they stand, and systems that are no plane in metres with true areas."""
     reasons = [f"table {name}: {fault.words}" + (f" (row {fault.row})" if fault.row else "") for name, layer in layers.items() for fault in layer.faults]
+    reasons += [f"layer {name}: it has no row" for name in land.SHAPED if not layers[name].rows and not layers[name].faults]
     numbers = {}
     for name in land.SHAPED:
         system = layers[name].system

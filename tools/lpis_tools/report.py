@@ -6,10 +6,9 @@ from __future__ import annotations
 import datetime
 import hashlib
 import os
-import subprocess
 from dataclasses import dataclass, field
 
-from . import codes, differences, explaining, finding, origin, polygons, program, registers
+from . import codes, differences, ending, explaining, finding, origin, polygons, program, registers
 from .areas import AREA, ELIGIBLE, decimal
 from .tables import Table, path_of, shown
 
@@ -131,7 +130,7 @@ class Report:
 
 def of_program(command):
     """Which program answered: its version, its digest, and what it was built of."""
-    version = subprocess.run([*command, "--version"], capture_output=True, text=True, check=False).stdout.splitlines()
+    version = ending.run([*command, "--version"], capture_output=True, text=True, check=False).stdout.splitlines()
     known = program.facts(command)
     path = os.path.realpath(program.shutil.which(command[0]) or command[0])
     return {"path": path, "version": version[0] if version else "", "sha256": digest(path) if os.path.isfile(path) else "", "commit": known.get("commit", ""), "kit": known.get("kit", "")}
@@ -156,7 +155,7 @@ def make(command, folder, cert, old=None, register=None):
     """Runs `lpis check`, and reports what is known of a release."""
     began = datetime.datetime.now(datetime.timezone.utc)
     files = files_of(folder, cert)
-    run = subprocess.run([*command, "check", folder, cert], capture_output=True, text=True, check=False)
+    run = ending.run([*command, "check", folder, cert], capture_output=True, text=True, check=False)
     if files_of(folder, cert) != files:
         raise Trouble("a table or the certificate changed while it was read: make the report again")
     answer, land = answer_of(run), read(folder)

@@ -6,7 +6,6 @@ from __future__ import annotations
 import csv
 import os
 import warnings
-from collections import Counter
 from dataclasses import dataclass
 from itertools import combinations
 
@@ -16,24 +15,14 @@ from shapely import wkb as shapely_wkb
 from . import faces, noding
 from .noding import Restless
 
-__all__ = ["Boxes", "Conflicts", "Map", "Restless", "release", "shape_of"]
+__all__ = ["Conflicts", "Map", "Restless", "release", "shape_of"]
+MOST_NAMESAKES = 10  # parcels of one name, beyond which it is not asked which of them a piece lies outside of: they are rows of their own
 warnings.filterwarnings("ignore", module="shapely")
 
 
 def shape_of(found):
     """Polygons as Shapely has them."""
     return shapely_wkb.loads(found.blob)
-
-
-class Boxes:
-    """The boxes of shapes, asked which of them meet another."""
-
-    def __init__(self, founds):
-        self.boxes = numpy.array([found.box() for found in founds]).reshape(-1, 4)
-
-    def meeting(self, box):
-        boxes = self.boxes
-        return numpy.nonzero((boxes[:, 0] < box[2]) & (boxes[:, 2] > box[0]) & (boxes[:, 1] < box[3]) & (boxes[:, 3] > box[1]))[0].tolist()
 
 
 @dataclass
@@ -78,13 +67,14 @@ class Map:
         named = {row["parcel"] for row in self.covers}
         for number, row in enumerate(self.parcels):
             parcels_of.setdefault(row["parcel"], []).append(number)
+        asked = {name: numbers for name, numbers in parcels_of.items() if name and len(numbers) <= MOST_NAMESAKES}
         for winding in set(self.windings):
             pieces = [who - start for who, times in winding if who >= start and times > 0]
             parcels = {who for who, times in winding if who < start and times > 0}
             overlaps.update(dict.fromkeys(combinations(pieces, 2)))
             held = {self.covers[number]["parcel"] for number in pieces}
             gaps.update((number, None) for number in parcels if self.parcels[number]["parcel"] not in held and self.parcels[number]["parcel"] in named)
-            outsides.update(((number, one), None) for number in pieces for one in parcels_of.get(self.covers[number]["parcel"], ()) if one not in parcels)
+            outsides.update(((number, one), None) for number in pieces for one in asked.get(self.covers[number]["parcel"], ()) if one not in parcels)
         return Conflicts([(self.covers[a], self.covers[b]) for a, b in sorted(overlaps)], [self.parcels[number] for number in sorted(gaps)],
                          [(self.covers[piece], self.parcels[number]) for piece, number in sorted(outsides)], self.kept())
 
@@ -135,9 +125,7 @@ def release(layers, out, say, previous=None):
     os.makedirs(out, exist_ok=True)
     say("tables")
     write(out, "covers.csv", ["piece", "parcel", "class", "wkt"], ([covers[number]["piece"], covers[number]["parcel"], covers[number]["class"], text] for number, text in land.polygons(land.pieces)))
-    times = Counter(row["parcel"] for row in rows)  # a name that two rows have is written twice, and refused
-    made = ((rows[number]["parcel"], text) for number, text in land.polygons(land.parcels_of_faces(rows)))
-    write(out, "parcels.csv", ["parcel", "wkt"], (record for record in made for _ in range(times[record[0]])))
+    write(out, "parcels.csv", ["parcel", "wkt"], ([rows[number]["parcel"], text] for number, text in land.polygons(land.parcels_of_faces(rows))))
     return land.conflicts()
 
 

@@ -5,7 +5,9 @@ from __future__ import annotations
 
 import codecs
 import csv
+import re
 from dataclasses import dataclass
+from itertools import islice
 
 from .wkt import read as polygons_of
 
@@ -33,7 +35,8 @@ class Sheet:
                 first = file.readline()
             except UnicodeError:
                 first = ""
-        self.separator = max(",;\t|", key=first.count)
+        self.has_separator = re.fullmatch(r"sep=[,;\t|]", first.strip("\r\n").lower()) is not None  # a line for spreadsheets alone
+        self.separator = first[4] if self.has_separator else max(",;\t|", key=first.count)
         self.columns = next((fields for _, fields in self.lines()), [])
         self.columns = [name.strip() for name in self.columns]
 
@@ -43,12 +46,13 @@ class Sheet:
     def lines(self):
         """The records that are not blank lines, with the line on which each begins; a fault where they cannot be read on."""
         with self.opened() as file:
-            reader, line = csv.reader(file, delimiter=self.separator, strict=True), 1
+            before = 1 if self.has_separator else 0
+            reader, line = csv.reader(islice(file, before, None), delimiter=self.separator, strict=True), 1 + before
             try:
                 for fields in reader:
                     if fields:
                         yield line, fields
-                    line = reader.line_num + 1
+                    line = reader.line_num + 1 + before
             except csv.Error as error:
                 self.faults.append(Fault(0, f"it cannot be read behind line {line}: {error} (a quotation mark that is not closed?)"))
             except UnicodeError as error:

@@ -9,7 +9,7 @@ import tempfile
 from itertools import islice
 from operator import mul
 
-from . import psql
+from . import ending, psql
 from .tables import COLUMNS, FREE, INSTEAD
 
 csv.field_size_limit(1 << 30)
@@ -65,7 +65,7 @@ class Postgis:
     def lines(self, name):
         with tempfile.TemporaryFile("w+", encoding="utf-8", errors="replace") as told:
             command = ["psql", "-X", "-q", *self.words(f"COPY ({ORDERED[name]}) TO STDOUT (FORMAT csv, HEADER)")]
-            with subprocess.Popen(command, stdout=subprocess.PIPE, stderr=told, encoding="latin-1", env=psql.surroundings()) as run:
+            with ending.start(command, stdout=subprocess.PIPE, stderr=told, encoding="latin-1", env=psql.surroundings()) as run:
                 yield from run.stdout
             if run.returncode != 0:
                 told.seek(0)

@@ -6,7 +6,6 @@ from __future__ import annotations
 import math
 import re
 import shutil
-import subprocess
 from dataclasses import dataclass
 
 WITHOUT_PREFIX = {4647: 25832, 5649: 25831, 5650: 25833}
@@ -147,7 +146,7 @@ def is_geocentric(node):
 def of_number(number):
     """The system of a number of EPSG, by gdalsrsinfo where that is there."""
     if number and shutil.which("gdalsrsinfo"):
-        run = subprocess.run(["gdalsrsinfo", "-o", "wkt1", f"EPSG:{number}"], capture_output=True, text=True, check=False)
+        run = ending.run(["gdalsrsinfo", "-o", "wkt1", f"EPSG:{number}"], capture_output=True, text=True, check=False)
         if run.returncode == 0 and any(word in run.stdout for word in (*PLANES, *DEGREES, "GEOCCS")):
             return of_definition(number, run.stdout)
     if number in UTM:

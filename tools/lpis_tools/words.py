@@ -6,7 +6,7 @@ import re
 import subprocess
 import sys
 
-from . import installed, program
+from . import ending, installed, program
 
 TROUBLE = 64
 SOURCE = os.path.join("crates", "lpis_commands", "src", "command_line.rt")  # has the version where no program is built
@@ -59,11 +59,13 @@ def version_of_sources():
 
 
 def run(name, main, *troubles):
-    """Ends with the status of a tool, or with 64 and the reason in a line."""
+    """Ends with the status of a tool, with 64 and the reason in a line, or with 128 and the number of the signal that stopped it."""
+    ending.listen()
     try:
         sys.exit(main())
-    except KeyboardInterrupt:
-        sys.exit(130)
+    except ending.Stopped as stopped:
+        print(f"{name}: {stopped}", file=sys.stderr)
+        sys.exit(stopped.status)
     except BrokenPipeError:  # who reads standard output has gone away
         os.dup2(os.open(os.devnull, os.O_WRONLY), sys.stdout.fileno())
         sys.exit(TROUBLE)

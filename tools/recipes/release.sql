@@ -26,9 +26,9 @@ create table rel_conflicts as
   select f.face, f.geom, coalesce(f.claims, 0) as claims, st_area(f.geom) as m2 from rel_faces f
   where f.claims > 1 or (f.claims is null and exists (select from parcels q where st_intersects(q.geom, st_pointonsurface(f.geom))));
 
--- 4. Pieces are the unions of their faces, parcels of theirs. Plain unions: a grid here would move corners again.
+-- 4. Pieces are the unions of their faces, parcels of theirs, one of each name. Plain unions: a grid here would move corners again.
 create table rel_covers as
   select c.row, c.piece, c.parcel, c.class, st_union(f.geom) as geom from rel_faces f join covers c on c.row = f.cover group by 1, 2, 3, 4;
 create table rel_parcels as
-  select q.row, q.parcel, u.geom from parcels q
+  select q.row, q.parcel, u.geom from (select parcel, min(row) as row from parcels group by 1) q
   join (select c.parcel, st_union(f.geom) as geom from rel_faces f join covers c on c.row = f.cover group by 1) u using (parcel);
