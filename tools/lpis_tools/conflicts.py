@@ -6,7 +6,7 @@ from __future__ import annotations
 from dataclasses import dataclass, field
 
 from shapely.errors import ShapelyError
-from shapely.geometry import Polygon
+from shapely.geometry import LineString, Polygon
 from shapely.ops import unary_union
 from shapely.validation import explain_validity, make_valid
 
@@ -17,9 +17,10 @@ from .rounding import Map, shape_of
 WIDE = 0.02  # metres: a conflict of this width is a fault of the source
 ROUNDING = 0.000_001  # metres: of doubles
 LEAST = 0.001  # metres: conflicts that are narrower are rounding, and no rows
+SPIKE = 0.0005  # metres: narrower than twice that, a part of a shape is no place to show it
 FAR = 20_000_000.0  # metres: the range of the tables
 MANY = 100  # pieces of one name, from which on they are asked for by their boxes
-ORDER = ("lost", "left out", "made", "doubled", "identifier", "stranger", "added", "class", "invalid", "overlap", "gap", "outside", "changed", "column")
+ORDER = ("lost", "left out", "made", "doubled", "identifier", "stranger", "added", "class", "invalid", "overlap", "gap", "outside", "changed", "kept", "column")
 STOPPING = frozenset(ORDER[:9])
 
 
@@ -45,9 +46,10 @@ class Loss:
 
     def place(self):
         parts = parts_of(self.shape)
-        if not parts:
+        if not parts and (self.shape is None or self.shape.is_empty):
             return None
-        point = max(parts, key=lambda part: part.area).representative_point()
+        largest = max(parts or [self.shape], key=lambda part: part.area)
+        point = max(parts_of(largest.buffer(-SPIKE)) or [largest], key=lambda part: part.area).representative_point()
         return point.x, point.y
 
 
@@ -202,6 +204,7 @@ def find_conflicts(source, say, found=None):
         find_gap(source, row)
     for piece, row in found.outsides:
         find_outside(source, piece, row)
+    source.losses += [kept_of(border, rows) for border, rows in found.kept]
 
 
 def find_overlap(source, row, other):
@@ -222,3 +225,13 @@ def find_outside(source, piece, row):
     named = [("parcels", row["parcel"], row), ("covers", piece["piece"], piece)]
     outside = by_geos("the outside", named, source.shapes.get(id(piece)).difference, source.shapes.get(id(row)))
     source.losses += pieces_found("outside", [piece["piece"], row["parcel"]], [number_of(piece), number_of(row)], outside, "the piece has this place, and its parcel has not")
+
+
+def kept_of(border, rows):
+    """A border of last year's tables that this year's rounding has otherwise, with the land between both."""
+    before, after = border.metres()
+    ring = [*before, *reversed(after)]
+    between = unary_union(parts_of(make_valid(Polygon(ring))))
+    name = "piece" if rows and rows[0]["piece"] else "parcel"
+    words = f"the border is that of last year's tables, {border.beside:.1f} mm beside this year's rounding"
+    return Loss("kept", sorted(row[name] for row in rows), words, LineString(after) if between.is_empty else between, None, between.area, "covers" if name == "piece" else "parcels", [number_of(row) for row in rows])

@@ -307,8 +307,9 @@ def is_within(lines, points):
     return inside & ~ends[0] & ~ends[1]
 
 
-def network_of(founds, say):
-    """The borders of shapes as edges in whole millimetres that meet at corners alone; owners are the shapes' numbers."""
+def network_of(founds, say, previous=None):
+    """The borders of shapes as edges in whole millimetres that meet at corners alone; owners are the shapes' numbers. `previous` are last year's borders, which
+    stay where they did not change."""
     edges, owners = edges_of(founds)
     edges, number, backwards = unique_edges(edges)
     say(f"borders: {len(edges)} edges, taking corners")
@@ -318,4 +319,10 @@ def network_of(founds, say):
     side, step = expanded(counts[number])
     parts = starts[number[side]] + step
     network = Network(corners, first, last, (parts, owners[side], numpy.where(backwards, -1, 1)[side]))
-    return network.cut(say)
+    if previous:
+        say(f"borders: taking those of {previous.folder}")
+        previous.take(network, edges.reshape(-1, 2) * 1000)
+    network.cut(say)
+    if previous:
+        previous.count(network)
+    return network

@@ -39,6 +39,11 @@ class Preparation:
     def hopeless(self):
         return [finding for finding in self.findings if finding.is_hopeless()]
 
+    def conflicts(self, losses):
+        """Places in conflict that are settled where that is accepted, found before any rounding."""
+        for loss in losses:
+            self.findings.append(Finding(loss.kind, loss.layer, None, " ".join(loss.names), f"{loss.width:.3f} m wide: {loss.words}", "settled", False, loss.area, loss.place()))
+
     # Tables and columns.
 
     def tables(self):

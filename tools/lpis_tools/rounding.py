@@ -27,11 +27,12 @@ def shape_of(found):
 
 @dataclass
 class Conflicts:
-    """The rows that have a face in conflict: two pieces, a parcel and none of its pieces, a piece and not its parcel."""
+    """The rows that have a face in conflict: two pieces, a parcel and none of its pieces, a piece and not its parcel; and borders that were kept."""
 
     overlaps: list
     gaps: list
     outsides: list
+    kept: list  # borders of last year's tables that this year's rounding has otherwise, each with its rows
 
 
 def metres(value):
@@ -43,9 +44,9 @@ def metres(value):
 class Map:
     """A land with all borders rounded together: the piece of each face."""
 
-    def __init__(self, parcels, covers, say):
-        self.parcels, self.covers = parcels, covers
-        self.network = noding.network_of([row.found for row in parcels + covers], say)
+    def __init__(self, parcels, covers, say, previous=None):
+        self.parcels, self.covers, self.previous = parcels, covers, previous
+        self.network = noding.network_of([row.found for row in parcels + covers], say, previous)
         say("faces")
         self.faces = faces.Faces(self.network)
         self.windings = self.faces.windings()
@@ -75,7 +76,13 @@ class Map:
             gaps.update((number, None) for number in parcels if self.parcels[number]["parcel"] not in held and self.parcels[number]["parcel"] in named)
             outsides.update(((number, one), None) for number in pieces for one in asked.get(self.covers[number]["parcel"], ()) if one not in parcels)
         return Conflicts([(self.covers[a], self.covers[b]) for a, b in sorted(overlaps)], [self.parcels[number] for number in sorted(gaps)],
-                         [(self.covers[piece], self.parcels[number]) for piece, number in sorted(outsides)])
+                         [(self.covers[piece], self.parcels[number]) for piece, number in sorted(outsides)], self.kept())
+
+    def kept(self):
+        """Borders that were taken from last year's tables, each with its pieces, or its parcels where it has no piece."""
+        rows, start = self.parcels + self.covers, len(self.parcels)
+        taken = self.previous.taken if self.previous else ()
+        return [(border, [rows[who] for who in border.owners if who >= start] or [rows[who] for who in border.owners]) for border in taken]
 
     def polygons(self, owners):
         """Each owner that has a face with the text of what it has, by the owners of the faces."""
@@ -109,11 +116,12 @@ class Map:
         return of_piece[self.pieces]
 
 
-def release(layers, out, say):
-    """Writes parcels.csv and covers.csv of a land into a folder, and gives the conflicts that its map shows. Rows without a shape are passed over."""
+def release(layers, out, say, previous=None):
+    """Writes parcels.csv and covers.csv of a land into a folder, and gives the conflicts that its map shows. Rows without a shape are passed over. Borders of
+    `previous` that did not change stay."""
     covers = [row for row in layers["covers"].rows if row.found]
     parcels = [row for row in layers["parcels"].rows if row.found]
-    land, rows = Map(parcels, covers, say), layers["parcels"].rows
+    land, rows = Map(parcels, covers, say, previous), layers["parcels"].rows
     os.makedirs(out, exist_ok=True)
     say("tables")
     write(out, "covers.csv", ["piece", "parcel", "class", "wkt"], ([covers[number]["piece"], covers[number]["parcel"], covers[number]["class"], text] for number, text in land.polygons(land.pieces)))

@@ -51,6 +51,19 @@ class Folder(Styled):
     def add_folder(self):
         self.addParameter(QgsProcessingParameterFile("DIR", self.FOLDER, behavior=QgsProcessingParameterFile.Folder))
 
+    def folder_and_cert(self, place):
+        parameters, context = place
+        folder = self.parameterAsFile(parameters, "DIR", context)
+        return folder, self.parameterAsFile(parameters, "CERT", context) or os.path.join(folder, "cert.txt")
+
+    @staticmethod
+    def cut(folder, cert, feedback):
+        """Cuts the release where a table is newer than its certificate."""
+        if not is_older(cert, folder):
+            return places.Ran(YES, [])
+        feedback.setProgressText("cutting: no certificate that is newer than the tables")
+        return places.done(places.run([places.lpis(), "cut", folder, cert], feedback), "lpis cut", (REFUSED, UNREADABLE))
+
     def add_shapes(self, words, before=""):
         for name, kind, form, _ in KINDS:
             source = {POINTS: QgsProcessing.TypeVectorPoint, LINES: QgsProcessing.TypeVectorLine}.get(form, QgsProcessing.TypeVectorPolygon)
@@ -87,12 +100,8 @@ class CheckRelease(Folder):
 
     def processAlgorithm(self, parameters, context, feedback):
         place = parameters, context
-        folder = self.parameterAsFile(parameters, "DIR", context)
-        cert = self.parameterAsFile(parameters, "CERT", context) or os.path.join(folder, "cert.txt")
-        ran = places.Ran(YES, [])
-        if is_older(cert, folder):
-            feedback.setProgressText("cutting: no certificate that is newer than the tables")
-            ran = places.done(places.run([places.lpis(), "cut", folder, cert], feedback), "lpis cut", (REFUSED, UNREADABLE))
+        folder, cert = self.folder_and_cert(place)
+        ran = self.cut(folder, cert, feedback)
         if ran.status == YES:
             feedback.setProgressText("checking")
             ran = places.done(places.run([places.lpis(), "check", folder, cert], feedback, quiet=True), "lpis check", (REFUSED, UNREADABLE))

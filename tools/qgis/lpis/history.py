@@ -74,7 +74,7 @@ class Publish(Algorithm):
         ran = places.run([places.tool("year"), register, str(year), folder, *more, "--lpis", places.lpis()], feedback)
         refusal = next((line for line in ran.lines if line.startswith("refused")), "")
         if ran.status != YES and not refusal:
-            raise QgsProcessingException(f"not published, status {ran.status}: see the log")
+            raise QgsProcessingException(f"not published, status {ran.status}: {' '.join(ran.told) or ran.last()}")
         return {"VERDICT": refusal or f"published {year}", "REPORT": "" if refusal else os.path.join(folder, f"report-{year}.html")}
 
 

@@ -3,16 +3,18 @@
 import csv
 import json
 import os
+import re
 import sqlite3
 
 from qgis.core import (
     QgsCoordinateReferenceSystem, QgsFeature, QgsField, QgsFields, QgsGeometry, QgsProcessingAlgorithm, QgsProcessingException,
-    QgsProcessingParameterCrs, QgsProcessingUtils, QgsWkbTypes,
+    QgsProcessingParameterCrs, QgsProcessingUtils, QgsRectangle, QgsWkbTypes,
 )
 from qgis.PyQt.QtCore import QVariant
 
 TEXT, NUMBER, WHOLE = QVariant.String, QVariant.Double, QVariant.Int
 POINTS, LINES, POLYGONS = QgsWkbTypes.Point, QgsWkbTypes.MultiLineString, QgsWkbTypes.MultiPolygon
+LEAST = 50.0  # metres: a fifth of it is shown around a fault that is a point
 csv.field_size_limit(1 << 30)
 
 
@@ -20,6 +22,7 @@ class Algorithm(QgsProcessingAlgorithm):
     """What all algorithms share: their names, and how rows and styles come into layers."""
 
     NAME, TITLE, HELP = "", "", ""
+    FOLDERS = ("DIR", "NEW")  # the parameters that name the folder of a release
 
     def name(self):
         return self.NAME
@@ -37,8 +40,10 @@ class Algorithm(QgsProcessingAlgorithm):
         self.addParameter(QgsProcessingParameterCrs("CRS", "System of coordinates of the release", optional=True))
 
     def system(self, parameters, context):
-        found = self.parameterAsCrs(parameters, "CRS", context)
-        return found if found.isValid() else QgsCoordinateReferenceSystem()
+        """The system that is named; else that of the report which `prepare` wrote beside the tables."""
+        found = self.parameterAsCrs(parameters, "CRS", context) if self.parameterDefinition("CRS") else None
+        folders = [str(parameters[name]) for name in self.FOLDERS if parameters.get(name)]
+        return found if found and found.isValid() else next(filter(QgsCoordinateReferenceSystem.isValid, map(system_of, folders)), QgsCoordinateReferenceSystem())
 
     def fill(self, name, place, columns, kind, rows):
         """Writes rows, each its values and a shape or none, into an output; answers where it is, or None where it is not wanted."""
@@ -70,7 +75,32 @@ class Styled(Algorithm):
             if layer is not None:
                 style(layer)
                 layer.triggerRepaint()
+        zoom([layer for name in self.written if name.startswith("FAULT_") and (layer := QgsProcessingUtils.mapLayerFromString(self.written[name] or "", context))])
         return {}
+
+
+def zoom(layers):
+    """Shows the place of a fault, where there is a window."""
+    from qgis.utils import iface
+
+    extent = QgsRectangle()
+    for layer in layers if iface else ():
+        if layer.featureCount():
+            extent.combineExtentWith(iface.mapCanvas().mapSettings().layerExtentToOutputExtent(layer, layer.extent()))
+    if not extent.isNull():
+        extent.grow(max(extent.width(), extent.height(), LEAST) / 5)
+        iface.mapCanvas().setExtent(extent)
+        iface.mapCanvas().refresh()
+
+
+def system_of(folder):
+    """The system that the report beside the tables of a folder names."""
+    try:
+        with open(os.path.join(folder, "report.geojson"), encoding="utf-8", errors="replace") as file:
+            found = re.search(r"EPSG::(\d+)", file.read(400))
+    except OSError:
+        found = None
+    return QgsCoordinateReferenceSystem(f"EPSG:{found[1]}") if found else QgsCoordinateReferenceSystem()
 
 
 def shape_of(text):

@@ -51,10 +51,10 @@ def surroundings():
 
 
 class Ran:
-    """What a run printed, and its status."""
+    """What a run printed, its status, and the lines of its progress and its trouble."""
 
-    def __init__(self, status, lines):
-        self.status, self.lines = status, lines
+    def __init__(self, status, lines, told=()):
+        self.status, self.lines, self.told = status, lines, told
 
     def last(self):
         return self.lines[-1] if self.lines else ""
@@ -69,9 +69,9 @@ def run(words, feedback, quiet=False, given=None):
         if given is not None:
             process.stdin.write(given + "\n")
             process.stdin.close()
-        lines = []
+        lines, told = [], []
         readers = [threading.Thread(target=take, args=(process.stdout, lines, None if quiet else feedback.pushInfo)),
-                   threading.Thread(target=take, args=(process.stderr, [], feedback.pushWarning))]
+                   threading.Thread(target=take, args=(process.stderr, told, feedback.pushInfo))]
         for reader in readers:
             reader.start()
         while True:
@@ -85,7 +85,7 @@ def run(words, feedback, quiet=False, given=None):
             reader.join()
     if feedback.isCanceled():
         raise QgsProcessingException("cancelled")
-    return Ran(process.returncode, lines)
+    return Ran(process.returncode, lines, told)
 
 
 def take(stream, lines, show):
@@ -98,5 +98,5 @@ def take(stream, lines, show):
 def done(ran, what, also=()):
     """Stops the algorithm where a run ended otherwise than it may."""
     if ran.status not in (0, *also):
-        raise QgsProcessingException(f"{what} ended with status {ran.status}: {ran.last()}")
+        raise QgsProcessingException(f"{what} ended with status {ran.status}: {next(iter(ran.told[-1:]), ran.last())}")
     return ran

@@ -4,25 +4,35 @@ import os
 import tempfile
 
 from qgis.core import (
-    QgsCoordinateTransformContext, QgsProcessing, QgsProcessingException, QgsProcessingOutputNumber, QgsProcessingOutputString, QgsProcessingParameterBoolean,
+    QgsCoordinateTransformContext, QgsGeometry, QgsPointXY, QgsProcessing, QgsProcessingException, QgsProcessingOutputNumber, QgsProcessingOutputString, QgsProcessingParameterBoolean,
     QgsProcessingParameterFeatureSink, QgsProcessingParameterFeatureSource, QgsProcessingParameterField, QgsProcessingParameterFile,
-    QgsProcessingParameterFolderDestination, QgsProcessingParameterNumber, QgsVectorFileWriter, QgsWkbTypes,
+    QgsProcessingParameterFolderDestination, QgsProcessingParameterNumber, QgsVectorFileWriter,
 )
 
 from . import places, styles
 from .check import Folder
-from .layers import TEXT, rows_of
+from .layers import POINTS, TEXT, rows_of, system_of
 
 LOOK = 1
 COLUMNS = {"PARCELS": {"parcel": "PARCEL_ID"}, "COVERS": {"piece": "PIECE_ID", "parcel": "PIECE_PARCEL", "class": "PIECE_CLASS"}}
-REPORT_COLUMNS = [("kind", TEXT), ("what", TEXT), ("name", TEXT), ("area", TEXT), ("done", TEXT)]
+REPORT_COLUMNS = [(name, TEXT) for name in ("kind", "layer", "row", "identifiers", "width_m", "area_m2", "stops", "words")]
+FOUND_COLUMNS = [(name, TEXT) for name in ("kind", "layer", "row", "identifier", "area_m2", "words", "done")]
+
+
+def stamp(path):
+    """When a file was written last: a report of an earlier run is not this one's."""
+    return os.stat(path).st_mtime_ns if os.path.exists(path) else 0
+
+
+def place_of(row):
+    return QgsGeometry.fromPointXY(QgsPointXY(float(row["x"]), float(row["y"]))) if row["x"] else None
 
 
 class PrepareRelease(Folder):
     NAME, TITLE = "preparerelease", "Prepare a release"
     HELP = ("From a layer of parcels and one of land cover to the tables of a release: all is tested first and each finding is named. What would change or lose land stops, unless "
-            "'accept' is set. The findings are a table, the places of the report layers.")
-    STYLED = {"REPORT_POINTS": styles.fault, "REPORT_LINES": styles.fault, "REPORT_POLYGONS": styles.fault}
+            "'accept' is set. The findings are points, where they have a place; what was settled is layers too.")
+    STYLED = {"FINDINGS": styles.found, "REPORT_POINTS": styles.report, "REPORT_LINES": styles.report, "REPORT_POLYGONS": styles.report}
 
     def initAlgorithm(self, configuration=None):
         polygons = [QgsProcessing.TypeVectorAnyGeometry]
@@ -34,33 +44,37 @@ class PrepareRelease(Folder):
         self.addParameter(QgsProcessingParameterField("PIECE_CLASS", "its class", "class", "COVERS"))
         self.addParameter(QgsProcessingParameterFile("CLASSES", "Table of classes (class, percent)", extension="csv", optional=True))
         self.addParameter(QgsProcessingParameterFile("IDENTIFIERS", "identifiers.csv of an earlier year", extension="csv", optional=True))
+        self.addParameter(QgsProcessingParameterFile("PREVIOUS", "Last year's folder: borders that did not change stay as they are there", behavior=QgsProcessingParameterFile.Folder, optional=True))
         self.addParameter(QgsProcessingParameterNumber("EPSG", "EPSG number of the release, in metres", QgsProcessingParameterNumber.Integer, optional=True, minValue=1))
         self.addParameter(QgsProcessingParameterBoolean("ACCEPT", "Accept: mend or leave out what is wrong, and name it", False))
         self.addParameter(QgsProcessingParameterFolderDestination("OUT", "Folder of the release"))
-        self.addParameter(QgsProcessingParameterFeatureSink("FINDINGS", "Findings", QgsProcessing.TypeVector, optional=True, createByDefault=True))
+        self.addParameter(QgsProcessingParameterFeatureSink("FINDINGS", "Findings", QgsProcessing.TypeVectorPoint, optional=True, createByDefault=True))
         self.add_shapes("Report", "REPORT_")
         self.addOutput(QgsProcessingOutputNumber("STATUS", "Status"))
         self.addOutput(QgsProcessingOutputString("SUMMARY", "Summary"))
 
     def processAlgorithm(self, parameters, context, feedback):
-        out = self.parameterAsString(parameters, "OUT", context)
+        self.out = out = self.parameterAsString(parameters, "OUT", context)
         os.makedirs(out, exist_ok=True)
+        report = os.path.join(out, "report.geojson")
+        before = stamp(report)
         with tempfile.TemporaryDirectory() as spare:
             package = os.path.join(spare, "land.gpkg")
             for number, layer in enumerate(COLUMNS):
                 self.export(parameters, context, layer, package, number == 0)
             ran = places.done(places.run([places.tool("prepare"), package, out, *self.options(parameters, context)], feedback), "tools/prepare", (LOOK,))
         place = parameters, context
-        findings = os.path.join(out, "prepared.csv")
-        rows = list(rows_of(findings)) if os.path.exists(findings) else []
-        columns = [(name, TEXT) for name in (rows[0] if rows else ("kind",))]
-        self.written = {"FINDINGS": self.fill("FINDINGS", place, columns, QgsWkbTypes.NoGeometry, [(list(row.values()), None) for row in rows]),
-                        **self.fill_shapes(place, os.path.join(out, "report.geojson"), REPORT_COLUMNS, "REPORT_")}
+        rows = [([row[name] for name, _ in FOUND_COLUMNS], place_of(row)) for row in rows_of(os.path.join(out, "prepared.csv"))]
+        self.written = {"FINDINGS": self.fill("FINDINGS", place, FOUND_COLUMNS, POINTS, rows),
+                        **self.fill_shapes(place, report if stamp(report) != before else "", REPORT_COLUMNS, "REPORT_")}
         return {**self.written, "OUT": out, "STATUS": ran.status, "SUMMARY": "\n".join(ran.lines)}
+
+    def system(self, parameters, context):
+        return system_of(self.out)
 
     def options(self, parameters, context):
         words = ["--accept"] if self.parameterAsBool(parameters, "ACCEPT", context) else []
-        for name, option in (("CLASSES", "--classes"), ("IDENTIFIERS", "--identifiers")):
+        for name, option in (("CLASSES", "--classes"), ("IDENTIFIERS", "--identifiers"), ("PREVIOUS", "--previous")):
             path = self.parameterAsFile(parameters, name, context)
             words += [option, path] if path else []
         epsg = self.parameterAsInt(parameters, "EPSG", context) if parameters.get("EPSG") else 0

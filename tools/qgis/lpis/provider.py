@@ -6,9 +6,10 @@ from qgis.core import QgsProcessingProvider
 from . import places
 from .check import CheckCountry, CheckRelease, FindFaults
 from .history import KeptShapes, ProposeLineage, Publish, Trace
+from .locate import LocatePoints
 from .prepare import PrepareRelease
 
-ALGORITHMS = (PrepareRelease, CheckRelease, FindFaults, ProposeLineage, Publish, Trace, KeptShapes, CheckCountry)
+ALGORITHMS = (PrepareRelease, CheckRelease, FindFaults, ProposeLineage, Publish, Trace, KeptShapes, CheckCountry, LocatePoints)
 
 
 class Provider(QgsProcessingProvider):

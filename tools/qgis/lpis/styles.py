@@ -5,7 +5,7 @@ from qgis.core import (
     QgsTextFormat, QgsVectorLayerSimpleLabeling, QgsWkbTypes,
 )
 
-SOUND, FAULT, OTHER = "#1a9641", "#d7191c", "#e7298a"
+SOUND, FAULT, OTHER, POINT = "#1a9641", "#d7191c", "#e7298a", "#2c7bb6"
 FAINT = 64  # of 255: how much a filled shape covers
 COLOURS = (FAULT, "#2c7bb6", "#fdae61", "#7b3294", SOUND, "#a6611a", "#e66101", "#404040")
 KINDS = {"split": "#1b9e77", "merged": "#7570b3", "replaced": "#66a61e", "redrawn": "#e6ab02", "ended": "#666666"}
@@ -49,6 +49,18 @@ def parcels(layer):
 
 def fault(layer):
     one_colour(layer, FAULT, "name")
+
+
+def report(layer):
+    one_colour(layer, FAULT, "identifiers")
+
+
+def found(layer):
+    one_colour(layer, OTHER, "identifier")
+
+
+def located(layer):
+    one_colour(layer, POINT, "parcel")
 
 
 def faults(layer):
