@@ -45,9 +45,9 @@ impl<S: Alter + Drop> Register<S> {
     {
         what_is_left_is_found(&conn);
         match Register::adopt(alloc, conn) {
-            Ok(register) => {
-                a_crash_leaves_what_is_held(&register.conn);
-                Ok(register)
+            Ok(opened) => {
+                a_crash_leaves_what_is_held(&opened.conn);
+                Ok(opened)
             }
             Err((conn, fault)) => Err((conn, fault)),
         }
