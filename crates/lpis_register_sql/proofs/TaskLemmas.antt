@@ -5,11 +5,11 @@ use Rattle.std.proofs.lemmas.List.Sums.{fold-append}
 use Rattle.sqlite.specs.Held.{Held}
 use Rattle.sqlite_trees.specs.declared.store.Store as store
 use Rattle.lpis_lineage.specs.declared.row.Row.{Row}
-use Rattle.lpis_register_rows.specs.Content.{Line, Mark, TextEdit, all_ended, marks_from, published, released, with_marks, with_spans, with_year}
+use Rattle.lpis_register_rows.specs.Content.{Line, Mark, TextEdit, all_ended, lines_from, marks_from, published, released, with_lines, with_marks, with_spans, with_year}
 use Rattle.lpis_register_sql.specs.Stopping.{BoundStatement, edit_statement, ending_statement, line_statement, mark_statement, release_statements, span_statement, year_statement}
 use Rattle.lpis_register_sql.specs.private.Inside.{Makes}
 use Rattle.lpis_register_sql.specs.private.Tasks.{Task, after, edit_task, ending_task, line_task, mark_task, row_tasks, span_task, statement_of, turn_by, year_task}
-use Rattle.lpis_register_sql.proofs.Common.{Content, Error, Inside, IsQuiet, State, Turns, Whole, lines_from, state, with_lines}
+use Rattle.lpis_register_sql.proofs.Common.{Content, Error, Inside, IsQuiet, State, Turns, Whole, state}
 use Rattle.lpis_register_sql.proofs.StopLemmas.{Halts, fails_part, makes_more}
 
 -- what is left of a list when some of it is done
