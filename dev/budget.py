@@ -6,15 +6,15 @@ TOP = Path(__file__).resolve().parent.parent
 ALL_WORDS = 40_000
 PAGE_WORDS = {
     "README.md": 1_000,
-    "docs/GUIDE.md": 6_500,
-    "docs/FORMATS.md": 7_600,
-    "docs/PROOF.md": 6_200,
-    "docs/ARCHITECTURE.md": 4_450,
+    "docs/GUIDE.md": 6_650,
+    "docs/FORMATS.md": 7_750,
+    "docs/PROOF.md": 6_250,
+    "docs/ARCHITECTURE.md": 4_300,
     "docs/DECISIONS.md": 4_000,
-    "CONTRIBUTING.md": 3_550,
-    "CHANGELOG.md": 1_100,
-    "bench/RESULTS.md": 1_600,
-    "docs/*.1": 4_000,  # the pages of the manual together
+    "CONTRIBUTING.md": 3_500,
+    "CHANGELOG.md": 1_000,
+    "bench/RESULTS.md": 1_500,
+    "docs/*.1": 4_050,  # the pages of the manual together
 }
 PAGE_LINES = {"docs/DECISIONS.md": 250, "docs/PROOF.md": 350, "bench/RESULTS.md": 250}
 

@@ -107,34 +107,41 @@ function showWords(kind, key, values = {}) {
   render();
 }
 
-const VERDICTS = { check: ['yes', 'refused', 'unreadable'], cut: ['cut', 'not cut', 'unreadable'] };
+const VERDICTS = { area: ['areas told', 'unreadable', 'unreadable'], check: ['yes', 'refused', 'unreadable'], cut: ['cut', 'not cut', 'unreadable'] };
 
 function verdictOf(result, task) {
   if (result.error) return ['no', result.error === 'memory' ? 'no memory' : 'no answer', { error: result.error }];
-  const line = result.status === 0 && task === 'check' ? '' : result.text.trim();
+  const line = result.status === 0 && task !== 'cut' ? '' : result.text.trim();
   return [result.status === 0 ? 'yes' : 'no', VERDICTS[task][result.status] ?? 'no answer', { line, error: `status ${result.status}` }];
 }
 
-async function run(task) {
+async function run(task, wanted) {
   document.body.classList.add('busy');
   showWords('busy', `busy ${task}`);
-  const wanted = Object.fromEntries((task === 'cut' ? KINDS.slice(0, 3) : KINDS).map(kind => [kind, files[kind]]));
   const result = await ask(task, { files: wanted });
   const [kind, key, values] = verdictOf(result, task);
-  shown = { kind, key, values, sentences: result.sentences ?? [], result: result.error ? null : result, names: wanted, isReport: task === 'check' && result.status === 0 };
+  const mine = { kind, key, values, sentences: result.sentences ?? [], result: result.error ? null : result, names: wanted, isReport: task === 'check' && result.status === 0 };
+  shown = mine;
   render();
-  if (!result.error && (task === 'check' || result.status)) await draw(wanted, result);
+  if (!result.error && task !== 'area' && (task === 'check' || result.status)) await draw(mine, wanted);
   document.body.classList.remove('busy');
   return result;
 }
 
+const filesOf = kinds => Object.fromEntries(kinds.map(kind => [kind, files[kind]]));
+
 async function check() {
-  return run('check');
+  return run('check', filesOf(KINDS));
+}
+
+/** The areas of a table of its own, which is none of the release's files. */
+async function area(file) {
+  return run('area', { area: file });
 }
 
 /** Makes a certificate, and checks the release by it. */
 async function cut() {
-  const result = await run('cut');
+  const result = await run('cut', filesOf(KINDS.slice(0, 3)));
   if (!result.cert) return;
   files.cert = new File([result.cert], 'release.cert');
   files.cert.isMadeHere = true;
@@ -142,11 +149,12 @@ async function cut() {
   await check();
 }
 
-async function draw({ parcels, covers, classes }, result) {
+async function draw(mine, { parcels, covers, classes }) {
+  const { result } = mine;
   const drawn = await ask('draw', { files: { parcels, covers, classes }, focus: result.focus, refusal: result.refusal, line: result.text.slice(0, 200).trim() });
-  shown.drawn = drawn.error ? null : drawn;
-  shown.drawError = drawn.error;
-  render();
+  mine.drawn = drawn.error ? null : drawn;
+  mine.drawError = drawn.error;
+  if (shown === mine) render();
 }
 
 /** The parcels of a report, and its sums. */
@@ -170,6 +178,12 @@ function renderTables({ drawn, result, isReport }) {
   $('totals').textContent = say('totals', sums);
   const rows = drawn.pieces.map(([name, count]) => [name, String(count), ...(report.parcels.get(name) ?? ['', ''])]);
   tables = [new SortedTable($('classes'), ['class', '#percent', '#pieces', '#area', '#eligible'], sums.rows), new SortedTable($('parcels'), ['parcel', '#pieces', '#area', '#eligible'], rows, number => chart.go('parcels', number))];
+}
+
+/** The areas that a call of `area` gave, a row each. */
+function renderAreas({ result: { text, rows } }) {
+  const areas = text.split('\n').slice(0, -1);
+  tables = [new SortedTable($('rows'), ['#number', 'name', '#area'], areas.map((area, number) => [String(number + 1), rows[number] ?? '', area]))];
 }
 
 function renderDigests() {
@@ -196,9 +210,12 @@ function render() {
   $('save-text').hidden = !result;
   $('rests').hidden = !result;
   $('views').hidden = !drawn;
+  const isOfAreas = Boolean(result?.rows && !result.status);
+  $('areas').hidden = !isOfAreas;
   $('wrong').textContent = shown.drawError ? say('not drawn', { error: shown.drawError }) : '';
   renderDigests();
   if (drawn) renderTables(shown);
+  if (isOfAreas) renderAreas(shown);
 }
 
 async function showDigestOf(file) {
@@ -221,10 +238,16 @@ function listenToFiles() {
     await add([...event.target.files]);
     event.target.value = '';
   });
+  $('area').addEventListener('change', async event => {
+    const [file] = event.target.files;
+    event.target.value = '';
+    if (file) await area(file);
+  });
   $('check').addEventListener('click', check);
   $('cut').addEventListener('click', cut);
   $('save-cert').addEventListener('click', () => save([files.cert], 'release.cert'));
   $('save-text').addEventListener('click', () => save([shown.result.text], 'report.txt'));
+  $('save-areas').addEventListener('click', () => save([tables[0].csv()], 'areas.csv'));
   $('save-classes').addEventListener('click', () => save([tables[0].csv()], 'classes-sums.csv'));
   $('save-parcels').addEventListener('click', () => save([tables[1].csv()], 'parcels-report.csv'));
 }

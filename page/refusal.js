@@ -83,7 +83,8 @@ class Explained {
       return;
     }
     this.say('row', { path, row: row.number, line: row.line });
-    this.say('plain', { text: COLUMNS[name].filter(column => column !== 'wkt' && table.names.includes(column)).map(column => `${column} ${quoted(shown(table.field(row, column)))}`).join(', ') });
+    const fields = COLUMNS[name].filter(column => column !== 'wkt' && table.names.includes(column));
+    if (fields.length) this.say('plain', { text: fields.map(column => `${column} ${quoted(shown(table.field(row, column)))}`).join(', ') });
     if (this.refusal.textCode) this.sayText(table.field(row, 'wkt'));
     if (this.refusal.code === '33') this.sayLetters(table, row);
     const members = polygonOf(table.field(row, 'wkt'));

@@ -2,7 +2,7 @@
 // Reads tables for the map and the sums, and to explain a refusal; for the worker and for tests. Nothing here is part of a yes.
 
 const NAMES = ['parcels', 'covers', 'classes'];
-const COLUMNS = { parcels: ['parcel', 'wkt'], covers: ['piece', 'parcel', 'class', 'wkt'], classes: ['class', 'percent', 'eligible'] };
+const COLUMNS = { area: ['wkt'], parcels: ['parcel', 'wkt'], covers: ['piece', 'parcel', 'class', 'wkt'], classes: ['class', 'percent', 'eligible'] };
 const KEYS = { parcels: 'parcel', covers: 'piece', classes: 'class' };
 const BYTE = { quote: 34, comma: 44, feed: 10, cr: 13, open: 40, close: 41, blank: 32, minus: 45, plus: 43, dot: 46, zero: 48, nine: 57 };
 
@@ -94,6 +94,12 @@ class Table {
     for (const row of this.rows()) if (textOf(this.field(row, name)) === text) return { ...row, line: this.lineAt(row.start) };
     return null;
   }
+}
+
+/** What each row has in the first column that is no polygon. */
+function namesOf(table) {
+  const column = table.names.findIndex(name => name !== 'wkt');
+  return [...table.rows()].map(({ fields }) => textOf(fields[column] ?? new Uint8Array()));
 }
 
 /** Reads the text of a polygon into members, each a list of rings, each a list of coordinates in whole millimetres: x, y, x, y .. */

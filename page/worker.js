@@ -65,6 +65,14 @@ const TASKS = {
     return { ...(await toldOf(answer, files, read)), cert, seconds };
   },
 
+  /** The areas of one table of polygons, and what its rows begin with. */
+  async area({ files }) {
+    const read = await readFiles(files), began = performance.now();
+    const answer = CALLS.area(checker, read.area);
+    const seconds = (performance.now() - began) / 1000;
+    return answer.isAnswered ? { ...(await toldOf(answer, files, read)), rows: namesOf(new Table(read.area)), seconds } : { error: 'memory' };
+  },
+
   /** The map and the sums, of which nothing is part of the answer. */
   async draw({ files, focus, refusal, line }) {
     const land = landOf(await readFiles(files));

@@ -1,7 +1,7 @@
 'use strict';
 // The page's own scripts in Node, for tools/tests/test_page: node scripts.js TASK <CASES >ANSWERS, both JSON.
 //
-//     explain   {words, cases: [{line, folder, cert}]}             what the page says of a refusal, in each language
+//     explain   {words, cases: [{line, folder, cert, area}]}       what the page says of a refusal, in each language
 //     sums      {map, cases: [{folder}]}                           its sums by class, and its map
 //     calls     {module, cases: [{call, inputs, text, cert, status}], least}   runs of the module that differ from what is wanted
 //     memory    {module, inputs, pages, room}                      answers to a check with so many pages left for the heap, and in a small room
@@ -27,9 +27,10 @@ const bytesOf = name => (fs.existsSync(name) ? new Uint8Array(fs.readFileSync(na
 
 function explain({ words, cases }) {
   const page = load({ words });
-  return cases.map(({ line, folder, cert }) => {
+  return cases.map(({ line, folder, cert, area }) => {
     const files = readTables(folder), names = Object.fromEntries(Object.keys(files).map(name => [name, path.join(folder, `${name}.csv`)]));
     if (cert) [files.cert, names.cert] = [bytesOf(cert), cert];
+    if (area) [files.area, names.area] = [bytesOf(area), area];
     const { sentences } = new page.Explained(page.refusalOf(line), files, names);
     return Object.fromEntries(Object.keys(page.LANGUAGES).map(name => {
       page.setLanguage(name);
