@@ -2,7 +2,7 @@
 pub use Rattle.lpis_lineage.specs.declared.row.Entry.{Entry}
 pub use Rattle.lpis_lineage.specs.declared.row.Row.{Row}
 pub use Rattle.lpis_lineage.specs.Lineage.{last_live}
-pub use Rattle.lpis_register_rows.specs.Content.{Content, StoredText}
+pub use Rattle.lpis_register_rows.specs.Content.{Content}
 pub use Rattle.lpis_register_rows.specs.Shapes.{AreLive, Shape, ShapesAre}
 pub use Rattle.lpis_register_rows.specs.Histories.{TablesHave, HasHistory}
 pub use Rattle.lpis_register_rows.specs.declared.version.Version.{Version}

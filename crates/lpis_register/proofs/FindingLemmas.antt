@@ -2,8 +2,9 @@
 use Rattle.std.proofs.Common.{◌≡◌, ◌↔◌, ℕ, List, Result, Ok, Err, IfErr, IsTrue, IsPermutation}
 use Rattle.std.proofs.lemmas.List.Sorted.{IsPermutation-sym}
 use Rattle.lpis_register.proofs.Common.{State, HasCleanDisk, Survives, survives_weaker, Entry, AreLive, Content}
-use Rattle.lpis_register.proofs.Common.{HoldsRegister, IsStored, Layout, PublishFault, TablesHave, Shape, ShapesAre, StoredText}
+use Rattle.lpis_register.proofs.Common.{HoldsRegister, IsStored, Layout, PublishFault, TablesHave, Shape, ShapesAre}
 use Rattle.lpis_register.proofs.Common.{Unlawful, Version, Third, Whole}
+use Rattle.lpis_register_rows.specs.Content.{StoredText}
 use Rattle.std.proofs.lemmas.Result.{IfErr-weaker}
 use Rattle.lpis_register_rows.specs.Histories.{IsSameContent, IsSameHistory}
 use Rattle.lpis_register_rows.specs.Shapes.{TextsStand}

@@ -72,12 +72,12 @@ pub(crate) fn find_rows<S: Alter>(
 fn shapes_at(
     alloc: Global,
     history: &History,
-    texts: &[TextRow],
+    texts: Vec<TextRow>,
 ) -> Result<Vec<(Id, Polygon)>, PublishFault>
-    ensures are { IfOk result (λ shapes. ShapesAre texts.now shapes.items
+    ensures are { IfOk result (λ shapes. ShapesAre texts.items shapes.items
         × AreLive (last_live history.now) shapes.items) }
     ensures unlawful { IfErr result (λ e. e ≡ Unlawful
-        → TextsStand texts.now (last_live history.now) → ⊥) }
+        → TextsStand texts.items (last_live history.now) → ⊥) }
     ensures kinds { IfErr result IsOpeningFault }
 {
     match shapes_of(alloc, texts, history) {
@@ -104,7 +104,7 @@ fn find_texts<S: Alter>(
 {
     texts_keep_one_list_of_shapes();
     match load_texts(alloc, conn, found) {
-        Ok(texts) => shapes_at(alloc, history, texts.as_slice()),
+        Ok(texts) => shapes_at(alloc, history, texts),
         Err(error) => Err(fault_of(error)),
     }
 }

@@ -32,13 +32,13 @@ zip-push R [] (b ∷ ys) x y z r = absurd z
 zip-push R (a ∷ xs) [] x y z r = absurd z
 zip-push R (a ∷ xs) (b ∷ ys) x y z r = (z.0, zip-push R xs ys x y z.1 r)
 
--- what stands beside the element at a position
-pub zip-at : {A B : Type 0} (R : A → B → Type 0) (P : B → Type 0) (xs : List A) (ys : List B) (i : ℕ) (x : A) → AllZip R xs ys → AllByRecursion P ys → i < length xs → x ≡ get_or xs i x
+-- what stands beside an element of a list
+pub zip-among : {A B : Type 0} (R : A → B → Type 0) (P : B → Type 0) (before : List A) (x : A) (rest : List A) (ys : List B) → AllZip R (before ++ x ∷ rest) ys → AllByRecursion P ys
     → (y : B) × R x y × P y
-zip-at R P [] ys i x z all lt at = absurd (omega (arith, lt))
-zip-at R P (a ∷ xs) [] i x z all lt at = absurd z
-zip-at R P (a ∷ xs) (b ∷ ys) zero x z all lt at = (b, subst (λ e. R e b) (sym at) z.0, all.0)
-zip-at R P (a ∷ xs) (b ∷ ys) (suc i) x z all lt at = zip-at R P xs ys i x z.1 all.1 (omega (arith, lt)) at
+zip-among R P [] x rest [] z all = absurd z
+zip-among R P [] x rest (b ∷ ys) z all = (b, z.0, all.0)
+zip-among R P (a ∷ before) x rest [] z all = absurd z
+zip-among R P (a ∷ before) x rest (b ∷ ys) z all = zip-among R P before x rest ys z.1 all.1
 
 -- what all elements of a list and one more have, all have with that one at the end
 pub all-push : {A : Type 0} (P : A → Type 0) (xs : List A) (x : A) → AllByRecursion P xs → P x → AllByRecursion P (xs ++ x ∷ [])

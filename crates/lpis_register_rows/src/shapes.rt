@@ -60,20 +60,21 @@ fn shape_of(alloc: Global, history: &History, text: &TextRow) -> Result<(Id, Pol
     Ok((id, polygon))
 }
 
-/// The shapes of texts that may be kept beside a history, in their order.
+/// The shapes of texts that may be kept beside a history, in their order. Each text is let go once
+/// it is read.
 fn told_shapes(
     alloc: Global,
     history: &History,
-    texts: &[TextRow],
+    texts: Vec<TextRow>,
 ) -> Result<Vec<(Id, Polygon)>, RowsFault>
-    ensures spelled { IfOk result (λ v. AllZip IsTextOfShape texts.now v.items) }
+    ensures spelled { IfOk result (λ v. AllZip IsTextOfShape texts.items v.items) }
     ensures live { IfOk result (λ v. AreLive (last_live history.now) v.items) }
     ensures refused { IfErr result (λ e. e ≡ Unlawful → (order : List Shape)
-        → AllZip IsTextOfShape texts.now order → AreLive (last_live history.now) order → ⊥) }
+        → AllZip IsTextOfShape texts.items order → AreLive (last_live history.now) order → ⊥) }
 {
     let mut shapes = Vec::with_capacity(alloc, texts.len())?;
     for text in texts {
-        let shape = shape_of(alloc, history, text)?;
+        let shape = shape_of(alloc, history, &text)?;
         shapes.push(shape)?;
     }
     Ok(shapes)
@@ -107,13 +108,13 @@ fn ascend(shapes: &[(Id, Polygon)]) -> bool
 /// twice.
 pub fn shapes_of(
     alloc: Global,
-    texts: &[TextRow],
+    texts: Vec<TextRow>,
     history: &History,
 ) -> Result<Vec<(Id, Polygon)>, RowsFault>
-    ensures are { IfOk result (λ v. ShapesAre texts.now v.items) }
+    ensures are { IfOk result (λ v. ShapesAre texts.items v.items) }
     ensures live { IfOk result (λ v. AreLive (last_live history.now) v.items) }
     ensures unlawful { IfErr result (λ e. e ≡ Unlawful
-        → TextsStand texts.now (last_live history.now) → ⊥) }
+        → TextsStand texts.items (last_live history.now) → ⊥) }
 {
     function_of_text();
     let mut shapes = told_shapes(alloc, history, texts)?;

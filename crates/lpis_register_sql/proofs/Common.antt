@@ -1,5 +1,5 @@
 -- The names that most proofs of this crate cite, passed on from one place. Declares nothing.
-pub use Rattle.lpis_register_rows.specs.Content.{Content, Format, Mark, StoredSpan, lines_from, with_line, with_lines, with_whole_span, with_whole_spans}
+pub use Rattle.lpis_register_rows.specs.Content.{Content, Format, StoredSpan, with_whole_span, with_whole_spans}
 pub use Rattle.lpis_register_sql.specs.Holding.{AreKeyed, HoldsRows, IsStored, Leaves, format_row, line_row, live_row, mark_row, span_row, text_row, year_row}
 pub use Rattle.lpis_register_sql.specs.Layouts.{First, LessMarks, LessTexts, Moved, New, Origin, Layout, Whole, has_live, has_marks, has_spans, has_texts, is_moved, mark_tree, no_schema}
 pub use Rattle.lpis_register_sql.specs.Layouts.{origin_of, schema_of, span_tree, text_tree}

@@ -1,8 +1,8 @@
 -- What the statements that insert do.
 use Rattle.std.proofs.Common.{◌≡◌, ℕ, ℤ, pos, List, [], ◌∷◌, drop, slice_get, true, Some, Ok, refl, sym, subst, ◌∙◌}
-use Rattle.lpis_register_sql.proofs.Common.{IsPermutation-trans, IsPermutation-map, Int, Row, edit_of, Database, Trees, State, ExecutesInside, StoredSpan, Mark, Content}
-use Rattle.lpis_register_rows.specs.Content.{StoredText, Line}
-use Rattle.lpis_register_sql.proofs.Common.{with_whole_span, with_line, format_table}
+use Rattle.lpis_register_sql.proofs.Common.{IsPermutation-trans, IsPermutation-map, Int, Row, edit_of, Database, Trees, State, ExecutesInside, StoredSpan, Content}
+use Rattle.lpis_register_rows.specs.Content.{StoredText, Line, Mark, with_line}
+use Rattle.lpis_register_sql.proofs.Common.{with_whole_span, format_table}
 use Rattle.lpis_register_rows.specs.Content.{with_text, with_mark}
 use Rattle.lpis_register_sql.proofs.Common.{release_table, span_table, row_table, text_table, mark_table, Layout, Origin, Whole, schema_of, span_tree, text_tree, mark_tree, span_place, text_place}
 use Rattle.lpis_register_sql.proofs.Common.{mark_place, AreKeyed, format_row, year_row, span_row, line_row}

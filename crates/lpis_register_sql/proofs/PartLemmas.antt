@@ -1,8 +1,8 @@
 -- The parts of what the tables hold, carried over a step that leaves them.
 use Rattle.std.proofs.Common.{◌≡◌, ℕ, ℤ, List, [], map, drop, Bool, true, false, refl, sym, ap, subst, ◌∙◌, arith, IsPermutation, true≢false, nat_eq, ◌||◌}
 use Rattle.std.proofs.lemmas.Bool.{or_parts}
-use Rattle.lpis_register_sql.proofs.Common.{nat_tests, Row, Trees, overlay, Content, Format, Mark, StoredSpan, Origin, New, Moved, Whole, is_moved, span_tree, text_tree}
-use Rattle.lpis_register_rows.specs.Content.{Line, Live, StoredText}
+use Rattle.lpis_register_sql.proofs.Common.{nat_tests, Row, Trees, overlay, Content, Format, StoredSpan, Origin, New, Moved, Whole, is_moved, span_tree, text_tree}
+use Rattle.lpis_register_rows.specs.Content.{Line, Live, Mark, StoredText}
 use Rattle.lpis_register_sql.proofs.Common.{mark_tree}
 use Rattle.lpis_register_sql.proofs.Common.{AreKeyed, format_row, year_row, span_row, line_row, live_row, text_row, mark_row}
 use Rattle.lpis_register_sql.specs.Holding.{Keeps}

@@ -1,5 +1,5 @@
 -- What the queries show.
-use Rattle.std.proofs.Common.{◌≡◌, ◌⊎◌, inl, inr, ℕ, List, [], ◌∷◌, map, drop, Ok, Err, Result, IfOk, refl, sym, ap, ap₂, subst, ◌∙◌, IsPermutation, IsTrue, true, IfErr, Vec, IsSorted, Global}
+use Rattle.std.proofs.Common.{◌≡◌, ◌⊎◌, inl, inr, ℕ, List, [], ◌∷◌, map, drop, Ok, Err, Result, IfOk, refl, sym, ap, ap₂, subst, ◌∙◌, IsPermutation, IsTrue, true, OnErr, Vec, IsSorted, Global}
 use Rattle.lpis_register_sql.proofs.Common.{flat_map_single, IsPermutation-map, IsPermutation-trans, Null, Row, column, Term, overlay, IsAnswer, Output, output, Database, understood, Error, State}
 use Rattle.lpis_register_sql.proofs.Common.{HasCleanDisk, Survives, Content, Format, Layout, schema_of, origin_of, has_spans, has_live, has_texts, has_marks, span_tree, text_tree, mark_tree}
 use Rattle.lpis_register_sql.proofs.Common.{read_format, read_release, read_span, read_line_text, read_live, read_text, read_mark, HoldsRows}
@@ -8,7 +8,7 @@ use Rattle.std.proofs.lemmas.List.{map-id}
 use Rattle.sqlite_value.specs.declared.keys.Key.{Key}
 use Rattle.sqlite.specs.Query.{Query, output_cmp}
 use Rattle.sqlite.specs.Clock.{timed}
-use Rattle.sqlite.specs.State.{Shown, IsUnchanged, IsRolledBack, IsNotRun, FailsToQuery, FailsToShow, ShowsRows, CommitsShowing}
+use Rattle.sqlite.specs.State.{Shown, IsUnchanged, IsRolledBack, ShowsRows, CommitsShowing}
 use Rattle.sqlite.proofs.Callers.{reads_as, IsPlain, never_commits}
 use Rattle.sqlite.proofs.StateLemmas.{survives_weaker}
 use Rattle.lpis_register_sql.specs.Quiet.{LeavesNone, ReadsRows}
@@ -173,21 +173,14 @@ shown_same sql params old new rows plain h =
     let none = (subst IsPlain h.1.is plain).0 in
     let it = subst (ShowsRows old new sql h.0 (timed params h.0.formats h.1.now) rows) none h.2 in it.3
 
-fails_same : (sql : List ℕ) (params : Row) (old new : State) (e : Error) → IsPlain (understood old.now.schema sql) → FailsToQuery sql params old new e → IsUnchanged old new ⊎ IsRolledBack old new
-unfolding FailsToQuery IsNotRun
-fails_same sql params old new e plain (inl (inl refused)) = inl refused.1
-fails_same sql params old new e plain (inl (inr failed)) = inr failed.3
-fails_same sql params old new e plain (inr h) =
-    let none = (subst IsPlain h.1.is plain).0 in
-    let it = subst (FailsToShow old new sql h.0 (timed params h.0.formats h.1.now) e) none h.2 in inl it.3
-
 -- a query reads
-pub by_query : {P : Layout → Type 0} {Says : Content → Vec Row Global → Type 0} {old new : State} {r : Result (Vec Row Global) Error} (sql : List ℕ)
+pub by_query : {X : Type 0} {P : Layout → Type 0} {rows : Content → List X} {old new : State} {r : Result (Vec X Global) Error} (sql : List ℕ) (shown : Row → X)
     → ((s : Layout) → P s → IsPlain (understood (schema_of s) sql))
-    → ((s : Layout) → P s → (c : Content) (rows : Vec Row Global) → IsStored s old c → Shown sql [] old new rows.items → Says c rows)
-    → (HasCleanDisk new → IfOk r (λ rows. Shown sql [] old new rows.items)) → (HasCleanDisk new → IfErr r (FailsToQuery sql [] old new))
-    → Survives old new (CommitsShowing sql [] old) → ReadsRows P Says old new r
-by_query {P = P} {Says = Says} {old = old} {new = new} {r = r} sql plain says ok err survives = read r ok err
+    → ((s : Layout) → P s → (c : Content) (seen : List Row) → IsStored s old c → Shown sql [] old new seen → IsPermutation (rows c) (map shown seen))
+    → (IsPlain (understood old.now.schema sql) → HasCleanDisk new → IfOk r (λ all. (seen : List Row) × Shown sql [] old new seen × (all.items ≡ map shown seen)))
+    → (IsPlain (understood old.now.schema sql) → HasCleanDisk new → OnErr r (IsUnchanged old new ⊎ IsRolledBack old new))
+    → Survives old new (CommitsShowing sql [] old) → ReadsRows P (λ c all. IsPermutation (rows c) all.items) old new r
+by_query {X = X} {P = P} {rows = rows} {old = old} {new = new} {r = r} sql shown plain says ok err survives = read r ok err
   where
     plain_here : (s : Layout) → P s → (c : Content) → IsStored s old c → IsPlain (understood old.now.schema sql)
     plain_here s p c h = subst (λ it. IsPlain (understood it sql)) (sym h.holds.schema) (plain s p)
@@ -195,15 +188,22 @@ by_query {P = P} {Says = Says} {old = old} {new = new} {r = r} sql plain says ok
     quiet : Survives old new (LeavesNone P old)
     quiet = survives_weaker old new _ _ (λ _ db may s p c h. never_commits sql [] old db (plain_here s p c h) may) survives
 
-    read : (r : Result (Vec Row Global) Error) → (HasCleanDisk new → IfOk r (λ rows. Shown sql [] old new rows.items)) → (HasCleanDisk new → IfErr r (FailsToQuery sql [] old new))
-        → ReadsRows P Says old new r
-    read (Ok rows) ok err =
-        let stays : HasCleanDisk new → (s : Layout) → P s → (c : Content) → IsStored s old c → IsStored s new c = λ clean s p c h. unchanged_still_stored s old new c h
-        (shown_same sql [] old new rows.items (plain_here s p c h) (ok clean)) in
-        record { ok = λ clean s p c h. (says s p c rows h (ok clean), stays clean s p c h); same = λ clean up. stays clean; survives = quiet }
+    read : (r : Result (Vec X Global) Error)
+        → (IsPlain (understood old.now.schema sql) → HasCleanDisk new → IfOk r (λ all. (seen : List Row) × Shown sql [] old new seen × (all.items ≡ map shown seen)))
+        → (IsPlain (understood old.now.schema sql) → HasCleanDisk new → OnErr r (IsUnchanged old new ⊎ IsRolledBack old new))
+        → ReadsRows P (λ c all. IsPermutation (rows c) all.items) old new r
+    read (Ok all) ok err =
+        let stays : HasCleanDisk new → (s : Layout) → P s → (c : Content) → IsStored s old c → IsStored s new c = λ clean s p c h.
+        let it = ok (plain_here s p c h) clean in unchanged_still_stored s old new c h (shown_same sql [] old new it.0 (plain_here s p c h) it.1) in
+        record {
+          ok = λ clean s p c h.
+              let it = ok (plain_here s p c h) clean in (subst (IsPermutation (rows c)) (sym it.2) (says s p c it.0 h it.1), stays clean s p c h);
+          same = λ clean up. stays clean;
+          survives = quiet;
+        }
     read (Err e) ok err = record {
       ok = λ clean s p c h. tt;
-      same = λ clean up s p c h. elim (fails_same sql [] old new e (plain_here s p c h) (err clean)) [
+      same = λ clean up s p c h. elim (err (plain_here s p c h) clean) [
         | inl same ↦ unchanged_still_stored s old new c h same
         | inr undo ↦ undone_still_stored s old new c h undo up
       ];

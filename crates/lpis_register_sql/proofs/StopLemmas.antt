@@ -1,13 +1,8 @@
 -- Statements of a transaction, in turn, and why they stop.
-use Rattle.std.proofs.Common.{◌≡◌, ℕ, Bool, true, false, List, [], ◌∷◌, ◌++◌, take, map, length, arith, refl, sym, ap, subst, ◌∙◌, Ok, Err, Result, OnOk, inl, inr, IsTrue, ◌⊎◌, IfErr, MatchBool}
+use Rattle.std.proofs.Common.{◌≡◌, ℕ, Bool, true, false, List, [], ◌∷◌, ◌++◌, arith, refl, sym, ap, subst, ◌∙◌, Ok, Err, Result, OnOk, inl, inr, IsTrue, ◌⊎◌, IfErr, MatchBool}
 use Rattle.std.proofs.Common.{None, IsErrAnd}
-use Rattle.std.proofs.lemmas.List.{append_assoc, take_more, map-append, take-append-drop}
-use Rattle.std.proofs.Math.Seq.{take-length}
-use Rattle.std.proofs.Common.{get_or, ◌<◌, ◌≤◌, ◌+◌, drop, zero, suc, pos, ℤ, if◌then◌else◌}
-use Rattle.lpis_lineage.specs.declared.row.Row.{Row}
-use Rattle.lpis_register_rows.specs.Content.{Mark, lines_from, marks_from}
-use Rattle.lpis_register_sql.specs.private.Lines.{mark_at, row_line}
-use Rattle.lpis_register_sql.specs.Stopping.{line_statement, mark_statement}
+use Rattle.std.proofs.lemmas.List.{append_assoc}
+use Rattle.std.proofs.Common.{◌≤◌}
 use Rattle.sqlite.specs.Held.{Held}
 use Rattle.sqlite.specs.State.{IsUnchanged, IsNotRun, ExecutesIn, RunsAlone, Fails, IsStatement, text_of, shows_rows}
 use Rattle.sqlite.specs.Clock.{timed}
@@ -215,79 +210,6 @@ module _ {S : Type 0} (g : store.Ghosts S) where
       → Makes g xs a b (Ok tt) → Makes g ys b c r → Makes g zs a c r
   makes_more xs ys zs a b c r is first second done more = subst (λ l. Makes g l a c r) (sym is) (makes_both xs ys a b c r first second done more)
 
-  -- at its end it has made those of all items
-  pub makes_at_end : {Y : Type 0} (statements : List Y → List BoundStatement) (xs : List Y) (i : ℕ) (a b : Held S) → i ≡ length xs → Makes g (statements (take i xs)) a b (Ok tt)
-      → Makes g (statements xs) a b (Ok tt)
-  makes_at_end statements xs i a b ends h = subst (λ ys. Makes g (statements ys) a b (Ok tt)) (ap (λ n. take n xs) ends ∙ take-length xs) h
-
   -- of the statements of a list, those of its beginning stop it
   pub fails_part : (xs ys zs : List BoundStatement) (a b : Held S) (e : Error) → zs ≡ xs ++ ys → Halts g xs a b e → Halts g zs a b e
   fails_part xs ys zs a b e is h = subst (λ l. Halts g l a b e) (sym is) (fails_first xs ys a b e h)
-
--- the statements of one item more
-pub map_more : {Y : Type 0} (f : Y → BoundStatement) (xs : List Y) (i : ℕ) (d x : Y) → i < length xs → x ≡ get_or xs i d → map f (take (i + 1) xs) ≡ map f (take i xs) ++ f x ∷ []
-map_more f xs i d x low is = ap (map f) (take_more xs i d low) ∙ map-append f (take i xs) (get_or xs i d ∷ []) ∙ ap (λ y. map f (take i xs) ++ f y ∷ []) (sym is)
-
--- the statements of a list are those of its beginning, and then others
-pub map_parts : {Y : Type 0} (f : Y → BoundStatement) (n : ℕ) (xs : List Y) → map f xs ≡ map f (take n xs) ++ map f (drop n xs)
-map_parts f n xs = ap (map f) (sym (take-append-drop n xs)) ∙ map-append f (take n xs) (drop n xs)
-
-line_parts : (y : ℤ) (n : ℕ) (rows : List Row) (i : ℕ) → lines_from y n rows ≡ lines_from y n (take i rows) ++ lines_from y (n + i) (drop i rows)
-line_parts y n rows zero = ap (λ k. lines_from y k rows) (let e : n ≡ n + 0 = omega arith in e)
-line_parts y n [] (suc i) = refl
-line_parts y n (r ∷ rows) (suc i) =
-    let position : n + 1 + i ≡ n + suc i = omega arith in
-    ap (λ l. row_line y (pos n) r ∷ l) (line_parts y (n + 1) rows i ∙ ap (λ k. lines_from y (n + 1) (take i rows) ++ lines_from y k (drop i rows)) position)
-
-put : (b : Bool) (m : Mark) (xs ys zs : List Mark) → xs ≡ ys ++ zs → (if b then m ∷ xs else xs) ≡ (if b then m ∷ ys else ys) ++ zs
-put true m xs ys zs e = ap (λ l. m ∷ l) e
-put false m xs ys zs e = e
-
-mark_parts : (y : ℤ) (n : ℕ) (rows : List Row) (i : ℕ) → marks_from y n rows ≡ marks_from y n (take i rows) ++ marks_from y (n + i) (drop i rows)
-mark_parts y n rows zero = ap (λ k. marks_from y k rows) (let e : n ≡ n + 0 = omega arith in e)
-mark_parts y n [] (suc i) = refl
-mark_parts y n (r ∷ rows) (suc i) =
-    let position : n + 1 + i ≡ n + suc i = omega arith in
-    put r.exact (mark_at y (pos n)) _ _ _ (mark_parts y (n + 1) rows i ∙ ap (λ k. marks_from y (n + 1) (take i rows) ++ marks_from y k (drop i rows)) position)
-
--- the statements of a release's rows of lineage are those of the first of them, and then others
-pub line_statements_part : (y : ℤ) (n : ℕ) (rows : List Row) → map line_statement (lines_from y 0 rows)
-    ≡ map line_statement (lines_from y 0 (take n rows)) ++ map line_statement (lines_from y (0 + n) (drop n rows))
-line_statements_part y n rows = ap (map line_statement) (line_parts y 0 rows n) ∙ map-append line_statement (lines_from y 0 (take n rows)) (lines_from y (0 + n) (drop n rows))
-
--- so are those of their marks
-pub mark_statements_part : (y : ℤ) (n : ℕ) (rows : List Row) → map mark_statement (marks_from y 0 rows)
-    ≡ map mark_statement (marks_from y 0 (take n rows)) ++ map mark_statement (marks_from y (0 + n) (drop n rows))
-mark_statements_part y n rows = ap (map mark_statement) (mark_parts y 0 rows n) ∙ map-append mark_statement (marks_from y 0 (take n rows)) (marks_from y (0 + n) (drop n rows))
-
-drop_one : {Y : Type 0} (xs : List Y) (i : ℕ) (d x : Y) → i < length xs → x ≡ get_or xs i d → drop i (take (suc i) xs) ≡ x ∷ []
-drop_one [] i d x low is = absurd (omega arith)
-drop_one (y ∷ xs) zero d x low is = ap (λ z. z ∷ []) (sym is)
-drop_one (y ∷ xs) (suc i) d x low is = drop_one xs i d x (omega arith) is
-
-take_two : {Y : Type 0} (xs : List Y) (i : ℕ) → take i (take (suc i) xs) ≡ take i xs
-take_two [] zero = refl
-take_two [] (suc i) = refl
-take_two (y ∷ xs) zero = refl
-take_two (y ∷ xs) (suc i) = ap (λ l. y ∷ l) (take_two xs i)
-
--- of a list that is made of rows from a position on, its beginnings make up each next one
-step_more : (from : ℕ → List Row → List BoundStatement) → ((n : ℕ) (rows : List Row) → from 0 rows ≡ from 0 (take n rows) ++ from (0 + n) (drop n rows))
-    → (rows : List Row) (i : ℕ) (d r : Row) → i < length rows → r ≡ get_or rows i d → from 0 (take (i + 1) rows) ≡ from 0 (take i rows) ++ from i (r ∷ [])
-step_more from parts rows i d r low is =
-    let next : i + 1 ≡ suc i = omega arith in
-    let first : 0 + i ≡ i = omega arith in
-    ap (λ n. from 0 (take n rows)) next ∙ parts i (take (suc i) rows)
-    ∙ ap (λ l. from 0 l ++ from (0 + i) (drop i (take (suc i) rows))) (take_two rows i)
-    ∙ ap (λ l. from 0 (take i rows) ++ from (0 + i) l) (drop_one rows i d r low is)
-    ∙ ap (λ k. from 0 (take i rows) ++ from k (r ∷ [])) first
-
--- the statement of one row of lineage more
-pub line_more : (y : ℤ) (rows : List Row) (i : ℕ) (d r : Row) → i < length rows → r ≡ get_or rows i d
-    → map line_statement (lines_from y 0 (take (i + 1) rows)) ≡ map line_statement (lines_from y 0 (take i rows)) ++ line_statement (row_line y (pos i) r) ∷ []
-line_more y = step_more (λ n rows. map line_statement (lines_from y n rows)) (line_statements_part y)
-
--- and of its mark
-pub mark_more : (y : ℤ) (rows : List Row) (i : ℕ) (d r : Row) → i < length rows → r ≡ get_or rows i d
-    → map mark_statement (marks_from y 0 (take (i + 1) rows)) ≡ map mark_statement (marks_from y 0 (take i rows)) ++ map mark_statement (marks_from y i (r ∷ []))
-mark_more y = step_more (λ n rows. map mark_statement (marks_from y n rows)) (mark_statements_part y)

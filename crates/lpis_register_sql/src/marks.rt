@@ -2,11 +2,12 @@
 
 ghost use Rattle.std.specs.Prelude.{◌≡◌, ◌<◌, ◌^◌, ◌∷◌, [], map, pos};
 ghost use Rattle.sqlite.specs.Held.{state};
-ghost use Rattle.lpis_register_rows.specs.Content.{marks_from, with_mark, with_marks};
+ghost use Rattle.lpis_register_rows.specs.Content.{marks_from, with_mark};
 ghost use Rattle.lpis_register_rows.specs.Content.{without_marks};
 ghost use Rattle.lpis_register_sql.specs.Stopping.{mark_statement};
 ghost use Rattle.lpis_register_sql.specs.private.Inside.{IsQuiet, Makes, Turns};
 ghost use Rattle.lpis_register_sql.specs.private.Lines.{mark_at};
+ghost use Rattle.lpis_register_sql.specs.private.Tasks.{after, mark_task, statement_of};
 
 use crate::statements::run;
 use lpis_lineage::Row;
@@ -23,7 +24,7 @@ pub(crate) fn clear_marks<S: Alter>(tx: &mut Transaction<'_, S>) -> Result<(), E
 }
 
 /// One more mark: of the row of lineage at a position of a year's release.
-pub(crate) fn insert_mark<S: Alter>(
+fn insert_mark<S: Alter>(
     tx: &mut Transaction<'_, S>,
     year: u32,
     position: usize,
@@ -45,7 +46,7 @@ pub(crate) fn insert_mark<S: Alter>(
 }
 
 /// The mark of a row of lineage at its position, where it is marked exact.
-fn insert_if<S: Alter>(
+pub(crate) fn insert_if<S: Alter>(
     tx: &mut Transaction<'_, S>,
     year: u32,
     position: usize,
@@ -53,10 +54,11 @@ fn insert_if<S: Alter>(
 ) -> Result<(), Error>
     requires small { position < 2 ^ 63 }
     ensures same_reference { tx.new.conn.ghost_name ≡ tx.old.conn.ghost_name }
-    ensures adds { Turns (with_marks (marks_from (pos year) position (row.now ∷ [])))
+    ensures adds { Turns (after (map mark_task (marks_from (pos year) position (row.now ∷ []))))
         (state S.Store tx.old.conn.now) (state S.Store tx.new.conn.now) result }
-    ensures makes { Makes S.Store (map mark_statement (marks_from (pos year) position (row.now ∷ []))) tx.old.conn.now
-        tx.new.conn.now result }
+    ensures makes { Makes S.Store
+        (map statement_of (map mark_task (marks_from (pos year) position (row.now ∷ []))))
+        tx.old.conn.now tx.new.conn.now result }
     ensures quiet { IsQuiet (state S.Store tx.old.conn.now) (state S.Store tx.new.conn.now) }
 {
     if row.exact {
@@ -64,25 +66,4 @@ fn insert_if<S: Alter>(
     } else {
         Ok(())
     }
-}
-
-/// The marks of a release's rows, at their positions from 0.
-pub(crate) fn insert_marks<S: Alter>(
-    tx: &mut Transaction<'_, S>,
-    year: u32,
-    rows: &[Row],
-) -> Result<(), Error>
-    ensures same_reference { tx.new.conn.ghost_name ≡ tx.old.conn.ghost_name }
-    ensures adds { Turns (with_marks (marks_from (pos year) 0 rows.now))
-        (state S.Store tx.old.conn.now) (state S.Store tx.new.conn.now) result }
-    ensures makes { Makes S.Store (map mark_statement (marks_from (pos year) 0 rows.now)) tx.old.conn.now
-        tx.new.conn.now result }
-    ensures quiet { IsQuiet (state S.Store tx.old.conn.now) (state S.Store tx.new.conn.now) }
-{
-    // Which is below 2^63.
-    let _ = rows.len();
-    for (position, row) in rows.iter().enumerate() {
-        insert_if(tx, year, position, row)?;
-    }
-    Ok(())
 }

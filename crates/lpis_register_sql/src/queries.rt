@@ -1,47 +1,28 @@
 //! The queries, one a table.
 
 use crate::found::Found;
-use crate::reading::Stored;
+use crate::reading::{FromRow, Stored, read_rows};
 use lpis_register_rows::{FormatRow, LineRow, LiveRow, MarkRow, SpanRow, TextRow};
 use sqlite::{Alter, Connection, Error, Row};
+use std::alloc::Global;
 
-impl Stored for FormatRow {
-    ghost use Rattle.std.specs.Prelude.{true};
-    ghost use Rattle.std.proofs.Common.{rules};
+impl FromRow for FormatRow {
     ghost use Rattle.lpis_register_sql.specs.private.Shown.{format_shown};
 
-    ghost rows = { λ c. c.formats };
-
     ghost shown = { format_shown };
-
-    ghost has_table = { λ layout. true };
-
-    fn was_found(_found: &Found) -> bool {
-        true
-    }
-
-    fn query<S: Alter>(conn: &mut Connection<S>) -> Result<Vec<Row>, Error> {
-        conn.query_all("SELECT one, version FROM lpis_format", &[])
-    }
 
     fn read(row: &Row) -> Result<FormatRow, Error> {
         let one = row.get(0)?;
         let version = row.get(1)?;
         Ok(FormatRow { one, version })
     }
-
-    ghost without_table = { Prim.search rules };
 }
 
-/// A year of a release.
-impl Stored for i64 {
+impl Stored for FormatRow {
     ghost use Rattle.std.specs.Prelude.{true};
     ghost use Rattle.std.proofs.Common.{rules};
-    ghost use Rattle.lpis_register_sql.specs.private.Shown.{year_shown};
 
-    ghost rows = { λ c. c.years };
-
-    ghost shown = { year_shown };
+    ghost rows = { λ c. c.formats };
 
     ghost has_table = { λ layout. true };
 
@@ -49,35 +30,47 @@ impl Stored for i64 {
         true
     }
 
-    fn query<S: Alter>(conn: &mut Connection<S>) -> Result<Vec<Row>, Error> {
-        conn.query_all("SELECT year FROM lpis_release ORDER BY year", &[])
-    }
-
-    fn read(row: &Row) -> Result<i64, Error> {
-        row.get(0)
+    fn query<S: Alter>(alloc: Global, conn: &mut Connection<S>) -> Result<Vec<FormatRow>, Error> {
+        read_rows(alloc, conn, "SELECT one, version FROM lpis_format")
     }
 
     ghost without_table = { Prim.search rules };
 }
 
-impl Stored for SpanRow {
-    ghost use Rattle.std.proofs.Common.{rules};
-    ghost use Rattle.lpis_register_sql.specs.private.Shown.{span_shown};
-    ghost use Rattle.lpis_register_sql.specs.Layouts.{has_spans};
+/// A year of a release.
+impl FromRow for i64 {
+    ghost use Rattle.lpis_register_sql.specs.private.Shown.{year_shown};
 
-    ghost rows = { λ c. c.spans };
+    ghost shown = { year_shown };
+
+    fn read(row: &Row) -> Result<i64, Error> {
+        row.get(0)
+    }
+}
+
+impl Stored for i64 {
+    ghost use Rattle.std.specs.Prelude.{true};
+    ghost use Rattle.std.proofs.Common.{rules};
+
+    ghost rows = { λ c. c.years };
+
+    ghost has_table = { λ layout. true };
+
+    fn was_found(_found: &Found) -> bool {
+        true
+    }
+
+    fn query<S: Alter>(alloc: Global, conn: &mut Connection<S>) -> Result<Vec<i64>, Error> {
+        read_rows(alloc, conn, "SELECT year FROM lpis_release ORDER BY year")
+    }
+
+    ghost without_table = { Prim.search rules };
+}
+
+impl FromRow for SpanRow {
+    ghost use Rattle.lpis_register_sql.specs.private.Shown.{span_shown};
 
     ghost shown = { span_shown };
-
-    ghost has_table = { has_spans };
-
-    fn was_found(found: &Found) -> bool {
-        found.spans
-    }
-
-    fn query<S: Alter>(conn: &mut Connection<S>) -> Result<Vec<Row>, Error> {
-        conn.query_all("SELECT id, since, until FROM lpis_span ORDER BY id", &[])
-    }
 
     fn read(row: &Row) -> Result<SpanRow, Error> {
         let id = row.get(0)?;
@@ -85,31 +78,35 @@ impl Stored for SpanRow {
         let until = row.get(2)?;
         Ok(SpanRow { id, since, until })
     }
+}
+
+impl Stored for SpanRow {
+    ghost use Rattle.std.proofs.Common.{rules};
+    ghost use Rattle.lpis_register_sql.specs.Layouts.{has_spans};
+
+    ghost rows = { λ c. c.spans };
+
+    ghost has_table = { has_spans };
+
+    fn was_found(found: &Found) -> bool {
+        found.spans
+    }
+
+    fn query<S: Alter>(alloc: Global, conn: &mut Connection<S>) -> Result<Vec<SpanRow>, Error> {
+        read_rows(
+            alloc,
+            conn,
+            "SELECT id, since, until FROM lpis_span ORDER BY id",
+        )
+    }
 
     ghost without_table = { Prim.search rules };
 }
 
-impl Stored for LineRow {
-    ghost use Rattle.std.specs.Prelude.{true};
-    ghost use Rattle.std.proofs.Common.{rules};
+impl FromRow for LineRow {
     ghost use Rattle.lpis_register_sql.specs.private.Shown.{line_shown};
 
-    ghost rows = { λ c. c.lines };
-
     ghost shown = { line_shown };
-
-    ghost has_table = { λ layout. true };
-
-    fn was_found(_found: &Found) -> bool {
-        true
-    }
-
-    fn query<S: Alter>(conn: &mut Connection<S>) -> Result<Vec<Row>, Error> {
-        conn.query_all(
-            "SELECT year, pos, old, new FROM lpis_row ORDER BY year, pos",
-            &[],
-        )
-    }
 
     fn read(row: &Row) -> Result<LineRow, Error> {
         let year = row.get(0)?;
@@ -123,18 +120,48 @@ impl Stored for LineRow {
             new,
         })
     }
+}
+
+impl Stored for LineRow {
+    ghost use Rattle.std.specs.Prelude.{true};
+    ghost use Rattle.std.proofs.Common.{rules};
+
+    ghost rows = { λ c. c.lines };
+
+    ghost has_table = { λ layout. true };
+
+    fn was_found(_found: &Found) -> bool {
+        true
+    }
+
+    fn query<S: Alter>(alloc: Global, conn: &mut Connection<S>) -> Result<Vec<LineRow>, Error> {
+        read_rows(
+            alloc,
+            conn,
+            "SELECT year, pos, old, new FROM lpis_row ORDER BY year, pos",
+        )
+    }
 
     ghost without_table = { Prim.search rules };
 }
 
+impl FromRow for LiveRow {
+    ghost use Rattle.lpis_register_sql.specs.private.Shown.{live_shown};
+
+    ghost shown = { live_shown };
+
+    fn read(row: &Row) -> Result<LiveRow, Error> {
+        let year = row.get(0)?;
+        let id = row.get(1)?;
+        Ok(LiveRow { year, id })
+    }
+}
+
 impl Stored for LiveRow {
     ghost use Rattle.std.proofs.Common.{rules};
-    ghost use Rattle.lpis_register_sql.specs.private.Shown.{live_shown};
     ghost use Rattle.lpis_register_sql.specs.Layouts.{has_live};
 
     ghost rows = { λ c. c.live };
-
-    ghost shown = { live_shown };
 
     ghost has_table = { has_live };
 
@@ -142,27 +169,34 @@ impl Stored for LiveRow {
         found.lives
     }
 
-    fn query<S: Alter>(conn: &mut Connection<S>) -> Result<Vec<Row>, Error> {
-        conn.query_all("SELECT year, id FROM lpis_live ORDER BY year, id", &[])
-    }
-
-    fn read(row: &Row) -> Result<LiveRow, Error> {
-        let year = row.get(0)?;
-        let id = row.get(1)?;
-        Ok(LiveRow { year, id })
+    fn query<S: Alter>(alloc: Global, conn: &mut Connection<S>) -> Result<Vec<LiveRow>, Error> {
+        read_rows(
+            alloc,
+            conn,
+            "SELECT year, id FROM lpis_live ORDER BY year, id",
+        )
     }
 
     ghost without_table = { Prim.search rules };
 }
 
+impl FromRow for TextRow {
+    ghost use Rattle.lpis_register_sql.specs.private.Shown.{text_shown};
+
+    ghost shown = { text_shown };
+
+    fn read(row: &Row) -> Result<TextRow, Error> {
+        let id = row.get(0)?;
+        let wkt = row.get(1)?;
+        Ok(TextRow { id, wkt })
+    }
+}
+
 impl Stored for TextRow {
     ghost use Rattle.std.proofs.Common.{rules};
-    ghost use Rattle.lpis_register_sql.specs.private.Shown.{text_shown};
     ghost use Rattle.lpis_register_sql.specs.Layouts.{has_texts};
 
     ghost rows = { λ c. c.texts };
-
-    ghost shown = { text_shown };
 
     ghost has_table = { has_texts };
 
@@ -170,27 +204,30 @@ impl Stored for TextRow {
         found.texts
     }
 
-    fn query<S: Alter>(conn: &mut Connection<S>) -> Result<Vec<Row>, Error> {
-        conn.query_all("SELECT id, wkt FROM lpis_text ORDER BY id", &[])
-    }
-
-    fn read(row: &Row) -> Result<TextRow, Error> {
-        let id = row.get(0)?;
-        let wkt = row.get(1)?;
-        Ok(TextRow { id, wkt })
+    fn query<S: Alter>(alloc: Global, conn: &mut Connection<S>) -> Result<Vec<TextRow>, Error> {
+        read_rows(alloc, conn, "SELECT id, wkt FROM lpis_text ORDER BY id")
     }
 
     ghost without_table = { Prim.search rules };
 }
 
+impl FromRow for MarkRow {
+    ghost use Rattle.lpis_register_sql.specs.private.Shown.{mark_shown};
+
+    ghost shown = { mark_shown };
+
+    fn read(row: &Row) -> Result<MarkRow, Error> {
+        let year = row.get(0)?;
+        let position = row.get(1)?;
+        Ok(MarkRow { year, position })
+    }
+}
+
 impl Stored for MarkRow {
     ghost use Rattle.std.proofs.Common.{rules};
-    ghost use Rattle.lpis_register_sql.specs.private.Shown.{mark_shown};
     ghost use Rattle.lpis_register_sql.specs.Layouts.{has_marks};
 
     ghost rows = { λ c. c.marks };
-
-    ghost shown = { mark_shown };
 
     ghost has_table = { has_marks };
 
@@ -198,14 +235,12 @@ impl Stored for MarkRow {
         found.marks
     }
 
-    fn query<S: Alter>(conn: &mut Connection<S>) -> Result<Vec<Row>, Error> {
-        conn.query_all("SELECT year, pos FROM lpis_mark ORDER BY year, pos", &[])
-    }
-
-    fn read(row: &Row) -> Result<MarkRow, Error> {
-        let year = row.get(0)?;
-        let position = row.get(1)?;
-        Ok(MarkRow { year, position })
+    fn query<S: Alter>(alloc: Global, conn: &mut Connection<S>) -> Result<Vec<MarkRow>, Error> {
+        read_rows(
+            alloc,
+            conn,
+            "SELECT year, pos FROM lpis_mark ORDER BY year, pos",
+        )
     }
 
     ghost without_table = { Prim.search rules };

@@ -3,16 +3,17 @@
 ghost use Rattle.std.specs.Prelude.{◌≡◌, ◌∷◌, [], map};
 ghost use Rattle.sqlite.specs.Held.{state};
 ghost use Rattle.lpis_register_rows.specs.Content.{TextEdit, Deletes, Replaces, Inserts};
-ghost use Rattle.lpis_register_rows.specs.Content.{edited, with_edit, without_texts};
-ghost use Rattle.lpis_register_rows.specs.Shapes.{text_edits, written_text};
+ghost use Rattle.lpis_register_rows.specs.Content.{with_edit, without_texts};
+ghost use Rattle.lpis_register_rows.specs.Shapes.{written_text};
 ghost use Rattle.lpis_register_rows.specs.Editing.{edit_in, edits_in};
 ghost use Rattle.lpis_register_sql.specs.Stopping.{edit_statement};
 ghost use Rattle.lpis_register_sql.specs.private.Inside.{IsQuiet, Makes, Turns};
 ghost use Rattle.lpis_register_sql.specs.private.Lines.{text_at};
+ghost use Rattle.lpis_register_sql.specs.private.Tasks.{after, edit_task, statement_of};
 
 use crate::statements::run;
 use lpis_covers::Id;
-use lpis_register_rows::{Edit, ShapeChange, next_edit};
+use lpis_register_rows::Edit;
 use lpis_rings::Polygon;
 use lpis_wkt_writer::write;
 use sqlite::{Alter, Error, Transaction, params};
@@ -128,43 +129,20 @@ fn write_edit<S: Alter>(
 }
 
 /// What becomes of a text, if anything.
-fn write_if<S: Alter>(
+pub(crate) fn write_if<S: Alter>(
     alloc: Global,
     tx: &mut Transaction<'_, S>,
     edit: Option<Edit<'_>>,
 ) -> Result<(), Error>
     ensures same_reference { tx.new.conn.ghost_name ≡ tx.old.conn.ghost_name }
-    ensures turns { Turns (edited (edits_in edit.entry)) (state S.Store tx.old.conn.now)
-        (state S.Store tx.new.conn.now) result }
-    ensures makes { Makes S.Store (map edit_statement (edits_in edit.entry)) tx.old.conn.now
-        tx.new.conn.now result }
+    ensures turns { Turns (after (map edit_task (edits_in edit.entry)))
+        (state S.Store tx.old.conn.now) (state S.Store tx.new.conn.now) result }
+    ensures makes { Makes S.Store (map statement_of (map edit_task (edits_in edit.entry)))
+        tx.old.conn.now tx.new.conn.now result }
     ensures quiet { IsQuiet (state S.Store tx.old.conn.now) (state S.Store tx.new.conn.now) }
 {
     match edit {
         Some(edit) => write_edit(alloc, tx, edit),
         None => Ok(()),
     }
-}
-
-/// What becomes of the texts where shapes follow kept ones, one statement each, ascending by
-/// identifier.
-pub(crate) fn write_texts<S: Alter>(
-    alloc: Global,
-    tx: &mut Transaction<'_, S>,
-    change: ShapeChange<'_>,
-) -> Result<(), Error>
-    ensures same_reference { tx.new.conn.ghost_name ≡ tx.old.conn.ghost_name }
-    ensures turns { Turns (edited (text_edits change.entry.kept.now change.entry.shapes.now))
-        (state S.Store tx.old.conn.now) (state S.Store tx.new.conn.now) result }
-    ensures makes { Makes S.Store (map edit_statement
-        (text_edits change.entry.kept.now change.entry.shapes.now)) tx.old.conn.now
-        tx.new.conn.now result }
-    ensures quiet { IsQuiet (state S.Store tx.old.conn.now) (state S.Store tx.new.conn.now) }
-{
-    let mut rest = change;
-    'edits: while let Some((edit, next)) = next_edit(rest) {
-        write_if(alloc, tx, edit)?;
-        rest = next;
-    }
-    Ok(())
 }

@@ -1,72 +1,57 @@
-//! The loops that write, which rest on the statements' clauses alone.
+//! The loop that writes a release, which rests on the statements' clauses alone.
 
-ghost use Rattle.std.specs.Prelude.{◌≡◌, map, pos};
+ghost use Rattle.std.specs.Prelude.{◌≡◌, map};
 ghost use Rattle.sqlite.specs.Held.{state};
-ghost use Rattle.lpis_register_rows.specs.Content.{with_spans, all_ended, with_lines, lines_from};
-ghost use Rattle.lpis_register_sql.specs.Stopping.{ending_statement, line_statement};
-ghost use Rattle.lpis_register_sql.specs.Stopping.{span_statement};
 ghost use Rattle.lpis_register_sql.specs.private.Inside.{IsQuiet, Makes, Turns};
+ghost use Rattle.lpis_register_sql.specs.private.Tasks.{after, statement_of, tasks_in, tasks_left};
 
-use crate::statements::{end_span, insert_row, insert_span};
-use lpis_covers::Id;
-use lpis_lineage::Row;
+use crate::marks::insert_if;
+use crate::statements::{end_span, insert_release, insert_row, insert_span};
+use crate::steps::{Step, Steps, next_step};
+use crate::texts::write_if;
 use sqlite::{Alter, Error, Transaction};
+use std::alloc::Global;
 
-/// Spans that begin with a year.
-pub(crate) fn insert_spans<S: Alter>(
+/// Makes the statements of a step.
+fn write_step<S: Alter>(
+    alloc: Global,
     tx: &mut Transaction<'_, S>,
-    year: u32,
-    ids: &[Id],
+    step: Step<'_>,
 ) -> Result<(), Error>
     ensures same_reference { tx.new.conn.ghost_name ≡ tx.old.conn.ghost_name }
-    ensures adds { Turns (with_spans (pos year) ids.now)
-        (state S.Store tx.old.conn.now) (state S.Store tx.new.conn.now) result }
-    ensures makes { Makes S.Store (map (span_statement (pos year)) ids.now) tx.old.conn.now
+    ensures turns { Turns (after (tasks_in step.entry)) (state S.Store tx.old.conn.now)
+        (state S.Store tx.new.conn.now) result }
+    ensures makes { Makes S.Store (map statement_of (tasks_in step.entry)) tx.old.conn.now
         tx.new.conn.now result }
     ensures quiet { IsQuiet (state S.Store tx.old.conn.now) (state S.Store tx.new.conn.now) }
 {
-    for id in ids {
-        insert_span(tx, year, id)?;
+    match step {
+        Step::Year(year) => insert_release(tx, year),
+        Step::Ends(last, id) => end_span(tx, last, id),
+        Step::Begins(year, id) => insert_span(tx, year, id),
+        Step::Line(placed) => insert_row(tx, placed.year, placed.position, placed.row),
+        Step::Mark(placed) => insert_if(tx, placed.year, placed.position, placed.row),
+        Step::Edit(edit) => write_if(alloc, tx, edit),
     }
-    Ok(())
 }
 
-/// Ends the spans of these identifiers with a year.
-pub(crate) fn end_spans<S: Alter>(
+/// Makes the statements of all steps, in turn.
+pub(crate) fn write_steps<S: Alter>(
+    alloc: Global,
     tx: &mut Transaction<'_, S>,
-    year: u32,
-    ids: &[Id],
+    steps: Steps<'_>,
 ) -> Result<(), Error>
     ensures same_reference { tx.new.conn.ghost_name ≡ tx.old.conn.ghost_name }
-    ensures adds { Turns (all_ended (pos year) ids.now)
-        (state S.Store tx.old.conn.now) (state S.Store tx.new.conn.now) result }
-    ensures makes { Makes S.Store (map (ending_statement (pos year)) ids.now) tx.old.conn.now
+    ensures turns { Turns (after (tasks_left steps.entry)) (state S.Store tx.old.conn.now)
+        (state S.Store tx.new.conn.now) result }
+    ensures makes { Makes S.Store (map statement_of (tasks_left steps.entry)) tx.old.conn.now
         tx.new.conn.now result }
     ensures quiet { IsQuiet (state S.Store tx.old.conn.now) (state S.Store tx.new.conn.now) }
 {
-    for id in ids {
-        end_span(tx, year, id)?;
-    }
-    Ok(())
-}
-
-/// The rows of lineage of a release, at their positions from 0.
-pub(crate) fn insert_lines<S: Alter>(
-    tx: &mut Transaction<'_, S>,
-    year: u32,
-    rows: &[Row],
-) -> Result<(), Error>
-    ensures same_reference { tx.new.conn.ghost_name ≡ tx.old.conn.ghost_name }
-    ensures adds { Turns (with_lines (lines_from (pos year) 0 rows.now))
-        (state S.Store tx.old.conn.now) (state S.Store tx.new.conn.now) result }
-    ensures makes { Makes S.Store (map line_statement (lines_from (pos year) 0 rows.now)) tx.old.conn.now
-        tx.new.conn.now result }
-    ensures quiet { IsQuiet (state S.Store tx.old.conn.now) (state S.Store tx.new.conn.now) }
-{
-    // Which is below 2^63.
-    let _ = rows.len();
-    for (position, row) in rows.iter().enumerate() {
-        insert_row(tx, year, position, row)?;
+    let mut rest = steps;
+    'each: while let Some((step, next)) = next_step(rest) {
+        write_step(alloc, tx, step)?;
+        rest = next;
     }
     Ok(())
 }

@@ -1,6 +1,6 @@
 use Rattle.std.proofs.Common.{◌≡◌, pos, ap₂, subst, OnOk}
-use Rattle.lpis_register_sql.proofs.Common.{state, with_line, Inside, Whole}
-use Rattle.lpis_register_rows.specs.Content.{successor_text}
+use Rattle.lpis_register_sql.proofs.Common.{state, Inside, Whole}
+use Rattle.lpis_register_rows.specs.Content.{successor_text, with_line}
 use Rattle.lpis_register_sql.specs.private.Lines.{line_with}
 use Rattle.lpis_register_sql.proofs.statements.insert_row.Goals as goal
 

@@ -1,9 +1,10 @@
 use Rattle.lpis_register_sql.proofs.Common.{read_mark}
 use Rattle.lpis_register_sql.proofs.MeaningLemmas.{read_mark_means}
 use Rattle.lpis_register_sql.proofs.ShowingLemmas.{by_query, marks_shown}
+use Rattle.lpis_register_sql.specs.private.Shown.{mark_shown}
 use Rattle.lpis_register_sql.proofs.queries.MarkRowStored.query.Goals as goal
 
 pub returns-clause-reads : goal.returns-clause-reads
 returns-clause-reads g c =
-    by_query read_mark (λ layout there. (read_mark_means layout there).2) (λ layout there content rows. marks_shown layout _ _ rows.items content there)
-    c.query_all.ensures.ok c.query_all.ensures.err c.query_all.ensures.survives
+    by_query read_mark mark_shown (λ layout there. (read_mark_means layout there).2) (λ layout there content seen. marks_shown layout _ _ seen content there)
+    c.read_rows.ensures.shown c.read_rows.ensures.same c.read_rows.ensures.survives
