@@ -5,6 +5,8 @@ import shlex
 import shutil
 import subprocess
 
+from . import ending
+
 HERE = os.path.dirname(os.path.dirname(os.path.realpath(__file__)))
 
 

@@ -8,6 +8,8 @@ import re
 import shutil
 from dataclasses import dataclass
 
+from . import ending
+
 WITHOUT_PREFIX = {4647: 25832, 5649: 25831, 5650: 25833}
 UTM = {*range(25828, 25839), *range(32601, 32661), *range(32701, 32761), *range(31466, 31470), *WITHOUT_PREFIX}
 TOKEN = re.compile(r'"((?:[^"]|"")*)"|([\[\](),])|([^\[\](),"\s]+)')

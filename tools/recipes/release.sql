@@ -12,8 +12,10 @@ create table rel_faces as
       from (select geom from covers union all select geom from parcels) as b) as l) as p;
 create index on rel_faces using gist (geom);
 create index on covers using gist (geom);
+create index on parcels using gist (geom);
 analyze rel_faces;
 analyze covers;
+analyze parcels;
 
 -- 2. A face is of the piece that has its inner point; where several have, of the least identifier. What no piece has is left out.
 alter table rel_faces add cover int, add claims int;
