@@ -81,11 +81,18 @@ async function add(list) {
     showWords('no', 'several', { names: doubled[1].map(file => file.webkitRelativePath || file.name).join(', ') });
     return;
   }
+  if (KINDS.some(kind => found[kind])) forget();
   if (found.page) await showDigestOf(found.page[0]);
-  if (files.cert?.isMadeHere && KINDS.some(kind => found[kind])) delete files.cert;
   for (const kind of KINDS) if (found[kind]) files[kind] = found[kind][0];
   showFiles();
   if (KINDS.every(kind => files[kind]) && KINDS.some(kind => found[kind])) await check();
+}
+
+/** An answer to other files is shown no more, and a certificate that was made of them is gone. */
+function forget() {
+  if (files.cert?.isMadeHere) delete files.cert;
+  shown = null;
+  render();
 }
 
 function showFiles() {
@@ -103,7 +110,7 @@ function showFiles() {
 // Results.
 
 function showWords(kind, key, values = {}) {
-  shown = { kind, key, values, sentences: [], result: null };
+  shown = { kind, key, values, sentences: [], result: null, isBusy: kind === 'busy' };
   render();
 }
 
@@ -112,19 +119,18 @@ const VERDICTS = { area: ['areas told', 'unreadable', 'unreadable'], check: ['ye
 function verdictOf(result, task) {
   if (result.error) return ['no', result.error === 'memory' ? 'no memory' : 'no answer', { error: result.error }];
   const line = result.status === 0 && task !== 'cut' ? '' : result.text.trim();
-  return [result.status === 0 ? 'yes' : 'no', VERDICTS[task][result.status] ?? 'no answer', { line, error: `status ${result.status}` }];
+  return [result.status ? 'no' : task === 'check' ? 'yes' : 'plain', VERDICTS[task][result.status] ?? 'no answer', { line, error: `status ${result.status}` }];
 }
 
 async function run(task, wanted) {
-  document.body.classList.add('busy');
   showWords('busy', `busy ${task}`);
+  const waiting = shown;
   const result = await ask(task, { files: wanted });
-  const [kind, key, values] = verdictOf(result, task);
-  const mine = { kind, key, values, sentences: result.sentences ?? [], result: result.error ? null : result, names: wanted, isReport: task === 'check' && result.status === 0 };
-  shown = mine;
+  if (shown !== waiting) return {}; // other files came meanwhile
+  const [kind, key, values] = verdictOf(result, task), isBusy = !result.error && task !== 'area' && (task === 'check' || result.status > 0);
+  shown = { kind, key, values, sentences: result.sentences ?? [], result: result.error ? null : result, names: wanted, isReport: task === 'check' && result.status === 0, isBusy };
   render();
-  if (!result.error && task !== 'area' && (task === 'check' || result.status)) await draw(mine, wanted);
-  document.body.classList.remove('busy');
+  if (isBusy) await draw(shown, wanted);
   return result;
 }
 
@@ -154,6 +160,7 @@ async function draw(mine, { parcels, covers, classes }) {
   const drawn = await ask('draw', { files: { parcels, covers, classes }, focus: result.focus, refusal: result.refusal, line: result.text.slice(0, 200).trim() });
   mine.drawn = drawn.error ? null : drawn;
   mine.drawError = drawn.error;
+  mine.isBusy = false;
   if (shown === mine) render();
 }
 
@@ -201,6 +208,7 @@ function renderDigests() {
 function render() {
   const { kind, key, values, sentences, result, drawn, isReport } = shown ?? {};
   $('result').hidden = !shown;
+  document.body.classList.toggle('busy', Boolean(shown?.isBusy));
   if (!shown) return;
   $('verdict').className = kind;
   $('verdict').textContent = say(key, values) + (result ? ` ${say('status', { status: result.status, seconds: result.seconds.toFixed(2) })}` : '');
@@ -210,6 +218,7 @@ function render() {
   $('save-text').hidden = !result;
   $('rests').hidden = !result;
   $('views').hidden = !drawn;
+  $('told').hidden = !isReport;
   const isOfAreas = Boolean(result?.rows && !result.status);
   $('areas').hidden = !isOfAreas;
   $('wrong').textContent = shown.drawError ? say('not drawn', { error: shown.drawError }) : '';
