@@ -13,7 +13,7 @@ PAGE_WORDS = {
     "docs/DECISIONS.md": 4_000,
     "CONTRIBUTING.md": 3_500,
     "CHANGELOG.md": 1_000,
-    "bench/RESULTS.md": 1_500,
+    "bench/RESULTS.md": 1_600,
     "docs/*.1": 4_100,  # the pages of the manual together
 }
 PAGE_LINES = {"docs/DECISIONS.md": 250, "docs/PROOF.md": 350, "bench/RESULTS.md": 250}
