@@ -2,10 +2,10 @@
 
 ghost use Rattle.std.specs.Prelude.{◌≡◌, ◌↔◌, true, List, map, IfErr, IfOk, IsPermutation, IsTrue};
 ghost use Rattle.std.specs.Cmp.Lexicographic.{slice_cmp};
-ghost use Rattle.std.specs.List.{AllByRecursion, AllZip};
+ghost use Rattle.std.specs.List.{AllByRecursion, AllZip, IsDistinct};
 ghost use Rattle.std.specs.List.Sorted.{IsSortedByKey};
 ghost use Rattle.std.specs.Ordering.{nat_cmp};
-ghost use Rattle.lpis_covers.specs.Ids.{is_id};
+ghost use Rattle.lpis_covers.specs.Ids.{is_id, same_id};
 ghost use Rattle.lpis_lineage.specs.Lineage.{last_live};
 ghost use Rattle.lpis_lineage.specs.Order.{IsAscending};
 ghost use Rattle.lpis_parcels.specs.Release.{parcel_ids};
@@ -25,7 +25,7 @@ use crate::spelling::has_text;
 use crate::writing::copy_of;
 use lpis_covers::Id;
 use lpis_lineage::History;
-use lpis_parcels::{Parcel, Release};
+use lpis_parcels::Parcel;
 use lpis_rings::Polygon;
 use lpis_wkt::laws::function_of_text;
 use lpis_wkt::{WktFault, read};
@@ -151,13 +151,14 @@ fn copied_shapes(alloc: Global, parcels: &[Parcel]) -> Result<Vec<(Id, Polygon)>
     Ok(shapes)
 }
 
-/// The shapes of a release's parcels, ascending by identifier.
-pub fn shapes_in(alloc: Global, release: &Release) -> Result<Vec<(Id, Polygon)>, AllocError>
-    ensures are { IfOk result (λ v. AreShapesOf release.now.parcels v.items) }
-    ensures live { IfOk result (λ v. AreLive (parcel_ids release.now.parcels) v.items) }
+/// The shapes of parcels, no two of one identifier, ascending by identifier.
+pub fn shapes_in(alloc: Global, parcels: &[Parcel]) -> Result<Vec<(Id, Polygon)>, AllocError>
+    requires distinct { IsDistinct same_id (parcel_ids parcels.now) }
+    ensures are { IfOk result (λ v. AreShapesOf parcels.now v.items) }
+    ensures live { IfOk result (λ v. AreLive (parcel_ids parcels.now) v.items) }
     ensures spelled { IfOk result (λ v. AllByRecursion IsSpelled v.items) }
 {
-    let mut shapes = copied_shapes(alloc, release.parcels())?;
+    let mut shapes = copied_shapes(alloc, parcels)?;
     sort_shapes(&mut shapes);
     Ok(shapes)
 }
