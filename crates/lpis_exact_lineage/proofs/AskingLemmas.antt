@@ -17,7 +17,7 @@ use Rattle.lpis_lineage.specs.declared.row.Row.{Row}
 use Rattle.lpis_parcels.specs.Release.{Contents, parcel_ids}
 use Rattle.lpis_register_rows.specs.Shapes.{Shape}
 use Rattle.lpis_checker.specs.declared.exact.ExactPart.{ExactPart}
-use Rattle.lpis_exact_lineage.specs.Asking.{AsksFor, HasShape, IsMarked, IsWanted, kinds_from, lacking, old_ids, part_shape, unkept, whole_shape}
+use Rattle.lpis_exact_lineage.specs.Asking.{AsksFor, HasShape, IsMarked, IsUnkept, IsWanted, kinds_from, lacking, old_ids, part_shape, unkept, whole_shape}
 use Rattle.lpis_exact_lineage.specs.Shapes.{shape_named, shapes_in}
 use Rattle.lpis_exact_lineage.specs.declared.asking.AskFault.{AskFault}
 use Rattle.lpis_exact_lineage.specs.declared.asking.AskFault.TheVariants.{Memory, NotKept}
@@ -129,3 +129,11 @@ parts-are-asked h kept r rows c gs xs none change are parts = (
     parts = parts;
   },
 )
+
+-- the first old identifier of these groups to lack a kept shape is the one that the release lacks
+pub first-is-unkept : (h : List Entry) (kept : List Shape) (r : Contents) (rows : List Row) (c : Changes) (gs : List Group) (fault : AskFault) → faults h (parcel_ids r.parcels) rows ≡ []
+    → IsChange (last_live h) (parcel_ids r.parcels) rows c → AreExactGroups (kind_at c) c.rows gs → IsFirstLacking kept (flat_map old_ids gs) fault
+    → (id : List ℕ) → fault ≡ NotKept id → IsUnkept h kept r rows id
+first-is-unkept h kept r rows c gs fault none change are first id is =
+    let named : IsFirstLacking kept (flat_map old_ids gs) (NotKept id) = subst (IsFirstLacking kept (flat_map old_ids gs)) is first in
+    record { gs = gs; marked = marked h r rows c gs none change are; rest = named.0; is_first = named.1 }

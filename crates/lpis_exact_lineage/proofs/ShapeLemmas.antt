@@ -1,18 +1,16 @@
--- The shapes of a sound map, and the look-up of a kept one.
+-- The shapes of a sound map, and the look-up of one.
 use Rattle.std.proofs.Common.{◌≡◌, ◌∙◌, ◌<◌, ◌≤◌, ◌⊎◌, inl, inr, ◌<ℤ◌, ◌+◌, ℕ, zero, suc, pos, List, [], ◌∷◌}
-use Rattle.std.proofs.Common.{Bool, true, false, cond, Option, Some, None, Less, Equal, Greater, Ordering, is_eq, is_lt, nat_cmp}
+use Rattle.std.proofs.Common.{Bool, false, Option, Some, None, Less, Equal, Greater, Ordering, is_eq, is_lt, nat_cmp}
 use Rattle.std.proofs.Common.{length, map, get_or, refl, sym, ap, ap₂, subst, slice_get, arith, IsPermutation}
 use Rattle.std.proofs.Common.{Contains as IsAmong}
 use Rattle.std.specs.Cmp.Lexicographic.{nat_list_cmp_total, nat_list_eq_equiv, slice_cmp}
-use Rattle.std.specs.List.{HoldsAt, IsDistinct, find}
+use Rattle.std.specs.List.{HoldsAt, IsDistinct}
 use Rattle.std.specs.List.Sorted.{IsNonDecreasingBy, IsPartitionPoint, IsSortedByKey}
-use Rattle.std.specs.Map.{lookup}
-use Rattle.std.specs.Option.{option_map}
 use Rattle.std.specs.Ordering.{ordering_index, ordering_reverse}
 use Rattle.std.proofs.lemmas.Cmp.{tied_itself}
 use Rattle.std.proofs.lemmas.List.{get_or_default}
-use Rattle.std.proofs.lemmas.List.Sorted.{Contains-permutation, IsPermutation-sym, searchable_from_sorted}
-use Rattle.std.proofs.lemmas.Map.Keys.{IsDistinct-from_sorted, Less-from_sorted}
+use Rattle.std.proofs.lemmas.List.Sorted.{Contains-permutation, IsPermutation-map, IsPermutation-sym, searchable_from_sorted}
+use Rattle.std.proofs.lemmas.Map.Keys.{IsDistinct-from_sorted, IsDistinct-IsPermutation, Less-from_sorted}
 use Rattle.std.proofs.lemmas.Map.Views.{Contains-from_lookup, lookup-from_Contains}
 use Rattle.std.proofs.lemmas.Option.{same_Some, slice_get-get_or}
 use Rattle.lpis_points.specs.Plane.{RationalPoint}
@@ -21,11 +19,11 @@ use Rattle.lpis_rings.specs.Edges.{Contains, turns}
 use Rattle.lpis_rings.specs.Map.{IsOneOrNone}
 use Rattle.lpis_covers.specs.Ids.{same_id}
 use Rattle.lpis_edge_sums.proofs.Shared.{all_at}
-use Rattle.lpis_lineage.proofs.Shared.{same-by_order, same-exact}
+use Rattle.lpis_lineage.proofs.Shared.{same-by_order, same-exact, same-sym}
 use Rattle.lpis_lineage.specs.Order.{IsAscending}
 use Rattle.lpis_parcels.specs.declared.parcel.Parcel.{Parcel}
-use Rattle.lpis_parcels.specs.Release.{Contents, parcel_named}
-use Rattle.lpis_register_rows.specs.Shapes.{Shape, shape_ids, parcel_shape as shape_of_parcel}
+use Rattle.lpis_parcels.specs.Release.{Contents}
+use Rattle.lpis_register_rows.specs.Shapes.{AreShapesOf, Shape, shape_ids, parcel_shape as shape_of_parcel}
 use Rattle.lpis_checker.specs.SoundMap.{IsInParcel, IsSoundMap, TurnsTell}
 use Rattle.lpis_exact_lineage.specs.ExactLineage.{ShapesShareNothing, ShapesTurnOnce}
 use Rattle.lpis_exact_lineage.specs.Shapes.{shape_named, shapes_in}
@@ -69,20 +67,6 @@ share_nothing r shapes s perm p d a b l k =
     (subst (λ (x : List Member). Contains x p) (sym v.is_shape) l.inside) (subst (λ (x : List Member). Contains x p) (sym w.is_shape) k.inside) in
     v.is_id ∙ ap (λ (x : Parcel). x.id) (same_Some v.parcel w.parcel (sym v.at ∙ ap (λ (j : ℕ). slice_get r.parcels j) i ∙ w.at)) ∙ sym w.is_id
 
--- ---- the shape of a parcel that is found
-named-shape : (xs : List Parcel) (id : List ℕ) → lookup (same_id id) (map shape_of_parcel xs) ≡ option_map (λ (p : Parcel). p.polygon) (find (λ (p : Parcel). same_id id p.id) xs)
-named-shape [] id = refl
-named-shape (x ∷ xs) id = by (same_id id x.id) (named-shape xs id)
-  where
-    by : (b : Bool) → lookup (same_id id) (map shape_of_parcel xs) ≡ option_map (λ (p : Parcel). p.polygon) (find (λ (p : Parcel). same_id id p.id) xs)
-        → cond b (Some x.polygon) (lookup (same_id id) (map shape_of_parcel xs)) ≡ option_map (λ (p : Parcel). p.polygon) (cond b (Some x) (find (λ (p : Parcel). same_id id p.id) xs))
-    by true rec = refl
-    by false rec = rec
-
--- the polygon of the parcel found by an identifier is the shape of that identifier in the release
-pub shape-of-found : (r : Contents) (id : List ℕ) (x : Parcel) (m : List Member) → Some x ≡ parcel_named r id → m ≡ x.polygon → shape_named (shapes_in r) id ≡ Some m
-shape-of-found r id x m found same = named-shape r.parcels id ∙ ap (λ (o : Option Parcel). option_map (λ (p : Parcel). p.polygon) o) (sym found) ∙ ap Some (sym same)
-
 -- ---- a binary search of shapes that ascend by identifier
 abbrev pub order : List ℕ → Shape → Ordering
 order id s = slice_cmp nat_cmp s.0 id
@@ -90,6 +74,27 @@ order id s = slice_cmp nat_cmp s.0 id
 distinct : (kept : List Shape) → IsAscending (shape_ids kept) → IsDistinct same_id (shape_ids kept)
 distinct kept up = subst (λ (e : List ℕ → List ℕ → Bool). IsDistinct e (shape_ids kept)) (λ i a b. sym (same-by_order a b) i) (IsDistinct-from_sorted (slice_cmp nat_cmp) (shape_ids kept) up)
 
+-- ---- shapes in another order
+found-there : (xs ys : List Shape) (id : List ℕ) (m : List Member) → IsDistinct same_id (shape_ids ys) → IsPermutation xs ys → shape_named xs id ≡ Some m → shape_named ys id ≡ Some m
+found-there xs ys id m apart p e = lookup-from_Contains nat_list_eq_equiv id m ys apart (Contains-permutation xs ys (id, m) p (Contains-from_lookup same-exact id m xs e))
+
+same-option : {A : Type 0} (o p : Option A) → ((x : A) → o ≡ Some x → p ≡ Some x) → ((x : A) → p ≡ Some x → o ≡ Some x) → o ≡ p
+same-option None None to from = refl
+same-option None (Some x) to from = from x refl
+same-option (Some x) p to from = sym (to x refl)
+
+-- the shapes of a release that ascend by identifier name the same as those in the order of its parcels
+pub named-alike : (r : Contents) (shapes : List Shape) → AreShapesOf r.parcels shapes → shape_named shapes ≡ shape_named (shapes_in r)
+named-alike r shapes are i id = same-option (shape_named shapes id) (shape_named (shapes_in r) id) (λ m. found-there shapes (shapes_in r) id m apart back)
+    (λ m. found-there (shapes_in r) shapes id m (distinct shapes are.ascend) are.same) i
+  where
+    back : IsPermutation shapes (shapes_in r)
+    back = IsPermutation-sym (shapes_in r) shapes are.same
+
+    apart : IsDistinct same_id (shape_ids (shapes_in r))
+    apart = IsDistinct-IsPermutation same_id same-sym (shape_ids shapes) (shape_ids (shapes_in r)) (IsPermutation-map (λ (s : Shape). s.0) shapes (shapes_in r) back) (distinct shapes are.ascend)
+
+-- ---- where a binary search finds an identifier
 ids-length : (kept : List Shape) → length (shape_ids kept) ≡ length kept
 ids-length [] = refl
 ids-length (s ∷ ss) = ap suc (ids-length ss)

@@ -10,20 +10,19 @@ ghost use Rattle.lpis_lineage.specs.Order.{IsAscending};
 ghost use Rattle.lpis_lineage.specs.declared.exact.Group.{Group};
 ghost use Rattle.lpis_lineage.specs.declared.row.Entry.{Entry};
 ghost use Rattle.lpis_lineage.specs.declared.row.Row.{Row};
-ghost use Rattle.lpis_parcels.specs.Release.{parcel_ids};
-ghost use Rattle.lpis_register_rows.specs.Shapes.{shape_ids};
+ghost use Rattle.lpis_parcels.specs.Release.{Contents, parcel_ids};
+ghost use Rattle.lpis_register_rows.specs.Shapes.{AreShapesOf, shape_ids};
 ghost use Rattle.lpis_exact_lineage.specs.Asking.{AsksFor, HasShape, IsUnkept, IsWanted};
 ghost use Rattle.lpis_exact_lineage.specs.Asking.{old_ids};
-ghost use Rattle.lpis_exact_lineage.specs.Shapes.{shape_named, shapes_in};
+ghost use Rattle.lpis_exact_lineage.specs.Shapes.{shape_named};
 ghost use Rattle.lpis_exact_lineage.specs.private.Lacking.{IsFirstLacking};
 ghost use Rattle.lpis_exact_lineage.specs.declared.asking.AskFault.TheVariants.{Memory, NotKept};
 
 use crate::marked::marked_groups;
-use crate::shapes::kept_shape;
+use crate::shapes::shape_of;
 use lpis_checker::ExactPart;
 use lpis_covers::Id;
 use lpis_lineage::{Change, Group};
-use lpis_parcels::Release;
 use lpis_rings::{Polygon, Sequence};
 use std::alloc::{AllocError, AllocFailed, Global};
 use thiserror::Error;
@@ -61,7 +60,7 @@ fn kept_copy(alloc: Global, kept: &[(Id, Polygon)], id: &Id) -> Result<Polygon, 
     ensures shape { IfOk result (λ x. shape_named kept.now id.now ≡ Some x) }
     ensures unkept { IfErr result (IsFirstLacking kept.now (id.now ∷ [])) }
 {
-    match kept_shape(kept, id) {
+    match shape_of(kept, id) {
         Some(shape) => Ok(shape.copy(alloc)?),
         None => Err(AskFault::NotKept { id: id.copy()? }),
     }
@@ -81,24 +80,25 @@ fn kept_copies(alloc: Global, kept: &[(Id, Polygon)], ids: &[Id]) -> Result<Vec<
     Ok(shapes)
 }
 
-/// A copy of the shape of a release's parcel.
-fn new_copy(alloc: Global, release: &Release, id: &Id) -> Result<Polygon, AllocError>
-    ensures { IfOk result (λ x. shape_named (shapes_in release.now) id.now ≡ Some x) }
+/// A copy of the new shape of an identifier.
+fn new_copy(alloc: Global, new: &[(Id, Polygon)], id: &Id) -> Result<Polygon, AllocError>
+    requires ascending { IsAscending (shape_ids new.now) }
+    ensures { IfOk result (λ x. shape_named new.now id.now ≡ Some x) }
 {
-    match release.parcel(id) {
-        Some(parcel) => parcel.polygon.copy(alloc),
+    match shape_of(new, id) {
+        Some(shape) => shape.copy(alloc),
         None => Err(AllocError),
     }
 }
 
-/// Copies of the shapes of a release's parcels, in the order of these identifiers.
-fn new_copies(alloc: Global, release: &Release, ids: &[Id]) -> Result<Vec<Polygon>, AllocError>
-    ensures { IfOk result (λ v. AllZip (HasShape (shape_named (shapes_in release.now))) ids.now
-        v.items) }
+/// Copies of the new shapes of identifiers, in their order.
+fn new_copies(alloc: Global, new: &[(Id, Polygon)], ids: &[Id]) -> Result<Vec<Polygon>, AllocError>
+    requires ascending { IsAscending (shape_ids new.now) }
+    ensures { IfOk result (λ v. AllZip (HasShape (shape_named new.now)) ids.now v.items) }
 {
     let mut shapes = Vec::with_capacity(alloc, ids.len())?;
     for id in ids {
-        let shape = new_copy(alloc, release, id)?;
+        let shape = new_copy(alloc, new, id)?;
         shapes.push(shape)?;
     }
     Ok(shapes)
@@ -108,17 +108,18 @@ fn new_copies(alloc: Global, release: &Release, ids: &[Id]) -> Result<Vec<Polygo
 fn split_part(
     alloc: Global,
     kept: &[(Id, Polygon)],
-    release: &Release,
+    new: &[(Id, Polygon)],
     group: &Group,
 ) -> Result<ExactPart, AskFault>
     requires ascending { IsAscending (shape_ids kept.now) }
+    requires new_ascending { IsAscending (shape_ids new.now) }
     requires split { group.now.merge ≡ false }
     ensures part { IfOk result
-        (IsWanted (shape_named kept.now) (shape_named (shapes_in release.now)) group.now) }
+        (IsWanted (shape_named kept.now) (shape_named new.now) group.now) }
     ensures unkept { IfErr result (IsFirstLacking kept.now (old_ids group.now)) }
 {
     let whole = kept_copy(alloc, kept, &group.id)?;
-    let parts = new_copies(alloc, release, group.others.as_slice())?;
+    let parts = new_copies(alloc, new, group.others.as_slice())?;
     let id = group.id.copy()?;
     Ok(ExactPart {
         merge: false,
@@ -132,17 +133,18 @@ fn split_part(
 fn merge_part(
     alloc: Global,
     kept: &[(Id, Polygon)],
-    release: &Release,
+    new: &[(Id, Polygon)],
     group: &Group,
 ) -> Result<ExactPart, AskFault>
     requires ascending { IsAscending (shape_ids kept.now) }
+    requires new_ascending { IsAscending (shape_ids new.now) }
     requires merge { group.now.merge ≡ true }
     ensures part { IfOk result
-        (IsWanted (shape_named kept.now) (shape_named (shapes_in release.now)) group.now) }
+        (IsWanted (shape_named kept.now) (shape_named new.now) group.now) }
     ensures unkept { IfErr result (IsFirstLacking kept.now (old_ids group.now)) }
 {
     let parts = kept_copies(alloc, kept, group.others.as_slice())?;
-    let whole = new_copy(alloc, release, &group.id)?;
+    let whole = new_copy(alloc, new, &group.id)?;
     let id = group.id.copy()?;
     Ok(ExactPart {
         merge: true,
@@ -156,18 +158,19 @@ fn merge_part(
 fn part_of(
     alloc: Global,
     kept: &[(Id, Polygon)],
-    release: &Release,
+    new: &[(Id, Polygon)],
     group: &Group,
 ) -> Result<ExactPart, AskFault>
     requires ascending { IsAscending (shape_ids kept.now) }
+    requires new_ascending { IsAscending (shape_ids new.now) }
     ensures part { IfOk result
-        (IsWanted (shape_named kept.now) (shape_named (shapes_in release.now)) group.now) }
+        (IsWanted (shape_named kept.now) (shape_named new.now) group.now) }
     ensures unkept { IfErr result (IsFirstLacking kept.now (old_ids group.now)) }
 {
     if group.merge {
-        merge_part(alloc, kept, release, group)
+        merge_part(alloc, kept, new, group)
     } else {
-        split_part(alloc, kept, release, group)
+        split_part(alloc, kept, new, group)
     }
 }
 
@@ -175,18 +178,18 @@ fn part_of(
 fn parts_of(
     alloc: Global,
     kept: &[(Id, Polygon)],
-    release: &Release,
+    new: &[(Id, Polygon)],
     groups: &[Group],
 ) -> Result<Vec<ExactPart>, AskFault>
     requires ascending { IsAscending (shape_ids kept.now) }
+    requires new_ascending { IsAscending (shape_ids new.now) }
     ensures parts { IfOk result (λ v. AllZip
-        (IsWanted (shape_named kept.now) (shape_named
-        (shapes_in release.now))) groups.now v.items) }
+        (IsWanted (shape_named kept.now) (shape_named new.now)) groups.now v.items) }
     ensures unkept { IfErr result (IsFirstLacking kept.now (flat_map old_ids groups.now)) }
 {
     let mut parts = Vec::with_capacity(alloc, groups.len())?;
     for group in groups {
-        let part = part_of(alloc, kept, release, group)?;
+        let part = part_of(alloc, kept, new, group)?;
         parts.push(part)?;
     }
     Ok(parts)
@@ -195,30 +198,31 @@ fn parts_of(
 /// The parts that the exact groups of a change ask for, in the order of the groups: of a split the
 /// old shape is the whole, and its successors' are the parts; of a merge the successor's shape is
 /// the whole, and its predecessors' are the parts. The old shapes are those that are kept of the
-/// last release, ascending by identifier, and the new ones are the release's. Where no row is
-/// marked nothing is built.
+/// last release, and the new ones are those of the release's parcels; both ascend by identifier.
+/// Where no row is marked nothing is built.
 ///
 /// `NotKept` names the first old identifier whose shape is not kept: a split's own; a merge's
-/// predecessors ascending, the successor itself among them where it is kept. A successor that the
-/// release lacks, as no change to it has, is answered as `Memory`.
+/// predecessors ascending, the successor itself among them where it is kept. A successor without a
+/// new shape, as no change to the release has, is answered as `Memory`.
 pub fn wanted_parts(
     alloc: Global,
     change: &Change,
     kept: &[(Id, Polygon)],
-    release: &Release,
+    new: &[(Id, Polygon)],
 ) -> Result<Vec<ExactPart>, AskFault>
     requires ascending { IsAscending (shape_ids kept.now) }
-    ensures asks { (h : List Entry) (rows : List Row)
-        → faults h (parcel_ids release.now.parcels) rows ≡ []
-        → IsChange (last_live h) (parcel_ids release.now.parcels) rows change.now
-        → IfOk result (λ xs. (gs : List Group)
-        × AsksFor h kept.now release.now rows gs xs.items) }
-    ensures unkept { (h : List Entry) (rows : List Row)
-        → faults h (parcel_ids release.now.parcels) rows ≡ []
-        → IsChange (last_live h) (parcel_ids release.now.parcels) rows change.now
+    requires new_ascending { IsAscending (shape_ids new.now) }
+    ensures asks { (r : Contents) (h : List Entry) (rows : List Row)
+        → AreShapesOf r.parcels new.now
+        → faults h (parcel_ids r.parcels) rows ≡ []
+        → IsChange (last_live h) (parcel_ids r.parcels) rows change.now
+        → IfOk result (λ xs. (gs : List Group) × AsksFor h kept.now r rows gs xs.items) }
+    ensures unkept { (r : Contents) (h : List Entry) (rows : List Row)
+        → faults h (parcel_ids r.parcels) rows ≡ []
+        → IsChange (last_live h) (parcel_ids r.parcels) rows change.now
         → IfErr result (λ fault. (id : List ℕ) → fault ≡ NotKept id
-        → IsUnkept h kept.now release.now rows id) }
+        → IsUnkept h kept.now r rows id) }
 {
     let groups = marked_groups(alloc, change)?;
-    parts_of(alloc, kept, release, groups.as_slice())
+    parts_of(alloc, kept, new, groups.as_slice())
 }

@@ -1,4 +1,4 @@
-//! Kept shapes by their identifiers.
+//! Shapes by their identifiers.
 
 ghost use Rattle.std.specs.Prelude.{◌≡◌};
 ghost use Rattle.std.specs.Option.{option_copied};
@@ -9,13 +9,13 @@ ghost use Rattle.lpis_exact_lineage.specs.Shapes.{shape_named};
 use lpis_covers::Id;
 use lpis_rings::Polygon;
 
-/// The shape that is kept of an identifier, where one is.
-pub(crate) fn kept_shape<'a>(kept: &'a [(Id, Polygon)], id: &Id) -> Option<&'a Polygon>
-    requires ascending { IsAscending (shape_ids kept.now) }
-    ensures { option_copied result ≡ shape_named kept.now id.now }
+/// The shape of an identifier, where one is there.
+pub(crate) fn shape_of<'a>(shapes: &'a [(Id, Polygon)], id: &Id) -> Option<&'a Polygon>
+    requires ascending { IsAscending (shape_ids shapes.now) }
+    ensures { option_copied result ≡ shape_named shapes.now id.now }
 {
-    match kept.binary_search_by(|shape| shape.0.cmp(id)) {
-        Ok(index) => Some(&kept[index].1),
+    match shapes.binary_search_by(|shape| shape.0.cmp(id)) {
+        Ok(index) => Some(&shapes[index].1),
         Err(_) => None,
     }
 }

@@ -1,8 +1,9 @@
 //! A release that may follow, with all that publishing it needs. Nothing is changed here.
 
 ghost use Rattle.std.specs.Prelude.{◌≡◌, ◌≢◌, ◌<◌, [], ℕ, List, IfOk, IfErr, OnOk};
+ghost use Rattle.std.specs.List.{IsDistinct};
 ghost use Rattle.lpis_cert.specs.declared.part.ExactBlock.{ExactBlock};
-ghost use Rattle.lpis_checker.specs.SoundMap.{IsSoundMap};
+ghost use Rattle.lpis_covers.specs.Ids.{same_id};
 ghost use Rattle.lpis_exact_lineage.specs.Asking.{IsShown};
 ghost use Rattle.lpis_lineage.specs.Changes.{IsChange};
 ghost use Rattle.lpis_lineage.specs.Faults.{faults};
@@ -10,22 +11,22 @@ ghost use Rattle.lpis_lineage.specs.Lineage.{last_live, last_year};
 ghost use Rattle.lpis_lineage.specs.Order.{IsAscending};
 ghost use Rattle.lpis_lineage.specs.declared.row.Entry.{Entry};
 ghost use Rattle.lpis_lineage.specs.declared.row.Row.{Row};
-ghost use Rattle.lpis_parcels.specs.Release.{parcel_ids};
-ghost use Rattle.lpis_register_rows.specs.Shapes.{Shape, shape_ids};
+ghost use Rattle.lpis_parcels.specs.Release.{Contents, parcel_ids};
+ghost use Rattle.lpis_register_rows.specs.Shapes.{AreShapesOf, Shape, shape_ids};
 ghost use Rattle.lpis_register.specs.Accepting.{AreKept, IsStep};
 ghost use Rattle.lpis_register.specs.Faults.{IsRefused};
-ghost use Rattle.lpis_register.specs.private.Answering.{AnswersRelease};
+ghost use Rattle.lpis_register.specs.private.Answering.{AnswersRelease, AreOfSoundMap};
 ghost use Rattle.lpis_register.specs.declared.fault.PublishFault.TheVariants.{Store, StoreMemory};
 
 use crate::fault::PublishFault;
 use lpis_cert::Cert;
-use lpis_checker::{Yes, check_exact};
+use lpis_checker::check_exact;
 use lpis_covers::Id;
 use lpis_exact_lineage::{
     sound_maps_have_such_shapes, wanted_parts, what_is_shown_has_exact_lineage,
 };
 use lpis_lineage::{Change, History, Row, accept};
-use lpis_parcels::{Parcel, Release};
+use lpis_parcels::Parcel;
 use lpis_register_rows::{changes_are_what_is_written, fresh_ids, shapes_in};
 use lpis_rings::Polygon;
 use std::alloc::{AllocError, Global};
@@ -71,22 +72,21 @@ pub fn ids_of(alloc: Global, parcels: &[Parcel]) -> Result<Vec<Id>, AllocError>
     Ok(ids)
 }
 
-/// What a release changes in a history, and the identifiers that are new with it; or why its
-/// lineage is refused.
+/// What a release of these parcels changes in a history, and the identifiers that are new with it;
+/// or why its lineage is refused.
 fn step_of(
     alloc: Global,
     history: &History,
-    release: &Release,
+    parcels: &[Parcel],
     rows: &[Row],
 ) -> Result<Step, PublishFault>
-    ensures refused { (kept : List Shape) (year : ℕ) (blocks : List ExactBlock)
-        → last_year history.now < year
-        → IfErr result (IsRefused history.now kept year release.now blocks rows.now) }
-    ensures step { IfOk result
-        (IsStep history.now (parcel_ids release.now.parcels) rows.now) }
+    ensures refused { (r : Contents) (kept : List Shape) (year : ℕ) (blocks : List ExactBlock)
+        → r.parcels ≡ parcels.now → last_year history.now < year
+        → IfErr result (IsRefused history.now kept year r blocks rows.now) }
+    ensures step { IfOk result (IsStep history.now (parcel_ids parcels.now) rows.now) }
     ensures no_store { IfErr result (λ fault. (fault ≢ Store) × (fault ≢ StoreMemory)) }
 {
-    let live = ids_of(alloc, release.parcels())?;
+    let live = ids_of(alloc, parcels)?;
     let change = accept(alloc, history, live.as_slice(), rows)?;
     let fresh = fresh_ids(alloc, history, live.as_slice())?;
     changes_are_what_is_written();
@@ -97,80 +97,88 @@ fn step_of(
     })
 }
 
+/// The shapes of parcels, ascending by identifier.
+fn kept_of(alloc: Global, parcels: &[Parcel]) -> Result<Vec<(Id, Polygon)>, AllocError>
+    requires distinct { IsDistinct same_id (parcel_ids parcels.now) }
+    ensures { IfOk result (λ shapes. AreKept parcels.now shapes.items) }
+{
+    shapes_in(alloc, parcels)
+}
+
 /// Refuses a release whose exact splits and merges the blocks of its certificate don't show, when
-/// these shapes are kept of the last one. Of rows without marks nothing is made.
+/// these shapes are kept of the last one and the new ones are its own. Of rows without marks
+/// nothing is made.
 fn check_groups(
     alloc: Global,
     change: &Change,
     kept: &[(Id, Polygon)],
-    release: &Release,
+    new: &[(Id, Polygon)],
     cert: &Cert,
 ) -> Result<(), PublishFault>
     requires ascending { IsAscending (shape_ids kept.now) }
-    ensures shown { OnOk result ((h : List Entry) (rows : List Row)
-        → faults h (parcel_ids release.now.parcels) rows ≡ []
-        → IsChange (last_live h) (parcel_ids release.now.parcels) rows change.now
-        → IsShown h kept.now release.now cert.now.exact rows) }
-    ensures refused { (h : List Entry) (year : ℕ) (rows : List Row) → last_year h < year
-        → faults h (parcel_ids release.now.parcels) rows ≡ []
-        → IsChange (last_live h) (parcel_ids release.now.parcels) rows change.now
-        → IfErr result (IsRefused h kept.now year release.now cert.now.exact rows) }
+    requires new_ascending { IsAscending (shape_ids new.now) }
+    ensures shown { OnOk result ((r : Contents) (h : List Entry) (rows : List Row)
+        → AreShapesOf r.parcels new.now
+        → faults h (parcel_ids r.parcels) rows ≡ []
+        → IsChange (last_live h) (parcel_ids r.parcels) rows change.now
+        → IsShown h kept.now r cert.now.exact rows) }
+    ensures refused { (r : Contents) (h : List Entry) (year : ℕ) (rows : List Row)
+        → AreShapesOf r.parcels new.now → last_year h < year
+        → faults h (parcel_ids r.parcels) rows ≡ []
+        → IsChange (last_live h) (parcel_ids r.parcels) rows change.now
+        → IfErr result (IsRefused h kept.now year r cert.now.exact rows) }
     ensures no_store { IfErr result (λ fault. (fault ≢ Store) × (fault ≢ StoreMemory)) }
 {
-    let parts = wanted_parts(alloc, change, kept, release)?;
+    let parts = wanted_parts(alloc, change, kept, new)?;
     check_exact(alloc, cert, parts.as_slice())?;
     Ok(())
 }
 
-/// The shapes of a release's parcels, ascending by identifier.
-fn kept_of(alloc: Global, release: &Release) -> Result<Vec<(Id, Polygon)>, AllocError>
-    ensures { IfOk result (λ shapes. AreKept release.now.parcels shapes.items) }
-{
-    shapes_in(alloc, release)
-}
-
-/// Refuses a sound map that may not follow in a later year, or makes all that publishing it needs.
-fn accept_map(
+/// Refuses the parcels of a sound map that may not follow in a later year, or makes all that
+/// publishing them needs.
+fn accept_later(
     alloc: Global,
     history: &History,
     kept: &[(Id, Polygon)],
     year: u16,
-    release: &Release,
+    parcels: &[Parcel],
     rows: &[Row],
     cert: &Cert,
 ) -> Result<Accepted, PublishFault>
     requires ascending { IsAscending (shape_ids kept.now) }
-    requires sound { IsSoundMap release.now }
+    requires distinct { IsDistinct same_id (parcel_ids parcels.now) }
+    requires sound { AreOfSoundMap parcels.now }
     requires later { last_year history.now < year }
-    ensures { AnswersRelease history.now kept.now year release.now cert.now.exact
-        rows.now result }
+    ensures { (r : Contents) → r.parcels ≡ parcels.now
+        → AnswersRelease history.now kept.now year r cert.now.exact rows.now result }
 {
     sound_maps_have_such_shapes();
     what_is_shown_has_exact_lineage();
-    let step = step_of(alloc, history, release, rows)?;
-    check_groups(alloc, &step.change, kept, release, cert)?;
-    let shapes = kept_of(alloc, release)?;
+    let step = step_of(alloc, history, parcels, rows)?;
+    let shapes = kept_of(alloc, parcels)?;
+    check_groups(alloc, &step.change, kept, shapes.as_slice(), cert)?;
     Ok(Accepted { year, step, shapes })
 }
 
-/// Refuses a release that may not follow, or makes all that publishing it needs.
-pub(crate) fn accept_release(
+/// Refuses the parcels of a sound map that may not follow, or makes all that publishing them needs.
+pub(crate) fn accept_parcels(
     alloc: Global,
     history: &History,
-    shapes: &[(Id, Polygon)],
+    kept: &[(Id, Polygon)],
     year: u16,
-    yes: &Yes<'_>,
+    parcels: &[Parcel],
     rows: &[Row],
     cert: &Cert,
 ) -> Result<Accepted, PublishFault>
-    requires ascending { IsAscending (shape_ids shapes.now) }
-    ensures { AnswersRelease history.now shapes.now year yes.now cert.now.exact rows.now
-        result }
+    requires ascending { IsAscending (shape_ids kept.now) }
+    requires distinct { IsDistinct same_id (parcel_ids parcels.now) }
+    requires sound { AreOfSoundMap parcels.now }
+    ensures { (r : Contents) → r.parcels ≡ parcels.now
+        → AnswersRelease history.now kept.now year r cert.now.exact rows.now result }
 {
     let last = history.last_year();
     if year <= last {
         return Err(PublishFault::Year { last });
     }
-    let release = yes.release();
-    accept_map(alloc, history, shapes, year, release, rows, cert)
+    accept_later(alloc, history, kept, year, parcels, rows, cert)
 }

@@ -17,7 +17,7 @@ ghost use Rattle.lpis_register.specs.Publishing.{Publishes, Stores};
 ghost use Rattle.lpis_register.specs.declared.fault.PublishFault.TheVariants.{Memory, Store};
 ghost use Rattle.lpis_register.specs.declared.fault.PublishFault.TheVariants.{StoreMemory, Unknown};
 
-use crate::accepting::{Accepted, accept_release};
+use crate::accepting::{Accepted, accept_parcels};
 use crate::committing::commit_release;
 use crate::fault::PublishFault;
 use crate::opening::Loaded;
@@ -25,6 +25,7 @@ use crate::reading::{copied_shapes, read_history};
 use crate::tracing::trace;
 use lpis_cert::Cert;
 use lpis_checker::Yes;
+use lpis_country_seam::Joined;
 use lpis_covers::Id;
 use lpis_lineage::{Change, History, Row};
 use lpis_rings::Polygon;
@@ -110,8 +111,31 @@ impl<S: Alter> Register<S> {
             cert.now.exact rows.now) }
         ensures no_store { IfErr result (λ fault. (fault ≢ Store) × (fault ≢ StoreMemory)) }
     {
-        let shapes = self.shapes.as_slice();
-        accept_release(self.alloc, &self.history, shapes, year, yes, rows, cert)
+        let kept = self.shapes.as_slice();
+        let parcels = yes.release().parcels();
+        accept_parcels(self.alloc, &self.history, kept, year, parcels, rows, cert)
+    }
+
+    /// The same of a country whose regions joined: of the union of its regions, refused as a
+    /// release of its parcels is.
+    pub fn accept_country(
+        &self,
+        year: u16,
+        country: &Joined,
+        rows: &[Row],
+        cert: &Cert,
+    ) -> Result<Accepted, PublishFault>
+        ensures tells { (r : Contents) → r.parcels ≡ country.now
+            → PublishRefuses self.now.history self.now.shapes.items year r cert.now.exact rows.now
+            result }
+        ensures made { (r : Contents) → r.parcels ≡ country.now
+            → IfOk result (IsAccepted self.now.history self.now.shapes.items year r cert.now.exact
+            rows.now) }
+        ensures no_store { IfErr result (λ fault. (fault ≢ Store) × (fault ≢ StoreMemory)) }
+    {
+        let kept = self.shapes.as_slice();
+        let parcels = country.parcels();
+        accept_parcels(self.alloc, &self.history, kept, year, parcels, rows, cert)
     }
 
     /// Publishes a release that was accepted for this history and these shapes, in one transaction:

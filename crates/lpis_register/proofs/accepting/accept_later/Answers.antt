@@ -1,0 +1,42 @@
+use Rattle.std.proofs.Common.{◌≡◌, [], refl, subst, sym}
+use Rattle.std.proofs.lemmas.Result.{err_from_is_err_and}
+use Rattle.lpis_lineage.specs.Changes.{IsChange}
+use Rattle.lpis_lineage.specs.Faults.{faults}
+use Rattle.lpis_parcels.specs.Release.{parcel_ids}
+use Rattle.lpis_register_rows.specs.Shapes.{AreShapesOf}
+use Rattle.lpis_register.proofs.Common.{last_live}
+use Rattle.lpis_register.proofs.AcceptingLemmas.{accepted_made}
+use Rattle.lpis_register.proofs.accepting.accept_later.Goals as goal
+
+pub returns-in_err-step : goal.returns-in_err-step
+returns-in_err-step c =
+    let p = err_from_is_err_and c.from_residual.result c.from_residual.ensures.1 in
+    let step = c.in_err-step.ensures in
+    rw (p.1, p.2) (λ r are. record { tells = step.refused r c.args.kept.now c.args.year c.args.cert.now.exact are c.requires.later; made = tt; no_store = step.no_store })
+
+pub returns-in_err-check_groups : goal.returns-in_err-check_groups
+returns-in_err-check_groups c =
+    let p = err_from_is_err_and c.from_residual-in_err-check_groups.result c.from_residual-in_err-check_groups.ensures.1 in
+    let h = c.args.history.now in
+    let rows = c.args.rows.now in
+    let step = c.in_ok-step.ensures.step in
+    let groups = c.in_err-check_groups.ensures in
+    rw (p.1, p.2) (λ r are. record {
+      tells = groups.refused r h c.args.year rows
+          (subst (λ ps. AreShapesOf ps c.as_slice.result.now) (sym are) (rw (← c.as_slice.ensures.value) at c.in_ok-shapes.ensures.shapes_are)) c.requires.later
+          (subst (λ ps. faults h (parcel_ids ps) rows ≡ []) (sym are) step.faultless)
+          (subst (λ ps. IsChange (last_live h) (parcel_ids ps) rows c.in_ok-step.step.change) (sym are) step.change_is);
+      made = tt;
+      no_store = groups.no_store;
+    })
+
+pub returns : goal.returns
+returns c =
+    let h = c.args.history.now in
+    let rows = c.args.rows.now in
+    let step = c.in_ok-step.ensures.step in
+    let made = accepted_made c.what_is_shown_has_exact_lineage.ensures c.sound_maps_have_such_shapes.ensures.once h c.args.kept.now c.args.year c.args.parcels.now c.args.cert.now.exact rows
+    (record { year = c.args.year; step = c.in_ok-step.step; shapes = c.in_ok-shapes.shapes }) c.requires.sound
+    (record { later = c.requires.later; year_is = refl; step_is = step; kept_are = c.in_ok-shapes.ensures })
+    (λ r. (rw c.as_slice.ensures.value at c.in_ok-check_groups.ensures.shown) r h rows) in
+    λ r are. record { tells = (c.requires.later, (made r are).shown); made = made r are; no_store = tt }
