@@ -5,7 +5,7 @@ use Rattle.clap.specs.declared.parser.matches.ArgMatches.{ArgMatches}
 use Rattle.clap.specs.declared.parser.matches.ArgMatches.TheViews.{out-ArgMatches}
 use Rattle.clap.specs.Matches.{first_value}
 use Rattle.clap.proofs.WalkLemmas.{first_value-rows}
-use Rattle.lpis_commands.specs.Command.{IsCommand, IsNamedCommand, command_line_app}
+use Rattle.lpis_commands.specs.Command.{IsCommand, IsNamedCommand, IsOption, command_line_app}
 use Rattle.lpis_commands.specs.declared.command.Cmd.{Cmd}
 use Rattle.clap.proofs.OnLiterals.{clap_on_literals}
 
@@ -19,11 +19,15 @@ pub line-free : is_simple_and_free command_line_app ≡ true
 unfolding clap_on_literals
 line-free = refl
 
--- the first word of an argument, by the rows
-pub word-found : (m : ArgMatches) (id : Text) (o : Option (Bor (List ℕ))) → option_map (λ (s : Bor (List ℕ)). s.now) o ≡ first_value (found_of m) id
-    → IfSome o (λ (word : Bor (List ℕ)). first_of id (rows_of (found_of m)) ≡ Some word.now)
-word-found m id None e = tt
-word-found m id (Some word) e = sym (first_value-rows (found_of m) id) ∙ sym e
+-- the word of an option, by the rows
+pub option-found : (m : ArgMatches) (id : Text) (o : Option (Bor (List ℕ))) → option_map (λ (s : Bor (List ℕ)). s.now) o ≡ first_value (found_of m) id
+    → IsOption id o (rows_of (found_of m))
+option-found m id o e = sym (first_value-rows (found_of m) id) ∙ sym e
+
+-- the word of an argument, as that of an option
+pub word-found : (id : Text) (rows : List Row) (o : Option (Bor (List ℕ))) → IsOption id o rows → IfSome o (λ (word : Bor (List ℕ)). first_of id rows ≡ Some word.now)
+word-found id rows None e = tt
+word-found id rows (Some word) e = e
 
 -- a command by its name and rows
 command-is : (o : Option (Text × List Row)) (name : Text) (rows : List Row) (command : Cmd)

@@ -1,5 +1,7 @@
 -- The program's command line.
-use Rattle.std.specs.Prelude.{◌≡◌, ◌≤◌, ◌∷◌, [], ℕ, List, Option, Some, None, codes, fold, true}
+use Rattle.std.specs.Prelude.{◌≡◌, ◌≤◌, ◌∷◌, [], ℕ, List, Option, Some, None, codes, fold}
+use Rattle.std.specs.Prelude.{option_map, true}
+use Rattle.std.specs.Borrow.{Bor}
 use Rattle.std.specs.Str.Parse.{IsNumeral, digits_value, without_leading_plus}
 use Rattle.clap.specs.Words.{App, Row, Rule, Text, first_of, new_app, new_rule, with_rule}
 use Rattle.clap.specs.Words.{with_subcommand}
@@ -7,8 +9,9 @@ use Rattle.clap.specs.declared.builder.ArgAction.TheVariants.{Set, SetTrue}
 use Rattle.clap.specs.declared.builder.value_parser.ValueParser.TheVariants.{Unsigned}
 use Rattle.lpis_commands.specs.declared.command.Cmd.{Cmd}
 use Rattle.lpis_commands.specs.declared.command.Cmd.TheVariants.{Area, Cut, Check, Country, Exact}
-use Rattle.lpis_commands.specs.declared.command.Cmd.TheVariants.{Locate, LocateCountry, Publish}
-use Rattle.lpis_commands.specs.declared.command.Cmd.TheVariants.{Trace}
+use Rattle.lpis_commands.specs.declared.command.Cmd.TheVariants.{ExactCountry, Locate}
+use Rattle.lpis_commands.specs.declared.command.Cmd.TheVariants.{LocateCountry, Publish}
+use Rattle.lpis_commands.specs.declared.command.Cmd.TheVariants.{PublishCountry, Trace}
 use Rattle.lpis_commands.specs.declared.command.Detail.{Detail}
 use Rattle.lpis_commands.specs.declared.command.Detail.TheVariants.{Parcels, Regions}
 
@@ -33,6 +36,11 @@ check_app = with_rule (with_rule (new_app (codes "check")) (word_rule (codes "di
 -- an option without a word, `--` before its name
 abbrev pub flag_rule : Text → Rule
 flag_rule id = record (new_rule id) { long = Some id; action = Some SetTrue }
+
+-- an option with a word, `--` before its name
+abbrev pub option_rule : Text → Rule
+option_rule id =
+    record (new_rule id) { long = Some id; action = Some Set; value_names = 1 }
 
 -- country DIR, with or without --parcels
 abbrev pub country_app : App
@@ -68,6 +76,16 @@ exact_app = with_rule (with_rule exact_release_app (word_rule (codes "cert")))
 abbrev pub year_rule : Rule
 year_rule = record (word_rule (codes "year")) { parser = Some (Unsigned 1 9999) }
 
+-- exact-country DB DIR
+abbrev pub exact_country_dir_app : App
+exact_country_dir_app =
+    with_rule (with_rule (new_app (codes "exact-country")) (word_rule (codes "db")))
+    (word_rule (codes "dir"))
+
+-- exact-country DB DIR FILE
+abbrev pub exact_country_app : App
+exact_country_app = with_rule exact_country_dir_app (word_rule (codes "file"))
+
 -- publish DB YEAR
 abbrev pub publish_year_app : App
 publish_year_app =
@@ -77,6 +95,20 @@ publish_year_app =
 abbrev pub publish_app : App
 publish_app =
     with_rule (with_rule publish_year_app (word_rule (codes "dir"))) (word_rule (codes "cert"))
+
+-- publish-country DB YEAR
+abbrev pub publish_country_year_app : App
+publish_country_year_app =
+    with_rule (with_rule (new_app (codes "publish-country")) (word_rule (codes "db"))) year_rule
+
+-- publish-country DB YEAR DIR
+abbrev pub publish_country_dir_app : App
+publish_country_dir_app = with_rule publish_country_year_app (word_rule (codes "dir"))
+
+-- publish-country DB YEAR DIR, with or without --exact FILE and --parcels
+abbrev pub publish_country_app : App
+publish_country_app = with_rule (with_rule publish_country_dir_app (option_rule (codes "exact")))
+    (flag_rule (codes "parcels"))
 
 -- trace DB ID
 abbrev pub trace_app : App
@@ -101,7 +133,7 @@ with_command whole one = with_subcommand whole one.top
 abbrev pub command_line_app : App
 command_line_app = fold with_command program_app
     (area_app ∷ cut_app ∷ check_app ∷ country_app ∷ locate_app ∷ locate_country_app ∷ exact_app
-    ∷ publish_app ∷ trace_app ∷ [])
+    ∷ exact_country_app ∷ publish_app ∷ publish_country_app ∷ trace_app ∷ [])
 
 -- the word is a year's: decimal digits, after a plus or none, of a number from 1 to 9999
 abbrev pub IsYearWord : Text → ℕ → Type 0
@@ -113,6 +145,14 @@ IsYearWord word year =
 abbrev pub IsDetail : Detail → List Row → Type 0
 IsDetail Parcels rows = first_of (codes "parcels") rows ≡ Some (codes "true")
 IsDetail Regions rows = first_of (codes "parcels") rows ≡ Some (codes "false")
+
+-- the option has this word, or none where it is not there
+abbrev pub IsOption : Text → Option (Bor Text) → List Row → Type 0
+IsOption id word rows = first_of id rows ≡ option_map (λ w. w.now) word
+
+-- the options of `publish-country`
+abbrev pub AreOptions : Option (Bor Text) → Detail → List Row → Type 0
+AreOptions exact detail rows = IsOption (codes "exact") exact rows × IsDetail detail rows
 
 -- the command has this name, and its words are those of its arguments
 abbrev pub IsNamedCommand : Cmd → Text → List Row → Type 0
@@ -139,6 +179,13 @@ IsNamedCommand (Publish db year dir cert) name rows =
     (name ≡ codes "publish") × (first_of (codes "db") rows ≡ Some db.now)
     × ((word : Text) × (first_of (codes "year") rows ≡ Some word) × IsYearWord word year)
     × (first_of (codes "dir") rows ≡ Some dir.now) × (first_of (codes "cert") rows ≡ Some cert.now)
+IsNamedCommand (PublishCountry db year dir exact detail) name rows =
+    (name ≡ codes "publish-country") × (first_of (codes "db") rows ≡ Some db.now)
+    × ((word : Text) × (first_of (codes "year") rows ≡ Some word) × IsYearWord word year)
+    × (first_of (codes "dir") rows ≡ Some dir.now) × AreOptions exact detail rows
+IsNamedCommand (ExactCountry db dir file) name rows =
+    (name ≡ codes "exact-country") × (first_of (codes "db") rows ≡ Some db.now)
+    × (first_of (codes "dir") rows ≡ Some dir.now) × (first_of (codes "file") rows ≡ Some file.now)
 IsNamedCommand (Trace db id) name rows =
     (name ≡ codes "trace") × (first_of (codes "db") rows ≡ Some db.now)
     × (first_of (codes "id") rows ≡ Some id.now)

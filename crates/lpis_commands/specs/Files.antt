@@ -1,5 +1,7 @@
 -- The files of a command.
-use Rattle.std.specs.Prelude.{◌≡◌, ◌∷◌, [], ◌++◌, ⊤, ℕ, List, codes, string_bytes}
+use Rattle.std.specs.Prelude.{◌≡◌, ◌∷◌, [], ◌++◌, ⊤, ℕ, List, Option, Some, None, codes}
+use Rattle.std.specs.Prelude.{string_bytes}
+use Rattle.std.specs.Borrow.{Bor}
 use Rattle.lpis_commands.specs.declared.command.Cmd.{Cmd}
 use Rattle.lpis_commands.specs.declared.command.Cmd.TheVariants as cmd
 use Rattle.lpis_commands.specs.declared.failure.Name.{Name}
@@ -42,6 +44,11 @@ files_of_region dir name = tables_in (in_folder dir name)
 abbrev pub files_of_submission : List ℕ → List ℕ → List (List ℕ × Name)
 files_of_submission dir cert = tables_in dir ++ (cert, Cert) ∷ lineage_file dir ∷ []
 
+-- the certificate at a path, if there is one
+abbrev pub cert_at : Option (Bor (List ℕ)) → List (List ℕ × Name)
+cert_at None = []
+cert_at (Some cert) = (cert.now, Cert) ∷ []
+
 -- the files of a command beside its register, in the order in which they are opened, each a path
 -- and the name by which a failure reports it
 abbrev pub files_of : Cmd → List (List ℕ × Name)
@@ -56,6 +63,10 @@ files_of (cmd.LocateCountry dir points) =
 files_of (cmd.Exact db dir cert out) =
     files_of_submission dir.now cert.now ++ (out.now, Cert) ∷ []
 files_of (cmd.Publish db year dir cert) = files_of_submission dir.now cert.now
+files_of (cmd.PublishCountry db year dir exact detail) =
+    country_file dir.now ∷ classes_file dir.now ∷ cert_at exact
+files_of (cmd.ExactCountry db dir file) =
+    country_file dir.now ∷ classes_file dir.now ∷ (file.now, Cert) ∷ []
 files_of (cmd.Trace db id) = []
 
 -- ---- what is seen of files
@@ -71,6 +82,10 @@ region_listed i = tables_listed i.tables ++ shown_file i.cert ∷ []
 abbrev pub submission_listed : SubmissionFiles → List (List ℕ × Name)
 submission_listed i = tables_listed i.tables ++ shown_file i.cert ∷ shown_file i.lineage ∷ []
 
+abbrev pub option_listed : Option NamedFile → List (List ℕ × Name)
+option_listed None = []
+option_listed (Some i) = shown_file i ∷ []
+
 abbrev pub listed : CommandFiles → List (List ℕ × Name)
 listed (files.Area table) = shown_file table ∷ []
 listed (files.Cut tables cert) = tables_listed tables ++ shown_file cert ∷ []
@@ -82,6 +97,10 @@ listed (files.LocateCountry dir country classes points) =
     shown_file country ∷ shown_file classes ∷ shown_file points ∷ []
 listed (files.Exact db submission out) = submission_listed submission ++ shown_file out ∷ []
 listed (files.Publish db year submission) = submission_listed submission
+listed (files.PublishCountry db year dir country classes exact detail) =
+    shown_file country ∷ shown_file classes ∷ option_listed exact
+listed (files.ExactCountry db dir country classes file) =
+    shown_file country ∷ shown_file classes ∷ shown_file file ∷ []
 listed (files.Trace db id) = []
 
 -- the files are those of the same command; and the register with the year or the identifier, or the
@@ -97,5 +116,10 @@ HasWords (cmd.LocateCountry dir points) (files.LocateCountry d country classes p
 HasWords (cmd.Exact db dir cert out) (files.Exact d submission o) = d.now ≡ db.now
 HasWords (cmd.Publish db year dir cert) (files.Publish d y submission) =
     (d.now ≡ db.now) × (y ≡ year)
+HasWords (cmd.PublishCountry db year dir exact detail)
+    (files.PublishCountry d y f country classes c e) =
+    (d.now ≡ db.now) × (y ≡ year) × (f.now ≡ dir.now) × (e ≡ detail)
+HasWords (cmd.ExactCountry db dir file) (files.ExactCountry d f country classes i) =
+    (d.now ≡ db.now) × (f.now ≡ dir.now)
 HasWords (cmd.Trace db id) (files.Trace d i) = (d.now ≡ db.now) × (i.now ≡ id.now)
 HasWords _ _ = ⊥

@@ -3,8 +3,8 @@
 ghost use Rattle.std.specs.Prelude.{◌≡◌, IfOk, IfSome, Some, codes, map};
 ghost use Rattle.clap.specs.Words.{FailsBy, Text, fault_of, first_of, found_of, rows_of};
 ghost use Rattle.clap.specs.Words.{subcommand_of, subcommand_rows_of};
-ghost use Rattle.lpis_commands.specs.Command.{IsCommand, IsDetail, IsNamedCommand, IsYearWord};
-ghost use Rattle.lpis_commands.specs.Command.{command_line_app};
+ghost use Rattle.lpis_commands.specs.Command.{IsCommand, IsDetail, IsNamedCommand, IsOption};
+ghost use Rattle.lpis_commands.specs.Command.{IsYearWord, command_line_app};
 
 use crate::command_line::command_line;
 use clap::{ArgMatches, Error};
@@ -86,6 +86,28 @@ pub enum Cmd<'a> {
         /// The path at which the certificate with its blocks is written.
         out: &'a str,
     },
+    /// The check of a country, region by region, and its publication in a register.
+    PublishCountry {
+        /// The register's path.
+        db: &'a str,
+        /// The country's year, from 1 to 9999.
+        year: u16,
+        /// The path of the folder of the country.
+        dir: &'a str,
+        /// The path of the certificate with the blocks of its exact lineage.
+        exact: Option<&'a str>,
+        /// What is printed.
+        detail: Detail,
+    },
+    /// The blocks that the marked rows of a country's lineage tables ask for.
+    ExactCountry {
+        /// The register's path.
+        db: &'a str,
+        /// The path of the folder of the country.
+        dir: &'a str,
+        /// The path at which the certificate with these blocks is written.
+        file: &'a str,
+    },
     /// What became of an identifier.
     Trace {
         /// The register's path.
@@ -95,12 +117,19 @@ pub enum Cmd<'a> {
     },
 }
 
+/// The word of an option, if it is there.
+fn option_of<'a>(matches: &ArgMatches<'a>, id: &str) -> Option<&'a str>
+    ensures { IsOption id.now result (rows_of (found_of matches.now)) }
+{
+    matches.get_str(id)
+}
+
 /// The word of an argument.
 fn word_of<'a>(matches: &ArgMatches<'a>, id: &str) -> Option<&'a str>
     ensures { IfSome result (λ word. first_of id.now (rows_of (found_of matches.now)) ≡ Some
         word.now) }
 {
-    matches.get_str(id)
+    option_of(matches, id)
 }
 
 /// The year of an argument. Another number is none: `clap` lets no other through.
@@ -175,6 +204,25 @@ fn publish_named<'a>(matches: &ArgMatches<'a>) -> Option<Cmd<'a>>
     })
 }
 
+/// `publish-country` with its words.
+fn publish_country_named<'a>(matches: &ArgMatches<'a>) -> Option<Cmd<'a>>
+    ensures { IfSome result (λ c. IsNamedCommand c (codes "publish-country")
+        (rows_of (found_of matches.now))) }
+{
+    let db = word_of(matches, "db")?;
+    let year = year_of(matches, "year")?;
+    let dir = word_of(matches, "dir")?;
+    let exact = option_of(matches, "exact");
+    let detail = detail_of(matches)?;
+    Some(Cmd::PublishCountry {
+        db,
+        year,
+        dir,
+        exact,
+        detail,
+    })
+}
+
 /// `exact` with its words.
 fn exact_named<'a>(matches: &ArgMatches<'a>) -> Option<Cmd<'a>>
     ensures { IfSome result (λ c. IsNamedCommand c (codes "exact")
@@ -185,6 +233,17 @@ fn exact_named<'a>(matches: &ArgMatches<'a>) -> Option<Cmd<'a>>
     let cert = word_of(matches, "cert")?;
     let out = word_of(matches, "out")?;
     Some(Cmd::Exact { db, dir, cert, out })
+}
+
+/// `exact-country` with its words.
+fn exact_country_named<'a>(matches: &ArgMatches<'a>) -> Option<Cmd<'a>>
+    ensures { IfSome result (λ c. IsNamedCommand c (codes "exact-country")
+        (rows_of (found_of matches.now))) }
+{
+    let db = word_of(matches, "db")?;
+    let dir = word_of(matches, "dir")?;
+    let file = word_of(matches, "file")?;
+    Some(Cmd::ExactCountry { db, dir, file })
 }
 
 /// `trace` with its words.
@@ -221,7 +280,9 @@ fn command_named<'a>(name: &str, matches: &ArgMatches<'a>) -> Option<Cmd<'a>>
         "locate" => locate_named(matches),
         "locate-country" => locate_country_named(matches),
         "exact" => exact_named(matches),
+        "exact-country" => exact_country_named(matches),
         "publish" => publish_named(matches),
+        "publish-country" => publish_country_named(matches),
         "trace" => trace_named(matches),
         _ => None,
     }

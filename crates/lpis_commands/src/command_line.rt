@@ -3,9 +3,12 @@
 ghost use Rattle.std.specs.Prelude.{◌≡◌, IfOk, codes, false};
 ghost use Rattle.clap.specs.Words.{App, rule_of};
 ghost use Rattle.lpis_commands.specs.Command.{area_app, check_app, command_line_app, country_app};
-ghost use Rattle.lpis_commands.specs.Command.{cut_app, exact_app, exact_release_app, flag_rule};
+ghost use Rattle.lpis_commands.specs.Command.{cut_app, exact_app, exact_country_app};
+ghost use Rattle.lpis_commands.specs.Command.{exact_country_dir_app, exact_release_app, flag_rule};
 ghost use Rattle.lpis_commands.specs.Command.{locate_app, locate_country_app, locate_release_app};
-ghost use Rattle.lpis_commands.specs.Command.{program_app, publish_app, publish_year_app};
+ghost use Rattle.lpis_commands.specs.Command.{option_rule, program_app, publish_app};
+ghost use Rattle.lpis_commands.specs.Command.{publish_country_app, publish_country_dir_app};
+ghost use Rattle.lpis_commands.specs.Command.{publish_country_year_app, publish_year_app};
 ghost use Rattle.lpis_commands.specs.Command.{trace_app, with_command, word_rule, year_rule};
 ghost use Rattle.lpis_commands.specs.private.Commands.{IsCommandOf};
 
@@ -141,6 +144,16 @@ fn country_argument<'a>(alloc: Global) -> Arg<'a>
     word_argument(alloc, "dir", text)
 }
 
+/// The folder of a country and its lineage.
+fn country_submission_argument<'a>(alloc: Global) -> Arg<'a>
+    ensures rule { rule_of result ≡ word_rule (codes "dir") }
+    ensures local { result.global ≡ false }
+{
+    let text = "A folder with country.txt, classes.csv and a folder for each region, \
+        each with lineage.csv";
+    word_argument(alloc, "dir", text)
+}
+
 /// `country DIR`, with or without `--parcels`.
 fn country_command<'a>(alloc: Global) -> Result<Command<'a>, AllocError>
     ensures { IfOk result (λ c. IsCommandOf country_app c) }
@@ -228,6 +241,73 @@ fn exact_command<'a>(alloc: Global) -> Result<Command<'a>, AllocError>
     exact_command_for_release(alloc)?.arg(cert)?.arg(out)
 }
 
+/// `exact-country` with the register and the folder.
+fn exact_country_command_for_dir<'a>(alloc: Global) -> Result<Command<'a>, AllocError>
+    ensures { IfOk result (λ c. IsCommandOf exact_country_dir_app c) }
+{
+    let db = db_argument(alloc);
+    let dir = country_submission_argument(alloc);
+    Command::new(alloc, "exact-country")
+        .about("Writes the blocks of the splits and merges of a country that are marked exact")
+        .arg(db)?
+        .arg(dir)
+}
+
+/// `exact-country DB DIR FILE`.
+fn exact_country_command<'a>(alloc: Global) -> Result<Command<'a>, AllocError>
+    ensures { IfOk result (λ c. IsCommandOf exact_country_app c) }
+{
+    let text = "The file that the certificate with these blocks is written to";
+    let file = word_argument(alloc, "file", text);
+    exact_country_command_for_dir(alloc)?.arg(file)
+}
+
+/// The option that names a certificate with blocks.
+fn exact_argument<'a>(alloc: Global) -> Arg<'a>
+    ensures rule { rule_of result ≡ option_rule (codes "exact") }
+    ensures local { result.global ≡ false }
+{
+    let option = Arg::new(alloc, "exact")
+        .long("exact")
+        .action(ArgAction::Set)
+        .value_name("file");
+    described(
+        option,
+        "A certificate with the blocks of the splits and merges that are marked exact",
+    )
+}
+
+/// `publish-country` with the register and the year.
+fn publish_country_command_for_year<'a>(alloc: Global) -> Result<Command<'a>, AllocError>
+    ensures { IfOk result (λ c. IsCommandOf publish_country_year_app c) }
+{
+    let db = db_argument(alloc);
+    let year = year_argument(alloc);
+    Command::new(alloc, "publish-country")
+        .about("Checks a country that is cut into regions, and adds it to a register")
+        .arg(db)?
+        .arg(year)
+}
+
+/// `publish-country DB YEAR DIR`, without its options.
+fn publish_country_command_for_dir<'a>(alloc: Global) -> Result<Command<'a>, AllocError>
+    ensures { IfOk result (λ c. IsCommandOf publish_country_dir_app c) }
+{
+    let dir = country_submission_argument(alloc);
+    publish_country_command_for_year(alloc)?.arg(dir)
+}
+
+/// `publish-country DB YEAR DIR`, with or without `--exact FILE` and `--parcels`.
+fn publish_country_command<'a>(alloc: Global) -> Result<Command<'a>, AllocError>
+    ensures { IfOk result (λ c. IsCommandOf publish_country_app c) }
+{
+    let exact = exact_argument(alloc);
+    let parcels = parcels_argument(alloc);
+    publish_country_command_for_dir(alloc)?
+        .arg(exact)?
+        .arg(parcels)
+}
+
 /// `trace DB ID`.
 fn trace_command<'a>(alloc: Global) -> Result<Command<'a>, AllocError>
     ensures { IfOk result (λ c. IsCommandOf trace_app c) }
@@ -274,6 +354,8 @@ pub(crate) fn command_line<'a>(alloc: Global) -> Result<Command<'a>, AllocError>
     let line = joined(line, locate_command(alloc));
     let line = joined(line, locate_country_command(alloc));
     let line = joined(line, exact_command(alloc));
+    let line = joined(line, exact_country_command(alloc));
     let line = joined(line, publish_command(alloc));
+    let line = joined(line, publish_country_command(alloc));
     joined(line, trace_command(alloc))
 }

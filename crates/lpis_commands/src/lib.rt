@@ -39,6 +39,7 @@ pub use failure::{Failure, Name, print_failure};
 pub use laws::{a_check_has_one_answer, a_sum_of_areas_is_printed};
 pub use named::{
     CommandFiles, NamedFile, RegionFiles, SubmissionFiles, TableFiles, named_files, region_files,
+    region_lineage,
 };
 pub use outcome::Outcome;
 pub use outputs::write_text;

@@ -1,10 +1,11 @@
 //! The files of a command.
 
-ghost use Rattle.std.specs.Prelude.{◌≡◌, IfOk};
-ghost use Rattle.lpis_commands.specs.Files.{HasWords, classes_file, country_file, files_of};
-ghost use Rattle.lpis_commands.specs.Files.{files_of_region, files_of_submission, in_folder};
-ghost use Rattle.lpis_commands.specs.Files.{lineage_file, listed, region_listed, shown_file};
-ghost use Rattle.lpis_commands.specs.Files.{submission_listed, tables_in, tables_listed};
+ghost use Rattle.std.specs.Prelude.{◌≡◌, IfOk, string_bytes};
+ghost use Rattle.lpis_commands.specs.Files.{HasWords, cert_at, classes_file, country_file};
+ghost use Rattle.lpis_commands.specs.Files.{files_of, files_of_region, files_of_submission};
+ghost use Rattle.lpis_commands.specs.Files.{in_folder, lineage_file, listed, option_listed};
+ghost use Rattle.lpis_commands.specs.Files.{region_listed, shown_file, submission_listed};
+ghost use Rattle.lpis_commands.specs.Files.{tables_in, tables_listed};
 
 use crate::command::{Cmd, Detail};
 use crate::failure::Name;
@@ -123,6 +124,36 @@ pub enum CommandFiles<'a> {
         /// What is handed in.
         submission: SubmissionFiles,
     },
+    /// Of `publish-country`, beside those of its regions.
+    PublishCountry {
+        /// The path of the register, which is opened before the files.
+        db: &'a str,
+        /// The country's year.
+        year: u16,
+        /// The path of its folder, in which each region has a folder.
+        dir: &'a str,
+        /// The text that says how it is cut into regions.
+        country: NamedFile,
+        /// The table of classes that all regions have.
+        classes: NamedFile,
+        /// The certificate with the blocks of its exact lineage.
+        exact: Option<NamedFile>,
+        /// What is printed.
+        detail: Detail,
+    },
+    /// Of `exact-country`, beside those of its regions.
+    ExactCountry {
+        /// The path of the register, which is opened before the files.
+        db: &'a str,
+        /// The path of its folder, in which each region has a folder.
+        dir: &'a str,
+        /// The text that says how it is cut into regions.
+        country: NamedFile,
+        /// The table of classes that all regions have.
+        classes: NamedFile,
+        /// The certificate with the blocks of its exact lineage, which is written.
+        file: NamedFile,
+    },
     /// Of `trace`: none beside the register.
     Trace {
         /// The path of the register.
@@ -138,6 +169,16 @@ fn file_at(alloc: Global, path: &str, name: Name) -> Result<NamedFile, AllocErro
 {
     let path = String::from_str(alloc, path)?;
     Ok(NamedFile { path, name })
+}
+
+/// The certificate at a path, if there is one.
+fn cert_named(alloc: Global, path: Option<&str>) -> Result<Option<NamedFile>, AllocError>
+    ensures { IfOk result (λ i. option_listed i ≡ cert_at path.entry) }
+{
+    match path {
+        Some(path) => Ok(Some(file_at(alloc, path, Name::Cert)?)),
+        None => Ok(None),
+    }
 }
 
 /// A file in a folder.
@@ -191,14 +232,30 @@ fn submission_files(alloc: Global, dir: &str, cert: &str) -> Result<SubmissionFi
     })
 }
 
+/// The folder of the region of this name, in that of its country.
+fn region_folder(alloc: Global, dir: &str, name: &str) -> Result<String, AllocError>
+    ensures { IfOk result (λ folder. string_bytes folder ≡ in_folder dir.now name.now) }
+{
+    let folder = format!(in alloc; "{dir}/{name}")?;
+    Ok(folder)
+}
+
 /// The files of the region of this name, in the folder of a country.
 pub fn region_files(alloc: Global, dir: &str, name: &str) -> Result<RegionFiles, AllocError>
     ensures { IfOk result (λ i. region_listed i ≡ files_of_region dir.now name.now) }
 {
-    let folder = format!(in alloc; "{dir}/{name}")?;
+    let folder = region_folder(alloc, dir, name)?;
     let tables = tables_of(alloc, folder.as_str())?;
     let cert = file_in(alloc, folder.as_str(), "cert.txt", Name::Cert)?;
     Ok(RegionFiles { tables, cert })
+}
+
+/// The lineage table of the region of this name, in the folder of a country.
+pub fn region_lineage(alloc: Global, dir: &str, name: &str) -> Result<NamedFile, AllocError>
+    ensures { IfOk result (λ i. shown_file i ≡ lineage_file (in_folder dir.now name.now)) }
+{
+    let folder = region_folder(alloc, dir, name)?;
+    lineage_in(alloc, folder.as_str())
 }
 
 /// The files of a command, by its words.
@@ -249,6 +306,28 @@ pub fn named_files<'a>(alloc: Global, command: Cmd<'a>) -> Result<CommandFiles<'
             db,
             year,
             submission: submission_files(alloc, dir, cert)?,
+        }),
+        Cmd::PublishCountry {
+            db,
+            year,
+            dir,
+            exact,
+            detail,
+        } => Ok(CommandFiles::PublishCountry {
+            db,
+            year,
+            dir,
+            country: country_in(alloc, dir)?,
+            classes: classes_in(alloc, dir)?,
+            exact: cert_named(alloc, exact)?,
+            detail,
+        }),
+        Cmd::ExactCountry { db, dir, file } => Ok(CommandFiles::ExactCountry {
+            db,
+            dir,
+            country: country_in(alloc, dir)?,
+            classes: classes_in(alloc, dir)?,
+            file: file_at(alloc, file, Name::Cert)?,
         }),
         Cmd::Trace { db, id } => Ok(CommandFiles::Trace { db, id }),
     }
