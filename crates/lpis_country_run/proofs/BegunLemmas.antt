@@ -20,7 +20,9 @@ use Rattle.lpis_country_run.specs.CountryAnswer.{CountryEnds, IsCountryAnswer, I
 use Rattle.lpis_country_run.specs.CountryFailures.{CountryBreaksOff, CountryHalts}
 use Rattle.lpis_country_run.specs.Regions.{AreCountryRead, CountryInputs, IsCountry, Texts}
 use Rattle.lpis_country_run.specs.Beginning.{IsBegun, IsUnbegun}
-use Rattle.lpis_country_run.specs.private.Progressing.{HaveAllPassed, IsStart, RegionsBreakOff, RegionsEnd}
+use Rattle.lpis_country_run.specs.RegionsOutcome.{IsSettingOf, RegionsEnd}
+use Rattle.lpis_country_run.specs.private.Progressing.{RegionsBreakOff}
+use Rattle.lpis_country_run.specs.private.Progressing.{HasGathered, HaveAllPassed, IsStart}
 use Rattle.lpis_country_run.specs.private.Totals.{AreTotalsOf}
 use Rattle.lpis_country_run.proofs.PassedLemmas.{passed_length, passed_regions, passed_sound}
 
@@ -47,20 +49,41 @@ unbegun_no x a (inr (plan, planned, (fault, table, text, status))) e = two_is_no
 pub begun_setting : (List ℕ → Texts) → Detail → (x : CountryInputs) (b : Begun) → IsBegun x b → Setting
 begun_setting texts detail x b begun = setting_of texts detail begun.plan b.classes.items
 
--- a run over its regions can start
-pub starts : (texts : List ℕ → Texts) (detail : Detail) (x : CountryInputs) (b : Begun) (p : Progress) (begun : IsBegun x b) → IsSeamOf b.tiles.items b.classes.items [] p.seam
-    → ((r : Contents) → AreTotalsOf r [] p.totals) → IsStart (begun_setting texts detail x b begun) texts (map string_bytes b.names.items) detail p
-unfolding begun_setting
-starts texts detail x b p begun seam totals = record {
-  at = record {
-    seam = subst (λ tiles. IsSeamOf tiles b.classes.items [] p.seam) begun.tiles_are seam;
-    totals = totals (record { parcels = []; pieces = []; classes = b.classes.items });
-    few = let none = (totals (record { parcels = []; pieces = []; classes = b.classes.items })).parcels in omega (arith, none);
-  };
-  run = record { texts_are = refl; others = record { names_are = sym begun.names_are; detail_is = refl } };
-  as_many = length-map b.names.items string_bytes ∙ begun.as_many ∙ ap length begun.tiles_are;
-  few = subst (λ (n : ℕ). n ≤ 10000) (sym (ap length begun.names_are)) begun.few;
+-- it is that of a run over its regions
+pub setting_begun : (texts : List ℕ → Texts) (detail : Detail) (x : CountryInputs) (b : Begun) (begun : IsBegun x b)
+    → IsSettingOf (setting_of texts detail begun.plan b.classes.items) texts detail b
+setting_begun texts detail x b begun = record {
+  texts_are = refl;
+  detail_is = refl;
+  names_are = begun.names_are;
+  tiles_are = begun.tiles_are;
+  classes_are = refl;
+  tiling = tiling_of begun.plan;
+  tiles_of = refl;
+  as_many = begun.as_many;
+  few = begun.few;
 }
+
+-- a run over the regions of what was begun can start
+pub starts_of : (s : Setting) (texts : List ℕ → Texts) (detail : Detail) (b : Begun) (p : Progress) → IsSettingOf s texts detail b → IsSeamOf b.tiles.items b.classes.items [] p.seam
+    → ((r : Contents) → AreTotalsOf r [] p.totals) → HasGathered [] p.gathered → IsStart s texts (map string_bytes b.names.items) detail p
+starts_of s texts detail b p set seam totals gathered = record {
+  at = record {
+    seam = subst (λ tiles. IsSeamOf tiles s.classes [] p.seam) set.tiles_are (subst (λ classes. IsSeamOf b.tiles.items classes [] p.seam) set.classes_are seam);
+    totals = totals (record { parcels = []; pieces = []; classes = s.classes });
+    few = let none = (totals (record { parcels = []; pieces = []; classes = s.classes })).parcels in omega (arith, none);
+    gathered = gathered;
+  };
+  run = record { texts_are = set.texts_are; others = record { names_are = sym set.names_are; detail_is = set.detail_is } };
+  as_many = length-map b.names.items string_bytes ∙ set.as_many ∙ ap length set.tiles_are;
+  few = subst (λ (n : ℕ). n ≤ 10000) (sym (ap length set.names_are)) set.few;
+}
+
+-- so it can over those of a country's inputs
+pub starts : (texts : List ℕ → Texts) (detail : Detail) (x : CountryInputs) (b : Begun) (p : Progress) (begun : IsBegun x b) → IsSeamOf b.tiles.items b.classes.items [] p.seam
+    → ((r : Contents) → AreTotalsOf r [] p.totals) → HasGathered [] p.gathered → IsStart (begun_setting texts detail x b begun) texts (map string_bytes b.names.items) detail p
+unfolding begun_setting
+starts texts detail x b p begun = starts_of (setting_of texts detail begun.plan b.classes.items) texts detail b p (setting_begun texts detail x b begun)
 
 -- the regions of all folders make up a country
 all-country : (texts : List ℕ → Texts) (detail : Detail) (x : CountryInputs) (b : Begun) (begun : IsBegun x b) (all : List Contents) → JoinedCountryIsSound → JoinedCountryIsUnion

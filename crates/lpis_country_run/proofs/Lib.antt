@@ -1,4 +1,5 @@
 pub mod BegunLemmas
+pub mod JoiningLemmas
 pub mod PassedLemmas
 pub mod PlaceLemmas
 pub mod RunLemmas

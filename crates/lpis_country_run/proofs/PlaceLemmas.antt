@@ -1,6 +1,6 @@
 -- Parcels at places among those of a release.
-use Rattle.std.proofs.Common.{◌≡◌, ◌<◌, ◌∙◌, ◌∷◌, [], sym, ap, subst, arith, ℕ, List, None, Some, get_or, length, map}
-use Rattle.std.proofs.lemmas.List.{get_or-map, length-map}
+use Rattle.std.proofs.Common.{◌≡◌, ◌<◌, ◌∙◌, ◌++◌, ◌∷◌, ◌+◌, [], sym, ap, ap₂, subst, arith, ℕ, List, None, Some, get_or, length, map, take}
+use Rattle.std.proofs.lemmas.List.{append_assoc, get_or-map, length-map, take_more}
 use Rattle.std.proofs.lemmas.Option.{slice_get_within}
 use Rattle.std.specs.List.{slice_get}
 use Rattle.lpis_parcels.specs.declared.parcel.Parcel.{Parcel}
@@ -31,3 +31,10 @@ same_place xs places ks i d k e lt at = cc (sym at ∙ at_place xs places ks i d
 -- the same places
 pub same_places : (r : Contents) (a b : List ℕ) (ks : List Parcel) → a ≡ b → AreAt r b ks → AreAt r a ks
 same_places r a b ks e h = subst (λ (x : List ℕ). AreAt r x ks) (sym e) h
+
+-- a copy of the parcel at the next place behind others
+pub copy_more : (before now new ks : List Parcel) (i : ℕ) (k c : Parcel) → now ≡ before ++ take i ks → new ≡ now ++ c ∷ [] → c ≡ k → i < length ks → k ≡ get_or ks i k
+    → new ≡ before ++ take (i + 1) ks
+copy_more before now new ks i k c are more copy lt is =
+    more ∙ ap₂ (λ (xs : List Parcel) (x : Parcel). xs ++ x ∷ []) are (copy ∙ is) ∙ append_assoc before (take i ks) (get_or ks i k ∷ [])
+    ∙ ap (λ (xs : List Parcel). before ++ xs) (sym (take_more ks i k lt))

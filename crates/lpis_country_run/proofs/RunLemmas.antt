@@ -1,5 +1,5 @@
 -- How a run over regions goes on, and ends.
-use Rattle.std.proofs.Common.{◌≡◌, ◌<◌, ◌≤◌, ◌⊎◌, ◌∙◌, ◌++◌, ◌∷◌, ◌+◌, ◌*◌, [], refl, sym, ap, ap₂, subst, arith, inl, inr, IfErr, IfOk, IsErrAnd}
+use Rattle.std.proofs.Common.{◌≡◌, ◌≢◌, ◌<◌, ◌≤◌, ◌⊎◌, ◌∙◌, ◌++◌, ◌∷◌, ◌+◌, ◌*◌, [], refl, sym, ap, ap₂, subst, arith, inl, inr, IfErr, IfOk, IsErrAnd}
 use Rattle.std.proofs.Common.{OnOk, ℕ, List, All, Option, None, Some, Result, Ok, Err, Vec, drop, get_or, length, map, take}
 use Rattle.std.proofs.Math.Seq.{take-append-add}
 use Rattle.std.proofs.lemmas.List.{append-nil, drop_more, length-append, length-map}
@@ -12,7 +12,7 @@ use Rattle.lpis_commands.specs.declared.failure.Failure.{Failure}
 use Rattle.lpis_commands.specs.declared.failure.Failure.TheVariants.{Memory, Read, Write, Store, StoreMemory}
 use Rattle.lpis_commands.specs.declared.failure.Name.{Name}
 use Rattle.lpis_commands.specs.declared.failure.Name.TheVariants.{Cert, Classes, Covers, Out, Parcels}
-use Rattle.lpis_commands.specs.CheckAnswer.{Inputs, IsProvedOf}
+use Rattle.lpis_commands.specs.CheckAnswer.{Answer, Inputs, IsProvedOf}
 use Rattle.lpis_commands.specs.declared.answer.Answer.{Answer as Printed}
 use Rattle.lpis_commands.specs.Status.{done}
 use Rattle.lpis_commands.specs.Streams.{Begins}
@@ -31,11 +31,13 @@ use Rattle.lpis_country_run.specs.CountryAnswer.{HavePassed, None as NonePassed,
 use Rattle.lpis_country_run.specs.CountryFailures.{IsOfNone, IsStoppedBefore, IsUnreadFolder}
 use Rattle.lpis_country_run.specs.CountryLines.{country_lines, region_report}
 use Rattle.lpis_country_run.specs.Regions.{AreOfFolder, Texts}
-use Rattle.lpis_country_run.specs.private.Progressing.{AreOfRun, FollowsAs, HaveAllPassed, IsAt, IsFailureOf, IsFinished, IsHere, IsReady, IsStart, IsUnfinished}
-use Rattle.lpis_country_run.specs.private.Progressing.{IsUnwritten, IsVerdict, IsVerdictText, IsWritten, RegionsBreakOff, RegionsEnd}
-use Rattle.lpis_country_run.specs.private.Totals.{AreTotalsOf, last_lines}
-use Rattle.lpis_country_run.proofs.PassedLemmas.{passed_more, reached_by, refused_next}
-use Rattle.lpis_country_run.proofs.TotalsLemmas.{few_new, last_lines_are, totals_grow}
+use Rattle.lpis_country_run.specs.RegionsOutcome.{RegionsEnd, RegionsStop}
+use Rattle.lpis_country_run.specs.private.Progressing.{RegionsBreakOff}
+use Rattle.lpis_country_run.specs.private.Progressing.{AreOfRun, FollowsAs, HasGathered, HasPassedAll, IsAt, IsFailureOf, IsFinished, IsHere, IsReady, IsStart, IsUnfinished}
+use Rattle.lpis_country_run.specs.private.Progressing.{IsUnwritten, IsVerdict, IsVerdictText, IsWritten, RegionsPass}
+use Rattle.lpis_country_run.specs.private.Totals.{AreTotalsOf, IsPrintable, last_lines}
+use Rattle.lpis_country_run.proofs.PassedLemmas.{passed_length, passed_more, reached_by, refused_next}
+use Rattle.lpis_country_run.proofs.TotalsLemmas.{bounded_of, few_new, last_lines_are, printable, totals_grow}
 
 -- ---- writers
 -- a beginning of what follows a text
@@ -114,15 +116,26 @@ goes_on s names p q n old now new name here are lt is (r, passes, written, at) =
   number = length-append here.before (r ∷ []) ∙ ap (λ (k : ℕ). k + 1) here.number;
 }
 
+-- a region that is refused is no yes
+refused-no : (s : Setting) (before : List Contents) (name text : List ℕ) (status : ℕ) → IsRefusedRegion s before name (text, status) → status ≢ done
+refused-no s before name text status (x, told, inl (b, refusal, is)) = λ e. refusal.1 (sym (ap (λ (a : Answer). a.1) is) ∙ e)
+refused-no s before name text status (x, told, inr at) = one-is-not-done status (ap (λ (a : Answer). a.1) at.is)
+  where
+    one-is-not-done : (n : ℕ) → n ≡ 1 → n ≡ 0 → ⊥
+    one-is-not-done n one zero = omega arith
+
 -- the next region is refused
 pub is_refused : (s : Setting) (names : List (List ℕ)) (p q : Progress) (n status : ℕ) (old now new : Option (List ℕ)) (name : List ℕ) (here : IsHere s p n old now) → s.names ≡ names
     → n < length names
-    → name ≡ get_or names n [] → IsWritten s here.before name q now new (Some status) → RegionsEnd s old new status
+    → name ≡ get_or names n [] → IsWritten s here.before name q now new (Some status) → RegionsPass s q old new (Some status)
 is_refused s names p q n status old now new name here are lt is (text, refusal, written) = (
-  here.text ++ text,
-  refused_next s n here.before here.text name text status (subst (λ (ks : List (List ℕ)). n < length ks) (sym are) lt)
-      (is ∙ ap (λ (ks : List (List ℕ)). get_or ks n []) (sym are)) here.have_passed refusal,
-  appends-more old now new here.text text here.written written,
+  (
+    here.text ++ text,
+    refused_next s n here.before here.text name text status (subst (λ (ks : List (List ℕ)). n < length ks) (sym are) lt)
+        (is ∙ ap (λ (ks : List (List ℕ)). get_or ks n []) (sym are)) here.have_passed refusal,
+    appends-more old now new here.text text here.written written,
+  ),
+  refused-no s here.before name text status refusal,
 )
 
 -- ---- one region more
@@ -133,11 +146,12 @@ last-of P (y ∷ xs) x h = last-of P xs x (All-tail P y (xs ++ x ∷ []) h)
 counted : (q p l w n m : ℕ) → q ≡ l → l ≡ p + w → p ≤ 200000 * n → w ≤ 200000 → m ≡ n + 1 → q ≤ 200000 * m
 counted q p l w n m a b c d e = omega arith
 
--- a progress with a region more in its seam, and its new parcels in its totals, is that of the regions with this one
+-- a progress with a region more in its seam, its new parcels in its totals and with what was gathered, is that of the regions with this one
 pub goes_at : (s : Setting) (before : List Contents) (r : Contents) (p q : Progress) (t : Totals) → IsAt s before p → IsSeamOf s.tiles s.classes (before ++ r ∷ []) q.seam → length r.parcels ≤ 200000
     → AreTotalsOf r (new_parcels (country_of s.classes before) r) t
-    → ((x : Contents) (ks ls : List Parcel) → AreTotalsOf x ks p.totals → AreTotalsOf x ls t → AreTotalsOf x (ks ++ ls) q.totals) → IsAt s (before ++ r ∷ []) q
-goes_at s before r p q t at seam few news plus =
+    → ((x : Contents) (ks ls : List Parcel) → AreTotalsOf x ks p.totals → AreTotalsOf x ls t → AreTotalsOf x (ks ++ ls) q.totals)
+    → HasGathered ((country_of s.classes before).parcels ++ new_parcels (country_of s.classes before) r) q.gathered → IsAt s (before ++ r ∷ []) q
+goes_at s before r p q t at seam few news plus gathered =
     let u = country_of s.classes before in
     let same : r.classes ≡ s.classes = last-of (λ (x : Contents). x.classes ≡ s.classes) before r seam.joined.classes_are in
     let totals = totals_grow s.classes before r p.totals t q.totals at.seam.joined.regions_are same at.totals news plus in
@@ -147,6 +161,7 @@ goes_at s before r p q t at seam few news plus =
       totals = totals;
       few = counted q.totals.parcels (length u.parcels) _ (length (new_parcels u r)) (length before) _ totals.parcels grown (subst (λ (n : ℕ). n ≤ 200000 * length before) at.totals.parcels at.few)
           (few_new u r 200000 few) (length-append before (r ∷ []));
+      gathered = subst (λ (c : Contents). HasGathered c.parcels q.gathered) (sym (country_snoc s.classes before r)) gathered;
     }
 
 -- ---- the next region
@@ -162,7 +177,7 @@ next_region s texts bytes xs ys detail p n same lt start =
 
 -- ---- breaking off
 -- where a folder is not read, memory ran out, or a file was not read
-unread_is : (t : Texts) (failure : Failure) → IsUnreadFolder t failure → (failure ≡ Memory) ⊎ ((file : Name) × (failure ≡ Read file))
+pub unread_is : (t : Texts) (failure : Failure) → IsUnreadFolder t failure → (failure ≡ Memory) ⊎ ((file : Name) × (failure ≡ Read file))
 unread_is t failure (inl (inl e)) = inl e
 unread_is t failure (inl (inr (inl (may, e)))) = inr (Parcels, e)
 unread_is t failure (inl (inr (inr (inl (may, e))))) = inr (Covers, e)
@@ -194,15 +209,16 @@ is_stopped texts StoreMemory name left f u h = absurd (no_other StoreMemory (unr
 -- a beginning of the verdict on the next region was written
 begun-verdict : (s : Setting) (n : ℕ) (before : List Contents) (lines name text : List ℕ) → n < length s.names → name ≡ get_or s.names n [] → HavePassed s (take n s.names) before lines
     → IsVerdictText s before name text
-    → ((regions : List Contents) × (left : List (List ℕ)) × IsReachedBy s regions (lines ++ text) left) ⊎ ((status : ℕ) × IsRegionsAnswer s (lines ++ text, status))
+    → ((regions : List Contents) × (left : List (List ℕ)) × IsReachedBy s regions (lines ++ text) left) ⊎ ((status : ℕ) × (status ≢ done) × IsRegionsAnswer s (lines ++ text, status))
 begun-verdict s n before lines name text lt is h (inl (r, passes, same)) =
     let reached = reached_by s (n + 1) (before ++ r ∷ []) (lines ++ region_report s.detail (country_of s.classes before) name r) (passed_more s n before lines name r lt is h passes) in
     inl (before ++ r ∷ [], drop (n + 1) s.names, subst (λ (x : List ℕ). IsReachedBy s (before ++ r ∷ []) (lines ++ x) (drop (n + 1) s.names)) (sym same) reached)
-begun-verdict s n before lines name text lt is h (inr (status, refusal)) = inr (status, refused_next s n before lines name text status lt is h refusal)
+begun-verdict s n before lines name text lt is h (inr (status, refusal)) =
+    inr (status, refused-no s before name text status refusal, refused_next s n before lines name text status lt is h refusal)
 
 -- where the next folder is not read, or the output fails within the verdict on it, the run breaks off
 pub breaks_off : (s : Setting) (names : List (List ℕ)) (p : Progress) (n : ℕ) (old now new : Option (List ℕ)) (name : List ℕ) (failure : Failure) (f : CountryFailure) (here : IsHere s p n old now)
-    → s.names ≡ names → n < length names → name ≡ get_or names n [] → IsUnwritten s here.before name now new failure → IsFailureOf failure name f → RegionsBreakOff s old new f
+    → s.names ≡ names → n < length names → name ≡ get_or names n [] → IsUnwritten s here.before name now new failure → IsFailureOf failure name f → RegionsStop s old new f
 breaks_off s names p n old now new name failure f here are lt is (inl (unread, keeps)) of =
     let there = subst (λ (ks : List (List ℕ)). n < length ks) (sym are) lt in
     let named = is ∙ ap (λ (ks : List (List ℕ)). get_or ks n []) (sym are) in
@@ -221,6 +237,12 @@ breaks_off s names p n old now new name failure f here are lt is (inr (write, (t
       subst (λ (x : Failure). IsFailureOf x name f) write of,
       (here.text ++ text, begun-verdict s n here.before here.text name text there named here.have_passed verdict, begins-more old now new here.text text here.written begins),
     )
+
+-- a run that stops before its last region breaks off
+pub stop_breaks_off : (s : Setting) (old new : Option (List ℕ)) (f : CountryFailure) → RegionsStop s old new f → RegionsBreakOff s old new f
+stop_breaks_off s old new f (inl stopped) = inl stopped
+stop_breaks_off s old new f (inr (of, (text, inl part, begins))) = inr (of, (text, inl part, begins))
+stop_breaks_off s old new f (inr (of, (text, inr (status, other, answer), begins))) = inr (of, (text, inr (status, answer), begins))
 
 -- ---- the end
 -- the country's lines are of what passed
@@ -241,68 +263,72 @@ pub finishes_not : (s : Setting) (regions : List Contents) (r : Result ℕ Failu
 finishes_not s regions (Ok n) old new text is h = tt
 finishes_not s regions (Err f) old new text is h = inr (h.0, subst (Begins old new) is h.1)
 
--- all regions passed
-all-reached : (s : Setting) (names : List (List ℕ)) (p : Progress) (n : ℕ) (old now : Option (List ℕ)) (here : IsHere s p n old now) → s.names ≡ names → n ≡ length names
-    → IsReachedBy s here.before here.text []
-all-reached s names p n old now here are e =
-    subst (IsReachedBy s here.before here.text) (ap (λ (k : ℕ). drop k s.names) (e ∙ sym (ap length are)) ∙ drop-all s.names) (reached_by s n here.before here.text here.have_passed)
-  where
-    drop-all : (xs : List (List ℕ)) → drop (length xs) xs ≡ []
-    drop-all [] = refl
-    drop-all (x ∷ xs) = drop-all xs
-
--- after all regions passed, a run that is finished ends with its status
-pub all_end : (s : Setting) (names : List (List ℕ)) (p : Progress) (n status : ℕ) (old now new : Option (List ℕ)) (here : IsHere s p n old now) → s.names ≡ names → n ≡ length names
-    → IsFinished s here.before now new status → RegionsEnd s old new status
-all_end s names p n status old now new here are e fin = (
-  here.text ++ country_lines (length here.before) (country_of s.classes here.before),
-  record {
-    regions = here.before;
-    text = here.text;
-    left = [];
-    reached = all-reached s names p n old now here are e;
-    end = (country_lines (length here.before) (country_of s.classes here.before), done);
-    follows = refl;
-    is = ap (λ (k : ℕ). (here.text ++ country_lines (length here.before) (country_of s.classes here.before), k)) fin.done_is;
-  },
-  appends-more old now new here.text (country_lines (length here.before) (country_of s.classes here.before)) here.written fin.written,
-)
-
--- after all regions passed, a run that is not finished breaks off
-pub all_break_off : (s : Setting) (names : List (List ℕ)) (p : Progress) (n : ℕ) (old now new : Option (List ℕ)) (failure : Failure) (f : CountryFailure) (here : IsHere s p n old now)
-    → s.names ≡ names
-    → n ≡ length names → IsUnfinished s here.before now new failure → IsOfNone f failure → RegionsBreakOff s old new f
-all_break_off s names p n old now new failure f here are e (inl (memory, keeps)) of =
-    inl (here.before, here.text, [], all-reached s names p n old now here are e, subst (λ (x : Failure). IsOfNone f x) memory of, appends-kept old now new here.text here.written keeps)
-all_break_off s names p n old now new failure f here are e (inr (write, begins)) of =
-    let text = here.text ++ country_lines (length here.before) (country_of s.classes here.before) in
-    let whole : IsRegionsAnswer s (text, done) = record {
-      regions = here.before;
-      text = here.text;
-      left = [];
-      reached = all-reached s names p n old now here are e;
-      end = (country_lines (length here.before) (country_of s.classes here.before), done);
-      follows = refl;
-      is = refl;
-    } in
-    let begun = begins-more old now new here.text (country_lines (length here.before) (country_of s.classes here.before)) here.written begins in
-    inr (subst (λ (x : Failure). IsOfNone f x) write of, (text, inr (done, whole), begun))
-
--- where as many regions passed as there are folders, those of all folders passed, and they are joined
-pub all_passed : (s : Setting) (names : List (List ℕ)) (p : Progress) (n : ℕ) (old now : Option (List ℕ)) (here : IsHere s p n old now) → s.names ≡ names → n ≡ length names
-    → HaveAllPassed s here.before
-all_passed s names p n old now here are e = (
-  (
-    here.text,
-    subst (λ (ks : List (List ℕ)). HavePassed s ks here.before here.text)
-        (ap (λ (k : ℕ). take k s.names) (e ∙ sym (ap length are)) ∙ take-all s.names) here.have_passed,
-  ),
-  here.at.seam.joined,
-)
+-- where as many regions passed as there are folders, those of all folders passed
+pub has_passed_all : (s : Setting) (names : List (List ℕ)) (p : Progress) (n : ℕ) (old now : Option (List ℕ)) (here : IsHere s p n old now) → s.names ≡ names → n ≡ length names
+    → HasPassedAll s p old now
+has_passed_all s names p n old now here are e = record {
+  regions = here.before;
+  lines = here.text;
+  have_passed = subst (λ (ks : List (List ℕ)). HavePassed s ks here.before here.text) (ap (λ (k : ℕ). take k s.names) (e ∙ sym (ap length are)) ∙ take-all s.names) here.have_passed;
+  at = here.at;
+  written = here.written;
+}
   where
     take-all : (xs : List (List ℕ)) → take (length xs) xs ≡ xs
     take-all [] = refl
     take-all (x ∷ xs) = ap (λ (ys : List (List ℕ)). x ∷ ys) (take-all xs)
+
+-- they leave no folder
+pub all_left : (s : Setting) (regions : List Contents) (lines : List ℕ) → HavePassed s s.names regions lines → IsReachedBy s regions lines []
+all_left s regions lines h = record { passed = s.names; all = sym (append-nil s.names); have_passed = h }
+
+-- there are as many as folders
+pub all_number : (s : Setting) (names : List (List ℕ)) (p : Progress) (old now : Option (List ℕ)) (h : HasPassedAll s p old now) → s.names ≡ names → length names ≡ length h.regions
+all_number s names p old now h are = sym (ap length are) ∙ passed_length s s.names h.regions h.lines h.have_passed
+
+-- what their country has can be printed
+pub all_printable : (s : Setting) (regions : List Contents) (p : Progress) (n : ℕ) → IsAt s regions p → n ≡ length regions → n ≤ 10000 → IsPrintable p.totals
+all_printable s regions p n at e few =
+    let u = country_of s.classes regions in
+    printable p.totals (bounded_of u u.parcels p.totals at.totals) (few-parcels p.totals.parcels (length regions) n at.few e few)
+  where
+    few-parcels : (k i m : ℕ) → k ≤ 200000 * i → m ≡ i → m ≤ 10000 → k ≤ 200000 * 10000
+    few-parcels k i m a b c = omega arith
+
+-- after them a run that is finished ends with its status
+pub all_end : (s : Setting) (p : Progress) (status : ℕ) (old now new : Option (List ℕ)) (h : HasPassedAll s p old now) → IsFinished s h.regions now new status → RegionsEnd s old new status
+all_end s p status old now new h fin = (
+  h.lines ++ country_lines (length h.regions) (country_of s.classes h.regions),
+  record {
+    regions = h.regions;
+    text = h.lines;
+    left = [];
+    reached = all_left s h.regions h.lines h.have_passed;
+    end = (country_lines (length h.regions) (country_of s.classes h.regions), done);
+    follows = refl;
+    is = ap (λ (k : ℕ). (h.lines ++ country_lines (length h.regions) (country_of s.classes h.regions), k)) fin.done_is;
+  },
+  appends-more old now new h.lines (country_lines (length h.regions) (country_of s.classes h.regions)) h.written fin.written,
+)
+
+-- a run that is not finished breaks off
+pub all_break_off : (s : Setting) (p : Progress) (old now new : Option (List ℕ)) (failure : Failure) (f : CountryFailure) (h : HasPassedAll s p old now) → IsUnfinished s h.regions now new failure
+    → IsOfNone f failure → RegionsBreakOff s old new f
+all_break_off s p old now new failure f h (inl (memory, keeps)) of =
+    inl (h.regions, h.lines, [], all_left s h.regions h.lines h.have_passed, subst (λ (x : Failure). IsOfNone f x) memory of, appends-kept old now new h.lines h.written keeps)
+all_break_off s p old now new failure f h (inr (write, begins)) of =
+    let text = h.lines ++ country_lines (length h.regions) (country_of s.classes h.regions) in
+    let whole : IsRegionsAnswer s (text, done) = record {
+      regions = h.regions;
+      text = h.lines;
+      left = [];
+      reached = all_left s h.regions h.lines h.have_passed;
+      end = (country_lines (length h.regions) (country_of s.classes h.regions), done);
+      follows = refl;
+      is = refl;
+    } in
+    let begun = begins-more old now new h.lines (country_lines (length h.regions) (country_of s.classes h.regions)) h.written begins in
+    inr (subst (λ (x : Failure). IsOfNone f x) write of, (text, inr (done, whole), begun))
 
 -- an error that is known
 pub err_is : {A E : Type 0} (r : Result A E) (P Q : E → Type 0) → IsErrAnd r P → ((e : E) → P e → Q e) → IfErr r Q

@@ -3,4 +3,5 @@ pub mod CountryAnswer
 pub mod CountryFailures
 pub mod CountryLines
 pub mod Regions
+pub mod RegionsOutcome
 pub mod private

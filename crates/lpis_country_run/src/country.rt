@@ -1,6 +1,6 @@
 //! The run over the regions of a country.
 
-ghost use Rattle.std.specs.Prelude.{◌≡◌, ◌<◌, [], IfErr, IfOk, OnOk, List, get_or, length, map, ℕ};
+ghost use Rattle.std.specs.Prelude.{◌≡◌, IfErr, IfOk, List, length, map, ℕ};
 ghost use Rattle.std.specs.String.{string_bytes};
 ghost use Rattle.lpis_parcels.specs.Release.{Contents};
 ghost use Rattle.lpis_commands.specs.Status.{done};
@@ -8,18 +8,19 @@ ghost use Rattle.lpis_commands.specs.declared.command.Detail.{Detail};
 ghost use Rattle.lpis_country_run.specs.CountryAnswer.{CountryEnds, Setting};
 ghost use Rattle.lpis_country_run.specs.CountryFailures.{CountryBreaksOff, CountryHalts};
 ghost use Rattle.lpis_country_run.specs.Regions.{AreCountryRead, CountryInputs, Texts};
+ghost use Rattle.lpis_country_run.specs.RegionsOutcome.{RegionsEnd};
+ghost use Rattle.lpis_country_run.specs.private.Progressing.{RegionsBreakOff};
 ghost use Rattle.lpis_country_run.specs.Beginning.{IsBegun, IsUnbegun};
-ghost use Rattle.lpis_country_run.specs.private.Progressing.{AreOfRun, HaveAllPassed, IsAt};
-ghost use Rattle.lpis_country_run.specs.private.Progressing.{IsBrokenOff, IsFinished};
-ghost use Rattle.lpis_country_run.specs.private.Progressing.{IsReady, IsStart, IsUnfinished};
-ghost use Rattle.lpis_country_run.specs.private.Progressing.{IsWritten, RegionsBreakOff, RegionsEnd};
+ghost use Rattle.lpis_country_run.specs.private.Progressing.{HaveAllPassed, IsAt, IsFinished};
+ghost use Rattle.lpis_country_run.specs.private.Progressing.{IsStart, IsUnfinished};
 ghost use Rattle.lpis_country_run.specs.private.Totals.{IsPrintable};
 
 use crate::beginning::{Begun, begin, read_top};
 use crate::failure::CountryFailure;
-use crate::folder::{Regions, of_region};
-use crate::judging::pass;
+use crate::folder::Regions;
+use crate::gathering::Gathered;
 use crate::lines::report_country;
+use crate::passing::pass_regions;
 use crate::progress::Progress;
 use crate::totals::Totals;
 use lpis_commands::{Answer, Detail, Failure};
@@ -27,44 +28,6 @@ use lpis_country_seam::OpenSeam;
 use lpis_country_seam::laws::a_country_of_joined_regions_is_sound;
 use std::alloc::Global;
 use std::io::{Read, Write};
-
-/// Reads and judges the region of this number, and writes what is printed of it. Some is the status
-/// of one that is refused.
-fn pass_at<G: Regions, W: Write>(
-    alloc: Global,
-    regions: &G,
-    names: &mut Vec<String>,
-    index: usize,
-    detail: Detail,
-    progress: &mut Progress,
-    out: &mut W,
-) -> Result<Option<u8>, CountryFailure>
-    requires inside { index < length names.old.items }
-    requires ready { IsReady progress.old }
-    ensures names { OnOk result (names.new.items ≡ names.old.items) }
-    ensures written { (s : Setting) (before : List Contents) → IsAt s before progress.old
-        → AreOfRun s (G.texts regions.now) (map string_bytes names.old.items) detail
-        → IfOk result (IsWritten s before (get_or (map string_bytes names.old.items) index [])
-        progress.new (W.contents out.old) (W.contents out.new)) }
-    ensures failure { (s : Setting) (before : List Contents) → IsAt s before progress.old
-        → AreOfRun s (G.texts regions.now) (map string_bytes names.old.items) detail
-        → IfErr result (IsBrokenOff s before (get_or (map string_bytes names.old.items) index [])
-        (W.contents out.old) (W.contents out.new)) }
-{
-    let passed = pass(
-        alloc,
-        regions,
-        names.as_slice(),
-        names[index].as_str(),
-        detail,
-        progress,
-        out,
-    );
-    match passed {
-        Ok(status) => Ok(status),
-        Err(failure) => Err(of_region(failure, names, index)),
-    }
-}
 
 /// Writes the line of the country of so many regions, and the yes.
 fn finish<W: Write>(
@@ -106,13 +69,10 @@ fn run_regions<G: Regions, W: Write>(
         (map string_bytes names.old.items) detail progress.old
         → IfErr result (RegionsBreakOff s (W.contents out.old) (W.contents out.new)) }
 {
-    for index in 0..names.len() {
-        match pass_at(alloc, regions, names, index, detail, progress, out)? {
-            Some(status) => return Ok(status),
-            None => {}
-        }
+    match pass_regions(alloc, regions, names, progress, detail, out)? {
+        Some(status) => Ok(status),
+        None => Ok(finish(alloc, names.len(), progress, out)?),
     }
-    Ok(finish(alloc, names.len(), progress, out)?)
 }
 
 /// The run over the regions of a plan.
@@ -139,6 +99,7 @@ fn run_begun<G: Regions, W: Write>(
     let mut progress = Progress {
         seam: OpenSeam::new(alloc, tiles, classes),
         totals: Totals::none(),
+        gathered: Gathered::Nothing,
     };
     // What all have passed is a sound map.
     a_country_of_joined_regions_is_sound();

@@ -1,6 +1,6 @@
 //! What the next region comes to.
 
-ghost use Rattle.std.specs.Prelude.{IfErr, IfOk, List, map, ℕ};
+ghost use Rattle.std.specs.Prelude.{◌≡◌, IfErr, IfOk, List, OnOk, map, ℕ};
 ghost use Rattle.std.specs.String.{string_bytes};
 ghost use Rattle.lpis_parcels.specs.Release.{Contents};
 ghost use Rattle.lpis_commands.specs.Inputs.{inputs_of};
@@ -10,6 +10,7 @@ ghost use Rattle.lpis_country_run.specs.Regions.{AreOfFolder};
 ghost use Rattle.lpis_country_run.specs.declared.progress.Progress.{Progress};
 ghost use Rattle.lpis_country_run.specs.private.Progressing.{AreOfRun, AreOfSetting, IsAt, IsReady};
 ghost use Rattle.lpis_country_run.specs.private.Progressing.{IsUnwritten, IsVerdict, IsWritten};
+ghost use Rattle.lpis_country_run.specs.private.Progressing.{gathers};
 
 use crate::folder::{Regions, read_folder};
 use crate::progress::{Progress, follow};
@@ -28,10 +29,11 @@ fn judge_inputs(
     inputs: InputBytes,
 ) -> Result<Result<Vec<u8>, Answer>, AllocError>
     requires { IsReady progress.old }
-    ensures { (s : Setting) (before : List Contents) → IsAt s before progress.old
+    ensures verdict { (s : Setting) (before : List Contents) → IsAt s before progress.old
         → AreOfSetting s (map string_bytes names.now) detail
         → AreOfFolder (inputs_of inputs) (s.texts name.now)
         → IfOk result (IsVerdict s before name.now progress.new) }
+    ensures wanted { OnOk result (gathers progress.new.gathered ≡ gathers progress.old.gathered) }
 {
     match checked_release(alloc, inputs)? {
         Ok(release) => follow(alloc, names, name, detail, progress, &release),
@@ -52,6 +54,7 @@ fn judge<G: Regions>(
     ensures verdict { (s : Setting) (before : List Contents) → IsAt s before progress.old
         → AreOfRun s (G.texts regions.now) (map string_bytes names.now) detail
         → IfOk result (IsVerdict s before name.now progress.new) }
+    ensures wanted { OnOk result (gathers progress.new.gathered ≡ gathers progress.old.gathered) }
     ensures failure { IfErr result (IsUnreadFolder (G.texts regions.now name.now)) }
 {
     let inputs = read_folder(alloc, regions, name)?;
@@ -96,6 +99,7 @@ pub(crate) fn pass<G: Regions, W: Write>(
         → AreOfRun s (G.texts regions.now) (map string_bytes names.now) detail
         → IfOk result (IsWritten s before name.now progress.new (W.contents out.old)
         (W.contents out.new)) }
+    ensures wanted { OnOk result (gathers progress.new.gathered ≡ gathers progress.old.gathered) }
     ensures failure { (s : Setting) (before : List Contents) → IsAt s before progress.old
         → AreOfRun s (G.texts regions.now) (map string_bytes names.now) detail
         → IfErr result (IsUnwritten s before name.now (W.contents out.old)

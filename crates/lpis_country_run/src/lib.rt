@@ -1,7 +1,8 @@
 //! The run over the regions of a country: each is read, checked, tested against those before it,
 //! and let go before the next one.
 //!
-//! The layer above may cite: text and status of `country`, over whatever opens the folders.
+//! The layer above may cite: text and status of `country`, over whatever opens the folders; what
+//! the run comes to that hands over the country's parcels.
 //! Begin at `specs/CountryAnswer.antt`, then `src/country.rt`.
 #![tactic(auto)]
 
@@ -9,8 +10,11 @@ mod beginning;
 mod country;
 mod failure;
 mod folder;
+mod gathering;
+mod joining;
 mod judging;
 mod lines;
+mod passing;
 mod progress;
 mod refusals;
 mod totals;
@@ -19,4 +23,5 @@ pub use beginning::{Begun, CountryBytes, begin, read_top};
 pub use country::run_country;
 pub use failure::{CountryFailure, print_country_failure};
 pub use folder::{Folder, Regions, read_region};
+pub use joining::{JoinedCountry, join_regions};
 pub use refusals::refuse_seam;

@@ -1,13 +1,14 @@
 //! How far a run over regions has come.
 
-ghost use Rattle.std.specs.Prelude.{◌≡◌, [], ◌∷◌, ◌++◌, IfOk, List, map};
+ghost use Rattle.std.specs.Prelude.{◌≡◌, [], ◌∷◌, ◌++◌, IfOk, List, OnOk, map};
 ghost use Rattle.std.specs.String.{string_bytes};
 ghost use Rattle.lpis_checker.specs.SoundMap.{AreasAdd};
 ghost use Rattle.lpis_parcels.specs.Release.{Contents};
 ghost use Rattle.lpis_country_run.specs.CountryAnswer.{Setting};
 ghost use Rattle.lpis_country_run.specs.private.Progressing.{AreOfSetting, FollowsAs, IsAt};
-ghost use Rattle.lpis_country_run.specs.private.Progressing.{IsReady};
+ghost use Rattle.lpis_country_run.specs.private.Progressing.{IsReady, gathers};
 
+use crate::gathering::Gathered;
 use crate::lines::report_region;
 use crate::refusals::refuse_seam;
 use crate::totals::{Totals, totals_at};
@@ -17,11 +18,13 @@ use lpis_country_seam::OpenSeam;
 use lpis_parcels::Release;
 use std::alloc::{AllocError, Global};
 
-/// What is kept of the regions that passed, and what their country has.
+/// What is kept of the regions that passed, what their country has, and its parcels if they are
+/// wanted.
 #[derive(Drop)]
 pub(crate) struct Progress {
     pub(crate) seam: OpenSeam,
     pub(crate) totals: Totals,
+    pub(crate) gathered: Gathered,
 }
 
 /// Tests a region that is a sound map against those before it: what is printed of it, or the answer
@@ -36,9 +39,10 @@ pub(crate) fn follow(
 ) -> Result<Result<Vec<u8>, Answer>, AllocError>
     requires ready { IsReady progress.old }
     requires areas { AreasAdd release.now }
-    ensures { (s : Setting) (before : List Contents) → IsAt s before progress.old
+    ensures follows { (s : Setting) (before : List Contents) → IsAt s before progress.old
         → AreOfSetting s (map string_bytes names.now) detail
         → IfOk result (FollowsAs s before name.now release.now progress.new) }
+    ensures wanted { OnOk result (gathers progress.new.gathered ≡ gathers progress.old.gathered) }
 {
     is_region(release);
     let _ = release.parcels();
@@ -47,6 +51,7 @@ pub(crate) fn follow(
             let text = report_region(alloc, name, release, places.as_slice(), detail)?;
             let totals = totals_at(release, places.as_slice());
             progress.totals = progress.totals.plus(totals);
+            progress.gathered.gather(alloc, release, places.as_slice())?;
             Ok(Ok(text))
         }
         Err(fault) => Ok(Err(refuse_seam(alloc, names, name, &fault)?)),

@@ -1,12 +1,14 @@
 -- How far a run over regions has come, and what the next region came to.
-use Rattle.std.specs.Prelude.{◌≡◌, ◌≤◌, ◌+◌, ◌*◌, ◌⊎◌, ◌++◌, ◌∷◌, [], ℕ, List, Option, Some, None}
-use Rattle.std.specs.Prelude.{Result, Ok, Err, Vec, length, take}
+use Rattle.std.specs.Prelude.{◌≡◌, ◌≢◌, ◌≤◌, ◌+◌, ◌*◌, ◌⊎◌, ◌++◌, ◌∷◌, [], ℕ, All, Bool, List}
+use Rattle.std.specs.Prelude.{Option, Some, None, Result, Ok, Err, Vec, true, false, length, take}
 use Rattle.std.specs.Io.KnownBytes.{Appends, Keeps}
 use Rattle.std.specs.Option.{option_map}
 use Rattle.std.specs.String.{string_bytes}
 use Rattle.std.specs.declared.alloc.Global.{Global}
 use Rattle.lpis_covers.specs.Table.{most_rows}
 use Rattle.lpis_parcels.specs.Release.{Contents}
+use Rattle.lpis_parcels.specs.declared.parcel.Parcel.{Parcel}
+use Rattle.lpis_checker.specs.SoundMap.{IsSoundMap}
 use Rattle.lpis_commands.specs.declared.answer.Answer.{Answer}
 use Rattle.lpis_commands.specs.declared.command.Detail.{Detail}
 use Rattle.lpis_commands.specs.declared.failure.Failure.{Failure}
@@ -15,10 +17,13 @@ use Rattle.lpis_commands.specs.declared.failure.Name.TheVariants.{Out}
 use Rattle.lpis_commands.specs.Status.{done, refused}
 use Rattle.lpis_commands.specs.Streams.{Begins}
 use Rattle.lpis_country.specs.Country.{country_of}
+use Rattle.lpis_country.specs.Tiling.{Tiling, frame, rectangles}
 use Rattle.lpis_country_plan.specs.Limits.{most_regions}
 use Rattle.lpis_country_seam.specs.declared.fault.SeamFault.{SeamFault}
 use Rattle.lpis_country_seam.specs.Faults.{IsFirstSeamFault, seam_faults}
 use Rattle.lpis_country_seam.specs.Open.{AreJoined, HasNext, IsSeamOf}
+use Rattle.lpis_country_run.specs.declared.gathering.Gathered.{Gathered}
+use Rattle.lpis_country_run.specs.declared.gathering.Gathered.TheVariants.{Nothing, Parcels}
 use Rattle.lpis_country_run.specs.declared.progress.Progress.{Progress}
 use Rattle.lpis_country_run.specs.declared.failure.CountryFailure.{CountryFailure}
 use Rattle.lpis_country_run.specs.CountryAnswer.{HavePassed, IsReachedBy, IsRefusedRegion}
@@ -26,6 +31,7 @@ use Rattle.lpis_country_run.specs.CountryAnswer.{IsRegionsAnswer, Passes, Settin
 use Rattle.lpis_country_run.specs.CountryFailures.{IsOfNone, IsStoppedBefore, IsUnreadFolder}
 use Rattle.lpis_country_run.specs.CountryLines.{country_lines, region_report, seam_refusal_text}
 use Rattle.lpis_country_run.specs.Regions.{Texts}
+use Rattle.lpis_country_run.specs.RegionsOutcome.{RegionsEnd}
 use Rattle.lpis_country_run.specs.private.Totals.{AreTotalsOf, most_parcels}
 
 -- the names and the detail are those of the setting
@@ -39,12 +45,23 @@ pub record AreOfRun (s : Setting) (texts : List ℕ → Texts) (names : List (Li
   pub texts_are : s.texts ≡ texts
   pub others : AreOfSetting s names detail
 
+-- parcels are wanted
+abbrev pub gathers : Gathered → Bool
+gathers Nothing = false
+gathers (Parcels gathered) = true
+
+-- these were gathered, or none are wanted
+abbrev pub HasGathered : List Parcel → Gathered → Type 0
+HasGathered ks Nothing = Unit {0}
+HasGathered ks (Parcels gathered) = gathered.items ≡ ks
+
 -- these regions passed
 pub record IsAt (s : Setting) (before : List Contents) (p : Progress) : Type 0 where
   pub seam : IsSeamOf s.tiles s.classes before p.seam
   pub totals : AreTotalsOf (country_of s.classes before) (country_of s.classes before).parcels
       p.totals
   pub few : p.totals.parcels ≤ most_rows * length before
+  pub gathered : HasGathered (country_of s.classes before).parcels p.gathered
 
 -- some regions passed, there is a tile for the next one, and its parcels can be counted
 pub record IsReady (p : Progress) : Type 0 where
@@ -144,6 +161,37 @@ pub record IsHere (s : Setting) (p : Progress) (n : ℕ) (old new : Option (List
   pub at : IsAt s before p
   pub number : length before ≡ n
 
+-- the regions of all folders passed, and this is what they left
+pub record HasPassedAll (s : Setting) (p : Progress) (old new : Option (List ℕ)) : Type 0 where
+  pub regions : List Contents
+  pub lines : List ℕ
+  pub have_passed : HavePassed s s.names regions lines
+  pub at : IsAt s regions p
+  pub written : Appends old new lines
+
+-- so it is; or one was refused, with this status
+abbrev pub RegionsPass : Setting → Progress → Option (List ℕ) → Option (List ℕ) → Option ℕ → Type 0
+RegionsPass s p old new None = HasPassedAll s p old new
+RegionsPass s p old new (Some status) = RegionsEnd s old new status × (status ≢ done)
+
+-- the regions of all folders passed
+abbrev pub HaveAllPassed : Setting → List Contents → Type 0
+HaveAllPassed s regions = ((text : List ℕ) × HavePassed s s.names regions text)
+    × AreJoined s.tiles s.classes regions
+
+-- the regions of these names passed, one for each tile of a tiling, and their parcels are wanted
+pub record IsEnded (s : Setting) (regions : List Contents) (names : List (List ℕ)) (p : Progress)
+    : Type 0 where
+  pub at : IsAt s regions p
+  pub sound : All IsSoundMap regions
+  pub names_are : names ≡ s.names
+  pub few : length names ≤ most_regions
+  pub as_many : length names ≡ length regions
+  pub all : length names ≡ length s.tiles
+  pub tiling : Tiling
+  pub tiles_of : s.tiles ≡ rectangles tiling frame
+  pub wanted : gathers p.gathered ≡ true
+
 -- the text that a run over regions had to write
 abbrev pub IsPartOrWhole : Setting → List ℕ → Type 0
 IsPartOrWhole s text =
@@ -156,13 +204,3 @@ RegionsBreakOff s old new f =
     ((regions : List Contents) × (text : List ℕ) × (left : List (List ℕ))
     × IsReachedBy s regions text left × IsStoppedBefore s.texts left f × Appends old new text)
     ⊎ (IsOfNone f (Write Out) × ((text : List ℕ) × IsPartOrWhole s text × Begins old new text))
-
--- a run over regions answered with this status
-abbrev pub RegionsEnd : Setting → Option (List ℕ) → Option (List ℕ) → ℕ → Type 0
-RegionsEnd s old new status =
-    (text : List ℕ) × IsRegionsAnswer s (text, status) × Appends old new text
-
--- the regions of all folders passed
-abbrev pub HaveAllPassed : Setting → List Contents → Type 0
-HaveAllPassed s regions = ((text : List ℕ) × HavePassed s s.names regions text)
-    × AreJoined s.tiles s.classes regions

@@ -1,4 +1,4 @@
-use Rattle.std.proofs.Common.{◌∙◌, ◌∷◌, [], ap, subst, sym}
+use Rattle.std.proofs.Common.{◌∙◌, [], ap, subst, sym}
 use Rattle.std.proofs.lemmas.List.{get_or-map}
 use Rattle.std.specs.String.{string_bytes}
 use Rattle.lpis_commands.specs.Inputs.{inputs_of}

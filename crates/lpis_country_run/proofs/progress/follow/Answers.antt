@@ -43,8 +43,8 @@ plus-progress-requires c =
     (c.totals_at-totals.ensures news (same_places c.args.release.now c.as_slice-in-Ok.result.now c.in-Ok.places.items news c.as_slice-in-Ok.ensures.value
     (c.in-Ok.ensures.new ready.setting.tiles ready.setting.classes ready.before ready.at.seam))) c.parcels.ensures.few ready.room
 
-pub returns-in_ok-text-in-Ok : goal.returns-in_ok-text-in-Ok
-returns-in_ok-text-in-Ok c = λ s before at of.
+pub returns-in_ok-gather-in-Ok-clause-follows : goal.returns-in_ok-gather-in-Ok-clause-follows
+returns-in_ok-gather-in-Ok-clause-follows c = λ s before at of.
     let r = c.args.release.now in
     let country = country_of s.classes before in
     let news = new_parcels country r in
@@ -52,13 +52,15 @@ returns-in_ok-text-in-Ok c = λ s before at of.
       c.in-Ok.ensures.reports s.tiles s.classes before at.seam,
       c.in_ok-text-in-Ok.ensures country (same_places r c.as_slice.result.now c.in-Ok.places.items news c.as_slice.ensures.value places)
           ∙ ap (λ (d : Detail). region_report d country c.args.name.now r) (sym of.detail_is),
-      goes_at s before r c.args.progress.now (record { seam = c.step.new.self; totals = c.plus-progress.result }) c.totals_at-totals.result at
+      goes_at s before r c.args.progress.now (record { seam = c.step.new.self; totals = c.plus-progress.result; gathered = c.gather.new.self }) c.totals_at-totals.result at
           (c.in-Ok.ensures.goes_on s.tiles s.classes before at.seam)
-          c.parcels.ensures.few (c.totals_at-totals.ensures news (same_places r c.as_slice-in-Ok.result.now c.in-Ok.places.items news c.as_slice-in-Ok.ensures.value places)) c.plus-progress.ensures,
+          c.parcels.ensures.few (c.totals_at-totals.ensures news (same_places r c.as_slice-in-Ok.result.now c.in-Ok.places.items news c.as_slice-in-Ok.ensures.value places)) c.plus-progress.ensures
+          (c.in_ok-gather-in-Ok.ensures.gathered country.parcels news at.gathered
+          (same_places r c.as_slice-in-Ok-2.result.now c.in-Ok.places.items news c.as_slice-in-Ok-2.ensures.value places)),
     )
 
-pub returns-in_ok-refuse_seam-in-Err : goal.returns-in_ok-refuse_seam-in-Err
-returns-in_ok-refuse_seam-in-Err c = λ s before at of. (
+pub returns-in_ok-refuse_seam-in-Err-clause-follows : goal.returns-in_ok-refuse_seam-in-Err-clause-follows
+returns-in_ok-refuse_seam-in-Err-clause-follows c = λ s before at of. (
   c.in-Err.fault,
   first_of (seam_faults s.tiles s.classes before c.args.release.now) c.in-Err.fault (c.in-Err.ensures.reports s.tiles s.classes before at.seam) c.in_ok-refuse_seam-in-Err.ensures.refusal,
   c.in_ok-refuse_seam-in-Err.ensures.line.0 ∙ ap (λ (names : List (List ℕ)). seam_refusal_text names c.args.name.now c.in-Err.fault) (sym of.names_are),

@@ -2,7 +2,7 @@ use Rattle.std.proofs.Common.{◌∙◌, [], ap, map, subst, sym}
 use Rattle.std.proofs.lemmas.List.{get_or-map}
 use Rattle.std.specs.String.{string_bytes}
 use Rattle.lpis_country_run.specs.private.Progressing.{AreOfRun, IsUnwritten, IsWritten}
-use Rattle.lpis_country_run.proofs.country.pass_at.Goals as goal
+use Rattle.lpis_country_run.proofs.passing.pass_at.Goals as goal
 
 pub returns-in-Ok-clause-written : goal.returns-in-Ok-clause-written
 returns-in-Ok-clause-written g c = λ s before at run.

@@ -1,0 +1,69 @@
+//! The parcels of the regions that passed, gathered if they are wanted.
+
+ghost use Rattle.std.specs.Prelude.{◌≡◌, ◌++◌, true, List, OnOk};
+ghost use Rattle.lpis_parcels.specs.declared.parcel.Parcel.{Parcel};
+ghost use Rattle.lpis_country_run.specs.private.Progressing.{HasGathered, gathers};
+ghost use Rattle.lpis_country_run.specs.private.Totals.{AreAt, ArePlaces};
+
+use crate::totals::parcel_at;
+use lpis_country_rows::copy_parcel;
+use lpis_parcels::{Parcel, Release};
+use std::alloc::{AllocError, Global};
+
+/// The parcels of the regions that passed.
+#[derive(Drop)]
+pub(crate) enum Gathered {
+    /// They are not wanted.
+    Nothing,
+    /// Each once, in the order in which they first stood.
+    Parcels(Vec<Parcel>),
+}
+
+/// Copies the parcels at these places behind others.
+fn copy_at(
+    alloc: Global,
+    release: &Release,
+    places: &[usize],
+    parcels: &mut Vec<Parcel>,
+) -> Result<(), AllocError>
+    requires { ArePlaces release.now places.now }
+    ensures { (ks : List Parcel) → AreAt release.now places.now ks
+        → OnOk result (parcels.new.items ≡ parcels.old.items ++ ks) }
+{
+    for (count, place) in places.iter().enumerate() {
+        let parcel = copy_parcel(alloc, parcel_at(release, *place))?;
+        parcels.push(parcel)?;
+    }
+    Ok(())
+}
+
+impl Gathered {
+    /// Gathers the parcels at these places, which are new.
+    pub(crate) fn gather(
+        &mut self,
+        alloc: Global,
+        release: &Release,
+        places: &[usize],
+    ) -> Result<(), AllocError>
+        requires { ArePlaces release.now places.now }
+        ensures gathered { (ks ls : List Parcel) → HasGathered ks self.old
+            → AreAt release.now places.now ls → OnOk result (HasGathered (ks ++ ls) self.new) }
+        ensures wanted { OnOk result (gathers self.new ≡ gathers self.old) }
+    {
+        match self {
+            Gathered::Nothing => Ok(()),
+            Gathered::Parcels(parcels) => copy_at(alloc, release, places, parcels),
+        }
+    }
+
+    /// The parcels, which are wanted.
+    pub(crate) fn into_parcels(self) -> Vec<Parcel>
+        requires { gathers self ≡ true }
+        ensures { (ks : List Parcel) → HasGathered ks self → result.items ≡ ks }
+    {
+        match self {
+            Gathered::Parcels(parcels) => parcels,
+            Gathered::Nothing => unreachable!(),
+        }
+    }
+}
