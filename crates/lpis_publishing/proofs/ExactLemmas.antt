@@ -15,9 +15,9 @@ use Rattle.lpis_register_rows.specs.Shapes.{Shape}
 use Rattle.lpis_rings.specs.declared.polygon.Member.{Member}
 use Rattle.lpis_commands.specs.Outputs.{Outputs}
 use Rattle.lpis_commands.specs.Status.{done}
-use Rattle.lpis_publishing.specs.ExactAnswer.{HasBlocks, IsExactAnswer, blocks_line, unfilled_line}
+use Rattle.lpis_publishing.specs.ExactAnswer.{HasBlocks, IsBlocksOutcome, IsExactAnswer, blocks_line, unfilled_line}
 use Rattle.lpis_publishing.specs.Submission.{Submission}
-use Rattle.lpis_publishing.specs.private.ExactRuns.{IsBlocksOutcome, filled_with, refused_with}
+use Rattle.lpis_publishing.specs.private.ExactRuns.{filled_with, refused_with}
 use Rattle.lpis_publishing.specs.Submission.{IsSubmitted}
 use Rattle.lpis_publishing.specs.private.Submitting.{IsFaultAnswer}
 use Rattle.lpis_publishing.proofs.SubmissionLemmas.{answer-said, answer-unread}

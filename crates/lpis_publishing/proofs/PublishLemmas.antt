@@ -1,5 +1,5 @@
 -- What a history answers to a release, and what is known of a release that was added to it.
-use Rattle.std.proofs.Common.{◌≡◌, ◌∙◌, ◌++◌, ◌∷◌, [], inl, inr, refl, sym, ap, ap₂, subst, subst₂, ℕ, List, Bool, Option, Result, Ok, Err, IfErr, IfOk, flat_map, true}
+use Rattle.std.proofs.Common.{◌≡◌, ◌∙◌, ◌++◌, ◌∷◌, [], append_assoc, inl, inr, refl, sym, ap, ap₂, subst, subst₂, ℕ, List, Bool, Option, Result, Ok, Err, IfErr, IfOk, flat_map, true}
 use Rattle.lpis_publishing.proofs.Common.{Answer, Cert, Contents, kind_at, lineage_line}
 use Rattle.sqlite.specs.Held.{Held}
 use Rattle.sqlite.specs.State.{HasCleanDisk, State}
@@ -31,12 +31,12 @@ use Rattle.lpis_publishing.specs.LineageLines.{is_left_exactly, dropped_lines, p
 use Rattle.lpis_commands.specs.declared.answer.Answer.{Answer as Answered}
 use Rattle.lpis_commands.specs.declared.failure.Failure.{Failure}
 use Rattle.lpis_commands.specs.declared.failure.Failure.TheVariants.{Store, StoreMemory}
-use Rattle.lpis_publishing.specs.PublishAnswer.{FailsToPublish, IsContinued, IsHistoryAnswer, IsPublished}
+use Rattle.lpis_publishing.specs.Publication.{IsContinued, IsMemoryOrStore, IsPublicationAnswer, IsReleasePublished, PublishLeaves}
+use Rattle.lpis_publishing.specs.PublishAnswer.{FailsToPublish, IsHistoryAnswer, IsPublished}
 use Rattle.lpis_publishing.specs.Stored.{IsStoreFailure, RegisterState}
 use Rattle.lpis_publishing.specs.Submission.{IsSubmitted, Submission}
 use Rattle.lpis_commands.specs.Status.{done}
 use Rattle.lpis_publishing.specs.private.Marked.{is_marked}
-use Rattle.lpis_publishing.specs.private.PublishRuns.{IsAdded, IsMemoryOrStore, PublishLeaves}
 use Rattle.lpis_publishing.proofs.MarkedLemmas.{left-exactly}
 use Rattle.lpis_register.specs.Accepting.{IsAccepted}
 use Rattle.lpis_register.specs.Failing.{FailsToStore, HasStoreCause}
@@ -49,6 +49,16 @@ use Rattle.lpis_register_rows.specs.Shapes.{Shape}
 same-lines : {A : Type 0} (f g : A → List ℕ) (xs : List A) → ((x : A) → f x ≡ g x) → flat_map f xs ≡ flat_map g xs
 same-lines f g [] e = refl
 same-lines f g (x ∷ xs) e = flat_map-cons f x xs ∙ ap₂ (λ (a b : List ℕ). a ++ b) (e x) (same-lines f g xs e) ∙ sym (flat_map-cons g x xs)
+
+-- the lines behind a text are those of the identifiers of which a row is marked, whichever test tells them
+pub told-lines : (head : List ℕ) (kind_of : List ℕ → Option Kind) (is_exact : List ℕ → Bool) (rows : List Row) (ids : List (List ℕ)) (year : ℕ) (text : List ℕ)
+    → ((id : List ℕ) → is_exact id ≡ is_marked rows id) → text ≡ head ++ (flat_map (lineage_line kind_of is_exact) ids ++ published_line year)
+    → text ≡ head ++ flat_map (lineage_line kind_of (is_marked rows)) ids ++ published_line year
+told-lines head kind_of is_exact rows ids year text marked told =
+    let by_row = lineage_line kind_of (is_marked rows) in
+    told ∙ ap (λ (t : List ℕ). head ++ (t ++ published_line year))
+    (same-lines (lineage_line kind_of is_exact) by_row ids (λ id. ap (λ (b : Bool). lineage_line kind_of (λ _. b) id) (marked id)))
+    ∙ sym (append_assoc head (flat_map by_row ids) (published_line year))
 
 -- of rows without a fault, a change has the lines of the identifiers that are dropped
 change-lines : (h : List Entry) (live : List (List ℕ)) (rows : List Row) (c : Changes) → faults h live rows ≡ [] → IsChange (last_live h) live rows c
@@ -69,53 +79,61 @@ change-lines h live rows c clean is =
 answer-parts : {t u : List ℕ} {n m : ℕ} → t ≡ u → n ≡ m → ◌≡◌ {A = Answer} (t, n) (u, m)
 answer-parts a b = cc (a, b)
 
--- what is reported of the change of a release that was accepted is the answer
-pub answer-accepted : (h : List Entry) (s : List Shape) (year : ℕ) (r : Contents) (c : Cert) (rows : List Row) (a : Accepted) (change : Changes) (text : List ℕ) (status : ℕ)
-    → IsAccepted h s year r c.exact rows a → change ≡ a.step.change
-    → text ≡ report_text r ++ flat_map (lineage_line (kind_at change) (is_marked change.rows)) change.dropped_ids ++ published_line year → status ≡ done
-    → IsHistoryAnswer h s year r c rows (text, status)
-answer-accepted h s year r c rows a change text status made is line is_done =
+-- what is printed, behind a text, of the change of a release that was accepted is the answer
+pub publication-accepted : (head : List ℕ) (h : List Entry) (s : List Shape) (year : ℕ) (r : Contents) (blocks : List ExactBlock) (rows : List Row) (a : Accepted) (change : Changes)
+    (text : List ℕ) (status : ℕ) → IsAccepted h s year r blocks rows a → change ≡ a.step.change
+    → text ≡ head ++ flat_map (lineage_line (kind_at change) (is_marked change.rows)) change.dropped_ids ++ published_line year → status ≡ done
+    → IsPublicationAnswer head h s year r blocks rows (text, status)
+publication-accepted head h s year r blocks rows a change text status made is line is_done =
     let step = made.prepared.step_is in
     let lines = change-lines h (parcel_ids r.parcels) rows change step.faultless (subst (IsChange (last_live h) (parcel_ids r.parcels) rows) (sym is) step.change_is) in
-    inr (made.prepared.later, made.shown, answer-parts (line ∙ ap (λ (t : List ℕ). report_text r ++ t ++ published_line year) lines) is_done)
+    record { later = made.prepared.later; shown = made.shown; told = answer-parts (line ∙ ap (λ (t : List ℕ). head ++ t ++ published_line year) lines) is_done }
+
+-- behind the report of the check it is that of the history
+pub answer-published : (h : List Entry) (s : List Shape) (year : ℕ) (r : Contents) (c : Cert) (rows : List Row) (a : Answer) → IsPublicationAnswer (report_text r) h s year r c.exact rows a
+    → IsHistoryAnswer h s year r c rows a
+answer-published h s year r c rows a is = inr (is.later, is.shown, is.told)
 
 -- ---- answers of calls
 pub both-ok : {A E : Type 0} (r : Result A E) (P Q : A → Type 0) → IfOk r P → IfOk r Q → IfOk r (λ a. P a × Q a)
 both-ok (Ok a) P Q p q = (p, q)
 both-ok (Err e) P Q p q = tt
 
--- ---- a release that was added
+-- ---- a release that was published
 continued-of : (live : List (List ℕ)) (rows : List Row) (id : List ℕ) → ((s : List ℕ) → list_any (names_successor s) rows ≡ true → has_id live s ≡ true) → IsAnswered rows id → IsContinued live rows id
 continued-of live rows id named (inl ending) = inl (counted-ended rows id ending.0)
 continued-of live rows id named (inr other) = inr (other.1, λ s is. named s (mono (leads id s) (names_successor s) rows (λ row h. (and_parts (is_row_of id row) (names_successor s row) h).1) is))
 
--- a submitted sound map with a good certificate that was added to the history is published
-pub published-of : (x : Submission) (year : ℕ) (r : Contents) (c : Cert) (rows : List Row) (h : List Entry) (s : List Shape) (k : List Entry) (t : List Shape) → IsSubmitted x r c rows
-    → IsSoundMap r → IsGood r c → IsAdded year r rows h s k t → IsPublished x year h s k t
-published-of x year r c rows h s k t said sound good added =
+-- a release that was accepted is published where it stands at the end of the history and its shapes turn once at most
+pub published-accepted : (h k : List Entry) (year : ℕ) (r : Contents) (blocks : List ExactBlock) (rows : List Row) (s t : List Shape) (a : Accepted) (change : Changes)
+    → IsAccepted h s year r blocks rows a → change ≡ a.step.change → IsAscending change.dropped_ids → FollowsHistory h year r.parcels rows k t → ShapesTurnOnce (shape_named t)
+    → IsReleasePublished r rows year h s k t
+published-accepted h k year r blocks rows s t a change made is ascend follows once =
     let live = parcel_ids r.parcels in
-    let follows = follows-from-clean h live rows added.clean in
+    let step = made.prepared.step_is in
+    let was = subst (IsChange (last_live h) live rows) (sym is) step.change_is in
+    let known = follows-from-clean h live rows step.faultless in
+    record {
+      later = made.prepared.later;
+      follows = follows;
+      once = once;
+      exact = made.exact;
+      continued = λ id held gone. continued-of live rows id known.named (known.answered id held gone);
+      unused = λ id i now held. known.not_used id i held now;
+      ascend = subst IsAscending was.dropped_are ascend;
+    }
+
+-- a submission is, where it is a sound map with a good certificate
+pub published-of : (x : Submission) (year : ℕ) (r : Contents) (c : Cert) (rows : List Row) (h : List Entry) (s : List Shape) (k : List Entry) (t : List Shape) → IsSubmitted x r c rows
+    → IsSoundMap r → IsGood r c → IsReleasePublished r rows year h s k t → IsPublished x year h s k t
+published-of x year r c rows h s k t said sound good published =
     record {
       release = r;
       proved = record { tables = said.tables; sound = sound; certificate = c; text = said.text; good = good };
       rows = rows;
       lineage = said.lineage;
-      later = added.later;
-      follows = added.follows;
-      once = added.once;
-      exact = added.exact;
-      continued = λ id was gone. continued-of live rows id follows.named (follows.answered id was gone);
-      unused = λ id i now held. follows.not_used id i held now;
-      ascend = added.ascend;
+      published = published;
     }
-
--- a release that was accepted was added where it is published
-pub added-accepted : (h k : List Entry) (year : ℕ) (r : Contents) (c : Cert) (rows : List Row) (s t : List Shape) (a : Accepted) (change : Changes) → IsAccepted h s year r c.exact rows a
-    → change ≡ a.step.change → IsAscending change.dropped_ids → FollowsHistory h year r.parcels rows k t → ShapesTurnOnce (shape_named t) → IsAdded year r rows h s k t
-added-accepted h k year r c rows s t a change made is ascend follows once =
-    let step = made.prepared.step_is in
-    let was = subst (IsChange (last_live h) (parcel_ids r.parcels) rows) (sym is) step.change_is in
-    record { later = made.prepared.later; clean = step.faultless; follows = follows; once = once; exact = made.exact; ascend = subst IsAscending was.dropped_are ascend }
 
 -- ---- what a call leaves
 -- the database holds what was made of the register

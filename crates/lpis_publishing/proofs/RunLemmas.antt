@@ -13,10 +13,10 @@ use Rattle.lpis_commands.specs.declared.failure.Failure.TheVariants.{Memory, Rea
 use Rattle.lpis_commands.specs.declared.failure.Name.{Name}
 use Rattle.lpis_commands.specs.declared.failure.Name.TheVariants.{Cert, Classes, Covers, Lineage, Out, Parcels}
 use Rattle.lpis_publishing.proofs.Common.{Appends, Answer, IfOk-weaker}
+use Rattle.lpis_publishing.specs.Publication.{IsMemoryOrStore}
 use Rattle.lpis_publishing.specs.PublishAnswer.{FailsToPublish, IsPublishAnswer, MovesRegister, PublishEnds, RunsPublish}
 use Rattle.lpis_publishing.specs.Stored.{IsStoreFailure, RegisterState, Stays}
 use Rattle.lpis_publishing.specs.Submission.{AreAllRead, Readers, IsUnreadSubmission, Submission}
-use Rattle.lpis_publishing.specs.private.PublishRuns.{IsMemoryOrStore}
 
 -- what was written is the answer, and the status is reported
 ends-of : (x : Submission) (year : ℕ) (a : Answer) (h : List Entry) (s : List Shape) (k : List Entry) (t : List Shape) (old new : Option (List ℕ)) (r : Result ℕ Failure)

@@ -12,10 +12,10 @@ use Rattle.lpis_lineage.specs.LineageTable.{lineage_table}
 use Rattle.lpis_commands.specs.CheckAnswer.{IsCertAnswer, IsTableAnswer}
 use Rattle.lpis_commands.proofs.Shared.{answer-of-text}
 use Rattle.lpis_publishing.specs.Submission.{IsSubmissionAnswer, Submission}
-use Rattle.lpis_publishing.specs.Submission.{IsSubmitted}
-use Rattle.lpis_publishing.specs.private.Submitting.{IsFaultAnswer, IsUnreadAnswer}
-use Rattle.lpis_publishing.specs.declared.submission.UnreadSubmission.{UnreadSubmission}
-use Rattle.lpis_publishing.specs.declared.submission.UnreadSubmission.TheVariants.{Memory, Refused}
+use Rattle.lpis_publishing.specs.Submission.{IsSubmitted, IsUnreadAnswer}
+use Rattle.lpis_publishing.specs.private.Submitting.{IsFaultAnswer}
+use Rattle.lpis_publishing.specs.declared.submission.Unread.{Unread}
+use Rattle.lpis_publishing.specs.declared.submission.Unread.TheVariants.{Memory, Refused}
 
 -- ---- where it says something
 pub answer-said : (IsNext : Contents → Cert → List Row → Answer → Type 0) (x : Submission) (r : Contents) (c : Cert) (rows : List Row) (a : Answer)
@@ -40,13 +40,13 @@ answer-unread IsNext x a is =
     (λ r. cert-more _ _ x.checked.cert (verdict x.checked.cert) a (λ c. table-more _ _ (rows_of lineage_table x.lineage) a (λ rows no. absurd no))) is
 
 -- where the tables are read, the fault of the certificate's text is that of the submission
-pub unread-cert : (x : Submission) (r : Contents) (u : UnreadSubmission) → release_of x.checked.parcels x.checked.covers x.checked.classes ≡ Ok r
+pub unread-cert : (x : Submission) (r : Contents) (u : Unread) → release_of x.checked.parcels x.checked.covers x.checked.classes ≡ Ok r
     → IsUnreadAnswer (IsCertAnswer (λ _ _. ⊥) x.checked.cert (verdict x.checked.cert)) u → IsUnreadAnswer (IsFaultAnswer x) u
 unread-cert x r Memory tables is = tt
 unread-cert x r (Refused a) tables is = rw tables (cert-more _ _ x.checked.cert (verdict x.checked.cert) (a.text.items, a.status) (λ c no. absurd no) is)
 
 -- where tables and certificate are read, the fault of the lineage table is that of the submission
-pub unread-rows : (x : Submission) (r : Contents) (c : Cert) (u : UnreadSubmission) → release_of x.checked.parcels x.checked.covers x.checked.classes ≡ Ok r → IsCertText x.checked.cert c
+pub unread-rows : (x : Submission) (r : Contents) (c : Cert) (u : Unread) → release_of x.checked.parcels x.checked.covers x.checked.classes ≡ Ok r → IsCertText x.checked.cert c
     → IsUnreadAnswer (IsTableAnswer (λ _ _. ⊥) (rows_of lineage_table x.lineage)) u → IsUnreadAnswer (IsFaultAnswer x) u
 unread-rows x r c Memory tables text is = tt
 unread-rows x r c (Refused a) tables text is =

@@ -75,6 +75,13 @@ module _ (h : List Entry) (s : List Shape) (r : Contents) (c : Cert) (rows : Lis
       ⊎ IsUnfilled a
       ⊎ IsFilled text a
 
+-- the answer to a release, a certificate and rows of lineage, with its text
+pub record IsBlocksOutcome (h : List Entry) (s : List Shape) (r : Contents) (c : Cert)
+    (rows : List Row) (a : Outputs) : Type 0 where
+  pub answer : IsBlocksAnswer h s r c rows a.cert (a.line, a.status)
+  -- with every other status there is no text
+  pub no_text : a.status ≢ done → a.cert ≡ None
+
 -- the answer to what is handed in, after a history with kept shapes: faults of the tables and texts
 -- come first. There is no year, and the certificate is not checked
 pub record IsExactAnswer (x : Submission) (h : List Entry) (s : List Shape) (a : Outputs) : Type 0

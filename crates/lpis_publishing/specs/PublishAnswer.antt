@@ -1,31 +1,23 @@
 -- The answer to a release that is to be published: text and status, of the year, the bytes of the
 -- five inputs, and the history and the kept shapes before; and both after.
-use Rattle.std.specs.Prelude.{◌≡◌, ◌≢◌, ◌<◌, ◌⊎◌, ◌++◌, true, false, ℕ, List, Option, Ok}
+use Rattle.std.specs.Prelude.{◌≡◌, ◌≢◌, ◌<◌, ◌⊎◌, ◌++◌, ℕ, List, Option, Ok}
 use Rattle.std.specs.Prelude.{IfErr, IfOk, Result}
-use Rattle.std.specs.List.{list_any}
 use Rattle.std.specs.Io.KnownBytes.{Appends, Keeps}
 use Rattle.sqlite.specs.Held.{state}
 use Rattle.sqlite_trees.specs.declared.store.Store.{Ghosts}
 use Rattle.lpis_covers.specs.Faults.{rows_of}
-use Rattle.lpis_covers.specs.Ids.{has_id}
 use Rattle.lpis_parcels.specs.Release.{Contents, parcel_ids}
 use Rattle.lpis_cert.specs.declared.cert.Cert.{Cert}
 use Rattle.lpis_checker.specs.GoodCertificate.{IsGood}
 use Rattle.lpis_checker.specs.SoundMap.{IsSoundMap}
 use Rattle.lpis_lineage.specs.declared.row.Entry.{Entry}
 use Rattle.lpis_lineage.specs.declared.row.Row.{Row}
-use Rattle.lpis_lineage.specs.Changes.{dropped}
-use Rattle.lpis_lineage.specs.Descendants.{leads}
-use Rattle.lpis_lineage.specs.Lineage.{is_ended, holds, last_live, last_year, succeeded}
+use Rattle.lpis_lineage.specs.Lineage.{last_live, last_year}
 use Rattle.lpis_lineage.specs.LineageTable.{lineage_table}
-use Rattle.lpis_lineage.specs.Order.{IsAscending}
 use Rattle.lpis_register_rows.specs.Shapes.{Shape}
-use Rattle.lpis_exact_lineage.specs.Asking.{IsShown, kinds_from}
-use Rattle.lpis_exact_lineage.specs.ExactLineage.{IsExactLineage, ShapesTurnOnce}
-use Rattle.lpis_exact_lineage.specs.Shapes.{shape_named, shapes_in}
+use Rattle.lpis_exact_lineage.specs.Asking.{IsShown}
 use Rattle.lpis_register.specs.Failing.{FailsToStore}
 use Rattle.lpis_register.specs.Faults.{IsRefused, IsSetAside}
-use Rattle.lpis_register.specs.Publishing.{FollowsHistory}
 use Rattle.lpis_register.specs.declared.fault.PublishFault.{PublishFault}
 use Rattle.lpis_commands.specs.CheckAnswer.{Answer, IsCheckAnswer, IsProvedOf}
 use Rattle.lpis_commands.specs.declared.failure.Failure.{Failure}
@@ -35,6 +27,7 @@ use Rattle.lpis_commands.specs.Report.{report_text}
 use Rattle.lpis_commands.specs.Status.{done, refused}
 use Rattle.lpis_commands.specs.Streams.{Begins}
 use Rattle.lpis_publishing.specs.LineageLines.{dropped_lines, publish_refusal_text, published_line}
+use Rattle.lpis_publishing.specs.Publication.{IsReleasePublished}
 use Rattle.lpis_publishing.specs.Stored.{RegisterState, IsStoreFailure, Stays}
 use Rattle.lpis_publishing.specs.Submission.{AreAllRead, Readers, IsSubmissionAnswer, IsSubmitted}
 use Rattle.lpis_publishing.specs.Submission.{IsUnreadSubmission, Submission}
@@ -64,15 +57,8 @@ IsPublishAnswer x year h s =
     IsSubmissionAnswer (λ r c rows. IsCheckAnswer r c (IsHistoryAnswer h s year r c rows)) x
 
 -- ---- the register after
--- the rows give an identifier a written ending, or successors, each of which is in the release
-abbrev pub IsContinued : List (List ℕ) → List Row → List ℕ → Type 0
-IsContinued live rows id =
-    (is_ended rows id ≡ true)
-    ⊎ ((succeeded rows id ≡ true) × ((s : List ℕ) → list_any (leads id s) rows ≡ true
-    → has_id live s ≡ true))
-
--- a release was published in a year after the history `h` with the kept shapes `s`, and with it the
--- history is `k` and the shapes that are kept are `t`
+-- a submission was published in a year after the history `h` with the kept shapes `s`, and with it
+-- the history is `k` and the shapes that are kept are `t`
 pub record IsPublished (x : Submission) (year : ℕ) (h : List Entry) (s : List Shape)
     (k : List Entry) (t : List Shape) : Type 0 where
   -- it is a sound map, and its certificate is good
@@ -80,26 +66,7 @@ pub record IsPublished (x : Submission) (year : ℕ) (h : List Entry) (s : List 
   pub proved : IsProvedOf x.checked release
   pub rows : List Row
   pub lineage : rows_of lineage_table x.lineage ≡ Ok rows
-  -- the history is the one before with the release at its end; it is lawful and its rows fit, and
-  -- the shapes are those of the release's parcels
-  pub later : last_year h < year
-  pub follows : FollowsHistory h year release.parcels rows k t
-  -- each of these turns once at most: what the next merges rest on
-  pub once : ShapesTurnOnce (shape_named t)
-  -- exact splits and merges are exact, by the shapes that were kept before
-  pub exact : IsExactLineage (kinds_from h release rows) rows (shape_named s)
-      (shape_named (shapes_in release))
-  -- each identifier of the last release that is dropped has successors of this release or a written
-  -- ending
-  pub continued : (id : List ℕ) → has_id (last_live h) id ≡ true
-      → has_id (parcel_ids release.parcels) id ≡ false
-      → IsContinued (parcel_ids release.parcels) rows id
-  -- no parcel bears an identifier that an earlier release had and the last one had not
-  pub unused : (id : List ℕ) (i : ℕ) → has_id (parcel_ids release.parcels) id ≡ true
-      → holds h i id ≡ true
-      → has_id (last_live h) id ≡ true
-  -- dropped identifiers are reported ascending by bytes
-  pub ascend : IsAscending (dropped (last_live h) (parcel_ids release.parcels))
+  pub published : IsReleasePublished release rows year h s k t
 
 -- with the status `done` the release was published, with every other one the history and the shapes
 -- are those before

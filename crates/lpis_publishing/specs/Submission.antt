@@ -15,6 +15,8 @@ use Rattle.lpis_commands.specs.declared.failure.Failure.{Failure}
 use Rattle.lpis_commands.specs.declared.failure.Failure.TheVariants.{Read}
 use Rattle.lpis_commands.specs.declared.failure.Name.{Name}
 use Rattle.lpis_commands.specs.declared.failure.Name.TheVariants as name
+use Rattle.lpis_publishing.specs.declared.submission.Unread.{Unread}
+use Rattle.lpis_publishing.specs.declared.submission.Unread.TheVariants.{Memory, Refused}
 
 -- the bytes of a release and a certificate, and those of a lineage table
 pub record Submission : Type 0 where
@@ -72,3 +74,8 @@ IsSubmissionAnswer IsNext x =
     IsTableAnswer (λ r. IsCertAnswer (λ c. IsTableAnswer (IsNext r c)
     (rows_of lineage_table x.lineage)) x.checked.cert (verdict x.checked.cert))
     (release_of x.checked.parcels x.checked.covers x.checked.classes)
+
+-- memory ran out, or the answer is one of these
+abbrev pub IsUnreadAnswer : (Answer → Type 0) → Unread → Type 0
+IsUnreadAnswer Is Memory = Unit {0}
+IsUnreadAnswer Is (Refused a) = Is (a.text.items, a.status)

@@ -2,5 +2,4 @@
 pub mod Blocks
 pub mod ExactRuns
 pub mod Marked
-pub mod PublishRuns
 pub mod Submitting

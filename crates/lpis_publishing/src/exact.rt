@@ -2,6 +2,8 @@
 
 ghost use Rattle.std.specs.Prelude.{◌≡◌, [], IfErr, IfOk, List, OnOk, length};
 ghost use Rattle.std.specs.Io.KnownBytes.{Appends};
+ghost use Rattle.std.specs.List.{IsDistinct};
+ghost use Rattle.lpis_covers.specs.Ids.{same_id};
 ghost use Rattle.lpis_parcels.specs.Release.{Contents, parcel_ids};
 ghost use Rattle.lpis_lineage.specs.declared.exact.Group.{Group};
 ghost use Rattle.lpis_lineage.specs.declared.row.Entry.{Entry};
@@ -10,32 +12,30 @@ ghost use Rattle.lpis_lineage.specs.Changes.{IsChange};
 ghost use Rattle.lpis_lineage.specs.Faults.{ReportsFirstOf, faults};
 ghost use Rattle.lpis_lineage.specs.Lineage.{last_live};
 ghost use Rattle.lpis_lineage.specs.Order.{IsAscending};
-ghost use Rattle.lpis_register_rows.specs.Shapes.{Shape, shape_ids};
+ghost use Rattle.lpis_register_rows.specs.Shapes.{AreShapesOf, Shape, shape_ids};
 ghost use Rattle.lpis_exact_lineage.specs.Asking.{AsksFor};
 ghost use Rattle.lpis_commands.specs.Outputs.{held, outputs_of};
 ghost use Rattle.lpis_commands.specs.Status.{done, refused};
-ghost use Rattle.lpis_publishing.specs.ExactAnswer.{IsExactAnswer, RunsExact, blocks_line};
-ghost use Rattle.lpis_publishing.specs.ExactAnswer.{unfilled_line};
+ghost use Rattle.lpis_publishing.specs.ExactAnswer.{IsBlocksOutcome, IsExactAnswer, RunsExact};
+ghost use Rattle.lpis_publishing.specs.ExactAnswer.{blocks_line, unfilled_line};
 ghost use Rattle.lpis_publishing.specs.LineageLines.{publish_refusal_text};
 ghost use Rattle.lpis_publishing.specs.Submission.{IsUntouched, before_cert, before_classes};
 ghost use Rattle.lpis_publishing.specs.Submission.{before_covers, before_lineage};
-ghost use Rattle.lpis_publishing.specs.private.ExactRuns.{IsBlocksOutcome};
 ghost use Rattle.lpis_publishing.specs.private.ExactRuns.{filled_with, refused_with};
 ghost use Rattle.lpis_publishing.specs.private.Submitting.{submission_of};
 
 use crate::blocks::{BlockFault, with_blocks};
 use crate::lineage_lines::refuse;
-use crate::submission::{
-    ReadSubmission, SubmissionBytes, UnreadSubmission, read_submission, understand,
-};
+use crate::submission::{ReadSubmission, SubmissionBytes, Unread, read_submission, understand};
 use lpis_cert::Cert;
 use lpis_checker::ExactPart;
 use lpis_commands::{Answer, DONE, Failure, Outcome, PrintFault, REFUSED};
 use lpis_covers::Id;
 use lpis_exact_lineage::{AskFault, wanted_parts};
 use lpis_lineage::{Change, History, LineageFault, Row, accept};
-use lpis_parcels::Release;
+use lpis_parcels::{Parcel, Release};
 use lpis_register::{PublishFault, Register, ids_of};
+use lpis_register_rows::shapes_in;
 use lpis_rings::Polygon;
 use sqlite::Alter;
 use std::alloc::{AllocError, Global};
@@ -113,42 +113,64 @@ fn answer_to_parts(alloc: Global, cert: Cert, parts: &[ExactPart]) -> Result<Out
     }
 }
 
-/// The answer to a release that may follow, and its certificate.
+/// The answer to parcels that may follow, and a certificate; these are their shapes.
 fn answer_to_change(
     alloc: Global,
     kept: &[(Id, Polygon)],
     change: &Change,
-    release: &Release,
+    new: &[(Id, Polygon)],
     cert: Cert,
 ) -> Result<Outcome, AllocError>
     requires ascending { IsAscending (shape_ids kept.now) }
-    ensures { (h : List Entry) (rows : List Row)
-        → faults h (parcel_ids release.now.parcels) rows ≡ []
-        → IsChange (last_live h) (parcel_ids release.now.parcels) rows change.now
-        → IfOk result (λ o. IsBlocksOutcome h kept.now release.now cert rows (outputs_of o)) }
+    requires new_ascending { IsAscending (shape_ids new.now) }
+    ensures { (r : Contents) (h : List Entry) (rows : List Row) → AreShapesOf r.parcels new.now
+        → faults h (parcel_ids r.parcels) rows ≡ []
+        → IsChange (last_live h) (parcel_ids r.parcels) rows change.now
+        → IfOk result (λ o. IsBlocksOutcome h kept.now r cert rows (outputs_of o)) }
 {
-    match wanted_parts(alloc, change, kept, release) {
+    match wanted_parts(alloc, change, kept, new) {
         Ok(parts) => answer_to_parts(alloc, cert, parts.as_slice()),
         Err(AskFault::Memory) => Err(AllocError),
         Err(AskFault::NotKept { id }) => refuse_blocks(alloc, &PublishFault::NotKept { id }),
     }
 }
 
-/// What a release with these rows of lineage changes, where it may follow the history, or the first
-/// fault of its lineage.
-fn change_of(
+/// What parcels with these rows of lineage change, where they may follow the history, or the first
+/// fault of their lineage.
+pub fn change_of(
     alloc: Global,
     history: &History,
-    release: &Release,
+    parcels: &[Parcel],
     rows: &[Row],
 ) -> Result<Change, LineageFault>
-    ensures tells { ReportsFirstOf
-        (faults history.now (parcel_ids release.now.parcels) rows.now) result }
+    ensures tells { ReportsFirstOf (faults history.now (parcel_ids parcels.now) rows.now) result }
     ensures change { IfOk result
-        (IsChange (last_live history.now) (parcel_ids release.now.parcels) rows.now) }
+        (IsChange (last_live history.now) (parcel_ids parcels.now) rows.now) }
 {
-    let live = ids_of(alloc, release.parcels())?;
+    let live = ids_of(alloc, parcels)?;
     accept(alloc, history, live.as_slice(), rows)
+}
+
+/// Gives a certificate the blocks that the marked rows of a change ask for, in place of its own,
+/// where these are the parcels that may follow; or says for which old parcel's shape that is not
+/// kept it gets none, or for which group: no flats are found for it, or more than a certificate may
+/// have.
+pub fn fill_change(
+    alloc: Global,
+    kept: &[(Id, Polygon)],
+    change: &Change,
+    parcels: &[Parcel],
+    cert: Cert,
+) -> Result<Outcome, AllocError>
+    requires ascending { IsAscending (shape_ids kept.now) }
+    requires distinct { IsDistinct same_id (parcel_ids parcels.now) }
+    ensures { (r : Contents) (h : List Entry) (rows : List Row) → r.parcels ≡ parcels.now
+        → faults h (parcel_ids r.parcels) rows ≡ []
+        → IsChange (last_live h) (parcel_ids r.parcels) rows change.now
+        → IfOk result (λ o. IsBlocksOutcome h kept.now r cert rows (outputs_of o)) }
+{
+    let new = shapes_in(alloc, parcels)?;
+    answer_to_change(alloc, kept, change, new.as_slice(), cert)
 }
 
 /// The answer to a release, rows of lineage and a certificate.
@@ -164,8 +186,9 @@ fn answer_to_rows(
     ensures { IfOk result (λ o. IsBlocksOutcome history.now kept.now release.now cert rows.now
         (outputs_of o)) }
 {
-    match change_of(alloc, history, release, rows) {
-        Ok(change) => answer_to_change(alloc, kept, &change, release, cert),
+    let parcels = release.parcels();
+    match change_of(alloc, history, parcels, rows) {
+        Ok(change) => fill_change(alloc, kept, &change, parcels, cert),
         Err(LineageFault::Memory) => Err(AllocError),
         Err(fault) => refuse_blocks(alloc, &PublishFault::Lineage(fault)),
     }
@@ -206,8 +229,8 @@ fn answer_to<S: Alter>(
             register.current_shapes(),
             said,
         ),
-        Err(UnreadSubmission::Memory) => Err(AllocError),
-        Err(UnreadSubmission::Refused(printed)) => Ok(Outcome::without_cert(printed)),
+        Err(Unread::Memory) => Err(AllocError),
+        Err(Unread::Refused(printed)) => Ok(Outcome::without_cert(printed)),
     }
 }
 

@@ -1,7 +1,8 @@
 //! The runs over a register: the publication of a release, the blocks that its marked rows ask for,
 //! and the trace of an identifier.
 //!
-//! The layer above may cite: the same of `publish`, `exact` and `trace`, over any register.
+//! The layer above may cite: the same of `publish`, `exact` and `trace`, over any register; and of a
+//! release that was accepted, whichever run accepted it.
 //! Begin at `specs/PublishAnswer.antt`, then `src/publish.rt`.
 #![tactic(auto)]
 
@@ -14,8 +15,9 @@ mod submission;
 mod trace;
 mod unopened;
 
-pub use exact::run_exact;
-pub use lineage_lines::print_publish_fault;
-pub use publish::run_publish;
+pub use exact::{change_of, fill_change, run_exact};
+pub use lineage_lines::{print_publish_fault, refuse};
+pub use publish::{publish_accepted, run_publish};
+pub use submission::{Unread, understand_cert, understand_rows};
 pub use trace::run_trace;
 pub use unopened::refuse_register;

@@ -194,7 +194,7 @@ pub fn print_publish_fault<W: Write>(fault: &PublishFault, out: &mut W) -> Resul
 }
 
 /// The line of a refusal of the register, with this status.
-pub(crate) fn refuse(alloc: Global, fault: &PublishFault, status: u8) -> Result<Answer, AllocError>
+pub fn refuse(alloc: Global, fault: &PublishFault, status: u8) -> Result<Answer, AllocError>
     ensures { IfOk result (λ a. (a.text.items ≡ publish_refusal_text fault.now) ×
         (a.status ≡ status)) }
 {

@@ -5,12 +5,14 @@ ghost use Rattle.std.specs.Io.KnownBytes.{Appends};
 ghost use Rattle.std.specs.List.{flat_map};
 ghost use Rattle.sqlite.specs.Held.{state};
 ghost use Rattle.lpis_covers.specs.Ids.{has_id};
+ghost use Rattle.lpis_cert.specs.declared.part.ExactBlock.{ExactBlock};
 ghost use Rattle.lpis_checker.specs.GoodCertificate.{IsGood};
 ghost use Rattle.lpis_checker.specs.SoundMap.{IsSoundMap};
 ghost use Rattle.lpis_lineage.specs.Changes.{kind_at};
 ghost use Rattle.lpis_lineage.specs.Lineage.{last_year};
 ghost use Rattle.lpis_lineage.specs.Order.{IsAscending};
 ghost use Rattle.lpis_lineage.specs.declared.row.Row.{Row};
+ghost use Rattle.lpis_parcels.specs.Release.{Contents};
 ghost use Rattle.lpis_register.specs.Accepting.{IsAccepted, WasMadeFor};
 ghost use Rattle.lpis_register.specs.Failing.{FailsToStore, HasStoreCause};
 ghost use Rattle.lpis_commands.specs.declared.failure.Failure.TheVariants.{Store};
@@ -18,19 +20,18 @@ ghost use Rattle.lpis_commands.specs.CheckAnswer.{IsCheckAnswer};
 ghost use Rattle.lpis_commands.specs.Report.{report_text};
 ghost use Rattle.lpis_commands.specs.Status.{done};
 ghost use Rattle.lpis_publishing.specs.LineageLines.{lineage_line, published_line};
+ghost use Rattle.lpis_publishing.specs.Publication.{IsPublicationAnswer, IsReleasePublished};
+ghost use Rattle.lpis_publishing.specs.Publication.{PublishLeaves};
 ghost use Rattle.lpis_publishing.specs.PublishAnswer.{FailsToPublish, IsHistoryAnswer};
 ghost use Rattle.lpis_publishing.specs.PublishAnswer.{IsPublishAnswer, MovesRegister, RunsPublish};
 ghost use Rattle.lpis_publishing.specs.Stored.{IsStoreFailure, register_of};
 ghost use Rattle.lpis_publishing.specs.Submission.{IsUntouched, before_cert, before_classes};
 ghost use Rattle.lpis_publishing.specs.Submission.{before_covers, before_lineage};
 ghost use Rattle.lpis_publishing.specs.private.Marked.{is_marked};
-ghost use Rattle.lpis_publishing.specs.private.PublishRuns.{IsAdded, PublishLeaves};
 ghost use Rattle.lpis_publishing.specs.private.Submitting.{submission_of};
 
 use crate::lineage_lines::{marked_ids, print_lineage, print_published, refuse};
-use crate::submission::{
-    ReadSubmission, SubmissionBytes, UnreadSubmission, read_submission, understand,
-};
+use crate::submission::{ReadSubmission, SubmissionBytes, Unread, read_submission, understand};
 use lpis_cert::Cert;
 use lpis_checker::{CheckFault, Yes, check};
 use lpis_commands::{Answer, DONE, Failure, PrintFault, REFUSED, refuse_cert, write_report};
@@ -43,31 +44,29 @@ use std::alloc::{AllocError, Global};
 use std::collections::HashSet;
 use std::io::{Read, Write};
 
-/// Writes the report of a release, the line of each identifier that it drops, and its year.
+/// Writes the line of each identifier that a release drops, and its year.
 fn print_publication<W: Write>(
-    yes: &Yes<'_>,
     year: u16,
     change: &Change,
     marked: &HashSet<Id>,
     out: &mut W,
 ) -> Result<(), PrintFault>
-    ensures { OnOk result (Appends (W.contents out.old) (W.contents out.new) (report_text yes.now
-        ++ flat_map (lineage_line (kind_at change.now) (has_id marked.now.keys))
+    ensures { OnOk result (Appends (W.contents out.old) (W.contents out.new)
+        (flat_map (lineage_line (kind_at change.now) (has_id marked.now.keys))
         change.now.dropped_ids ++ published_line year)) }
 {
-    write_report(yes, out)?;
     print_lineage(change, marked, out)?;
     print_published(year, out)
 }
 
-/// What is printed of a release that is published.
+/// What is printed, behind this text, of a release that is published.
 fn tell_change(
     alloc: Global,
-    yes: &Yes<'_>,
+    head: Vec<u8>,
     year: u16,
     change: &Change,
 ) -> Result<Answer, AllocError>
-    ensures text { IfOk result (λ a. a.text.items ≡ report_text yes.now
+    ensures text { IfOk result (λ a. a.text.items ≡ head.items
         ++ flat_map (lineage_line (kind_at change.now) (is_marked change.now.rows))
         change.now.dropped_ids ++ published_line year) }
     ensures status { IfOk result (λ a. a.status ≡ done) }
@@ -76,31 +75,31 @@ fn tell_change(
     // Its dropped identifiers ascend.
     let _ = change.dropped();
     let marked = marked_ids(alloc, change.rows())?;
-    let mut text = Vec::new(alloc);
-    match print_publication(yes, year, change, &marked, &mut text) {
+    let mut text = head;
+    match print_publication(year, change, &marked, &mut text) {
         Ok(()) => Ok(Answer { text, status: DONE }),
         Err(_) => Err(AllocError),
     }
 }
 
-/// Publishes a release that was accepted. What is printed is in memory before.
-fn publish_accepted<S: Alter>(
+/// Publishes a release that was accepted: what is printed is this text, the line of each identifier
+/// that it drops, and its year. It is whole in memory before the register is written.
+pub fn publish_accepted<S: Alter>(
     alloc: Global,
     register: &mut Register<S>,
     year: u16,
-    yes: &Yes<'_>,
-    cert: &Cert,
+    head: Vec<u8>,
     accepted: Accepted,
 ) -> Result<Answer, Failure>
     requires made { WasMadeFor register.old.history register.old.shapes.items accepted }
-    ensures answer { (rows : List Row) → IsAccepted register.old.history register.old.shapes.items
-        year yes.now cert.now.exact rows accepted → IfOk result
-        (λ a. IsHistoryAnswer register.old.history register.old.shapes.items year yes.now cert.now
-        rows (a.text.items, a.status)) }
-    ensures added { (rows : List Row) → IsAccepted register.old.history register.old.shapes.items
-        year yes.now cert.now.exact rows accepted → IfOk result
-        (λ a. IsAdded year yes.now rows register.old.history register.old.shapes.items
-        register.new.history register.new.shapes.items) }
+    ensures answer { (r : Contents) (blocks : List ExactBlock) (rows : List Row)
+        → IsAccepted register.old.history register.old.shapes.items year r blocks rows accepted
+        → IfOk result (λ a. IsPublicationAnswer head.items register.old.history
+        register.old.shapes.items year r blocks rows (a.text.items, a.status)) }
+    ensures published { (r : Contents) (blocks : List ExactBlock) (rows : List Row)
+        → IsAccepted register.old.history register.old.shapes.items year r blocks rows accepted
+        → IfOk result (λ _. IsReleasePublished r rows year register.old.history
+        register.old.shapes.items register.new.history register.new.shapes.items) }
     ensures leaves { PublishLeaves result (state S.Store register.old.conn) register.old.history
         register.old.shapes.items (state S.Store register.new.conn) register.new.history
         register.new.shapes.items }
@@ -108,7 +107,7 @@ fn publish_accepted<S: Alter>(
         register.old.shapes.items accepted register.old.conn register.new.conn
         (failure ≡ Store)) }
 {
-    let answer = tell_change(alloc, yes, year, accepted.change())?;
+    let answer = tell_change(alloc, head, year, accepted.change())?;
     match register.commit(accepted) {
         Ok(_) => Ok(answer),
         Err(PublishFault::Memory) => Err(Failure::Memory),
@@ -116,6 +115,46 @@ fn publish_accepted<S: Alter>(
         // The database's own memory ran out: a commit has no other fault.
         Err(_) => Err(Failure::StoreMemory),
     }
+}
+
+/// The report of a release.
+fn report_of(alloc: Global, yes: &Yes<'_>) -> Result<Vec<u8>, AllocError>
+    ensures { IfOk result (λ text. text.items ≡ report_text yes.now) }
+{
+    let mut text = Vec::new(alloc);
+    match write_report(yes, &mut text) {
+        Ok(()) => Ok(text),
+        Err(_) => Err(AllocError),
+    }
+}
+
+/// Publishes a checked release that was accepted, with its report.
+fn publish_reported<S: Alter>(
+    alloc: Global,
+    register: &mut Register<S>,
+    year: u16,
+    yes: &Yes<'_>,
+    accepted: Accepted,
+) -> Result<Answer, Failure>
+    requires made { WasMadeFor register.old.history register.old.shapes.items accepted }
+    ensures answer { (blocks : List ExactBlock) (rows : List Row)
+        → IsAccepted register.old.history register.old.shapes.items year yes.now blocks rows
+        accepted → IfOk result (λ a. IsPublicationAnswer (report_text yes.now)
+        register.old.history register.old.shapes.items year yes.now blocks rows
+        (a.text.items, a.status)) }
+    ensures published { (blocks : List ExactBlock) (rows : List Row)
+        → IsAccepted register.old.history register.old.shapes.items year yes.now blocks rows
+        accepted → IfOk result (λ _. IsReleasePublished yes.now rows year register.old.history
+        register.old.shapes.items register.new.history register.new.shapes.items) }
+    ensures leaves { PublishLeaves result (state S.Store register.old.conn) register.old.history
+        register.old.shapes.items (state S.Store register.new.conn) register.new.history
+        register.new.shapes.items }
+    ensures cause { IfErr result (λ failure. HasStoreCause S.Store (last_year register.old.history)
+        register.old.shapes.items accepted register.old.conn register.new.conn
+        (failure ≡ Store)) }
+{
+    let report = report_of(alloc, yes)?;
+    publish_accepted(alloc, register, year, report, accepted)
 }
 
 /// Publishes a checked release where the history lets it follow, and its certificate shows what its
@@ -130,8 +169,8 @@ fn publish_checked<S: Alter>(
 ) -> Result<Answer, Failure>
     ensures answer { IfOk result (λ a. IsHistoryAnswer register.old.history
         register.old.shapes.items year yes.now cert.now rows.now (a.text.items, a.status)) }
-    ensures added { IfOk result (λ a. a.status ≡ done → IsAdded year yes.now rows.now
-        register.old.history register.old.shapes.items register.new.history
+    ensures published { IfOk result (λ a. a.status ≡ done → IsReleasePublished yes.now rows.now
+        year register.old.history register.old.shapes.items register.new.history
         register.new.shapes.items) }
     ensures leaves { PublishLeaves result (state S.Store register.old.conn) register.old.history
         register.old.shapes.items (state S.Store register.new.conn) register.new.history
@@ -141,7 +180,7 @@ fn publish_checked<S: Alter>(
         register.old.conn register.new.conn (failure ≡ Store)) }
 {
     match register.accept(year, yes, rows, cert) {
-        Ok(accepted) => publish_accepted(alloc, register, year, yes, cert, accepted),
+        Ok(accepted) => publish_reported(alloc, register, year, yes, accepted),
         Err(PublishFault::Memory) => Err(Failure::Memory),
         Err(fault) => Ok(refuse(alloc, &fault, REFUSED)?),
     }
@@ -157,9 +196,9 @@ fn answer_to_submission<S: Alter>(
     ensures answer { IfOk result (λ a. IsCheckAnswer said.now.release said.now.cert
         (IsHistoryAnswer register.old.history register.old.shapes.items year said.now.release
         said.now.cert said.now.rows.items) (a.text.items, a.status)) }
-    ensures added { IfOk result (λ a. a.status ≡ done → IsSoundMap said.now.release
-        × IsGood said.now.release said.now.cert × IsAdded year said.now.release
-        said.now.rows.items register.old.history register.old.shapes.items
+    ensures published { IfOk result (λ a. a.status ≡ done → IsSoundMap said.now.release
+        × IsGood said.now.release said.now.cert × IsReleasePublished said.now.release
+        said.now.rows.items year register.old.history register.old.shapes.items
         register.new.history register.new.shapes.items) }
     ensures leaves { PublishLeaves result (state S.Store register.old.conn) register.old.history
         register.old.shapes.items (state S.Store register.new.conn) register.new.history
@@ -209,8 +248,8 @@ fn answer_to<S: Alter>(
 {
     match understand(alloc, submission) {
         Ok(said) => answer_to_submission(alloc, register, year, &said),
-        Err(UnreadSubmission::Memory) => Err(Failure::Memory),
-        Err(UnreadSubmission::Refused(answer)) => Ok(answer),
+        Err(Unread::Memory) => Err(Failure::Memory),
+        Err(Unread::Refused(answer)) => Ok(answer),
     }
 }
 

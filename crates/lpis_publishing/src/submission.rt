@@ -8,12 +8,12 @@ ghost use Rattle.lpis_cert.specs.Faults.{verdict};
 ghost use Rattle.lpis_lineage.specs.LineageTable.{lineage_table};
 ghost use Rattle.lpis_commands.specs.CheckAnswer.{IsCertAnswer, IsTableAnswer};
 ghost use Rattle.lpis_commands.specs.Inputs.{IsReadAs, inputs_of};
-ghost use Rattle.lpis_publishing.specs.Submission.{IsSubmitted, IsUntouched, before_cert};
+ghost use Rattle.lpis_publishing.specs.Submission.{IsSubmitted, IsUnreadAnswer, IsUntouched};
+ghost use Rattle.lpis_publishing.specs.Submission.{before_cert};
 ghost use Rattle.lpis_publishing.specs.Submission.{before_classes, before_covers, before_lineage};
 ghost use Rattle.lpis_publishing.specs.private.Submitting.{IsFaultAnswer};
-ghost use Rattle.lpis_publishing.specs.private.Submitting.{IsReadAll, IsUnreadAnswer};
-ghost use Rattle.lpis_publishing.specs.private.Submitting.{submission_of};
-ghost use Rattle.lpis_publishing.specs.declared.submission.UnreadSubmission.{UnreadSubmission};
+ghost use Rattle.lpis_publishing.specs.private.Submitting.{IsReadAll, submission_of};
+ghost use Rattle.lpis_publishing.specs.declared.submission.Unread.{Unread};
 
 use crate::inputs::{read_checked, read_lent};
 use lpis_cert::{Cert, CertFault};
@@ -41,20 +41,20 @@ pub(crate) struct ReadSubmission {
     pub(crate) rows: Vec<Row>,
 }
 
-/// Why they say none.
+/// Why texts or tables say nothing.
 #[derive(Drop)]
-pub(crate) enum UnreadSubmission {
+pub enum Unread {
     /// Memory ran out.
     Memory,
-    /// The line of their first fault, and its status.
+    /// The line of the first fault, and its status.
     Refused(Answer),
 }
 
-impl From<AllocError> for UnreadSubmission {
-    ghost from_gives = { λ _ e. e ≡ UnreadSubmission.Memory };
+impl From<AllocError> for Unread {
+    ghost from_gives = { λ _ e. e ≡ Unread.Memory };
 
-    fn from(_e: AllocError) -> UnreadSubmission {
-        UnreadSubmission::Memory
+    fn from(_e: AllocError) -> Unread {
+        Unread::Memory
     }
 }
 
@@ -86,7 +86,7 @@ pub(crate) fn read_submission<P: Read, C: Read, K: Read, E: Read, L: Read>(
 }
 
 /// The release of three tables, or the line of their fault.
-fn understand_release(alloc: Global, tables: TableBytes) -> Result<Release, UnreadSubmission>
+fn understand_release(alloc: Global, tables: TableBytes) -> Result<Release, Unread>
     ensures said { IfOk result (λ r. release_of tables.parcels.items tables.covers.items
         tables.classes.items ≡ Ok r) }
     ensures unread { IfErr result (IsUnreadAnswer (IsTableAnswer (λ r a. ⊥)
@@ -94,34 +94,34 @@ fn understand_release(alloc: Global, tables: TableBytes) -> Result<Release, Unre
 {
     match release_in(alloc, tables) {
         Ok(release) => Ok(release),
-        Err(TableFault::Memory) => Err(UnreadSubmission::Memory),
-        Err(fault) => Err(UnreadSubmission::Refused(Answer::refuse_table(alloc, &fault)?)),
+        Err(TableFault::Memory) => Err(Unread::Memory),
+        Err(fault) => Err(Unread::Refused(Answer::refuse_table(alloc, &fault)?)),
     }
 }
 
 /// The certificate that a text was read as, or the line of its fault.
-fn understand_cert(alloc: Global, read: Result<Cert, CertFault>) -> Result<Cert, UnreadSubmission>
+pub fn understand_cert(alloc: Global, read: Result<Cert, CertFault>) -> Result<Cert, Unread>
     ensures said { (text : List ℕ) → IsReadAs text read → IfOk result (IsCertText text) }
     ensures unread { (text : List ℕ) → IsReadAs text read
         → IfErr result (IsUnreadAnswer (IsCertAnswer (λ c a. ⊥) text (verdict text))) }
 {
     match read {
         Ok(cert) => Ok(cert),
-        Err(CertFault::Memory) => Err(UnreadSubmission::Memory),
-        Err(fault) => Err(UnreadSubmission::Refused(refuse_text(alloc, &fault)?)),
+        Err(CertFault::Memory) => Err(Unread::Memory),
+        Err(fault) => Err(Unread::Refused(refuse_text(alloc, &fault)?)),
     }
 }
 
 /// The rows of a lineage table, whose bytes are let go, or the line of its fault.
-fn understand_rows(alloc: Global, lineage: Vec<u8>) -> Result<Vec<Row>, UnreadSubmission>
+pub fn understand_rows(alloc: Global, lineage: Vec<u8>) -> Result<Vec<Row>, Unread>
     ensures said { IfOk result (λ v. rows_of lineage_table lineage.items ≡ Ok v.items) }
     ensures unread { IfErr result (IsUnreadAnswer (IsTableAnswer (λ rows a. ⊥)
         (rows_of lineage_table lineage.items))) }
 {
     match read_rows(alloc, &lineage) {
         Ok(rows) => Ok(rows),
-        Err(TableFault::Memory) => Err(UnreadSubmission::Memory),
-        Err(fault) => Err(UnreadSubmission::Refused(Answer::refuse_table(alloc, &fault)?)),
+        Err(TableFault::Memory) => Err(Unread::Memory),
+        Err(fault) => Err(Unread::Refused(Answer::refuse_table(alloc, &fault)?)),
     }
 }
 
@@ -129,7 +129,7 @@ fn understand_rows(alloc: Global, lineage: Vec<u8>) -> Result<Vec<Row>, UnreadSu
 /// which is that of a submission with any lineage table. The certificate is read first, since its
 /// text is the longest as a rule, and the bytes of each input are let go when it is read; the fault
 /// of the tables is told first all the same.
-fn understand_map(alloc: Global, checked: InputBytes) -> Result<(Release, Cert), UnreadSubmission>
+fn understand_map(alloc: Global, checked: InputBytes) -> Result<(Release, Cert), Unread>
     ensures said { IfOk result (λ map. (release_of checked.tables.parcels.items
         checked.tables.covers.items checked.tables.classes.items ≡ Ok map.0)
         × IsCertText checked.cert.items map.1) }
@@ -148,7 +148,7 @@ fn understand_map(alloc: Global, checked: InputBytes) -> Result<(Release, Cert),
 pub(crate) fn understand(
     alloc: Global,
     submission: SubmissionBytes,
-) -> Result<ReadSubmission, UnreadSubmission>
+) -> Result<ReadSubmission, Unread>
     ensures said { IfOk result (λ s. IsSubmitted (submission_of submission) s.release s.cert
         s.rows.items) }
     ensures unread { IfErr result (IsUnreadAnswer (IsFaultAnswer (submission_of submission))) }

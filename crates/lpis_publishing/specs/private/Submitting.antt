@@ -7,8 +7,6 @@ use Rattle.lpis_publishing.specs.Submission.{AreAllRead, Readers}
 use Rattle.lpis_publishing.specs.Submission.{IsSubmissionAnswer, IsUnreadSubmission}
 use Rattle.lpis_publishing.specs.Submission.{Submission}
 use Rattle.lpis_publishing.specs.declared.submission.SubmissionBytes.{SubmissionBytes}
-use Rattle.lpis_publishing.specs.declared.submission.UnreadSubmission.{UnreadSubmission}
-use Rattle.lpis_publishing.specs.declared.submission.UnreadSubmission.TheVariants.{Memory, Refused}
 
 abbrev pub submission_of : SubmissionBytes → Submission
 submission_of b = record { checked = inputs_of b.checked; lineage = b.lineage.items }
@@ -17,11 +15,6 @@ submission_of b = record { checked = inputs_of b.checked; lineage = b.lineage.it
 pub record IsReadAll (given : Readers) (result : Result SubmissionBytes Failure) : Type 0 where
   pub bytes : IfOk result (λ b. AreAllRead given (submission_of b))
   pub failure : IfErr result (IsUnreadSubmission given)
-
--- memory ran out, or the answer is one of these
-abbrev pub IsUnreadAnswer : (Answer → Type 0) → UnreadSubmission → Type 0
-IsUnreadAnswer Is Memory = Unit {0}
-IsUnreadAnswer Is (Refused a) = Is (a.text.items, a.status)
 
 -- the answer to a submission that says nothing
 abbrev pub IsFaultAnswer : Submission → Answer → Type 0

@@ -24,7 +24,7 @@ returns-in-Ok-clause-moves g c =
           published-of x c.args.year s.release s.cert s.rows.items old.history old.shapes.items new.history new.shapes.items c.in-Ok.ensures.said was.0 was.1 was.2),
       known.1,
     ))
-    (both-ok c.answer_to_submission.result _ _ c.answer_to_submission.ensures.added c.answer_to_submission.ensures.leaves.same)
+    (both-ok c.answer_to_submission.result _ _ c.answer_to_submission.ensures.published c.answer_to_submission.ensures.leaves.same)
 
 pub returns-in-Err-Refused-clause-answer : goal.returns-in-Err-Refused-clause-answer
 returns-in-Err-Refused-clause-answer g c =

@@ -1,18 +1,18 @@
 use Rattle.std.proofs.Common.{inl, inr, ap, refl}
 use Rattle.sqlite.specs.Held.{state}
-use Rattle.lpis_publishing.proofs.PublishLemmas.{added-accepted, answer-accepted, leaves-committed, leaves-kept, memory-no-store, still-held}
+use Rattle.lpis_publishing.proofs.PublishLemmas.{leaves-committed, leaves-kept, memory-no-store, publication-accepted, published-accepted, still-held}
 use Rattle.lpis_publishing.proofs.publish.publish_accepted.Goals as goal
 
 pub returns-in-Ok-clause-answer : goal.returns-in-Ok-clause-answer
-returns-in-Ok-clause-answer g c rows made =
+returns-in-Ok-clause-answer g c r blocks rows made =
     let told = c.in_ok-answer.ensures in
-    answer-accepted c.args.register.now.history c.args.register.now.shapes.items c.args.year c.args.yes.now c.args.cert.now rows c.args.accepted c.change.result.now
+    publication-accepted c.args.head.items c.args.register.now.history c.args.register.now.shapes.items c.args.year r blocks rows c.args.accepted c.change.result.now
     c.in_ok-answer.answer.text.items c.in_ok-answer.answer.status made c.change.ensures told.text told.status
 
-pub returns-in-Ok-clause-added : goal.returns-in-Ok-clause-added
-returns-in-Ok-clause-added g c rows made =
-    let published = c.in-Ok.ensures.publishes c.args.year c.args.yes.now c.args.cert.now.exact rows made in
-    added-accepted c.args.register.now.history c.commit.new.self.history c.args.year c.args.yes.now c.args.cert.now rows c.args.register.now.shapes.items c.commit.new.self.shapes.items
+pub returns-in-Ok-clause-published : goal.returns-in-Ok-clause-published
+returns-in-Ok-clause-published g c r blocks rows made =
+    let published = c.in-Ok.ensures.publishes c.args.year r blocks rows made in
+    published-accepted c.args.register.now.history c.commit.new.self.history c.args.year r blocks rows c.args.register.now.shapes.items c.commit.new.self.shapes.items
     c.args.accepted c.change.result.now made c.change.ensures c.in_ok-answer.ensures.ascend published.follows published.once
 
 pub returns-in-Ok-clause-leaves : goal.returns-in-Ok-clause-leaves
@@ -62,8 +62,8 @@ returns g c =
     let kept = (c.in-Err.ensures.publishes made.0 made.1 made.2 made.3 made.4).refused in
     let stored = c.in-Err.ensures.stores made.0 made.1 made.2 made.3 made.4 in
     record {
-      answer = λ rows it. tt;
-      added = λ rows it. tt;
+      answer = λ r blocks rows it. tt;
+      published = λ r blocks rows it. tt;
       leaves = leaves-kept _ old new c.args.register.now.history c.commit.new.self.history c.args.register.now.shapes.items c.commit.new.self.shapes.items
           (inr (inr refl)) kept stored.err (λ other held. absurd (other (inr refl)));
       cause = λ clean is. memory-no-store is;
