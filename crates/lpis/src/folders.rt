@@ -4,8 +4,9 @@ ghost use Rattle.std.specs.Prelude.{IfErr, None, true};
 ghost use Rattle.lpis_country_run.specs.CountryFailures.{IsUnopened};
 
 use crate::open_at;
-use lpis_commands::{Failure, Name, RegionFiles, region_files};
+use lpis_commands::{Failure, Name, RegionFiles, region_files, region_lineage};
 use lpis_country_run::{Folder, Regions};
+use lpis_publish_country::Lineages;
 use std::fs::File;
 
 /// The folder of a country, in which each region has one.
@@ -61,5 +62,19 @@ impl Regions for Folders<'_> {
     fn open(&self, name: &str) -> Result<Folder<File>, Failure> {
         let files = region_files(self.rt.alloc(), self.dir, name)?;
         open_folder(self.rt, &files)
+    }
+}
+
+impl Lineages for Folders<'_> {
+    ghost use Rattle.std.specs.Prelude.{None};
+
+    type Table = File;
+
+    // Nothing is known of its bytes.
+    ghost lineages = { λ _ _. None };
+
+    fn open_lineage(&self, name: &str) -> Result<File, Failure> {
+        let table = region_lineage(self.rt.alloc(), self.dir, name)?;
+        open_at(self.rt, table.path.as_str(), Name::Lineage)
     }
 }

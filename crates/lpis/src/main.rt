@@ -4,6 +4,7 @@
 //! Begin at `src/main.rt`.
 #![tactic(auto)]
 
+mod countries;
 mod created;
 mod folders;
 
@@ -11,15 +12,13 @@ ghost use Rattle.std.specs.Prelude.{◌≡◌, IfErr};
 ghost use Rattle.lpis_commands.specs.declared.failure.Failure.TheVariants.{Read};
 
 use clap::error::ErrorKind;
+use countries::{check_country, fill_country, locate_in_country, publish_country};
 use created::Created;
-use folders::Folders;
 use lpis_commands::{
-    Cmd, CommandFiles, Detail, FAILED, Failure, Name, NamedFile, SubmissionFiles, TableFiles,
-    command_of, named_files, print_failure, run_area, run_check, run_cut, status_of, usage_ends,
+    Cmd, CommandFiles, Detail, Failure, Name, NamedFile, SubmissionFiles, TableFiles, command_of,
+    named_files, print_failure, run_area, run_check, run_cut, status_of, usage_ends,
 };
-use lpis_country_run::{CountryFailure, print_country_failure, run_country};
 use lpis_locate::run_locate;
-use lpis_locate_country::run_locate_country;
 use lpis_publishing::{refuse_register, run_exact, run_publish, run_trace};
 use lpis_register::Register;
 use sqlite::{Alter, Unknown};
@@ -137,6 +136,42 @@ fn perform_on(rt: &HostRuntime, files: &CommandFiles<'_>) -> Result<u8, Failure>
                 submission,
             },
         ),
+        CommandFiles::ExactCountry {
+            db,
+            dir,
+            country,
+            classes,
+            file,
+        } => in_register(
+            rt,
+            db,
+            Job::FillCountry {
+                dir,
+                country,
+                classes,
+                filled: file,
+            },
+        ),
+        CommandFiles::PublishCountry {
+            db,
+            year,
+            dir,
+            country,
+            classes,
+            exact,
+            detail,
+        } => in_register(
+            rt,
+            db,
+            Job::PublishCountry {
+                year: *year,
+                dir,
+                country,
+                classes,
+                exact,
+                detail: *detail,
+            },
+        ),
         CommandFiles::Trace { db, id } => in_register(rt, db, Job::Trace { id }),
     }
 }
@@ -190,6 +225,22 @@ enum Job<'a> {
         year: u16,
         submission: &'a SubmissionFiles,
     },
+    /// A certificate is written with the blocks that the marks of a country's lineage ask for.
+    FillCountry {
+        dir: &'a str,
+        country: &'a NamedFile,
+        classes: &'a NamedFile,
+        filled: &'a NamedFile,
+    },
+    /// A country is published.
+    PublishCountry {
+        year: u16,
+        dir: &'a str,
+        country: &'a NamedFile,
+        classes: &'a NamedFile,
+        exact: &'a Option<NamedFile>,
+        detail: Detail,
+    },
     /// An identifier is followed.
     Trace {
         id: &'a str,
@@ -220,53 +271,21 @@ fn work<S: Alter>(
     match job {
         Job::Fill { submission, filled } => fill(rt, register, submission, filled),
         Job::Publish { year, submission } => publish(rt, register, year, submission),
+        Job::FillCountry {
+            dir,
+            country,
+            classes,
+            filled,
+        } => fill_country(rt, register, dir, country, classes, filled),
+        Job::PublishCountry {
+            year,
+            dir,
+            country,
+            classes,
+            exact,
+            detail,
+        } => publish_country(rt, register, year, dir, country, classes, exact, detail),
         Job::Trace { id } => run_trace(rt.alloc(), register, id, &mut rt.stdout()),
-    }
-}
-
-/// Checks the country of a folder, region by region. At one time four files are open.
-fn check_country(
-    rt: &HostRuntime,
-    dir: &str,
-    country: &NamedFile,
-    classes: &NamedFile,
-    detail: Detail,
-) -> Result<u8, Failure> {
-    let country = open(rt, country)?;
-    let classes = open(rt, classes)?;
-    let folders = Folders::new(rt, dir);
-    let mut out = rt.stdout();
-    let ran = run_country(rt.alloc(), country, classes, &folders, detail, &mut out);
-    Ok(status_of_country(rt, ran))
-}
-
-/// Finds the points of this table in the country of a folder, which is checked first. At one time
-/// four files are open.
-fn locate_in_country(
-    rt: &HostRuntime,
-    dir: &str,
-    country: &NamedFile,
-    classes: &NamedFile,
-    points: &NamedFile,
-) -> Result<u8, Failure> {
-    let country = open(rt, country)?;
-    let classes = open(rt, classes)?;
-    let points = open(rt, points)?;
-    let folders = Folders::new(rt, dir);
-    let mut out = rt.stdout();
-    let ran = run_locate_country(rt.alloc(), country, classes, points, &folders, &mut out);
-    Ok(status_of_country(rt, ran))
-}
-
-/// The status of a run over a country. Where it failed the line of the failure is printed here: it
-/// may name a region, as no other failure does.
-fn status_of_country(rt: &HostRuntime, ran: Result<u8, CountryFailure>) -> u8 {
-    match ran {
-        Ok(status) => status,
-        Err(failure) => {
-            let _ = print_country_failure(&failure, &mut rt.stderr());
-            FAILED
-        }
     }
 }
 
@@ -332,7 +351,7 @@ pub(crate) fn open_at(rt: &HostRuntime, path: &str, name: Name) -> Result<File, 
 }
 
 /// Opens an input, or reports that it cannot be read.
-fn open(rt: &HostRuntime, input: &NamedFile) -> Result<File, Failure> {
+pub(crate) fn open(rt: &HostRuntime, input: &NamedFile) -> Result<File, Failure> {
     open_at(rt, input.path.as_str(), input.name)
 }
 

@@ -1,0 +1,125 @@
+//! Runs over the folder of a country. Of its regions at one time the four files of one are open, or
+//! one lineage table.
+
+use crate::created::Created;
+use crate::folders::Folders;
+use crate::open;
+use lpis_commands::{Detail, FAILED, Failure, NamedFile};
+use lpis_country_run::{CountryFailure, print_country_failure, run_country};
+use lpis_locate_country::run_locate_country;
+use lpis_publish_country::{run_exact_country, run_publish_country};
+use lpis_register::Register;
+use sqlite::Alter;
+use std::fs::File;
+
+/// Checks the country of a folder, region by region.
+pub(crate) fn check_country(
+    rt: &HostRuntime,
+    dir: &str,
+    country: &NamedFile,
+    classes: &NamedFile,
+    detail: Detail,
+) -> Result<u8, Failure> {
+    let country = open(rt, country)?;
+    let classes = open(rt, classes)?;
+    let folders = Folders::new(rt, dir);
+    let mut out = rt.stdout();
+    let ran = run_country(rt.alloc(), country, classes, &folders, detail, &mut out);
+    Ok(status_of_country(rt, ran))
+}
+
+/// Finds the points of this table in the country of a folder, which is checked first.
+pub(crate) fn locate_in_country(
+    rt: &HostRuntime,
+    dir: &str,
+    country: &NamedFile,
+    classes: &NamedFile,
+    points: &NamedFile,
+) -> Result<u8, Failure> {
+    let country = open(rt, country)?;
+    let classes = open(rt, classes)?;
+    let points = open(rt, points)?;
+    let folders = Folders::new(rt, dir);
+    let mut out = rt.stdout();
+    let ran = run_locate_country(rt.alloc(), country, classes, points, &folders, &mut out);
+    Ok(status_of_country(rt, ran))
+}
+
+/// The status of a run over a country. Where it failed the line of the failure is printed here: it
+/// may name a region, as no other failure does.
+fn status_of_country(rt: &HostRuntime, ran: Result<u8, CountryFailure>) -> u8 {
+    match ran {
+        Ok(status) => status,
+        Err(failure) => {
+            let _ = print_country_failure(&failure, &mut rt.stderr());
+            FAILED
+        }
+    }
+}
+
+/// Opens an input, where one is named.
+fn open_if_named(rt: &HostRuntime, input: &Option<NamedFile>) -> Result<Option<File>, Failure> {
+    match input {
+        Some(input) => Ok(Some(open(rt, input)?)),
+        None => Ok(None),
+    }
+}
+
+/// Writes the blocks that the marks of a country's lineage ask for after a register.
+pub(crate) fn fill_country<S: Alter>(
+    rt: &HostRuntime,
+    register: &Register<S>,
+    dir: &str,
+    country: &NamedFile,
+    classes: &NamedFile,
+    filled: &NamedFile,
+) -> Result<u8, Failure> {
+    let country = open(rt, country)?;
+    let classes = open(rt, classes)?;
+    let folders = Folders::new(rt, dir);
+    // Where there are no such blocks, a file that stands at this path stays as it is.
+    let mut filled = Created::new(rt, filled.path.as_str());
+    let mut out = rt.stdout();
+    let ran = run_exact_country(
+        rt.alloc(),
+        register,
+        country,
+        classes,
+        &folders,
+        &folders,
+        &mut filled,
+        &mut out,
+    );
+    Ok(status_of_country(rt, ran))
+}
+
+/// Publishes the country of a folder in a register.
+pub(crate) fn publish_country<S: Alter>(
+    rt: &HostRuntime,
+    register: &mut Register<S>,
+    year: u16,
+    dir: &str,
+    country: &NamedFile,
+    classes: &NamedFile,
+    exact: &Option<NamedFile>,
+    detail: Detail,
+) -> Result<u8, Failure> {
+    let country = open(rt, country)?;
+    let classes = open(rt, classes)?;
+    let exact = open_if_named(rt, exact)?;
+    let folders = Folders::new(rt, dir);
+    let mut out = rt.stdout();
+    let ran = run_publish_country(
+        rt.alloc(),
+        register,
+        year,
+        country,
+        classes,
+        exact,
+        &folders,
+        &folders,
+        detail,
+        &mut out,
+    );
+    Ok(status_of_country(rt, ran))
+}

@@ -1,0 +1,343 @@
+-- What a run that asks for the blocks of a country has decided, and how it ends.
+use Rattle.std.proofs.Common.{◌≡◌, ◌≢◌, ◌⊎◌, ◌<◌, ◌+◌, ◌-◌, ◌∙◌, ◌++◌, ◌∷◌, [], refl, sym, ap, ap₂, subst, arith, inl, inr, IfOk, ℕ, List, Option, None, Some, Result, Ok, Err}
+use Rattle.std.proofs.Common.{length, take}
+use Rattle.std.proofs.KnownBytes.{Appends-trans, Keeps-refl}
+use Rattle.std.proofs.Math.Seq.{take-append-add}
+use Rattle.std.proofs.lemmas.Bool.{cases_lt}
+use Rattle.std.proofs.lemmas.List.{append-nil, append_assoc, take-append-le}
+use Rattle.std.proofs.lemmas.Result.{IfOk-weaker}
+use Rattle.std.specs.Io.KnownBytes.{Appends, append_known}
+use Rattle.lpis_parcels.specs.declared.parcel.Parcel.{Parcel}
+use Rattle.lpis_parcels.specs.Release.{Contents, parcel_ids}
+use Rattle.lpis_cert.specs.declared.cert.Cert.{Cert}
+use Rattle.lpis_country.specs.Country.{country_of}
+use Rattle.lpis_lineage.specs.declared.fault.LineageFault.{LineageFault}
+use Rattle.lpis_lineage.specs.declared.fault.LineageFault.TheVariants.{Memory as NoMemory}
+use Rattle.lpis_lineage.specs.declared.row.Entry.{Entry}
+use Rattle.lpis_lineage.specs.declared.row.Row.{Row}
+use Rattle.lpis_lineage.specs.Changes.{Changes, IsChange}
+use Rattle.lpis_lineage.specs.Faults.{faults, first}
+use Rattle.lpis_lineage.specs.Lineage.{last_live}
+use Rattle.lpis_register_rows.specs.Shapes.{Shape}
+use Rattle.lpis_register.specs.declared.fault.PublishFault.TheVariants.{Lineage}
+use Rattle.lpis_commands.specs.CheckAnswer.{Answer}
+use Rattle.lpis_commands.specs.Outputs.{BreaksOff, Held, Outputs, Writes, held, outputs_of}
+use Rattle.lpis_commands.specs.Status.{done, refused}
+use Rattle.lpis_commands.specs.Streams.{Begins}
+use Rattle.lpis_commands.specs.declared.answer.Answer.{Answer as Printed}
+use Rattle.lpis_commands.specs.declared.command.Detail.TheVariants.{Regions}
+use Rattle.lpis_commands.specs.declared.failure.Failure.{Failure}
+use Rattle.lpis_commands.specs.declared.failure.Failure.TheVariants.{Memory, Write}
+use Rattle.lpis_commands.specs.declared.failure.Name.TheVariants.{Out}
+use Rattle.lpis_commands.specs.declared.outcome.Outcome.{Outcome}
+use Rattle.lpis_country_run.proofs.Shared.{setting_begun}
+use Rattle.lpis_country_run.specs.CountryAnswer.{IsEnd, IsReachedBy, IsRegionsAnswer, Setting, setting_of}
+use Rattle.lpis_country_run.specs.CountryFailures.{IsOfNone, IsUnreadTop}
+use Rattle.lpis_country_run.specs.Regions.{Texts}
+use Rattle.lpis_country_run.specs.RegionsOutcome.{IsSettingOf, JoinsAll, RegionsEnd, RegionsStop}
+use Rattle.lpis_country_run.specs.declared.failure.CountryFailure.{CountryFailure}
+use Rattle.lpis_publishing.specs.ExactAnswer.{IsBlocksAnswer, IsBlocksOutcome}
+use Rattle.lpis_publish_country.specs.CountryLineage.{country_refusal_text, rows_in}
+use Rattle.lpis_publish_country.specs.ExactCountryAnswer.{FillHalts, FillsCountry, FillsRegions, HasNoParts, IsFillAnswer, IsFillEnd, IsFillOutcome}
+use Rattle.lpis_publish_country.specs.ExactCountryAnswer.{RunsExactCountry, behind}
+use Rattle.lpis_publish_country.specs.PublishCountryAnswer.{AreBlocksOf, AreSaid, AreTopRead, CountryFiles, IsExactRead, IsRefusedBefore, PublishCountryInputs}
+use Rattle.lpis_publish_country.specs.PublishCountryRuns.{IsPublishPart, IsUnreadLineage}
+use Rattle.lpis_publish_country.specs.declared.inputs.Prepared.{Prepared}
+use Rattle.lpis_publish_country.specs.private.Filling.{FillsPrepared}
+use Rattle.lpis_publish_country.specs.private.Preparing.{IsPrepared}
+
+-- ---- the union
+-- without faults there is no first one
+no-first : (fs : List LineageFault) (fault : LineageFault) → fs ≡ [] → first fs ≡ Some fault → ⊥
+no-first fs fault none is = nothing (sym (ap first none) ∙ is)
+  where
+    nothing : None ≡ Some fault → ⊥
+    nothing e = cc
+
+module _ (tables : List (List Row)) (h : List Entry) (s : List Shape) (g : Setting) (regions : List Contents) where
+  -- the answer to a union that may follow
+  fill-answer : (c : Cert) (text : Option (List ℕ)) (a : Answer) → HasNoParts c → faults h (parcel_ids (country_of g.classes regions).parcels) (rows_in tables) ≡ []
+      → IsBlocksAnswer h s (country_of g.classes regions) c (rows_in tables) text a → IsFillAnswer tables h s g regions text a
+  fill-answer c text a none clean (inl (fault, is, told)) = absurd (no-first _ fault clean is)
+  fill-answer c text a none clean (inr (inl unkept)) = inr (inl unkept)
+  fill-answer c text a none clean (inr (inr filled)) = inr (inr (c, none, filled))
+
+  -- with what was found of a change
+  pub fill_change_ends : {E : Type 0} (c : Cert) (rows : List Row) (parcels : List Parcel) (change : Changes) (r : Result Outcome E)
+      → parcels ≡ (country_of g.classes regions).parcels → rows ≡ rows_in tables
+      → HasNoParts c → faults h (parcel_ids parcels) rows ≡ [] → IsChange (last_live h) (parcel_ids parcels) rows change
+      → ((u : Contents) (k : List Entry) (ls : List Row) → u.parcels ≡ parcels → faults k (parcel_ids u.parcels) ls ≡ [] → IsChange (last_live k) (parcel_ids u.parcels) ls change
+      → IfOk r (λ o. IsBlocksOutcome k s u c ls (outputs_of o)))
+      → IfOk r (λ o. IsFillOutcome tables h s g regions (outputs_of o))
+  fill_change_ends c rows parcels change r are of_rows none clean changed fills =
+      let u = country_of g.classes regions in
+      let is_clean = subst (λ (xs : List Parcel). faults h (parcel_ids xs) (rows_in tables) ≡ []) are (subst (λ (ls : List Row). faults h (parcel_ids parcels) ls ≡ []) of_rows clean) in
+      let is_change = subst (λ (xs : List Parcel). IsChange (last_live h) (parcel_ids xs) (rows_in tables) change) are
+      (subst (λ (ls : List Row). IsChange (last_live h) (parcel_ids parcels) ls change) of_rows changed) in
+      IfOk-weaker r _ _ (λ o out. record { answer = fill-answer c _ _ none is_clean out.answer; no_text = out.no_text }) (fills u h (rows_in tables) (sym are) is_clean is_change)
+
+  -- the line of the first fault of its lineage
+  pub fill_refused : (rows : List Row) (parcels : List Parcel) (fault : LineageFault) (names : List (List ℕ)) (o : Outputs) (a : Printed) → parcels ≡ (country_of g.classes regions).parcels
+      → rows ≡ rows_in tables → names ≡ g.names → (fault ≡ NoMemory) ⊎ (first (faults h (parcel_ids parcels) rows) ≡ Some fault) → (fault ≡ NoMemory → ⊥)
+      → o ≡ record { cert = None; line = a.text.items; status = a.status } → a.text.items ≡ country_refusal_text names tables (Lineage fault) → a.status ≡ refused
+      → IsFillOutcome tables h s g regions o
+  fill_refused rows parcels fault names o a are of_rows of_names (inl memory) other is line status = absurd (other memory)
+  fill_refused rows parcels fault names o a are of_rows of_names (inr is_first) other is line status =
+      let of_union = subst (λ (xs : List Parcel). first (faults h (parcel_ids xs) (rows_in tables)) ≡ Some fault) are
+      (subst (λ (ls : List Row). first (faults h (parcel_ids parcels) ls) ≡ Some fault) of_rows is_first) in
+      let text = line ∙ ap (λ (ks : List (List ℕ)). country_refusal_text ks tables (Lineage fault)) of_names in
+      subst (IsFillOutcome tables h s g regions) (sym is) (record {
+        answer = inl (fault, of_union, ap₂ (λ (t : List ℕ) (n : ℕ). (t, n)) text status);
+        no_text = λ _. refl;
+      })
+
+-- ---- what was begun
+-- the setting of what the files before the regions say
+abbrev pub fill_setting : (given : CountryFiles) (x : PublishCountryInputs) (p : Prepared) → IsPrepared given x p → Setting
+fill_setting given x p h = setting_of given.texts Regions h.begun.plan p.begun.classes.items
+
+-- it is that of a run over the regions
+pub is_fill_setting : (given : CountryFiles) (x : PublishCountryInputs) (p : Prepared) (h : IsPrepared given x p) (texts : List ℕ → Texts) → given.texts ≡ texts
+    → IsSettingOf (fill_setting given x p h) texts Regions p.begun
+is_fill_setting given x p h texts told =
+    subst (λ (t : List ℕ → Texts). IsSettingOf (fill_setting given x p h) t Regions p.begun) told (setting_begun given.texts Regions x.country p.begun h.begun)
+
+-- no certificate is named
+pub said_without : (given : CountryFiles) (x : PublishCountryInputs) (p : Prepared) (h : IsPrepared given x p) → x.exact ≡ None → AreSaid given x h.begun.plan p.begun.classes.items [] h.tables
+said_without given x p h none =
+    subst (λ blocks. AreSaid given x h.begun.plan p.begun.classes.items blocks h.tables) (subst (λ e. AreBlocksOf e p.cert.exact) none h.said.of_exact) h.said
+
+-- ---- the regions
+-- the lines of the regions that passed
+fill-part : (given : CountryFiles) (x : PublishCountryInputs) (p : Prepared) (h : IsPrepared given x p) (regions : List Contents) (text : List ℕ) (left : List (List ℕ))
+    → IsReachedBy (fill_setting given x p h) regions text left → IsPublishPart given Regions x text left
+fill-part given x p h regions text left reached = record {
+  plan = h.begun.plan;
+  classes = p.begun.classes.items;
+  blocks = p.cert.exact;
+  tables = h.tables;
+  said = h.said;
+  regions = regions;
+  reached = reached;
+}
+
+-- all of them
+all-reached : (s : Setting) (regions : List Contents) (lines : List ℕ) → JoinsAll s regions lines → IsReachedBy s regions lines []
+all-reached s regions lines joins = record { passed = s.names; all = sym (append-nil s.names); have_passed = joins.have_passed }
+
+-- a beginning of two texts is one of the first, or all of it and one of the second
+begins-split : (old new : Option (List ℕ)) (a b text : List ℕ) → text ≡ a ++ b → Begins old new text → Begins old new a ⊎ ((mid : Option (List ℕ)) × Appends old mid a × Begins mid new b)
+begins-split old new a b text is (n, got) = elim (cases_lt (length a) n) [
+  | inl more ↦ inr (append_known old a, all old, (n - length a, rest old new (subst (Appends old new) (takes more) got)))
+  | inr few ↦ inl (n, subst (Appends old new) (ap (take n) is ∙ take-append-le n a b few) got)
+]
+  where
+    all : (o : Option (List ℕ)) → Appends o (append_known o a) a
+    all None = tt
+    all (Some xs) = refl
+
+    back : length a < n → n ≡ length a + (n - length a)
+    back lt = omega arith
+
+    takes : length a < n → take n text ≡ a ++ take (n - length a) b
+    takes lt = ap (take n) is ∙ ap (λ (m : ℕ). take m (a ++ b)) (back lt) ∙ take-append-add a b (n - length a)
+
+    rest : (o q : Option (List ℕ)) → Appends o q (a ++ take (n - length a) b) → Appends (append_known o a) q (take (n - length a) b)
+    rest None q e = tt
+    rest (Some xs) None e = e
+    rest (Some xs) (Some ys) e = e ∙ sym (append_assoc xs a (take (n - length a) b))
+
+-- ---- a region is refused
+module _ (given : CountryFiles) (x : PublishCountryInputs) (p : Prepared) (h : IsPrepared given x p) (none : x.exact ≡ None) (k : List Entry) (s : List Shape) where
+  -- its line ends the run
+  refused-end : (g : Setting) (regions : List Contents) (left : List (List ℕ)) (end : Answer) → IsEnd g regions left end → end.1 ≢ done
+      → IsFillEnd h.tables k s g regions left (record { cert = None; line = end.0; status = end.1 })
+  refused-end g regions [] end is other = absurd (other (ap (λ (a : Answer). a.1) is))
+  refused-end g regions (name ∷ left) end is other = (is, refl)
+
+  -- it and the lines before it
+  abbrev refusal_of : {a : Answer} → IsRegionsAnswer (fill_setting given x p h) a → Outputs
+  refusal_of answer = record { cert = None; line = answer.end.0; status = answer.end.1 }
+
+  fills-refusal : (text : List ℕ) (status : ℕ) (answer : IsRegionsAnswer (fill_setting given x p h) (text, status)) → status ≢ done → FillsRegions given x k s answer.text (refusal_of answer)
+  fills-refusal text status answer other = record {
+    plan = h.begun.plan;
+    classes = p.begun.classes.items;
+    tables = h.tables;
+    said = said_without given x p h none;
+    regions = answer.regions;
+    left = answer.left;
+    reached = answer.reached;
+    follows = refused-end (fill_setting given x p h) answer.regions answer.left answer.end answer.follows (λ e. other (ap (λ (a : Answer). a.1) answer.is ∙ e));
+  }
+
+  -- where it was written
+  pub fill_refuses : (file old new : Option (List ℕ)) (status : ℕ) → RegionsEnd (fill_setting given x p h) old new status → status ≢ done
+      → FillsCountry given k s (held file old) (held file new) x status
+  fill_refuses file old new status (text, answer, written) other = record {
+    lines = answer.text;
+    end = refusal_of answer;
+    answer = fills-refusal text status answer other;
+    written = record {
+      status_told = ap (λ (a : Answer). a.1) answer.is;
+      certificate = Keeps-refl file;
+      line = subst (Appends old new) (ap (λ (a : Answer). a.0) answer.is) written;
+    };
+  }
+
+  -- where a beginning of it was
+  refusal-broken : (file old new : Option (List ℕ)) (f : CountryFailure) (text : List ℕ) (status : ℕ) (answer : IsRegionsAnswer (fill_setting given x p h) (text, status)) → status ≢ done
+      → IsOfNone f (Write Out) → Begins old new answer.text ⊎ ((mid : Option (List ℕ)) × Appends old mid answer.text × Begins mid new answer.end.0)
+      → FillHalts given k s (held file old) (held file new) x f
+  refusal-broken file old new f text status answer other write (inl begins) = inl (record {
+    failure_is = write;
+    text = answer.text;
+    is = inr (answer.left, fill-part given x p h answer.regions answer.text answer.left answer.reached);
+    written = begins;
+    file = Keeps-refl file;
+  })
+  refusal-broken file old new f text status answer other write (inr (mid, written, begins)) = inr (inl (record {
+    no_region = write.1;
+    lines = answer.text;
+    end = refusal_of answer;
+    answer = fills-refusal text status answer other;
+    passed = mid;
+    written = written;
+    broken = inr (write.0, Keeps-refl file, begins);
+  }))
+
+  -- ---- no end of the regions
+  pub fill_stops : (file old new : Option (List ℕ)) (f : CountryFailure) → RegionsStop (fill_setting given x p h) old new f → FillHalts given k s (held file old) (held file new) x f
+  fill_stops file old new f (inl (regions, text, left, reached, stopped, written)) = inr (inr (inl (record {
+    lines = text;
+    left = left;
+    part = fill-part given x p h regions text left reached;
+    stopped = stopped;
+    written = written;
+    file = Keeps-refl file;
+  })))
+  fill_stops file old new f (inr (write, (text, inl (regions, left, reached), begins))) = inl (record {
+    failure_is = write;
+    text = text;
+    is = inr (left, fill-part given x p h regions text left reached);
+    written = begins;
+    file = Keeps-refl file;
+  })
+  fill_stops file old new f (inr (write, (text, inr (status, other, answer), begins))) =
+      refusal-broken file old new f text status answer other write (begins-split old new answer.text answer.end.0 text (ap (λ (a : Answer). a.0) answer.is) begins)
+
+  -- ---- behind the regions, which all passed
+  module _ (regions : List Contents) (lines : List ℕ) (joins : JoinsAll (fill_setting given x p h) regions lines) (file old now : Option (List ℕ)) (written : Appends old now lines) where
+    fills-all : (o : Outputs) → IsFillOutcome h.tables k s (fill_setting given x p h) regions o → FillsRegions given x k s lines o
+    fills-all o out = record {
+      plan = h.begun.plan;
+      classes = p.begun.classes.items;
+      tables = h.tables;
+      said = said_without given x p h none;
+      regions = regions;
+      left = [];
+      reached = all-reached (fill_setting given x p h) regions lines joins;
+      follows = out;
+    }
+
+    -- the outcome was written
+    pub fill_writes : (o : Outputs) (status : ℕ) (cert out : Option (List ℕ)) → IsFillOutcome h.tables k s (fill_setting given x p h) regions o → Writes o status (held file now) (held cert out)
+        → FillsCountry given k s (held file old) (held cert out) x status
+    fill_writes o status cert out decided w = record {
+      lines = lines;
+      end = o;
+      answer = fills-all o decided;
+      written = record { status_told = w.status_told; certificate = w.certificate; line = Appends-trans old now out lines o.line written w.line };
+    }
+
+    -- it was not
+    pub fill_breaks : (o : Outputs) (f : CountryFailure) (failure : Failure) (cert out : Option (List ℕ)) → IsFillOutcome h.tables k s (fill_setting given x p h) regions o → IsOfNone f failure
+        → BreaksOff o failure (held file now) (held cert out) → FillHalts given k s (held file old) (held cert out) x f
+    fill_breaks o f failure cert out decided of broken = inr (inl (record {
+      no_region = of.1;
+      lines = lines;
+      end = o;
+      answer = fills-all o decided;
+      passed = now;
+      written = written;
+      broken = subst (λ (e : Failure). BreaksOff o e (held file now) (held cert out)) (sym of.0) broken;
+    }))
+
+    -- memory ran out before
+    pub fill_spent : (f : CountryFailure) → IsOfNone f Memory → FillHalts given k s (held file old) (held file now) x f
+    fill_spent f of = inr (inr (inl (record {
+      lines = lines;
+      left = [];
+      part = fill-part given x p h regions lines [] (all-reached (fill_setting given x p h) regions lines joins);
+      stopped = of;
+      written = written;
+      file = Keeps-refl file;
+    })))
+
+-- ---- what a run of what was prepared came to
+module _ (given : CountryFiles) (x : PublishCountryInputs) (k : List Entry) (s : List Shape) (before after : Held) where
+  pub prepared_ends : (status : ℕ) → FillsCountry given k s before after x status → FillsPrepared given x k s before after (Ok status)
+  prepared_ends status h = record { answer = h; failure = tt }
+
+  pub prepared_halts : (r : Result ℕ CountryFailure) (f : CountryFailure) → r ≡ Err f → FillHalts given k s before after x f → FillsPrepared given x k s before after r
+  prepared_halts r f is h = subst (FillsPrepared given x k s before after) (sym is) (record { answer = tt; failure = h })
+
+-- ---- the run
+-- the files of a run that names no certificate
+abbrev pub files_without : (plan classes : Option (List ℕ)) → (List ℕ → Texts) → (List ℕ → Option (List ℕ)) → CountryFiles
+files_without plan classes texts lineages = record { plan = plan; classes = classes; exact = None; texts = texts; lineages = lineages }
+
+-- no certificate is named
+pub no_exact : (given : CountryFiles) (x : PublishCountryInputs) → given.exact ≡ None → AreTopRead given x → x.exact ≡ None
+no_exact given x none read = unnamed x.exact (subst (IsExactRead x.exact) none read.of_exact)
+  where
+    unnamed : (e : Option (List ℕ)) → IsExactRead e None → e ≡ None
+    unnamed None h = refl
+    unnamed (Some bytes) h = absurd h
+
+module _ (given : CountryFiles) (k : List Entry) (s : List Shape) (file out : Option (List ℕ)) where
+  -- a file was not read
+  pub runs_unread : (r : Result ℕ CountryFailure) (f : CountryFailure) → r ≡ Err f → IsUnreadTop given.plan f → RunsExactCountry given k s (held file out) (held file out) r
+  runs_unread r f is unread = subst (RunsExactCountry given k s (held file out) (held file out)) (sym is) (record {
+    answer = tt;
+    failure = inl (record { unread = unread; written = Keeps-refl out; file = Keeps-refl file });
+  })
+
+  module _ (x : PublishCountryInputs) (read : AreTopRead given x) where
+    -- nor a lineage table
+    pub runs_earlier : (r : Result ℕ CountryFailure) (f : CountryFailure) → r ≡ Err f → IsOfNone f Memory ⊎ IsUnreadLineage given x f → RunsExactCountry given k s (held file out) (held file out) r
+    runs_earlier r f is stopped = subst (RunsExactCountry given k s (held file out) (held file out)) (sym is) (record {
+      answer = tt;
+      failure = inr (x, read, inr (inr (inr (record { stopped = stopped; written = Keeps-refl out; file = Keeps-refl file }))));
+    })
+
+    -- what was read has a fault, whose line was written
+    pub runs_refused : (new : Option (List ℕ)) (a : Printed) (status : ℕ) → IsRefusedBefore given x (a.text.items, a.status) → status ≡ a.status → Appends out new a.text.items
+        → RunsExactCountry given k s (held file out) (held file new) (Ok status)
+    runs_refused new a status refusal same written = record {
+      answer = (
+        x,
+        read,
+        inl (record {
+          text = a.text.items;
+          answer = subst (λ (n : ℕ). IsRefusedBefore given x (a.text.items, n)) (sym same) refusal;
+          written = written;
+          file = Keeps-refl file;
+        }),
+      );
+      failure = tt;
+    }
+
+    -- or a beginning of it
+    pub runs_broken : (new : Option (List ℕ)) (a : Printed) (r : Result ℕ CountryFailure) (f : CountryFailure) → r ≡ Err f → IsRefusedBefore given x (a.text.items, a.status) → IsOfNone f (Write Out)
+        → Begins out new a.text.items → RunsExactCountry given k s (held file out) (held file new) r
+    runs_broken new a r f is refusal write begins = subst (RunsExactCountry given k s (held file out) (held file new)) (sym is) (record {
+      answer = tt;
+      failure = inr (x, read, inl (record { failure_is = write; text = a.text.items; is = inl (a.status, refusal); written = begins; file = Keeps-refl file }));
+    })
+
+    -- it has none
+    pub runs_prepared : (cert new : Option (List ℕ)) (r : Result ℕ CountryFailure) → FillsPrepared given x k s (held file out) (held cert new) r
+        → RunsExactCountry given k s (held file out) (held cert new) r
+    runs_prepared cert new (Ok status) h = record { answer = (x, read, inr h.answer); failure = tt }
+    runs_prepared cert new (Err f) h = record { answer = tt; failure = inr (x, read, h.failure) }

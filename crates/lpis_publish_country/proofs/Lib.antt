@@ -1,0 +1,7 @@
+mod EndLemmas
+mod FillingLemmas
+mod LineageLemmas
+mod PlaceLemmas
+mod PreparingLemmas
+mod RunLemmas
+mod UnionLemmas

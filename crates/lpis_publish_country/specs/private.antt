@@ -1,0 +1,4 @@
+-- Machinery, cited by private contracts alone: no promise rests on it.
+pub mod Preparing
+pub mod Deciding
+pub mod Filling

@@ -1,0 +1,172 @@
+//! The files of a country that come before its regions.
+
+ghost use Rattle.std.specs.Prelude.{◌≡◌, ◌≢◌, ◌⊎◌, IfErr, IfOk, None};
+ghost use Rattle.std.specs.Option.{option_map};
+ghost use Rattle.lpis_commands.specs.declared.failure.Failure.TheVariants.{Memory};
+ghost use Rattle.lpis_country_run.specs.Beginning.{IsBegun};
+ghost use Rattle.lpis_country_run.specs.CountryFailures.{IsOfNone, IsUnreadTop};
+ghost use Rattle.lpis_publish_country.specs.ExactCountryAnswer.{HasNoParts};
+ghost use Rattle.lpis_publish_country.specs.PublishCountryAnswer.{AreBlocksOf, AreTopRead};
+ghost use Rattle.lpis_publish_country.specs.PublishCountryAnswer.{CountryFiles, IsExactTextAnswer};
+ghost use Rattle.lpis_publish_country.specs.PublishCountryAnswer.{IsExactRead, IsRefusedBefore};
+ghost use Rattle.lpis_publish_country.specs.PublishCountryRuns.{IsUnreadInput, IsUnreadLineage};
+ghost use Rattle.lpis_publish_country.specs.private.Preparing.{IsPrepared, inputs_of};
+
+use crate::lineage::{CountryLineage, Lineages, read_lineage};
+use lpis_cert::{Cert, CertFault};
+use lpis_commands::{Answer, Failure, Name, cert_in, read_named, refuse_text};
+use lpis_country_run::{Begun, CountryBytes, CountryFailure, begin, read_top};
+use lpis_rings::Sequence;
+use std::alloc::{AllocError, Global};
+use std::io::Read;
+
+/// The bytes of the files that are no region's.
+#[derive(Drop)]
+pub(crate) struct PublishCountryBytes {
+    /// The plan and the table of classes.
+    pub(crate) country: CountryBytes,
+    /// The certificate whose blocks are used, where one is named.
+    pub(crate) exact: Option<Vec<u8>>,
+}
+
+/// What the files before the regions say.
+#[derive(Drop)]
+pub(crate) struct Prepared {
+    /// The plan and the classes.
+    pub(crate) begun: Begun,
+    /// The certificate whose blocks are used; one without any where none is named.
+    pub(crate) cert: Cert,
+    /// The rows of the lineage tables.
+    pub(crate) lineage: CountryLineage,
+}
+
+/// All bytes of the certificate, where one is named.
+fn read_exact<E: Read + Drop>(alloc: Global, exact: Option<E>) -> Result<Option<Vec<u8>>, Failure>
+    ensures bytes { IfOk result (λ b. IsExactRead (option_map (λ v. v.items) b)
+        (option_map E.remaining exact)) }
+    ensures failure { IfErr result (λ f. (f ≡ Failure.Memory)
+        ⊎ ((option_map E.remaining exact ≢ None) × (f ≡ Failure.Read Name.Cert))) }
+{
+    match exact {
+        Some(file) => Ok(Some(read_named(alloc, file, Name::Cert)?)),
+        None => Ok(None),
+    }
+}
+
+/// All bytes of the files that are no region's, which are read in this order.
+pub(crate) fn read_inputs<P: Read + Drop, K: Read + Drop, E: Read + Drop>(
+    alloc: Global,
+    country: P,
+    classes: K,
+    exact: Option<E>,
+) -> Result<PublishCountryBytes, CountryFailure>
+    ensures bytes { (given : CountryFiles) → given.plan ≡ P.remaining country
+        → given.classes ≡ K.remaining classes → given.exact ≡ option_map E.remaining exact
+        → IfOk result (λ b. AreTopRead given (inputs_of b)) }
+    ensures failure { (given : CountryFiles) → given.plan ≡ P.remaining country
+        → given.classes ≡ K.remaining classes → given.exact ≡ option_map E.remaining exact
+        → IfErr result (IsUnreadInput given) }
+{
+    let country = read_top(alloc, country, classes)?;
+    let exact = read_exact(alloc, exact)?;
+    Ok(PublishCountryBytes { country, exact })
+}
+
+/// All bytes of the plan and of the table of classes, where no certificate is named.
+pub(crate) fn read_country<P: Read + Drop, K: Read + Drop>(
+    alloc: Global,
+    country: P,
+    classes: K,
+) -> Result<PublishCountryBytes, CountryFailure>
+    ensures bytes { (given : CountryFiles) → given.plan ≡ P.remaining country
+        → given.classes ≡ K.remaining classes → given.exact ≡ None
+        → IfOk result (λ b. AreTopRead given (inputs_of b)) }
+    ensures failure { IfErr result (IsUnreadTop (P.remaining country)) }
+{
+    let country = read_top(alloc, country, classes)?;
+    Ok(PublishCountryBytes {
+        country,
+        exact: None,
+    })
+}
+
+/// A certificate without parts.
+pub(crate) fn no_parts(alloc: Global) -> Cert
+    ensures { HasNoParts result }
+{
+    Cert {
+        pieces: Sequence::new(Vec::new(alloc)),
+        parcels: Sequence::new(Vec::new(alloc)),
+        exact: Sequence::new(Vec::new(alloc)),
+        pairs: Sequence::new(Vec::new(alloc)),
+    }
+}
+
+/// The certificate of a text, whose bytes are let go, or the line of the text's first fault. Where
+/// there is no text, a certificate without blocks.
+fn blocks_in(alloc: Global, exact: Option<Vec<u8>>) -> Result<Result<Cert, Answer>, AllocError>
+    ensures blocks { IfOk result (λ r. IfOk r (λ c. AreBlocksOf (option_map (λ v. v.items) exact)
+        c.exact)) }
+    ensures refusal { IfOk result (λ r. IfErr r (λ a. IsExactTextAnswer (λ blocks b. ⊥)
+        (option_map (λ v. v.items) exact) (a.text.items, a.status))) }
+{
+    let Some(text) = exact else {
+        return Ok(Ok(no_parts(alloc)));
+    };
+    match cert_in(alloc, text) {
+        Ok(cert) => Ok(Ok(cert)),
+        Err(CertFault::Memory) => Err(AllocError),
+        Err(fault) => Ok(Err(refuse_text(alloc, &fault)?)),
+    }
+}
+
+/// The plan and the classes, and the certificate whose blocks are used; or the line of the first
+/// fault.
+fn understand(
+    alloc: Global,
+    inputs: PublishCountryBytes,
+) -> Result<Result<(Begun, Cert), Answer>, AllocError>
+    ensures said { IfOk result (λ r. IfOk r (λ p. IsBegun (inputs_of inputs).country p.0
+        × AreBlocksOf (inputs_of inputs).exact p.1.exact)) }
+    ensures refusal { (given : CountryFiles) → IfOk result (λ r. IfErr r (λ a.
+        IsRefusedBefore given (inputs_of inputs) (a.text.items, a.status))) }
+{
+    let PublishCountryBytes { country, exact } = inputs;
+    let begun = match begin(alloc, country)? {
+        Ok(begun) => begun,
+        Err(answer) => return Ok(Err(answer)),
+    };
+    match blocks_in(alloc, exact)? {
+        Ok(cert) => Ok(Ok((begun, cert))),
+        Err(answer) => Ok(Err(answer)),
+    }
+}
+
+/// What the files before the regions say, or the line of the first fault: of the plan, of the
+/// classes, of the certificate, of the lineage tables in the order of the plan.
+pub(crate) fn prepare<L: Lineages>(
+    alloc: Global,
+    lineages: &L,
+    inputs: PublishCountryBytes,
+) -> Result<Result<Prepared, Answer>, CountryFailure>
+    ensures prepared { (given : CountryFiles) → given.lineages ≡ L.lineages lineages.now
+        → IfOk result (λ r. IfOk r (IsPrepared given (inputs_of inputs))) }
+    ensures refusal { (given : CountryFiles) → given.lineages ≡ L.lineages lineages.now
+        → IfOk result (λ r. IfErr r (λ a.
+        IsRefusedBefore given (inputs_of inputs) (a.text.items, a.status))) }
+    ensures failure { (given : CountryFiles) → given.lineages ≡ L.lineages lineages.now
+        → IfErr result (λ f. IsOfNone f Memory ⊎ IsUnreadLineage given (inputs_of inputs) f) }
+{
+    let (mut begun, cert) = match understand(alloc, inputs)? {
+        Ok(said) => said,
+        Err(answer) => return Ok(Err(answer)),
+    };
+    match read_lineage(alloc, lineages, &mut begun.names)? {
+        Ok(lineage) => Ok(Ok(Prepared {
+            begun,
+            cert,
+            lineage,
+        })),
+        Err(answer) => Ok(Err(answer)),
+    }
+}
