@@ -1,6 +1,11 @@
-"""Plans of countries, and what is answered of two regions that share a parcel."""
+"""Plans of countries, what is answered of two regions that share a parcel, and what is published of them."""
 
-from program import edited, lpis, write
+import sys
+
+from program import TOP, edited, lpis, write
+
+sys.path.append(str(TOP / "bench"))
+from registers import said  # noqa: E402
 
 PLAN, PARTED_AT_9 = "lpis-country 1\nx 10000\nregion west\nregion east\n", "lpis-country 1\nx 9000\nregion west\nregion east\n"
 CLASSES = "class,percent\nG,100\nW,0\n"
@@ -63,6 +68,20 @@ READ = [
     ("y 7\nx 20000000000\nx -20000000000\nregion a\nregion b\nregion c\nregion d\n", ["a", "b", "c", "d"]), ("x 5\nx 9\nregion a\nregion b\nregion c\n", ["a", "b", "c"]),
     (f"region {'n' * 100}\n", ["n" * 100]),
 ]
+# The tables of lineage of the two regions in 2025, where B is called D, after a release with A, B and C; what is printed behind the regions' lines, or the
+# one line of a table that is refused.
+MOST = 200_000
+B_IS_D = [(0, "B,", "D,"), (1, "b,B", "b,D"), (3, "parcel B", "parcel D")]
+TABLES = [
+    ("old,new\n" + "X,D\n" * (MOST + 1), "old,new\n", "refused 3a lineage row 200001 region west"), ("old,new\n", "old,new\n" + "X,D\n" * (MOST + 1), "refused 3a lineage row 200001 region east"),
+    ("old,new\n" + "X,D\n" * (MOST + 1), "old\n", "refused 3a lineage row 200001 region west"), ("old,new\n", "old\n", "refused 31 lineage row 0 region east"),
+    ("old,new,exact,exact\n", "old\n", "refused 32 lineage row 0 region west"), ("old,new\n", "new,old,exact\n,A B,x\n", "refused 33 lineage row 1 region east"),
+    ("old,new\n", "old,new,exact\nB,D,x\n", "refused 3c lineage row 1 region east"), ("old,new\n", "old,new\nB,D\nB\n", "refused 30 lineage row 2 region east"),
+    ("old,new\nB,D\n", "old,new\n" + "X,D\n" * MOST, ["refused 81 lineage 70 row 1 region east"]), ("old,new\nB,D\n", "old,new\nB,D\n", ["refused 81 lineage 73 row 1 region east"]),
+    ("old,new\n", "old,new\n", ["refused 81 lineage 75 B"]), ("old,new,exact\nB,D,1\n", "old,new\n", ["refused 81 lineage 78 row 1 region west"]),
+    ("old,new,exact\n", "old,new\nB,D\nA,D\n", ["refused 81 lineage 71 row 2 region east"]), ("old,new\nB,\n", "exact,new,old\n,D,B\n", ["refused 81 lineage 74 row 1 region east"]),
+    ("new,old\nD,B\n", "old,new\n", [SUM, "yes", "lineage B replaced", "published 2025"]),
+]
 
 
 def region(folder, texts, edits=()):
@@ -88,6 +107,7 @@ def run(cases, folder):
     region(country / "east", EAST)
     a, b, c = (f"parcel {name} area {area}.0000000 eligible {eligible}.000000000" for name, area, eligible in (("A", 100, 100), ("B", 100, 100), ("C", 40, 0)))
     cases.expect("parcels", [WEST_LINE, a, c, EAST_LINE, b, SUM, "yes"], lpis("country", country, "--parcels"))
+    publish(cases, folder, country)
     for text, line in PLANS:
         (country / "country.txt").write_text(text, encoding="utf-8", newline="")
         cases.expect(text[:60], [f"refused 90 country line {line}"], lpis("country", country))
@@ -98,3 +118,24 @@ def run(cases, folder):
         wanted = [f"region {name} parcels 0 pieces 0 area 0.0000000 eligible 0.000000000" for name in names]
         total = f"country regions {len(names)} parcels 0 pieces 0 area 0.0000000 eligible 0.000000000"
         cases.expect(text, [*wanted, total, "yes"], lpis("country", country))
+
+
+def publish(cases, folder, country):
+    """The country is published, and again with B called D; a row, or an identifier, that is refused leaves the register as it was."""
+    register, nothing = folder / "years.db", "old,new\n"
+    for name in ("west", "east"):
+        write(country / name, lineage=nothing)
+    cases.expect("a first year", [WEST_LINE, EAST_LINE, SUM, "yes", "published 2024"], lpis("publish-country", register, 2024, country))
+    region(country / "east", EAST, B_IS_D)
+    for west, east, answer in TABLES:
+        write(country / "west", lineage=west)
+        write(country / "east", lineage=east)
+        before = said(register)
+        wanted = [answer] if isinstance(answer, str) else [WEST_LINE, EAST_LINE, *answer]
+        cases.expect(f"{west[:40]!r} {east[:40]!r}", wanted, lpis("publish-country", register, 2025, country))
+        if wanted[-1] != "published 2025":
+            cases.expect(f"{west[:40]!r} {east[:40]!r}: the register", before, said(register))
+            continue
+        cases.expect("two years", ["D"], lpis("trace", register, "B"))
+        cases.expect("two years: the last release", (2025, [("A",), ("C",), ("D",)], [(0, "B", "D", False)]), said(register)[0][-1])
+    region(country / "east", EAST)

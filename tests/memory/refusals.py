@@ -1,7 +1,7 @@
 """Runs commands with the Nth request for memory refused, N from 1 to the last that they make: refusals.py REFUSE.SO [--all] [NAME..]
 
 Each run that met a refusal has to end with status 3, `failed memory` (or `failed store`, where the database met it) and nothing on
-standard output. A certificate that was there, and the history and the shapes in the register, have to be as before, by SQLite; the same
+standard output, but for the lines of a country's regions that had passed. A certificate that was there, and the history and the shapes in the register, have to be as before, by SQLite; the same
 command afterwards has to answer as usual. A command over a register may also answer as usual and leave what it leaves as usual: the
 database does without room that only makes it faster. Each N is tried twice: alone, and with every later request refused too. A command
 over a register makes thousands of requests: SAMPLE of them are refused, from a fixed seed (--all: each).
@@ -21,6 +21,7 @@ import tempfile
 
 TOP = pathlib.Path(__file__).resolve().parent.parent.parent
 sys.path.append(str(TOP / "bench"))
+import country_example  # noqa: E402
 from registers import VERSION_1, VERSION_2, VERSION_3, WITHOUT_MARKS, made, said  # noqa: E402
 
 EXAMPLES = TOP / "examples"
@@ -28,7 +29,7 @@ LPIS = os.environ.get("LPIS") or str(TOP / "crates" / "lpis" / "out" / "lpis")
 SECONDS, MANY, SAMPLE, SEED = 60, 1_000, 100, 20_261_123
 # A file system in memory, where there is one: the register is put on its disk by each publish.
 FAST = "/dev/shm" if os.access("/dev/shm", os.W_OK) else None
-MEMORY, STORE = (3, b"", b"failed memory\n"), (3, b"", b"failed store\n")
+FAILURES = {(3, b"failed memory\n"): "memory", (3, b"failed store\n"): "store"}
 
 # B with each corner of its shape many times: a text of 37 KB, on pages of its own.
 LONG = f"UPDATE lpis_text SET wkt = 'POLYGON(({','.join(f'{corner},' * 749 + corner for corner in ['0.000 0.000', '5.000 0.000', '5.000 10.000', '0.000 0.000'])}))' WHERE id = 'B'"
@@ -58,6 +59,7 @@ class Command:
 
     def __init__(self, name, words, makers=(), *kept):
         self.name, self.words, self.makers, self.kept = name, words, makers, kept
+        self.has_progress = "country" in words[0] and words[0] != "locate-country"
 
     def fill(self, folder):
         for make in self.makers:
@@ -142,6 +144,27 @@ def locate_country(points):
     return Command(f"locate-country of {points}", ["locate-country", "land", points], [land, pointed])
 
 
+def country(year):
+    """A year of examples/country-years in regions; the second after the first, with the blocks of its marks."""
+    def make(folder):
+        for each in ("2024", "2025")[: 1 + (year == "2025")]:
+            country_example.write(folder / each, each, lambda region: expect(0, lpis(["cut", region, region / "cert.txt"], folder)))
+        if year == "2025":
+            expect(0, lpis(["publish-country", "years.db", "2024", "2024"], folder))
+            expect(0, lpis(["exact-country", "years.db", "2025", "exact.txt"], folder))
+    return make
+
+
+def unmarked_row(folder):
+    """One row of the country's split loses its mark."""
+    path = folder / "2025" / "southeast" / "lineage.csv"
+    path.write_text(path.read_text().replace("ford-2,1", "ford-2,"))
+
+
+def publish_country(name, year, makers, *options):
+    return Command(f"publish-country of {name}", ["publish-country", "years.db", year, year, *options], makers, "years.db")
+
+
 def publish(name, year, *makers):
     words = ["publish", "years.db", year, EXAMPLES / "years" / year, "cert.txt"]
     return Command(f"publish of {name}", words, [*makers, certificate(f"years/{year}")], "years.db")
@@ -173,6 +196,7 @@ COMMANDS = [
     Command("check of overlap, without pair lines", ["check", EXAMPLES / "overlap", "cert.txt"], [overlapping]),
     *map(locate, ["points.csv", "bad.csv"]),
     *map(locate_country, ["points.csv", "bad.csv"]),
+    Command("country of the example, with parcels", ["country", "land", "--parcels"], [land]),
     publish("2024, in a new file", "2024"),
     publish("2025, after 2024", "2025", published("2024")),
     Command("publish of 2025 with marks, after 2024", ["publish", "years.db", "2025", "marked", "exact.txt"], [published("2024"), marked], "years.db"),
@@ -180,6 +204,13 @@ COMMANDS = [
     exact("2025, after 2024"),
     exact("2025 with a split that is not exact", narrowed),
     publish("2025, a second time", "2025", published("2024"), published("2025")),
+    publish_country("2024, in a new file", "2024", [country("2024")]),
+    publish_country("2025, after 2024, with marks", "2025", [country("2025")], "--exact", "exact.txt", "--parcels"),
+    publish_country("2025, without blocks", "2025", [country("2025")]),
+    publish_country("2025, with a row that is not marked", "2025", [country("2025"), unmarked_row], "--exact", "exact.txt"),
+    publish_country("2024, a second time", "2024", [country("2025")]),
+    Command("exact-country of 2025", ["exact-country", "years.db", "2025", "out.txt"], [country("2025"), older_out], "years.db", "out.txt"),
+    Command("exact-country of 2025 with a row that is not marked", ["exact-country", "years.db", "2025", "out.txt"], [country("2025"), unmarked_row, older_out], "years.db", "out.txt"),
     trace("north", "north", published("2024"), published("2025")),
     trace("an identifier in no release", "brook", published("2024"), published("2025")),
     trace("a new file", "north"),
@@ -237,7 +268,7 @@ class Refusals:
             answer, refused = tuple(answer), re.match(r"refused .*", told)
             if not refused:
                 return f"met no refusal: {answer}"
-            if answer not in (MEMORY, STORE):
+            if self.failure_of(answer) is None:
                 # The database has caches that need not grow, and need not copy its log at the end.
                 as_usual = answer == self.usual and "years.db" in self.command.kept and self.command.state(copy) == self.after
                 return "usual" if as_usual else f"{refused.group(0)}: {answer}"
@@ -247,7 +278,13 @@ class Refusals:
             again = lpis(self.command.words, copy)
             if again != self.usual or self.command.state(copy) != self.after:
                 return f"{refused.group(0)}: the same command afterwards answered {again}"
-            return "memory" if answer == MEMORY else "store"
+            return self.failure_of(answer)
+
+    def failure_of(self, answer):
+        """Which failure a run ended with; None where it is none, or where it printed more than the lines of regions that had passed."""
+        status, text, told = answer
+        is_progress = self.command.has_progress and self.usual[1].startswith(text) and all(line.startswith((b"region ", b"parcel ")) for line in text.splitlines())
+        return FAILURES.get((status, told)) if not text or is_progress else None
 
 
 def ending_of(job):
