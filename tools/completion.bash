@@ -6,16 +6,30 @@ _lpis_files() { mapfile -t COMPREPLY < <(compgen "$@" -- "${COMP_WORDS[COMP_CWOR
 # The table of commands and their words, in the repository or installed.
 _lpis_words=$(cat -- "${BASH_SOURCE[0]%/*}"/{,../../../lib/lpis/}words.txt 2>/dev/null | grep -v -e '^#' -e '^$')
 
-# By the command and the place of the word: a folder, a number or an identifier, or a file.
+# By the command and the place of the word among those that are no options: a folder, a number or an identifier, or a file.
 _lpis() {
-  local row
+  local row word before='' place=0
   if [[ $COMP_CWORD -eq 1 ]]; then
     _lpis_files -W "$(sed -n '/^[^ ]*\/ /!s/ .*//p' <<<"$_lpis_words") --help --version"
     return
   fi
   read -ra row < <(grep "^${COMP_WORDS[1]-} " <<<"$_lpis_words")
-  case ${row[COMP_CWORD - 1]-} in
-    country/) _lpis_options "$([[ ${COMP_WORDS[1]} != country ]] || echo --parcels)" -d ;;
+  for word in "${COMP_WORDS[@]:1:COMP_CWORD-1}"; do
+    [[ $word == -* || $before == --exact ]] || place=$((place + 1))
+    before=$word
+  done
+  if [[ $before == --exact ]]; then
+    _lpis_files -f
+    return
+  elif [[ ${COMP_WORDS[COMP_CWORD]} == -* ]]; then
+    case ${COMP_WORDS[1]} in
+      country) _lpis_files -W --parcels ;;
+      publish-country) _lpis_files -W '--exact --parcels' ;;
+      *) COMPREPLY=() ;;
+    esac
+    return
+  fi
+  case ${row[place]-} in
     */) _lpis_files -d ;;
     -) COMPREPLY=() ;;
     *) _lpis_files -f ;;
@@ -33,12 +47,13 @@ _lpis_options() {
 
 _lpis_country() {
   if [[ $COMP_CWORD -eq 1 ]]; then
-    _lpis_files -W 'split cut check --help'
+    _lpis_files -W 'split cut check publish --help'
     return
   fi
   case ${COMP_WORDS[1]-} in
-    split) _lpis_options '--postgis --parcels --covers --points --anew --help' -d ;;
+    split) _lpis_options '--postgis --lineage --parcels --covers --points --anew --help' -d ;;
     cut) _lpis_options '--jobs --snakemake --profile --lpis --help' -d ;;
+    publish) _lpis_options '--new --year-anyway --jobs --snakemake --profile --lpis --help' ;;
     *) _lpis_options '--parcels --lpis --help' -d ;;
   esac
 }

@@ -8,35 +8,51 @@
 
 say() { printf 'lpis: %s\n' "$*" >&2; }
 
-# Puts in `words` the command and its words that are no options.
+# Puts in `words` the command and its words that are no options, and in `valued` the options that have a value, as OPTION=VALUE.
 plain_words() {
-  local word is_over=
-  words=()
+  local word is_over='' option='' row options
+  words=() valued=()
   for word; do
-    if [[ -z $is_over && $word == -- ]]; then
-      is_over=yes
+    if [[ -n $option ]]; then
+      valued+=("$option=$word") option=
     elif [[ -n $is_over || $word != -* ]]; then
       words+=("$word")
+    elif [[ $word == -- ]]; then
+      is_over=yes
+    elif [[ $word == --*=* ]]; then
+      valued+=("$word")
+    else
+      row_of "${words[0]-}"
+      [[ " ${options[*]-}" != *" $word="* ]] || option=$word
     fi
   done
 }
 
-# Puts in `row` what words.txt has of a command or of a folder.
+# Puts in `row` what words.txt has of a command or of a folder, and in `options` what it has of a command's options.
 row_of() {
-  local line
-  row=()
+  local line word
+  row=() options=()
   while read -ra line; do
-    [[ ${line[0]-} != "$1" ]] || row=("${line[@]:1}")
+    [[ ${line[0]-} == "$1" ]] || continue
+    for word in "${line[@]:1}"; do
+      if [[ $word == --* ]]; then options+=("$word"); else row+=("$word"); fi
+    done
   done <"${BASH_SOURCE[0]%/*}/words.txt"
 }
 
 # The path that the program reads or writes (KIND) by a name, for the command's words. NAME is REGION/NAME where it lies in a region.
 path_of() {
-  local mark='' name=$2 place places words row file
+  local mark='' name=$2 place places words valued row options option file
   [[ $1 == read ]] || mark='>'
   shift 2
   plain_words "$@"
   row_of "${words[0]-}"
+  for option in "${options[@]}"; do
+    [[ -z $mark && ${option#*=} == "$name" ]] || continue
+    for place in "${valued[@]}"; do
+      [[ ${place%%=*} != "${option%%=*}" ]] || printf '%s' "${place#*=}"
+    done
+  done
   places=("${row[@]}")
   for place in "${!places[@]}"; do
     if [[ ${places[place]} == "$mark$name" ]]; then
@@ -52,7 +68,7 @@ path_of() {
 
 # The register that the words name, where the command line is whole.
 register_of() {
-  local words row place
+  local words valued row options place
   plain_words "$@"
   row_of "${words[0]-}"
   [[ ${#words[@]} -eq $((${#row[@]} + 1)) ]] || return 0
@@ -197,13 +213,24 @@ except sqlite3.Error as error:
     print("another process holds it" if "locked" in str(error) else f"SQLite says of it: {error}")' "$1" 2>/dev/null || true
 }
 
+# How many bytes the polygons of parcels have that a publish reads, those of all regions of a country together.
+bytes_of_parcels() {
+  local path every
+  path=$(path_of read parcels "$@")
+  every=$(path_of read '*/parcels' "$@")
+  if [[ -n $every ]]; then
+    find -L "${every%/\*/*}" -mindepth 2 -maxdepth 2 -name parcels.csv -printf '%s\n' 2>/dev/null | awk '{ sum += $1 } END { print sum + 0 }'
+  else
+    stat -Lc %s -- "$path" 2>/dev/null || echo 0
+  fi
+}
+
 # That the disk may have been full, where it has less free than a publish may write: as much as the register and the polygons have. What it
 # wrote before it failed is given back by then.
 shortage_at() {
-  local free wanted parcels
+  local free wanted
   free=$(free_at "$(dirname -- "$1")")
-  parcels=$(path_of read parcels "${@:2}")
-  wanted=$(($(stat -Lc %s -- "$1" 2>/dev/null || echo 0) + $(stat -Lc %s -- "$parcels" 2>/dev/null || echo 0)))
+  wanted=$(($(stat -Lc %s -- "$1" 2>/dev/null || echo 0) + $(bytes_of_parcels "${@:2}")))
   ((free >= wanted)) || echo "the disk has $((free / 1000000)) MB free, and a publish may write $((wanted / 1000000 + 1)) MB: it was full"
 }
 

@@ -132,7 +132,7 @@ LINEAGES = {
     "71": ("the old identifier is still in this release, so nothing has become of it", "a row for a parcel that only changed its shape",
            "leave out the row; kept identifiers need none"),
     "72": ("the successor is not in this release", "a typing error, or a parcel left out of the export", "correct the row or the export"),
-    "73": ("this row is there twice", "a join that doubled rows", "leave out one"),
+    "73": ("this row is there twice", "a join that doubled rows, or one row in the tables of two regions", "leave out one"),
     "74": ("an identifier ends and has a successor too", "an empty `new` beside rows with one", "leave out the row with the empty `new`"),
     "75": ("an identifier was dropped and no row records what became of it", "a parcel left out of the export, or a split that was not recorded",
            "add its row: successors, or an empty `new` for an ending"),
@@ -148,7 +148,8 @@ LINEAGES = {
 
 EXACTS = {
     "6a": ("the certificate's `exact` blocks are not those of the marked splits and merges, in order; the identifier is the first that differs",
-           "`lpis exact` was not run, or the marks in lineage.csv changed after it", "run `lpis exact`, and publish with the certificate that it writes"),
+           "`lpis exact` (of a country `lpis exact-country`) was not run, or the marks in lineage.csv changed after it",
+           "run it, and publish with the certificate that it writes"),
     "6b": ("a flat of this split or merge is not three different points of one line", "a certificate that was not made by `lpis exact`",
            "run `lpis exact` again"),
     "6c": ("a corner of a flat is no point of the old and the new shapes of this split or merge",

@@ -1,4 +1,5 @@
-"""The words about a refusal of `lpis country`: the region's folder, its tile, and the other copies of a parcel."""
+"""The words about a refusal of `lpis country` or `lpis publish-country`: the region's folder, its tile, the other copies of a parcel, and the tables of all
+regions as one."""
 
 import os
 
@@ -15,6 +16,55 @@ def rows_of(folder, name):
     return found if found["parcels"] else None
 
 
+class At(str):
+    """A row with its region, as it is told."""
+
+    def __new__(cls, row, region):
+        told = super().__new__(cls, f"{row} (region {region})")
+        told.row, told.region = row, region
+        return told
+
+
+class Together:
+    """A table of all regions as one `Table`: a record has its own table beside it. One region's is read at a time."""
+
+    def __init__(self, top, folders, name):
+        self.top, self.folders, self.name, self.path = top, folders, name, f"{name}.csv of the regions"
+
+    def of(self, region):
+        return Table(path_of(os.path.join(self.top, region), self.name), self.name)
+
+    def tables(self):
+        for region in self.folders:
+            try:
+                yield region, self.of(region)
+            except OSError:
+                continue
+
+    def rows(self):
+        for region, table in self.tables():
+            for row, record in table.rows():
+                yield At(row, region), (table, record)
+
+    @staticmethod
+    def field(record, column):
+        return record[0].field(record[1], column)
+
+    def record(self, at):
+        table = self.of(at.region)
+        return table, table.record(at.row)
+
+    def line(self, at):
+        return self.of(at.region).line(at.row)
+
+    def find(self, column, value):
+        for region, table in self.tables():
+            row = table.find(column, value)
+            if row is not None:
+                return At(row, region)
+        return None
+
+
 def extent(box):
     """A tile in metres; its outer sides are open. Lines in the wrong order leave one without land."""
     def side(value):
@@ -28,14 +78,22 @@ class OfCountry:
     """The words about a refusal that names a region, or a line of country.txt. `top` is the country's folder."""
 
     def enter(self, folder, region):
-        """Goes to the region's folder, where there is one: its tables are those that the line is about."""
+        """Goes to the region's folder, where there is one: its tables are those that the line is about. A line about lineage names none where it is
+        about the whole country."""
         self.top = folder
+        if not region and self.refusal.code in ("45", "81", "85") and (tiling := self.tiling()):
+            self.tables.update({name: Together(folder, tiling.folders, name) for name in ("parcels", "lineage")})
         inner = os.path.join(folder, region)
         if not region or not os.path.isdir(inner):
             return
         self.folder = inner
         if self.cert is None and os.path.isfile(os.path.join(inner, "cert.txt")):
             self.cert = os.path.join(inner, "cert.txt")
+
+    def every_lineage(self, table):
+        """The rows of all regions where the line names one, else those of the table."""
+        tiling = self.tiling() if self.refusal.region else None
+        return Together(self.top, tiling.folders, "lineage") if tiling else table
 
     def say_country(self):
         refusal = self.refusal

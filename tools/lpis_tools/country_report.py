@@ -1,5 +1,5 @@
-"""A report about a country that an auditor can keep: what `lpis country` answered, of which bytes by which program, by regions; as JSON, and as a
-page with the map of its tiles."""
+"""A report about a country that an auditor can keep: what `lpis country` answered, of which bytes by which program, by regions, and which years a
+register has; as JSON, and as a page with the map of its tiles."""
 
 from __future__ import annotations
 
@@ -7,7 +7,7 @@ import datetime
 import os
 from dataclasses import dataclass, field
 
-from . import ending, page, release_page, report, streams, tiles
+from . import ending, page, registers, release_page, report, streams, tiles
 from .areas import AREA, both, decimal, hectares
 from .explaining import Explained
 
@@ -74,12 +74,12 @@ def lines_of(text):
 
 
 def files_of(folder, tiling):
-    names = [f"{region}/{name}" for region in tiling.folders for name in (*(f"{table}.csv" for table in FILES), "cert.txt")]
-    return report.digests({name: os.path.join(folder, name) for name in ["country.txt", *names]})
+    names = [f"{region}/{name}" for region in tiling.folders for name in (*(f"{table}.csv" for table in FILES), "cert.txt", "lineage.csv")]
+    return report.digests({name: os.path.join(folder, name) for name in ["country.txt", "classes.csv", *names, "exact.txt"]})
 
 
-def make(command, folder):
-    """Runs `lpis country`, and reports what is known of the country."""
+def make(command, folder, register=None):
+    """Runs `lpis country`, and reports what is known of the country, and of a register."""
     began = datetime.datetime.now(datetime.timezone.utc)
     tiling = tiling_of(folder)
     files = files_of(folder, tiling)
@@ -93,6 +93,8 @@ def make(command, folder):
         raise report.Trouble(f"lpis reports {totals} of {len(passed)} regions, and the tables have {count} parcels with {area} m2 of {len(regions)} by this tool: one of the two is wrong")
     facts = {"date": began.strftime("%Y-%m-%dT%H:%M:%SZ"), "folder": os.path.abspath(folder), "program": report.of_program(command), "files": files, "answer": answer, "status": run.returncode,
              "country": totals, "regions": [{"region": name, **passed.get(name, {})} for name in tiling.folders]}
+    if register is not None:
+        facts["register"] = registers.facts(register)
     country = Country(facts, tiling, regions)
     if answer != "yes":
         explained = Explained(answer, folder)
@@ -107,7 +109,8 @@ def lines(country):
     counted = [f"region {row['region']}" + (f" parcels {row['parcels']} pieces {row['pieces']} area {row['area']} ({hectares(row['area'])})" if "area" in row else " has no answer") for row in facts["regions"]]
     totals = facts["country"]
     return [facts["answer"], *(f"  {words}" for words in facts.get("refusal", {}).get("words", [])), *counted,
-            *([f"country regions {totals['regions']} parcels {totals['parcels']} area {totals['area']} ({hectares(totals['area'])})"] if totals else [])]
+            *([f"country regions {totals['regions']} parcels {totals['parcels']} area {totals['area']} ({hectares(totals['area'])})"] if totals else []),
+            *([f"register {registers.in_words(facts['register'])}"] if "register" in facts else [])]
 
 
 def chart_of(country):
@@ -137,6 +140,7 @@ def write(path, country):
     head = [("made", facts["date"]), ("country", facts["folder"]), ("answer of lpis country", f"{facts['answer']} (status {facts['status']})"), ("program", name), ("sha256 of the program", made["sha256"])]
     if totals:
         head += [("regions", totals["regions"]), ("parcels", totals["parcels"]), ("pieces", totals["pieces"]), ("area", both(totals["area"])), ("eligible area", both(totals["eligible"]))]
+    head += [("register", registers.in_words(facts["register"]))] if "register" in facts else []
     head += [("", words) for words in facts.get("refusal", {}).get("words", [])]
     heads = {3: f"in the country {hectares(totals['area'])}", 4: f"in the country {hectares(totals['eligible'])}"} if totals else {}
     rows = [[row["region"], *(row.get(key, "") for key in ("parcels", "pieces", "area", "eligible"))] for row in facts["regions"]]

@@ -10,6 +10,7 @@ from .splitting import COUNTS, write
 from .streams import Trouble
 
 MOST_TOLD = 20
+UNLIKE = "rows of it are in no region, or in the regions alone, or were changed"
 MAKEFILE = """# The certificates of the regions of country.txt, many at once: make -k -j 4. LPIS is the program. Written by `country cut`.
 LPIS ?= lpis
 REGIONS := {regions}
@@ -166,6 +167,6 @@ def check(command, words, say):
                 told = line.split()
     wanted = counts_of(words.folder)
     if lpis.returncode == 0 and wanted and told[3 : 3 + len(wanted)] != wanted:
-        say(f"the source had {' '.join(wanted)}: rows of it are in no region, or in the regions alone, or were changed")
+        say(f"the source had {' '.join(wanted)}: {UNLIKE}")
         return 1
     return lpis.returncode

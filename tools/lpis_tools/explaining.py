@@ -156,17 +156,24 @@ class Explained(OfGroups, OfCountry):
             self.say(f"  {name} is {shown(table.field(record, name))!r}; {number}: {codes.NUMBERS[number][0]}")
         elif code == "78":
             self.say_marks(table, record)
+        elif code in ("73", "74"):
+            self.say_rows_beside(table, record, "")
         elif code == "3a":
             self.say(f"  the table has {len(table.records) - 1} rows")
 
     def say_marks(self, table, record):
         """The rows that share an identifier with a marked one, and which of them are marked."""
-        old, new = table.field(record, "old"), table.field(record, "new")
+        new = table.field(record, "new")
         if not new:
             self.say("  its row is an ending, which can't be marked")
-        for row, other in table.rows():
-            if table.field(other, "old") == old or (new and table.field(other, "new") == new):
-                self.say_row_of_lineage(table, row, other)
+        self.say_rows_beside(table, record, new)
+
+    def say_rows_beside(self, table, record, new):
+        """The rows of the same old identifier, or of this new one where it is named; of a country those of all regions."""
+        old, every = table.field(record, "old"), self.every_lineage(table)
+        for row, other in every.rows():
+            if every.field(other, "old") == old or (new and every.field(other, "new") == new):
+                self.say_row_of_lineage(every, row, other)
 
     def say_length(self, table, record):
         if len(record) != len(table.header):

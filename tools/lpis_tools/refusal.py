@@ -48,9 +48,10 @@ def read(line):
 
 
 def without_region(refusal, rest):
-    """The words before `region NAME`, which `lpis country` puts behind what a region's own check prints, and behind its own faults."""
-    plain = 2 if rest[:1] in (["parcel"], ["piece"]) else 7 if refusal.code == "38" else 3
-    if refusal.code[:1] in "3569" and len(rest) == plain + 2 and rest[-2] == "region":
+    """The words before `region NAME`, which stands behind what a region's own check prints, behind the faults of `lpis country`, and behind a row of lineage
+    of a country."""
+    plain = 2 if rest[:1] in (["parcel"], ["piece"]) else 7 if refusal.code == "38" else 4 if refusal.code == "81" else 3
+    if (refusal.code[:1] in "3569" or refusal.code == "81") and len(rest) == plain + 2 and rest[-2] == "region":
         refusal.region = rest[-1]
         return rest[:-2]
     return rest

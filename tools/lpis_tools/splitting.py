@@ -10,12 +10,14 @@ import zlib
 from array import array
 
 from . import balance, parting, tiles
-from .streams import Folder, Stream, Trouble, ended, measured, shown
+from .streams import Folder, OneFile, Stream, Trouble, ended, measured, shown
 
 MOST_TOLD = 20
 BUFFERED = 64_000_000  # letters, until they are written
 GROWN = 1.05  # a tiling that stands is used again while no region is over the limits by more
 NAMES = ("parcels", "covers", "classes")
+WRITTEN = (*NAMES, "lineage")
+MOST_ROWS = 200_000  # of a table
 COUNTS = "split.txt"
 NEW = ".new"  # behind the name of a file that is to take the place of another
 MASK = (1 << 128) - 1
@@ -220,6 +222,36 @@ def write_regions(land, tiling, places, out, say):
     return paths + [write_new(os.path.join(out, folder, "classes.csv"), classes) for folder in ("", *tiling.folders)]
 
 
+def write_lineage(path, tiling, out, say):
+    """The new tables of lineage: the source's rows, the first to the first region, as many to each as a table may have. Answers their paths, and how many
+    rows there are."""
+    header, count, waiting = "old,new\n", 0, iter(tiling.folders)
+    paths = [os.path.join(out, folder, "lineage.csv") for folder in tiling.folders]
+    rows = []
+    if path:
+        say(f"dealing out the rows of {path}")
+        stream = Stream(OneFile(path), "lineage", ["old", "new"])
+        header, rows = stream.header, stream
+    for each in paths:
+        write_new(each, header)
+    file = None
+    try:
+        for row, _, raw in rows:
+            if (row - 1) % MOST_ROWS == 0:
+                folder = next(waiting, None)
+                if folder is None:
+                    raise Trouble(f"{path}: {MOST_ROWS} rows a region are too few: it has more")
+                if file:
+                    file.close()
+                file = open(os.path.join(out, folder, f"lineage.csv{NEW}"), "a", encoding="latin-1", newline="")
+            file.write(ended(raw))
+            count = row
+    finally:
+        if file:
+            file.close()
+    return paths, count
+
+
 class New(Folder):
     """The tables that were written beside those of a region."""
 
@@ -264,8 +296,8 @@ def strays(out, tiling):
     return sorted(name for name in os.listdir(out) if re.fullmatch("r[0-9]{4,}", name) and name not in names)
 
 
-def split(source, out, most, anew, say):
-    """Splits a source; answers the lines that tell what was made."""
+def split(source, out, most, anew, say, lineage=None):
+    """Splits a source, with its table of lineage or another one; answers the lines that tell what was made."""
     land = Land(source, say)
     tiling, places = tiling_of(land, out, most, anew, say)
     os.makedirs(out, exist_ok=True)
@@ -273,12 +305,14 @@ def split(source, out, most, anew, say):
         os.makedirs(os.path.join(out, folder), exist_ok=True)
     try:
         paths = write_regions(land, tiling, places, out, say)
+        more, rows = write_lineage(lineage or source.lineage(), tiling, out, say)
+        paths += more
         say("looking for every row of the source in the regions")
         whole = judge(land, tiling, places, out)
         changed = sum(map(settle, paths))
     finally:
         for folder in ("", *tiling.folders):
-            for name in NAMES:
+            for name in WRITTEN:
                 with contextlib.suppress(OSError):
                     os.remove(os.path.join(out, folder, f"{name}.csv{NEW}"))
     write(os.path.join(out, COUNTS), f"{land.sums.counts()}\n")
@@ -287,4 +321,4 @@ def split(source, out, most, anew, say):
     if others := strays(out, tiling):
         say(f"folders of a split before, which are no regions now: {' '.join(others[:MOST_TOLD])}")
     counts = f"parcels {len(land.boxes)} pieces {land.sums.rows['covers']}"
-    return [*whole.words(), f"regions {len(tiling.folders)} {counts} guests {len(places.several)} rows {places.rows()} files changed {changed}"]
+    return [*whole.words(), f"regions {len(tiling.folders)} {counts} guests {len(places.several)} rows {places.rows()} lineage {rows} files changed {changed}"]

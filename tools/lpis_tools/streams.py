@@ -39,7 +39,7 @@ class Trouble(Exception):
 
 
 class Folder:
-    """The tables parcels.csv, covers.csv and classes.csv of a folder."""
+    """The tables parcels.csv, covers.csv and classes.csv of a folder, and lineage.csv where it is there."""
 
     def __init__(self, path):
         self.path = path
@@ -49,12 +49,31 @@ class Folder:
             yield from file
 
     def test(self, say):
-        if os.path.exists(os.path.join(self.path, "lineage.csv")):
-            say(f"{self.path}/lineage.csv is of no region, and stays where it is")
+        pass
+
+    def lineage(self):
+        """The path of the table of lineage, or None."""
+        path = os.path.join(self.path, "lineage.csv")
+        return path if os.path.exists(path) else None
+
+
+class OneFile:
+    """A table that is named by its path."""
+
+    def __init__(self, path):
+        self.path = path
+
+    def lines(self, _name):
+        with open(self.path, encoding="latin-1", newline="") as file:
+            yield from file
 
 
 class Postgis:
     """The tables rel_parcels and rel_covers, which the recipe for PostGIS makes, and classes. Their texts are made anew for each pass."""
+
+    @staticmethod
+    def lineage():
+        return None
 
     def __init__(self, connection):
         self.path = self.connection = connection

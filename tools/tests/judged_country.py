@@ -161,25 +161,37 @@ class Seam:
         return new
 
 
+def passing(folder, plan, classes, check, with_parcels=False):
+    """The lines of the regions that pass, and the line that refuses the first that does not, each as it is printed; the status, 0 where all pass;
+    the sums; and the parcels of all, each once, in the order in which they first stand. `check` gets a region's folder and answers text and
+    status of its own check."""
+    seam, text, totals = Seam(plan, classes), "", [0, 0, 0, 0]
+    for name in plan.folders:
+        told, status = check(os.path.join(folder, name))
+        if status != 0:
+            return text + told.replace("\n", f" region {name}\n"), status, totals, seam.parcels
+        region = Region(os.path.join(folder, name))
+        if found := seam.fault(region):
+            code, what, number = found
+            return f"{text}refused {code} {what} region {plan.folders[number]}\n", 1, totals, seam.parcels
+        new = seam.add(region)
+        text += f"region {name} {counts(region.sums(region.parcels))}\n"
+        text += "".join(f"{line}\n" for line in region.lines(new) if with_parcels)
+        totals = [total + more for total, more in zip(totals, region.sums(new))]
+    return text, 0, totals, seam.parcels
+
+
+def whole(plan, totals):
+    """What is printed behind the lines of regions that all pass."""
+    return f"country regions {len(plan.folders)} {counts(totals)}\nyes\n"
+
+
 def answer(folder, check, with_parcels=False):
-    """Text and status for a country whose files are there. `check` gets a region's folder and answers text and status of its own check; the
-    classes at the top have to be sound."""
+    """Text and status for a country whose files are there, whose table of classes is sound. `check` is as above."""
     with open(os.path.join(folder, "country.txt"), encoding="latin-1", newline="") as file:
         try:
             plan = Plan(file.read())
         except At as at:
             return f"refused 90 country line {at.line}\n", 2
-    seam, text, totals = Seam(plan, classes_of(folder)), "", [0, 0, 0, 0]
-    for name in plan.folders:
-        told, status = check(os.path.join(folder, name))
-        if status != 0:
-            return text + told.replace("\n", f" region {name}\n"), status
-        region = Region(os.path.join(folder, name))
-        if found := seam.fault(region):
-            code, what, number = found
-            return f"{text}refused {code} {what} region {plan.folders[number]}\n", 1
-        new = seam.add(region)
-        text += f"region {name} {counts(region.sums(region.parcels))}\n"
-        text += "".join(f"{line}\n" for line in region.lines(new) if with_parcels)
-        totals = [total + more for total, more in zip(totals, region.sums(new))]
-    return f"{text}country regions {len(plan.folders)} {counts(totals)}\nyes\n", 0
+    text, status, totals, _ = passing(folder, plan, classes_of(folder), check, with_parcels)
+    return (text, status) if status else (text + whole(plan, totals), 0)

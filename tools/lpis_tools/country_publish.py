@@ -1,0 +1,81 @@
+"""A country's year: its certificates, the counts compared with those of the source, the blocks of what is marked, and the publication."""
+
+import os
+import subprocess
+import sys
+
+from . import ending, engines, ledger, program, words, yearly
+from .tables import Table
+from .yearly import Stop
+
+TOP_FILES = ("country.txt", "classes.csv")
+REGION_FILES = ("parcels.csv", "covers.csv", "classes.csv", "lineage.csv", "cert.txt")
+
+
+def look_at_tables(folder, regions):
+    """Each region has a table of lineage; answers whether any row is marked."""
+    is_marked = False
+    for region in regions:
+        path = os.path.join(folder, region, "lineage.csv")
+        if not os.path.isfile(path):
+            raise Stop(f"{path} is not there: `country split` deals out that of the source; a region without rows has the header alone", words.TROUBLE)
+        table = Table(path, "lineage")
+        is_marked = is_marked or any(table.field(record, "exact") == b"1" for _, record in table.rows())
+    return is_marked
+
+
+def answer(command, said, is_shown):
+    """The lines of a command over a country, shown as they come or kept; a refusal is shown with its words, and stops."""
+    lines = []
+    with ending.start([*command, *said], stdout=subprocess.PIPE, text=True) as run:
+        for line in run.stdout:
+            lines.append(line)
+            if is_shown:
+                print(line, end="", flush=True)
+    if run.returncode != 0:
+        last = lines[-1] if lines else ""
+        if last.startswith("refused"):
+            register = ["--register", said[1]] if said[0] != "country" else []
+            cert = ["--cert", said[said.index("--exact") + 1]] if "--exact" in said else []
+            folder = next(word for word in said[1:] if os.path.isdir(word))
+            explained = ending.run([sys.executable, os.path.join(program.HERE, "explain"), folder, *register, *cert], input=last.encode(), stdout=subprocess.PIPE, check=False).stdout.decode("utf-8", "replace")
+            print(explained.split("\n", 1)[-1] if is_shown else explained, end="", flush=True)
+        raise Stop(f"`lpis {said[0]}` ended with status {run.returncode}; nothing was published", run.returncode)
+    return lines
+
+
+def compare(folder, lines):
+    """The country's counts and area, which are to be those of the source."""
+    found = next((line.split()[3:] for line in lines if line.startswith("country regions ")), [])
+    wanted = engines.counts_of(folder)
+    if wanted and found[: len(wanted)] != wanted:
+        raise Stop(f"the source had {' '.join(wanted)}, and the regions have {' '.join(found[: len(wanted)])}: {engines.UNLIKE}; nothing was published")
+    return wanted
+
+
+def publish(command, said, say):
+    """Answers 0 where the country is published."""
+    yearly.look_at_places(said, "the certificates, and what is printed,")
+    last, regions = yearly.last_year(said), engines.regions_of(said.folder)
+    is_marked = look_at_tables(said.folder, regions)
+    if engines.cut(command, said, say):
+        return yearly.STOPPED
+    say("checking the country")
+    wanted = compare(said.folder, answer(command, ["country", said.folder], False))
+    print(f"the counts and the area are those of the source: {' '.join(wanted)}" if wanted else "there are no counts of a source, which `country split` writes: nothing was compared", flush=True)
+    with ledger.held(said.register) as log:
+        before = ledger.content_of(said.register) if last else {}
+        if not said.new:
+            yearly.back_up(said.register, said.year)
+        options, cert = [], None
+        if is_marked:
+            cert = os.path.join(said.folder, "exact.txt")
+            print(answer(command, ["exact-country", said.register, said.folder, cert], False)[-1], end="", flush=True)
+            options = ["--exact", cert]
+        say("publishing the country")
+        lines = answer(command, ["publish-country", said.register, str(said.year), said.folder, *options], True)
+        printed = yearly.write(os.path.join(said.folder, f"published-{said.year}.txt"), "".join(lines).encode())
+        files = [*TOP_FILES, *(os.path.join(region, name) for region in regions for name in REGION_FILES)]
+        digest = ledger.add(log, said.register, yearly.entry_of(said, command, files, cert, printed, before))
+    print(f"what was printed is in {printed}\nlog {ledger.path_of(said.register)} line sha256 {digest}")
+    return 0

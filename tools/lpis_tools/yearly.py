@@ -1,0 +1,99 @@
+"""What tools/year and `tools/country publish` share: what is looked at before a year is published, the backup, a command's answer, and the line of the log."""
+
+import datetime
+import getpass
+import os
+import sqlite3
+import subprocess
+import sys
+
+from . import ending, ledger, program, registers, words, years
+
+STOPPED = 1
+MOST_STEP = 3  # years after the last one
+
+
+class Stop(Exception):
+    """The year is not done: words, and the status."""
+
+    def __init__(self, said, status=STOPPED):
+        super().__init__(said)
+        self.status = status
+
+
+def add_options(parser):
+    parser.add_argument("--new", action="store_true", help="make a new register: this is its first year")
+    parser.add_argument("--year-anyway", action="store_true", help="take a year that is far from the last one, or past next year")
+    parser.add_argument("--register-anyway", action="store_true", help="go on with a register that changed since the last line of the log, or has no log")
+
+
+def look_at_places(said, made):
+    """Both folders can be written; `made` is what the release's gets."""
+    for folder, put in ((os.path.dirname(said.register) or ".", "the register, its copy and its log"), (said.folder, made)):
+        if not (os.path.isdir(folder) and os.access(folder, os.W_OK)):
+            raise Stop(f"{folder} is {'not a folder that can be written' if os.path.exists(folder) else 'not there'}: {put} are put into it", words.TROUBLE)
+    if os.path.isdir(said.register):
+        raise Stop(f"{said.register} is a folder, and no register", words.TROUBLE)
+
+
+def last_year(said):
+    """The last year of the register, after all that is to be looked at before anything is done."""
+    is_there = os.path.isfile(said.register)
+    if is_there == said.new:
+        raise Stop(f"{said.register} is {'there: without --new' if is_there else 'not there: a first year wants --new'}")
+    last = years.of_register(said.register).year if is_there else 0
+    most = datetime.date.today().year + 1
+    is_odd = said.year > most or (last and not last < said.year <= last + MOST_STEP)
+    if is_odd and not said.year_anyway:
+        after = f"the last year of the register is {last}" if last else "the register is new"
+        raise Stop(f"{said.year}: {after}, and next year is {most}; --year-anyway where that is meant")
+    if last:
+        faults = ledger.faults_of(said.register)
+        if faults and not said.register_anyway:
+            raise Stop("\n".join([*faults, "--register-anyway goes on, and the log's next line records it"]))
+    return last
+
+
+def back_up(register, year):
+    """A copy of the register, whole also while it is used, and its digest beside it."""
+    path = f"{register}.before-{year}"
+    with sqlite3.connect(register, timeout=registers.SECONDS) as source, sqlite3.connect(path) as copy:
+        source.backup(copy)
+    copy.close()
+    source.close()
+    digest = ledger.digest_of(path)
+    with open(f"{path}.sha256", "w", encoding="utf-8") as file:
+        file.write(f"{digest}  {os.path.basename(path)}\n")
+    print(f"backup {path} sha256 {digest}")
+
+
+def told(command, *said):
+    """What a command of lpis printed; a refusal is shown with its words, and stops."""
+    ran = ending.run([*command, *said], stdout=subprocess.PIPE, check=False)
+    text = ran.stdout.decode("utf-8", "replace")
+    if ran.returncode != 0:
+        line = (text.splitlines() or [""])[-1]
+        print(line)
+        if line.startswith("refused"):
+            folder = next(word for word in said if os.path.isdir(word))
+            ending.run([sys.executable, os.path.join(program.HERE, "explain"), folder], input=line.encode(), check=False)
+        raise Stop(f"`lpis {said[0]}` ended with status {ran.returncode}; nothing was published", ran.returncode)
+    return ran.stdout
+
+
+def write(path, text):
+    with open(path, "wb") as file:
+        file.write(text)
+    return path
+
+
+def entry_of(said, command, tables, cert, printed, before):
+    """A line of the log; `tables` are names in the folder, `cert` a path or None."""
+    facts = program.facts(command)
+    return {
+        "time": datetime.datetime.now(datetime.timezone.utc).isoformat(timespec="seconds"), "user": getpass.getuser(), "year": said.year,
+        "program": {"commit": facts.get("commit", ""), "kit": facts.get("kit", ""), "sha256": ledger.digest_of(command[0])},
+        "tables": {name: ledger.digest_of(os.path.join(said.folder, name)) for name in tables},
+        "certificate": ledger.digest_of(cert) if cert else "", "printed": ledger.digest_of(printed),
+        "content_before": before, "content": ledger.content_of(said.register), "register_anyway": said.register_anyway, "year_anyway": said.year_anyway,
+    }
