@@ -7,14 +7,14 @@ ALL_WORDS = 40_000
 PAGE_WORDS = {
     "README.md": 1_000,
     "docs/GUIDE.md": 6_650,
-    "docs/FORMATS.md": 7_750,
-    "docs/PROOF.md": 6_250,
-    "docs/ARCHITECTURE.md": 4_350,
-    "docs/DECISIONS.md": 4_000,
-    "CONTRIBUTING.md": 3_500,
+    "docs/FORMATS.md": 7_850,
+    "docs/PROOF.md": 6_500,
+    "docs/ARCHITECTURE.md": 4_450,
+    "docs/DECISIONS.md": 3_900,
+    "CONTRIBUTING.md": 3_450,
     "CHANGELOG.md": 1_000,
-    "bench/RESULTS.md": 1_600,
-    "docs/*.1": 4_100,  # the pages of the manual together
+    "bench/RESULTS.md": 1_650,
+    "docs/*.1": 4_250,  # the pages of the manual together
 }
 PAGE_LINES = {"docs/DECISIONS.md": 250, "docs/PROOF.md": 350, "bench/RESULTS.md": 250}
 
