@@ -15,6 +15,7 @@ use Rattle.lpis_register_rows.specs.Content.{TextEdit, marks_from, published, re
 use Rattle.lpis_register_rows.specs.Shapes.{IsSpelled, shape_ids, text_edits}
 use Rattle.lpis_register_rows.specs.Histories.{IsWriting, last_of_years}
 use Rattle.lpis_register_sql.specs.Commits.{AllStand, Rewrites}
+use Rattle.lpis_register_sql.specs.Layouts.{Origin}
 use Rattle.lpis_register.specs.Accepting.{IsPrepared}
 use Rattle.lpis_register.specs.Publishing.{FollowsHistory, LeavesRelease, Stores}
 use Rattle.lpis_register.specs.declared.accepting.Accepted.{Accepted}
@@ -68,19 +69,19 @@ module _ (more : TellsMore) (put : PutsTexts) (lives : LivesOn) (now : List Entr
 
   pub statements_write : (old new : State) (r : Result (Unit {0}) Error) → Rewrites AllStand whole old new r → WritesRelease now last a kept old new r
   statements_write old new r wrote = record {
-    ok = λ h due clean holds.
+    ok = λ h due clean o holds.
         let c = holds.content in
-        on_ok r (holds_with holds.origin (whole c) now a.shapes.items (told h c due holds.tells) (spelled h c due holds.are) (alive h due) new)
-        (wrote.ok clean (Whole holds.origin) c refl holds.stored);
-    err = λ h clean up holds. on_err r (still_holds old new h kept holds) (wrote.err clean up (Whole holds.origin) holds.content refl holds.stored);
-    crash = λ h due holds.
+        on_ok r (holds_with o (whole c) now a.shapes.items (told h c due holds.tells) (spelled h c due holds.are) (alive h due) new)
+        (wrote.ok clean (Whole o) c refl holds.stored);
+    err = λ h clean up o holds. on_err r (still_holds o old new h kept holds) (wrote.err clean up (Whole o) holds.content refl holds.stored);
+    crash = λ h due o holds.
         let c = holds.content in
-        survives_with holds.origin (whole c) now a.shapes.items (told h c due holds.tells) (spelled h c due holds.are) (alive h due) old new
-        (survives_weaker old new _ _ (λ _ db left. left (Whole holds.origin) c refl holds.stored) wrote.crash);
-    durable = λ h due clean holds.
+        survives_with o (whole c) now a.shapes.items (told h c due holds.tells) (spelled h c due holds.are) (alive h due) old new
+        (survives_weaker old new _ _ (λ _ db left. left (Whole o) c refl holds.stored) wrote.crash);
+    durable = λ h due clean o holds.
         let c = holds.content in
-        on_ok r (λ left db may. left_with holds.origin (whole c) now a.shapes.items (told h c due holds.tells) (spelled h c due holds.are) (alive h due) db (left db may))
-        (wrote.durable clean (Whole holds.origin) c refl holds.stored);
+        on_ok r (λ left db may. left_with o (whole c) now a.shapes.items (told h c due holds.tells) (spelled h c due holds.are) (alive h due) db (left db may))
+        (wrote.durable clean (Whole o) c refl holds.stored);
   }
 
 -- ---- the history with the release at its end
@@ -102,35 +103,35 @@ module _ (h k : List Entry) (year : ℕ) (parcels : List Parcel) (rows : List Ro
   not_begun same e = record {
     follows = tt;
     refused = same;
-    ok = λ clean holds. tt;
-    err = λ clean up holds. holds;
-    crash = λ holds. nothing_done (LeavesRelease h year parcels rows) old;
-    durable = λ clean holds. tt;
+    ok = λ clean o holds. tt;
+    err = λ clean up o holds. holds;
+    crash = λ o holds. nothing_done (LeavesRelease h year parcels rows o) old;
+    durable = λ clean o holds. tt;
   }
 
 module _ (now : List Entry) (last : ℕ) (a : Accepted) (kept : List Shape) (h : List Entry) (due : IsToWrite now last a h) (old new : State) where
-  crashed : {E : Type 0} (r : Result (Unit {0}) E) → WritesRelease now last a kept old new r → HoldsRegister old h kept
-      → Survives old new (LeavesRelease h due.year due.parcels due.rows)
-  crashed r w holds = survives_weaker old new _ _ (λ clean db left. (now, a.shapes.items, due.follows, left)) (w.crash h due holds)
+  crashed : {E : Type 0} (r : Result (Unit {0}) E) → WritesRelease now last a kept old new r → (o : Origin) → HoldsRegister o old h kept
+      → Survives old new (LeavesRelease h due.year due.parcels due.rows o)
+  crashed r w o holds = survives_weaker old new _ _ (λ clean db left. (now, a.shapes.items, due.follows, left)) (w.crash h due o holds)
 
   pub write_commits : {E F : Type 0} (x y : Unit {0}) → WritesRelease now last a {E = E} kept old new (Ok x) → Commits h now due.year due.parcels due.rows a {E = F} kept old new (Ok y)
   write_commits {E} x y w = record {
     follows = due.follows;
     refused = tt;
-    ok = λ clean holds. w.ok h due clean holds;
-    err = λ clean up holds. tt;
-    crash = λ holds. crashed {E = E} (Ok x) w holds;
-    durable = λ clean holds db may. w.durable h due clean holds db may;
+    ok = λ clean o holds. w.ok h due clean o holds;
+    err = λ clean up o holds. tt;
+    crash = λ o holds. crashed {E = E} (Ok x) w o holds;
+    durable = λ clean o holds db may. w.durable h due clean o holds db may;
   }
 
   pub taken_back : {E F : Type 0} (k : List Entry) (e : E) (f : F) → k ≡ h → WritesRelease now last a kept old new (Err e) → Commits h k due.year due.parcels due.rows a kept old new (Err f)
   taken_back k e f same w = record {
     follows = tt;
     refused = same;
-    ok = λ clean holds. tt;
-    err = λ clean up holds. w.err h clean up holds;
-    crash = λ holds. crashed (Err e) w holds;
-    durable = λ clean holds. tt;
+    ok = λ clean o holds. tt;
+    err = λ clean up o holds. w.err h clean up o holds;
+    crash = λ o holds. crashed (Err e) w o holds;
+    durable = λ clean o holds. tt;
   }
 
 -- ---- as the register says it
@@ -138,27 +139,27 @@ module _ (now : List Entry) (last : ℕ) (a : Accepted) (kept : List Shape) (h :
 module _ (h k : List Entry) (year : ℕ) (parcels : List Parcel) (rows : List Row) (a : Accepted) (kept shapes : List Shape) (old new : State) (same : shapes ≡ a.shapes.items) where
   pub stored_ok : (x : Unit {0}) (change : Changes) → Commits h k year parcels rows a {E = PublishFault} kept old new (Ok x) → Stores h year parcels rows kept k shapes old new (Ok change)
   stored_ok x change c = record {
-    ok = λ clean holds. subst (HoldsRegister new k) (sym same) (c.ok clean holds);
-    err = λ clean up holds. tt;
-    crash = λ holds. c.crash holds;
-    durable = λ clean holds db may. subst (λ s. LeavesRegister k s db) (sym same) (c.durable clean holds db may);
+    ok = λ clean o holds. subst (HoldsRegister o new k) (sym same) (c.ok clean o holds);
+    err = λ clean up o holds. tt;
+    crash = λ o holds. c.crash o holds;
+    durable = λ clean o holds db may. subst (λ s. LeavesRegister o k s db) (sym same) (c.durable clean o holds db may);
   }
 
 -- what a failed commit does is what publishing promises of an error
 pub stored_err : (h k : List Entry) (year : ℕ) (parcels : List Parcel) (rows : List Row) (a : Accepted) (shapes : List Shape) (old new : State) (e : PublishFault)
     → Commits h k year parcels rows a shapes old new (Err e) → Stores h year parcels rows shapes k shapes old new (Err e)
 stored_err h k year parcels rows a shapes old new e c = record {
-  ok = λ clean holds. tt;
-  err = λ clean up holds. subst (λ l. HoldsRegister new l shapes) (sym c.refused) (c.err clean up holds);
-  crash = λ holds. c.crash holds;
-  durable = λ clean holds. tt;
+  ok = λ clean o holds. tt;
+  err = λ clean up o holds. subst (λ l. HoldsRegister o new l shapes) (sym c.refused) (c.err clean up o holds);
+  crash = λ o holds. c.crash o holds;
+  durable = λ clean o holds. tt;
 }
 
 -- a database that is left alone keeps what publishing promises of an error
 pub stored_not : (h : List Entry) (year : ℕ) (parcels : List Parcel) (rows : List Row) (shapes : List Shape) (st : State) (e : PublishFault) → Stores h year parcels rows shapes h shapes st st (Err e)
 stored_not h year parcels rows shapes st e = record {
-  ok = λ clean holds. tt;
-  err = λ clean up holds. holds;
-  crash = λ holds. nothing_done (LeavesRelease h year parcels rows) st;
-  durable = λ clean holds. tt;
+  ok = λ clean o holds. tt;
+  err = λ clean up o holds. holds;
+  crash = λ o holds. nothing_done (LeavesRelease h year parcels rows o) st;
+  durable = λ clean o holds. tt;
 }

@@ -6,17 +6,19 @@ use Rattle.sqlite.specs.declared.error.Error.TheVariants.{SqliteFailure}
 use Rattle.sqlite.specs.declared.error.ErrorCode.TheVariants.{OutOfMemory}
 use Rattle.sqlite_trees.specs.declared.store.Store as store
 use Rattle.lpis_register_sql.specs.Stopping.{BoundStatement, StopsWithin, release_statements}
+use Rattle.lpis_register_sql.specs.Unread.{AreThere, IsUnread}
+use Rattle.lpis_register_sql.specs.declared.found.Found.{Found}
 use Rattle.lpis_lineage.specs.Lineage.{last_year}
 use Rattle.lpis_cert.specs.declared.part.ExactBlock.{ExactBlock}
 use Rattle.lpis_parcels.specs.Release.{Contents}
 use Rattle.lpis_register_rows.specs.Shapes.{text_edits}
-use Rattle.lpis_register.proofs.Common.{Entry, PublishFault, Row, Shape, state}
+use Rattle.lpis_register.proofs.Common.{Entry, PublishFault, Row, Shape, State, state}
 use Rattle.lpis_register.specs.Accepting.{IsAccepted}
 use Rattle.lpis_register.specs.Faults.{IsStoreFault}
-use Rattle.lpis_register.specs.Failing.{FailsToRun, FailsToStore, HasStoreCause, accepted_statements}
+use Rattle.lpis_register.specs.Failing.{FailsToRead, FailsToRun, FailsToStore, HasStoreCause, accepted_statements}
 use Rattle.lpis_register.specs.private.Writes.{FailsToCommit}
 use Rattle.lpis_register.specs.declared.accepting.Accepted.{Accepted}
-use Rattle.lpis_register.specs.declared.fault.PublishFault.TheVariants.{Store, StoreMemory}
+use Rattle.lpis_register.specs.declared.fault.PublishFault.TheVariants.{Memory, Store, StoreMemory}
 
 or_shut : {X : Type 0} (b : Bool) → (b ≡ true → X) → (b ≡ false) ⊎ X
 or_shut true f = inr (f refl)
@@ -29,6 +31,16 @@ fails_to_run g xs old new e fault memory is stops = or_shut (state g old).is_ope
   | inl refused ↦ absurd (let m = memory refused in cc)
   | inr stopped ↦ stopped
 ])
+
+-- the same of a reading
+pub unread_cause : (found : Found) (old new : State) (e : Error) (fault : PublishFault) → (e ≡ SqliteFailure OutOfMemory → fault ≡ Memory) → fault ≡ Store
+    → (e ≡ SqliteFailure OutOfMemory) ⊎ IsUnread found old new → IsUnread found old new
+unread_cause found old new e fault memory is (inl refused) = absurd (let m = memory refused in cc)
+unread_cause found old new e fault memory is (inr unread) = unread
+
+-- and where the connection was shut before, that is the cause
+pub fails_to_read : (found : Found) (old new : State) → AreThere old.now.schema found → (IsTrue old.is_open → IsUnread found old new) → FailsToRead old new
+fails_to_read found old new there unread = or_shut old.is_open (λ up. (found, there, unread up))
 
 -- the statements are those of the accepted release
 pub stops_as : {S : Type 0} (g : store.Ghosts S) (last : ℕ) (kept : List Shape) (a : Accepted) (y l : ℕ) (gone fresh : List (List ℕ)) (rows : List Row) (shapes : List Shape) → y ≡ a.year

@@ -1,6 +1,7 @@
 -- From what files hold to what an opening finds.
 use Rattle.std.proofs.Common.{◌≡◌, ◌∙◌, ◌<◌, ap, inl, inr, length, sym, subst, [], List, arith}
 use Rattle.lpis_register.proofs.Common.{Content, Entry, HasCleanDisk, HoldsRegister, IsBare, IsStored, Layout, Leaves, LeavesRegister, PublishFault, Shape, State, Trees}
+use Rattle.lpis_register_sql.specs.Layouts.{Origin}
 use Rattle.lpis_register.specs.Opening.{IsOpened, IsUnopened}
 use Rattle.lpis_register.specs.FileOpening.{HoldsNoTable, HoldsContent, IsFileOpened, IsFileUnopened}
 use Rattle.sqlite.specs.Files.{AreFoundIn}
@@ -25,7 +26,8 @@ module _ (image : Image) (old : State) (opened : HasCleanDisk old → Opens old 
   is_bare clean (inl (db, holds, none)) = bare (opened clean).0 (opened clean).1 (ap (λ (t : Trees). t catalog_tree) ((finds clean).holds db holds) ∙ none)
   is_bare clean (inr none) = bare (opened clean).0 (opened clean).1 (none_in_nothing image old.committed.trees none (finds clean).reads)
 
-  pub opened_file : (new : State) (h : List Entry) (shapes : List Shape) → (HoldsRegister new h shapes → (db : Trees) → new.may_leave db → LeavesRegister h shapes db) → IsOpened old new h shapes
+  pub opened_file : (new : State) (h : List Entry) (shapes : List Shape) → ((o : Origin) → HoldsRegister o new h shapes → (db : Trees) → new.may_leave db → LeavesRegister o h shapes db)
+      → IsOpened old new h shapes
       → IsFileOpened image new h shapes
   opened_file new h shapes left o = record {
     bare = λ up none. o.bare up (is_bare (o.clean up) none);

@@ -1,7 +1,7 @@
 -- From rows and texts that were read to what the tables say.
 use Rattle.std.proofs.Common.{◌≡◌, ◌↔◌, ℕ, List, Result, Ok, Err, IfErr, IsTrue, IsPermutation}
 use Rattle.std.proofs.lemmas.List.Sorted.{IsPermutation-sym}
-use Rattle.lpis_register.proofs.Common.{State, HasCleanDisk, Survives, survives_weaker, Entry, AreLive, Content}
+use Rattle.lpis_register.proofs.Common.{State, Trees, HasCleanDisk, Survives, survives_weaker, Entry, AreLive, Content}
 use Rattle.lpis_register.proofs.Common.{HoldsRegister, IsStored, Layout, PublishFault, TablesHave, Shape, ShapesAre}
 use Rattle.lpis_register.proofs.Common.{Unlawful, Version, Third, Whole}
 use Rattle.lpis_register_rows.specs.Content.{StoredText}
@@ -10,7 +10,8 @@ use Rattle.lpis_register_rows.specs.Histories.{IsSameContent, IsSameHistory}
 use Rattle.lpis_register_rows.specs.Shapes.{TextsStand}
 use Rattle.lpis_register_rows.specs.Content.{without_texts}
 use Rattle.lpis_register_sql.specs.declared.found.Found.{Found}
-use Rattle.lpis_register_sql.specs.Layouts.{schema_of}
+use Rattle.lpis_register_sql.specs.Layouts.{Origin, schema_of}
+use Rattle.lpis_register_sql.specs.Standing.{Stands}
 use Rattle.lpis_register_sql.specs.Quiet.{IsFound}
 use Rattle.lpis_register.specs.Histories.{ReadsHistory}
 use Rattle.lpis_register.specs.private.Finding.{ReadsFound}
@@ -42,28 +43,29 @@ refused_texts moved texts more live r same none = IfErr-weaker r _ _ (λ e never
 -- ---- the history, read again
 
 -- a state that stores the same rows as one that holds a history and shapes holds them too
-pub still_holds : (old new : State) (h : List Entry) (shapes : List Shape) → (holds : HoldsRegister old h shapes) → IsStored (Whole holds.origin) new holds.content → HoldsRegister new h shapes
-still_holds old new h shapes holds stored = record { origin = holds.origin; content = holds.content; stored = stored; tells = holds.tells; are = holds.are; live = holds.live }
+pub still_holds : (o : Origin) (old new : State) (h : List Entry) (shapes : List Shape) → (holds : HoldsRegister o old h shapes) → IsStored (Whole o) new holds.content → HoldsRegister o new h shapes
+still_holds o old new h shapes holds stored = record { content = holds.content; stored = stored; tells = holds.tells; are = holds.are; live = holds.live }
 
-module _ (old new : State) (h : List Entry) (shapes : List Shape) (found : Found) (laid_out : (layout : Layout) → old.now.schema ≡ schema_of layout → IsFound found layout) where
+module _ (old new : State) (h : List Entry) (shapes : List Shape) (found : Found) (laid_out : (layout : Layout) (trees : Trees) → Stands layout trees → old.now.schema ≡ schema_of layout
+    → IsFound found layout) where
   abbrev pub Reads : Result (List Entry × Version) PublishFault → Type 0
   Reads = ReadsFound found (λ c it. TablesHave it.1 c it.0) (λ c. (version : Version) (k : List Entry) → TablesHave version c k → ⊥) old new
 
-  there : (holds : HoldsRegister old h shapes) → IsFound found (Whole holds.origin)
-  there holds = laid_out (Whole holds.origin) holds.stored.holds.schema
+  there : (o : Origin) → HoldsRegister o old h shapes → IsFound found (Whole o)
+  there o holds = laid_out (Whole o) old.now.trees holds.stored.holds.means.stands holds.stored.holds.schema
 
-  stays : (r : Result (List Entry × Version) PublishFault) → Reads r → HasCleanDisk new → IsTrue new.is_open → HoldsRegister old h shapes → HoldsRegister new h shapes
-  stays r finds clean up holds = still_holds old new h shapes holds (finds.reads.same clean up (Whole holds.origin) (there holds) holds.content holds.stored)
+  stays : (r : Result (List Entry × Version) PublishFault) → Reads r → HasCleanDisk new → IsTrue new.is_open → (o : Origin) → HoldsRegister o old h shapes → HoldsRegister o new h shapes
+  stays r finds clean up o holds = still_holds o old new h shapes holds (finds.reads.same clean up (Whole o) (there o holds) holds.content holds.stored)
 
-  quiet : (r : Result (List Entry × Version) PublishFault) → Reads r → HoldsRegister old h shapes → Survives old new (λ _. ⊥)
-  quiet r finds holds = survives_weaker old new _ _ (λ clean db none. none (Whole holds.origin) (there holds) holds.content holds.stored) finds.reads.survives
+  quiet : (r : Result (List Entry × Version) PublishFault) → Reads r → (o : Origin) → HoldsRegister o old h shapes → Survives old new (λ _. ⊥)
+  quiet r finds o holds = survives_weaker old new _ _ (λ clean db none. none (Whole o) (there o holds) holds.content holds.stored) finds.reads.survives
 
   pub read_again : ((c : Content) (k g : List Entry) (version other : Version) → TablesHave version c k → TablesHave other c g → IsSameHistory k g) → (k : List Entry) (version : Version)
       → Reads (Ok (k, version)) → ReadsHistory old new h shapes (Ok k)
   read_again one k version finds = record {
-    ok = λ clean holds.
-        one holds.content h k Third version holds.tells (finds.reads.ok clean (Whole holds.origin) (there holds) holds.content holds.stored).0;
-    lawful = λ clean holds. tt;
+    ok = λ clean o holds.
+        one holds.content h k Third version holds.tells (finds.reads.ok clean (Whole o) (there o holds) holds.content holds.stored).0;
+    lawful = λ clean o holds. tt;
     same = stays _ finds;
     crash = quiet _ finds;
     kinds = tt;
@@ -71,8 +73,8 @@ module _ (old new : State) (h : List Entry) (shapes : List Shape) (found : Found
 
   pub not_read : (e : PublishFault) → Reads (Err e) → ReadsHistory old new h shapes (Err e)
   not_read e finds = record {
-    ok = λ clean holds. tt;
-    lawful = λ clean holds is. finds.unlawful clean (Whole holds.origin) (there holds) holds.content holds.stored is Third h holds.tells;
+    ok = λ clean o holds. tt;
+    lawful = λ clean o holds is. finds.unlawful clean (Whole o) (there o holds) holds.content holds.stored is Third h holds.tells;
     same = stays _ finds;
     crash = quiet _ finds;
     kinds = finds.kinds;

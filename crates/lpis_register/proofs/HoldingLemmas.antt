@@ -11,23 +11,23 @@ pub nothing_done : (P : Trees → Type 0) (a : State) → Survives a a P
 nothing_done P a = record { clean = omega arith; shield = λ s. s; counts = omega arith; limit = refl; closes = λ _ up. inl up; crash = λ _ db may. inl may }
 
 module _ (origin : Origin) (c : Content) (h : List Entry) (shapes : List Shape) (tells : HasHistory c h) (are : ShapesAre c.texts shapes) (live : AreLive (last_live h) shapes) where
-  pub holds_with : (new : State) → IsStored (Whole origin) new c → HoldsRegister new h shapes
-  holds_with new stored = record { origin = origin; content = c; stored = stored; tells = tells; are = are; live = live }
+  pub holds_with : (new : State) → IsStored (Whole origin) new c → HoldsRegister origin new h shapes
+  holds_with new stored = record { content = c; stored = stored; tells = tells; are = are; live = live }
 
-  pub left_with : (db : Trees) → Leaves (Whole origin) c db → LeavesRegister h shapes db
-  left_with db leaves = record { origin = origin; content = c; leaves = leaves; tells = tells; are = are; live = live }
+  pub left_with : (db : Trees) → Leaves (Whole origin) c db → LeavesRegister origin h shapes db
+  left_with db leaves = record { content = c; leaves = leaves; tells = tells; are = are; live = live }
 
-  pub survives_with : (old new : State) → Survives old new (Leaves (Whole origin) c) → Survives old new (LeavesRegister h shapes)
-  survives_with old new s = survives_weaker old new (Leaves (Whole origin) c) (LeavesRegister h shapes) (λ clean db. left_with db) s
+  pub survives_with : (old new : State) → Survives old new (Leaves (Whole origin) c) → Survives old new (LeavesRegister origin h shapes)
+  survives_with old new s = survives_weaker old new (Leaves (Whole origin) c) (LeavesRegister origin h shapes) (λ clean db. left_with db) s
 
 rows_left : (layout : Layout) (now : Database) (c : Content) → HoldsRows layout now c → Leaves layout c now.trees
 rows_left layout now c holds = subst (λ schema. HoldsRows layout (record { schema = schema; trees = now.trees }) c) holds.schema holds
 
 -- where a crash leaves the last commit alone, it leaves what is held
-pub left_of_held : (st : State) → (IsTrue st.is_open → (db : Trees) → st.may_leave db → db ≡ st.committed.trees) → (h : List Entry) (shapes : List Shape) → HoldsRegister st h shapes → (db : Trees)
-    → st.may_leave db → LeavesRegister h shapes db
-left_of_held st law h shapes held db may =
+pub left_of_held : (st : State) → (IsTrue st.is_open → (db : Trees) → st.may_leave db → db ≡ st.committed.trees) → (o : Origin) (h : List Entry) (shapes : List Shape) → HoldsRegister o st h shapes
+    → (db : Trees) → st.may_leave db → LeavesRegister o h shapes db
+left_of_held st law o h shapes held db may =
     let stored = held.stored in
     let same : db ≡ st.now.trees = law stored.is_open db may ∙ sym (ap (λ (d : Database). d.trees) stored.settled) in
-    left_with held.origin held.content h shapes held.tells held.are held.live db (subst (Leaves (Whole held.origin) held.content) (sym same) (rows_left
-    (Whole held.origin) st.now held.content stored.holds))
+    left_with o held.content h shapes held.tells held.are held.live db (subst (Leaves (Whole o) held.content) (sym same) (rows_left
+    (Whole o) st.now held.content stored.holds))

@@ -91,15 +91,16 @@ same_itself c = record {
 }
 
 -- two histories that one database holds are the same
-pub one_history : (st : State) (h k : List Entry) (shapes others : List Shape) → OneContent st → Lifeless → One → HoldsRegister st h shapes → HoldsRegister st k others → IsSameHistory h k
-one_history st h k shapes others content lifeless one a b =
-    let same = less_texts a.content b.content (content a.origin b.origin a.content b.content a.stored b.stored) in
+pub one_history : (st : State) (o p : Origin) (h k : List Entry) (shapes others : List Shape) → OneContent st → Lifeless → One → HoldsRegister o st h shapes → HoldsRegister p st k others
+    → IsSameHistory h k
+one_history st o p h k shapes others content lifeless one a b =
+    let same = less_texts a.content b.content (content o p a.content b.content a.stored b.stored) in
     let less = without_texts (without_live b.content) in
     one Third b.content h k ((lifeless b.content less h (same_itself less)).1 ((lifeless a.content less h same).0 a.tells)) b.tells
 
 -- two lists of shapes that one database holds are equal
-pub one_list : (st : State) (h k : List Entry) (shapes others : List Shape) → OneContent st
+pub one_list : (st : State) (o p : Origin) (h k : List Entry) (shapes others : List Shape) → OneContent st
     → ((texts more : List StoredText) (shapes kept : List Shape) → IsPermutation texts more → ShapesAre texts shapes → ShapesAre more kept → shapes ≡ kept)
-    → HoldsRegister st h shapes → HoldsRegister st k others → shapes ≡ others
-one_list st h k shapes others content one a b =
-    one a.content.texts b.content.texts shapes others (content a.origin b.origin a.content b.content a.stored b.stored).texts a.are b.are
+    → HoldsRegister o st h shapes → HoldsRegister p st k others → shapes ≡ others
+one_list st o p h k shapes others content one a b =
+    one a.content.texts b.content.texts shapes others (content o p a.content b.content a.stored b.stored).texts a.are b.are

@@ -9,6 +9,9 @@ use Rattle.lpis_register_sql.specs.declared.found.Found.{Found}
 use Rattle.lpis_register_sql.specs.Quiet.{IsFound, LeavesNone}
 use Rattle.lpis_register.specs.Opening.{IsOpened, IsOpenedAs, IsUnopened, LeavesKept, HasNoRegister, HasRegister, LeavesOpened}
 use Rattle.lpis_register.specs.Faults.{IsOpeningFault}
+use Rattle.lpis_register_sql.specs.Beside.{nothing}
+use Rattle.lpis_register_sql.specs.Hiding.{hides_table}
+use Rattle.lpis_register.specs.declared.fault.PublishFault.TheVariants.{Store}
 use Rattle.lpis_register_sql.specs.Layouts.{New}
 use Rattle.sqlite.proofs.StateLemmas.{survives_then}
 use Rattle.lpis_register_rows.specs.Histories.{years_of}
@@ -16,7 +19,7 @@ use Rattle.lpis_register_rows.specs.Shapes.{IsTextOfShape}
 use Rattle.lpis_register_sql.specs.Commits.{LeavesMade}
 use Rattle.lpis_register.specs.declared.opening.Loaded.{Loaded}
 use Rattle.lpis_register.specs.private.Commits.{LeavesFound, OpensFound, Settles}
-use Rattle.lpis_register.proofs.HoldingLemmas.{left_with}
+use Rattle.lpis_register.proofs.HoldingLemmas.{left_with, nothing_done}
 use Rattle.lpis_register.proofs.ResultLemmas.{failure_lawful, opening_failure}
 
 -- ---- tables with no row say nothing
@@ -103,15 +106,30 @@ module _ (found : Found) (old mid new : State) where
 abbrev pub Answer : State → State → Result Loaded PublishFault → Type 0
 Answer old new r = IfOk r (λ (told : Loaded). IsOpened old new told.history told.shapes.items) × IfErr r (IsUnopened old new)
 
+-- where a table is there unseen, nothing is done
+pub unseen : (st : State) → Answer st st (Err Store)
+unseen st = (
+  tt,
+  record {
+    none = λ up on bare. inl bare;
+    same = λ up on layout c r. r;
+    unlawful = λ is. absurd (let e = is in cc);
+    lawful = λ is. absurd (let e = is in cc);
+    clean = λ up. up;
+    crash = nothing_done (LeavesOpened st) st;
+    kind = tt;
+  },
+)
+
 -- where the tables stand
 pub opened_there : (found : Found) (old new : State) (r : Result Loaded PublishFault) → ((layout : Layout) (c : Content) → IsStored layout old c → IsFound found layout) → (IsBare old → ⊥)
-    → OpensFound found old new r → Answer old new r
-opened_there found old new r with never o = by r o where
+    → hides_table old.now.schema ≡ false → OpensFound found old new r → Answer old new r
+opened_there found old new r with never seen o = by r o where
   crash : Survives old new (LeavesFound found old) → Survives old new (LeavesOpened old)
   crash = survives_weaker old new _ _ (λ _ db left. record { found = λ layout c r. left layout (with layout c r) c r; bare = λ bare. absurd (never bare) })
 
   by : (r : Result Loaded PublishFault) → OpensFound found old new r → Answer old new r
-  by (Ok told) o = (record { bare = λ up bare. absurd (never bare); found = λ up layout c r. o.ok up layout (with layout c r) c r; clean = o.clean; crash = crash o.crash }, tt)
+  by (Ok told) o = (record { bare = λ up bare. absurd (never bare); found = λ up layout c r. o.ok up layout (with layout c r) c r; seen = seen; clean = o.clean; crash = crash o.crash }, tt)
   by (Err e) o = (
     tt,
     record {
@@ -126,8 +144,8 @@ opened_there found old new r with never o = by r o where
   )
 
 module _ (found : Found) (told_empty : HasHistory no_content []) (no_shape : ShapesAre [] []) where
-  made_left : (db : Trees) → Leaves (Whole New) no_content db → LeavesRegister [] [] db
-  made_left db left = left_with New no_content [] [] told_empty no_shape tt db left
+  made_left : (db : Trees) → Leaves (Whole (New nothing)) no_content db → LeavesRegister (New nothing) [] [] db
+  made_left db left = left_with (New nothing) no_content [] [] told_empty no_shape tt db left
 
   made_only : (old new : State) → ((layout : Layout) (c : Content) → IsStored layout old c → ⊥) → (IsBare old → found.format ≡ false) → (db : Trees) → LeavesMade found old db → LeavesOpened old db
   made_only old new never fresh db left = record { found = λ layout c r. absurd (never layout c r); bare = λ bare. made_left db (left (fresh bare) bare) }
@@ -148,30 +166,31 @@ module _ (found : Found) (told_empty : HasHistory no_content []) (no_shape : Sha
 
   -- where they are made, and then opened
   module _ (old mid new : State) (never : (layout : Layout) (c : Content) → IsStored layout old c → ⊥) (fresh : IsBare old → found.format ≡ false) (all : Found)
-      (made : HasCleanDisk mid → IsBare old → IsFound all (Whole New) × IsStored (Whole New) mid no_content)
-      (clean : HasCleanDisk mid → HasCleanDisk old) (one : Survives old mid (LeavesMade found old)) where
-    said_left : (db : Trees) → LeavesKept no_content db → LeavesRegister [] [] db
+      (made : HasCleanDisk mid → IsBare old → IsFound all (Whole (New nothing)) × IsStored (Whole (New nothing)) mid no_content)
+      (seen : hides_table old.now.schema ≡ false) (clean : HasCleanDisk mid → HasCleanDisk old) (one : Survives old mid (LeavesMade found old)) where
+    said_left : (db : Trees) → LeavesKept (New nothing) no_content db → LeavesRegister (New nothing) [] [] db
     said_left db (h, shapes, version, says, left) =
         let none = says_nothing version h shapes says in
-        subst (λ k. LeavesRegister k [] db) none.0 (subst (λ s. LeavesRegister h s db) none.1 left)
+        subst (λ k. LeavesRegister (New nothing) k [] db) none.0 (subst (λ s. LeavesRegister (New nothing) h s db) none.1 left)
 
     made_crashed : Survives mid new (LeavesFound all mid) → Survives old new (LeavesOpened old)
     made_crashed two = survives_then old mid new _ _ _ (λ _ db left. made_only old new never fresh db left)
         (λ up db left. record {
           found = λ layout c r. absurd (never layout c r);
-          bare = λ bare. let now = made (omega (arith, two.clean)) bare in said_left db (left (Whole New) now.0 no_content now.1);
+          bare = λ bare. let now = made (omega (arith, two.clean)) bare in said_left db (left (Whole (New nothing)) now.0 no_content now.1);
         }) one two
 
-    held : (h : List Entry) (shapes : List Shape) → IsOpenedAs new no_content h shapes → HoldsRegister new [] [] × (h ≡ []) × (shapes ≡ [])
+    held : (h : List Entry) (shapes : List Shape) → IsOpenedAs (New nothing) new no_content h shapes → HoldsRegister (New nothing) new [] [] × (h ≡ []) × (shapes ≡ [])
     held h shapes (version, says, holds) =
         let none = says_nothing version h shapes says in
-        (subst (λ k. HoldsRegister new k []) none.0 (subst (λ s. HoldsRegister new h s) none.1 holds), none.0, none.1)
+        (subst (λ k. HoldsRegister (New nothing) new k []) none.0 (subst (λ s. HoldsRegister (New nothing) new h s) none.1 holds), none.0, none.1)
 
     pub opened_made : (r : Result Loaded PublishFault) → OpensFound all mid new r → Answer old new r
     opened_made (Ok told) o = (
       record {
-        bare = λ up bare. let now = made (o.clean up) bare in held told.history told.shapes.items (o.ok up (Whole New) now.0 no_content now.1);
+        bare = λ up bare. let now = made (o.clean up) bare in held told.history told.shapes.items (o.ok up (Whole (New nothing)) now.0 no_content now.1);
         found = λ up layout c r. absurd (never layout c r);
+        seen = seen;
         clean = λ up. clean (o.clean up);
         crash = made_crashed o.crash;
       },
@@ -182,10 +201,16 @@ module _ (found : Found) (told_empty : HasHistory no_content []) (no_shape : Sha
       record {
         none = λ up on bare.
             let now = made (o.clean up) bare in
-            inr (record { layout = Whole New; content = no_content; stored = o.err up on (Whole New) now.0 no_content now.1; version = Third; says = said_empty told_empty no_shape });
+            inr (record {
+              layout = Whole (New nothing);
+              content = no_content;
+              stored = o.err up on (Whole (New nothing)) now.0 no_content now.1;
+              version = Third;
+              says = said_empty told_empty no_shape;
+            });
         same = λ up on layout c r. absurd (never layout c r);
         unlawful = λ is up layout c r. absurd (never layout c r);
-        lawful = λ is up bare. let now = made (o.clean up) bare in o.unlawful up (Whole New) now.0 no_content now.1 is Third [] [] (said_empty told_empty no_shape);
+        lawful = λ is up bare. let now = made (o.clean up) bare in o.unlawful up (Whole (New nothing)) now.0 no_content now.1 is Third [] [] (said_empty told_empty no_shape);
         clean = λ up. clean (o.clean up);
         crash = made_crashed o.crash;
         kind = o.kinds;

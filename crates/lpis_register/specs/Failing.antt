@@ -1,7 +1,7 @@
--- Why the database fails when a release is published.
+-- Why the database fails when a release is published, and when its tables are read.
 use Rattle.std.specs.Prelude.{◌≡◌, ◌⊎◌, false, pos, ℕ, true, List}
 use Rattle.sqlite.specs.Held.{Held, state}
-use Rattle.sqlite.specs.State.{HasCleanDisk}
+use Rattle.sqlite.specs.State.{HasCleanDisk, State}
 use Rattle.sqlite_trees.specs.declared.store.Store.{Ghosts}
 use Rattle.lpis_cert.specs.declared.part.ExactBlock.{ExactBlock}
 use Rattle.lpis_lineage.specs.declared.row.Entry.{Entry}
@@ -10,6 +10,8 @@ use Rattle.lpis_lineage.specs.Lineage.{last_year}
 use Rattle.lpis_parcels.specs.Release.{Contents}
 use Rattle.lpis_register_rows.specs.Shapes.{Shape, text_edits}
 use Rattle.lpis_register_sql.specs.Stopping.{BoundStatement, IsStopped, release_statements}
+use Rattle.lpis_register_sql.specs.Unread.{AreThere, IsUnread}
+use Rattle.lpis_register_sql.specs.declared.found.Found.{Found}
 use Rattle.lpis_register.specs.Accepting.{IsAccepted}
 use Rattle.lpis_register.specs.declared.accepting.Accepted.{Accepted}
 
@@ -39,3 +41,13 @@ module _ {S : Type 0} (store : Ghosts S) where
       → Held S → Held S → Type 0 → Type 0
   FailsToStore h kept year r blocks rows old new Failed = (a : Accepted)
       × IsAccepted h kept year r blocks rows a × HasStoreCause (last_year h) kept a old new Failed
+
+-- a call fails to read the register's tables: the connection was shut before, or the disk failed
+-- during the call, or the engine refuses the query of one of the tables that are there
+abbrev pub FailsToRead : State → State → Type 0
+FailsToRead old new = (old.is_open ≡ false)
+    ⊎ ((found : Found) × AreThere old.now.schema found × IsUnread found old new)
+
+-- if the disk kept what was written, and this says that the database failed, there is a cause
+abbrev pub HasReadCause : State → State → Type 0 → Type 0
+HasReadCause old new Failed = HasCleanDisk new → Failed → FailsToRead old new

@@ -9,7 +9,8 @@ use Rattle.lpis_lineage.specs.declared.row.Entry.{Entry}
 use Rattle.lpis_register_rows.specs.Content.{Content}
 use Rattle.lpis_register_rows.specs.Shapes.{Shape}
 use Rattle.lpis_register_sql.specs.Holding.{IsStored, Leaves}
-use Rattle.lpis_register_sql.specs.Layouts.{Layout}
+use Rattle.lpis_register_sql.specs.Beside.{nothing}
+use Rattle.lpis_register_sql.specs.Layouts.{Layout, New, Origin, origin_of}
 use Rattle.lpis_register.specs.Faults.{IsOpeningFault}
 use Rattle.lpis_register.specs.Histories.{HoldsRegister, LeavesRegister}
 use Rattle.lpis_register.specs.Opening.{FindsNothing, HasNoRegister, IsOpenedAs}
@@ -29,12 +30,12 @@ HoldsNoTable image = ((db : Trees) × HoldsDatabase image db × (db catalog_tree
 pub record IsFileOpened (image : Image) (new : State) (h : List Entry) (shapes : List Shape)
     : Type 0 where
   pub bare : HasCleanDisk new → HoldsNoTable image
-      → HoldsRegister new [] [] × (h ≡ []) × (shapes ≡ [])
+      → HoldsRegister (New nothing) new [] [] × (h ≡ []) × (shapes ≡ [])
   pub found : HasCleanDisk new → (layout : Layout) (c : Content) → HoldsContent image layout c
-      → IsOpenedAs new c h shapes
+      → IsOpenedAs (origin_of layout) new c h shapes
   -- right after it a crash leaves tables that hold both, and nothing else
-  pub left : HoldsRegister new h shapes → (db : Trees) → new.may_leave db
-      → LeavesRegister h shapes db
+  pub left : (o : Origin) → HoldsRegister o new h shapes → (db : Trees) → new.may_leave db
+      → LeavesRegister o h shapes db
 
 -- an opening of these files that failed: unless the database is shut, its tables hold what the
 -- files hold

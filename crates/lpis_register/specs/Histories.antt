@@ -16,10 +16,10 @@ use Rattle.lpis_register.specs.Faults.{IsOpeningFault}
 use Rattle.lpis_register.specs.declared.fault.PublishFault.{PublishFault}
 use Rattle.lpis_register.specs.declared.fault.PublishFault.TheVariants.{Unlawful}
 
--- no transaction is open, and the tables of version 3, in one of the orders that this program
--- makes, say this history and keep the texts of these shapes, which are of live parcels
-pub record HoldsRegister (st : State) (h : List Entry) (shapes : List Shape) : Type 0 where
-  pub origin : Origin
+-- no transaction is open, and the tables of version 3, of this origin, say this history and keep
+-- the texts of these shapes, which are of live parcels. What the origin has behind them is there
+pub record HoldsRegister (origin : Origin) (st : State) (h : List Entry) (shapes : List Shape)
+    : Type 0 where
   pub content : Content
   pub stored : IsStored (Whole origin) st content
   pub tells : HasHistory content h
@@ -27,8 +27,8 @@ pub record HoldsRegister (st : State) (h : List Entry) (shapes : List Shape) : T
   pub live : AreLive (last_live h) shapes
 
 -- a crash leaves such tables
-pub record LeavesRegister (h : List Entry) (shapes : List Shape) (trees : Trees) : Type 0 where
-  pub origin : Origin
+pub record LeavesRegister (origin : Origin) (h : List Entry) (shapes : List Shape) (trees : Trees)
+    : Type 0 where
   pub content : Content
   pub leaves : Leaves (Whole origin) content trees
   pub tells : HasHistory content h
@@ -38,11 +38,13 @@ pub record LeavesRegister (h : List Entry) (shapes : List Shape) (trees : Trees)
 -- reading the history of tables that say one: it is that one, and nothing is changed
 pub record ReadsHistory (old new : State) (h : List Entry) (shapes : List Shape)
     (r : Result (List Entry) PublishFault) : Type 0 where
-  pub ok : HasCleanDisk new → HoldsRegister old h shapes → IfOk r (IsSameHistory h)
-  pub lawful : HasCleanDisk new → HoldsRegister old h shapes → IfErr r (λ e. e ≡ Unlawful → ⊥)
-  pub same : HasCleanDisk new → IsTrue new.is_open → HoldsRegister old h shapes
-      → HoldsRegister new h shapes
-  pub crash : HoldsRegister old h shapes → Survives old new (λ _. ⊥)
+  pub ok : HasCleanDisk new → (o : Origin) → HoldsRegister o old h shapes
+      → IfOk r (IsSameHistory h)
+  pub lawful : HasCleanDisk new → (o : Origin) → HoldsRegister o old h shapes
+      → IfErr r (λ e. e ≡ Unlawful → ⊥)
+  pub same : HasCleanDisk new → IsTrue new.is_open → (o : Origin) → HoldsRegister o old h shapes
+      → HoldsRegister o new h shapes
+  pub crash : (o : Origin) → HoldsRegister o old h shapes → Survives old new (λ _. ⊥)
   pub kinds : IfErr r IsOpeningFault
 
 -- the live descendants of an identifier that some release holds, ascending, each once

@@ -1,5 +1,5 @@
 -- What an opening finds, and what it leaves.
-use Rattle.std.specs.Prelude.{◌≡◌, ◌⊎◌, [], List, IsTrue}
+use Rattle.std.specs.Prelude.{◌≡◌, ◌⊎◌, [], false, List, IsTrue}
 use Rattle.sqlite.specs.Tree.{Trees}
 use Rattle.sqlite.specs.State.{HasCleanDisk, State, Survives}
 use Rattle.lpis_lineage.specs.declared.row.Entry.{Entry}
@@ -10,7 +10,9 @@ use Rattle.lpis_register_rows.specs.Histories.{TablesHave}
 use Rattle.lpis_register_rows.specs.declared.version.Version.{Version}
 use Rattle.lpis_register_rows.specs.declared.version.Version.TheVariants.{First, Second, Third}
 use Rattle.lpis_register_sql.specs.Bare.{IsBare}
-use Rattle.lpis_register_sql.specs.Layouts.{Layout}
+use Rattle.lpis_register_sql.specs.Beside.{nothing}
+use Rattle.lpis_register_sql.specs.Hiding.{hides_table}
+use Rattle.lpis_register_sql.specs.Layouts.{Layout, New, Origin, origin_of}
 use Rattle.lpis_register_sql.specs.Holding.{IsStored}
 use Rattle.lpis_register.specs.Faults.{IsOpeningFault}
 use Rattle.lpis_register.specs.Histories.{HoldsRegister, LeavesRegister}
@@ -48,27 +50,31 @@ abbrev pub FindsNothing : State → Type 0
 FindsNothing st = IsBare st ⊎ FindsTables st [] []
 
 -- a database is opened that held these rows: it holds the history and the shapes that they say
-abbrev pub IsOpenedAs : State → Content → List Entry → List Shape → Type 0
-IsOpenedAs st c h shapes = (version : Version) × HasRegister version c h shapes
-    × HoldsRegister st h shapes
+abbrev pub IsOpenedAs : Origin → State → Content → List Entry → List Shape → Type 0
+IsOpenedAs o st c h shapes = (version : Version) × HasRegister version c h shapes
+    × HoldsRegister o st h shapes
 
 -- a crash leaves such a database
-abbrev pub LeavesKept : Content → Trees → Type 0
-LeavesKept c trees =
+abbrev pub LeavesKept : Origin → Content → Trees → Type 0
+LeavesKept o c trees =
     (h : List Entry) × (shapes : List Shape) × (version : Version)
-    × HasRegister version c h shapes × LeavesRegister h shapes trees
+    × HasRegister version c h shapes × LeavesRegister o h shapes trees
 
 -- what an opening commits, if anything: the history that the tables said and the shapes that they
 -- kept, as tables of version 3; where there was no table, the empty ones
 pub record LeavesOpened (old : State) (trees : Trees) : Type 0 where
-  pub found : (layout : Layout) (c : Content) → IsStored layout old c → LeavesKept c trees
-  pub bare : IsBare old → LeavesRegister [] [] trees
+  pub found : (layout : Layout) (c : Content) → IsStored layout old c
+      → LeavesKept (origin_of layout) c trees
+  pub bare : IsBare old → LeavesRegister (New nothing) [] [] trees
 
 -- an opening that made this history and these shapes of a database
 pub record IsOpened (old new : State) (h : List Entry) (shapes : List Shape) : Type 0 where
-  pub bare : HasCleanDisk new → IsBare old → HoldsRegister new [] [] × (h ≡ []) × (shapes ≡ [])
+  pub bare : HasCleanDisk new → IsBare old → HoldsRegister (New nothing) new [] [] × (h ≡ [])
+      × (shapes ≡ [])
   pub found : HasCleanDisk new → (layout : Layout) (c : Content) → IsStored layout old c
-      → IsOpenedAs new c h shapes
+      → IsOpenedAs (origin_of layout) new c h shapes
+  -- no table of the register is there unseen
+  pub seen : hides_table old.now.schema ≡ false
   pub clean : HasCleanDisk new → HasCleanDisk old
   pub crash : Survives old new (LeavesOpened old)
 

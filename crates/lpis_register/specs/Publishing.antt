@@ -15,6 +15,7 @@ use Rattle.lpis_lineage.specs.Lineage.{last_live}
 use Rattle.lpis_parcels.specs.declared.parcel.Parcel.{Parcel}
 use Rattle.lpis_parcels.specs.Release.{Contents, parcel_ids}
 use Rattle.lpis_register_rows.specs.Shapes.{AreShapesOf, Shape}
+use Rattle.lpis_register_sql.specs.Layouts.{Origin}
 use Rattle.lpis_register.specs.Faults.{PublishRefuses}
 use Rattle.lpis_register.specs.Histories.{HoldsRegister, LeavesRegister}
 use Rattle.lpis_register.specs.declared.fault.PublishFault.{PublishFault}
@@ -29,20 +30,22 @@ module _ (h : List Entry) (year : ℕ) (parcels : List Parcel) (rows : List Row)
     pub keeps : AreShapesOf parcels shapes
 
   -- a crash leaves tables that say such a history and keep its shapes
-  abbrev pub LeavesRelease : Trees → Type 0
-  LeavesRelease trees = (k : List Entry) × (shapes : List Shape) × FollowsHistory k shapes
-      × LeavesRegister k shapes trees
+  abbrev pub LeavesRelease : Origin → Trees → Type 0
+  LeavesRelease o trees = (k : List Entry) × (shapes : List Shape) × FollowsHistory k shapes
+      × LeavesRegister o k shapes trees
 
-  -- a database that holds the history and the shapes of before holds those of after. A crash leaves
-  -- what it left before, or the release whole; right after Ok the release
+  -- a database that holds the history and the shapes of before holds those of after, and what stood
+  -- behind the tables. A crash leaves what it left before, or the release whole; right after Ok the
+  -- release
   pub record Stores (kept : List Shape) (k : List Entry) (shapes : List Shape) (old new : State)
       (answer : Result Changes PublishFault) : Type 0 where
-    pub ok : HasCleanDisk new → HoldsRegister old h kept → OnOk answer (HoldsRegister new k shapes)
-    pub err : HasCleanDisk new → IsTrue new.is_open → HoldsRegister old h kept
-        → OnErr answer (HoldsRegister new k shapes)
-    pub crash : HoldsRegister old h kept → Survives old new LeavesRelease
-    pub durable : HasCleanDisk new → HoldsRegister old h kept
-        → OnOk answer ((db : Trees) → new.may_leave db → LeavesRegister k shapes db)
+    pub ok : HasCleanDisk new → (o : Origin) → HoldsRegister o old h kept
+        → OnOk answer (HoldsRegister o new k shapes)
+    pub err : HasCleanDisk new → IsTrue new.is_open → (o : Origin) → HoldsRegister o old h kept
+        → OnErr answer (HoldsRegister o new k shapes)
+    pub crash : (o : Origin) → HoldsRegister o old h kept → Survives old new (LeavesRelease o)
+    pub durable : HasCleanDisk new → (o : Origin) → HoldsRegister o old h kept
+        → OnOk answer ((db : Trees) → new.may_leave db → LeavesRegister o k shapes db)
 
 -- publishing a release of this year with these blocks of its certificate and these rows, after this
 -- history and when these shapes are kept, makes that history and those shapes of them

@@ -46,6 +46,9 @@ pub(crate) fn open_tables<S: Alter>(
     order_of_rows_is_free();
     texts_keep_one_list_of_shapes();
     let found = tables_in(conn.schema());
+    if found.hidden {
+        return Err(PublishFault::Store);
+    }
     if found.common {
         return open_found(alloc, conn, &found);
     }
@@ -58,7 +61,9 @@ pub(crate) fn open_tables<S: Alter>(
 impl<S: Alter + Drop> Register<S> {
     /// Opens the register in a database: tables that are not there are made, and those of version 1
     /// or 2 are moved to version 3. Rows that are no lawful history are refused, and so are texts
-    /// that are not those of shapes of live parcels; then nothing is changed.
+    /// that are not those of shapes of live parcels; then nothing is changed. Where something else
+    /// has the name of a table of the register, or a trigger or an index binds one so that no
+    /// statement here can read it, that is the register's failure to store.
     /// The connection comes back beside a fault, and its tables hold what they held.
     pub fn adopt(
         alloc: Global,

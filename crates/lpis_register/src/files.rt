@@ -8,6 +8,8 @@ ghost use Rattle.sqlite.specs.Start.{FindsIn};
 ghost use Rattle.sqlite.specs.State.{HasCleanDisk, IsLive, Opens, Survives};
 ghost use Rattle.sqlite.specs.Held.{state};
 ghost use Rattle.sqlite.specs.Steps.{over_memory};
+ghost use Rattle.lpis_register_sql.specs.Beside.{nothing};
+ghost use Rattle.lpis_register_sql.specs.Layouts.{New};
 ghost use Rattle.lpis_register.specs.Faults.{IsFailure, IsOpeningFault};
 ghost use Rattle.lpis_register.specs.FileOpening.{IsFileOpened, IsFileUnopened};
 ghost use Rattle.lpis_register.specs.Histories.{HoldsRegister};
@@ -84,7 +86,8 @@ impl Register<MemStore> {
     /// A register in memory, with no release.
     pub fn open_in_memory(alloc: Global) -> Result<Register<MemStore>, PublishFault>
         ensures empty { IfOk result (λ it. (it.history ≡ []) × (it.shapes.items ≡ [])) }
-        ensures holds { IfOk result (λ it. HoldsRegister (state over_memory it.conn) [] []) }
+        ensures holds { IfOk result (λ it. HoldsRegister (New nothing) (state over_memory it.conn)
+            [] []) }
         ensures failure { IfErr result IsFailure }
     {
         let conn = Connection::open_in_memory(alloc)?;

@@ -1,16 +1,18 @@
 //! What the tables of a database of any version say, read. Nothing is changed.
 
-ghost use Rattle.std.specs.Prelude.{◌≡◌, false, IfOk, IfErr, List};
+ghost use Rattle.std.specs.Prelude.{◌≡◌, ◌≢◌, false, IfOk, IfErr, IsTrue, List};
 ghost use Rattle.sqlite.specs.Held.{state};
+ghost use Rattle.sqlite.specs.State.{HasCleanDisk};
 ghost use Rattle.lpis_lineage.specs.declared.row.Entry.{Entry};
 ghost use Rattle.lpis_lineage.specs.Lineage.{last_live};
 ghost use Rattle.lpis_lineage.specs.Order.{IsAscending};
 ghost use Rattle.lpis_register_rows.specs.Shapes.{AreLive, ShapesAre, TextsStand, shape_ids};
 ghost use Rattle.lpis_register_rows.specs.Histories.{TablesHave};
+ghost use Rattle.lpis_register_sql.specs.Unread.{IsUnread};
 ghost use Rattle.lpis_register.specs.Faults.{IsOpeningFault};
 ghost use Rattle.lpis_register.specs.Opening.{HasNoRegister, HasRegister, texts_at};
 ghost use Rattle.lpis_register.specs.private.Finding.{ReadsFound};
-ghost use Rattle.lpis_register.specs.declared.fault.PublishFault.TheVariants.{Unlawful};
+ghost use Rattle.lpis_register.specs.declared.fault.PublishFault.TheVariants.{Store, Unlawful};
 
 use crate::fault::PublishFault;
 use crate::opening::{Loaded, fault_of};
@@ -30,6 +32,7 @@ fn history_at(alloc: Global, rows: &Rows) -> Result<(History, Version), PublishF
     ensures says { IfOk result (λ found. TablesHave found.1 rows.now found.0) }
     ensures unlawful { IfErr result (λ e. e ≡ Unlawful → (version : _) (h : List Entry)
         → TablesHave version rows.now h → ⊥) }
+    ensures no_store { IfErr result (λ e. e ≢ Store) }
     ensures kinds { IfErr result IsOpeningFault }
 {
     match history_of(alloc, rows, Version::Third) {
@@ -60,6 +63,9 @@ pub(crate) fn find_rows<S: Alter>(
     ensures finds { ReadsFound found.now (λ c it. TablesHave it.1 c it.0)
         (λ c. (version : _) (h : _) → TablesHave version c h → ⊥)
         (state S.Store conn.old) (state S.Store conn.new) result }
+    ensures cause { IfErr result (λ fault. fault ≡ Store → HasCleanDisk (state S.Store conn.new)
+        → IsTrue (state S.Store conn.old).is_open
+        → IsUnread found.now (state S.Store conn.old) (state S.Store conn.new)) }
 {
     order_of_rows_is_free();
     match load_found(alloc, conn, found) {

@@ -8,6 +8,7 @@ ghost use Rattle.lpis_exact_lineage.specs.Shapes.{shape_named};
 ghost use Rattle.lpis_lineage.specs.declared.row.Entry.{Entry};
 ghost use Rattle.lpis_register_rows.specs.Content.{Content};
 ghost use Rattle.lpis_register_rows.specs.Histories.{IsSameHistory, TablesHave};
+ghost use Rattle.lpis_register_sql.specs.Layouts.{Origin};
 ghost use Rattle.lpis_register.specs.Calls.{AllLead, AreReleasesOf, Call, accepted};
 ghost use Rattle.lpis_register.specs.Histories.{HoldsRegister, LeavesRegister};
 ghost use Rattle.lpis_register_rows.specs.Shapes.{Shape};
@@ -50,19 +51,19 @@ pub fn rows_have_one_history()
 /// While a database holds a history and shapes, a crash leaves tables that hold them, and nothing
 /// else.
 pub fn a_crash_leaves_what_is_held<S: Alter>(conn: &Connection<S>)
-    ensures { (h : List Entry) (shapes : List Shape)
-        → HoldsRegister (state S.Store conn.now) h shapes → (db : Trees)
-        → (state S.Store conn.now).may_leave db → LeavesRegister h shapes db }
+    ensures { (o : Origin) (h : List Entry) (shapes : List Shape)
+        → HoldsRegister o (state S.Store conn.now) h shapes → (db : Trees)
+        → (state S.Store conn.now).may_leave db → LeavesRegister o h shapes db }
 {}
 
 /// A database says one history, and keeps one list of shapes.
 pub fn a_database_holds_one_register<S: Alter>(conn: &Connection<S>)
-    ensures history { (h k : List Entry) (shapes others : List Shape)
-        → HoldsRegister (state S.Store conn.now) h shapes
-        → HoldsRegister (state S.Store conn.now) k others → IsSameHistory h k }
-    ensures shapes { (h k : List Entry) (shapes others : List Shape)
-        → HoldsRegister (state S.Store conn.now) h shapes
-        → HoldsRegister (state S.Store conn.now) k others → shapes ≡ others }
+    ensures history { (o p : Origin) (h k : List Entry) (shapes others : List Shape)
+        → HoldsRegister o (state S.Store conn.now) h shapes
+        → HoldsRegister p (state S.Store conn.now) k others → IsSameHistory h k }
+    ensures shapes { (o p : Origin) (h k : List Entry) (shapes others : List Shape)
+        → HoldsRegister o (state S.Store conn.now) h shapes
+        → HoldsRegister p (state S.Store conn.now) k others → shapes ≡ others }
 {
     a_database_holds_one_content(conn);
     order_of_rows_is_free();

@@ -2,6 +2,8 @@
 
 ghost use Rattle.std.specs.Prelude.{◌≡◌, ◌⊎◌};
 ghost use Rattle.std.proofs.Props.{props};
+ghost use Rattle.sqlite.specs.declared.error.Error.TheVariants.{SqliteFailure};
+ghost use Rattle.sqlite.specs.declared.error.ErrorCode.TheVariants.{OutOfMemory};
 ghost use Rattle.lpis_lineage.specs.Order.{IsAscending};
 ghost use Rattle.lpis_register_rows.specs.Shapes.{shape_ids};
 ghost use Rattle.lpis_register.specs.Faults.{IsFailure};
@@ -24,6 +26,8 @@ pub(crate) struct Loaded {
 /// Where the database is out of memory, that is reported.
 pub(crate) fn fault_of(error: Error) -> PublishFault
     ensures either { (result ≡ Memory) ⊎ (result ≡ Store) }
+    ensures memory { error ≡ SqliteFailure OutOfMemory → result ≡ Memory }
+    ensures of_memory { result ≡ Memory → error ≡ SqliteFailure OutOfMemory }
     ensures failure { IsFailure result }
 {
     match error {

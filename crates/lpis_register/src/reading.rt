@@ -1,10 +1,12 @@
 //! The history that tables of version 3 say, read, and shapes, copied.
 
-ghost use Rattle.std.specs.Prelude.{◌≡◌, false, IfOk, List};
+ghost use Rattle.std.specs.Prelude.{◌≡◌, false, IfErr, IfOk, List};
 ghost use Rattle.sqlite.specs.Held.{state};
 ghost use Rattle.lpis_lineage.specs.declared.row.Entry.{Entry};
 ghost use Rattle.lpis_register_rows.specs.Shapes.{Shape};
+ghost use Rattle.lpis_register.specs.Failing.{HasReadCause};
 ghost use Rattle.lpis_register.specs.Histories.{ReadsHistory};
+ghost use Rattle.lpis_register.specs.declared.fault.PublishFault.TheVariants.{Store};
 
 use crate::fault::PublishFault;
 use crate::finding::find_rows;
@@ -25,6 +27,8 @@ pub(crate) fn read_history<S: Alter>(
     ensures autocommit { conn.new.in_transaction ≡ false }
     ensures reads { (h : List Entry) (shapes : List Shape)
         → ReadsHistory (state S.Store conn.old) (state S.Store conn.new) h shapes result }
+    ensures cause { IfErr result (λ fault. HasReadCause (state S.Store conn.old)
+        (state S.Store conn.new) (fault ≡ Store)) }
 {
     rows_have_one_history();
     let found = tables_in(conn.schema());

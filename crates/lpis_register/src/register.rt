@@ -10,7 +10,7 @@ ghost use Rattle.lpis_lineage.specs.declared.row.Row.{Row};
 ghost use Rattle.lpis_parcels.specs.Release.{Contents};
 ghost use Rattle.lpis_register_rows.specs.Shapes.{shape_ids};
 ghost use Rattle.lpis_register.specs.Accepting.{IsAccepted, WasMadeFor};
-ghost use Rattle.lpis_register.specs.Failing.{FailsToStore, HasStoreCause};
+ghost use Rattle.lpis_register.specs.Failing.{FailsToStore, HasReadCause, HasStoreCause};
 ghost use Rattle.lpis_register.specs.Faults.{IsStoreFault, PublishRefuses};
 ghost use Rattle.lpis_register.specs.Histories.{IsTrace, IsUnknown, ReadsHistory};
 ghost use Rattle.lpis_register.specs.Publishing.{Publishes, Stores};
@@ -222,6 +222,10 @@ impl<S: Alter> Register<S> {
     pub fn history(&mut self) -> Result<History, PublishFault>
         ensures reads { ReadsHistory (state S.Store self.old.conn) (state S.Store self.new.conn)
             self.old.history self.old.shapes.items result }
+        // `Store` where the database was shut, its disk failed, or the engine refuses the query of
+        // one of its tables.
+        ensures cause { IfErr result (λ fault. HasReadCause (state S.Store self.old.conn)
+            (state S.Store self.new.conn) (fault ≡ Store)) }
         ensures history { self.new.history ≡ self.old.history }
         ensures shapes { self.new.shapes ≡ self.old.shapes }
     {

@@ -1,7 +1,10 @@
 //! Tables of version 3, made of those that were found.
 
-ghost use Rattle.std.specs.Prelude.{◌≡◌, false};
+ghost use Rattle.std.specs.Prelude.{◌≡◌, false, Err};
 ghost use Rattle.sqlite.specs.Held.{state};
+ghost use Rattle.sqlite.specs.declared.error.Error.TheVariants.{SqliteFailure};
+ghost use Rattle.sqlite.specs.declared.error.ErrorCode.TheVariants.{OutOfMemory};
+ghost use Rattle.lpis_register.specs.declared.fault.PublishFault.TheVariants.{Memory};
 ghost use Rattle.lpis_register_rows.specs.Histories.{AreSpansOf};
 ghost use Rattle.lpis_register.specs.private.Commits.{IsReported, Settles};
 ghost use Rattle.lpis_register_rows.specs.declared.version.Version.TheVariants.{First, Second};
@@ -17,7 +20,9 @@ use std::alloc::Global;
 
 /// What became of a write, as the register reports it.
 fn reported(written: Result<(), Error>) -> Result<(), PublishFault>
-    ensures { IsReported written result }
+    ensures reports { IsReported written result }
+    ensures memory { written ≡ Err (SqliteFailure OutOfMemory) → result ≡ Err Memory }
+    ensures of_memory { result ≡ Err Memory → written ≡ Err (SqliteFailure OutOfMemory) }
 {
     match written {
         Ok(()) => Ok(()),

@@ -18,7 +18,10 @@ use Rattle.sqlite.specs.State.{Executes}
 use Rattle.lpis_register_sql.specs.private.Texts.{clear_span, clear_live, clear_mark, clear_text}
 use Rattle.lpis_register_sql.proofs.MeaningLemmas.{Says, whole, ids_query, clear_span_means, clear_live_means, clear_text_means, clear_mark_means}
 use Rattle.lpis_register_sql.proofs.UpdateLemmas.{without_is, filter_same, gone_are, key_of}
-use Rattle.lpis_register_sql.proofs.PartLemmas.{KeepsAll, own_tree, spans_changed, texts_changed, marks_changed, live_changed}
+use Rattle.lpis_register_sql.specs.Beside.{Beside}
+use Rattle.lpis_register_sql.specs.Standing.{Fits}
+use Rattle.lpis_register_sql.proofs.StandLemmas.{may_change}
+use Rattle.lpis_register_sql.proofs.PartLemmas.{KeepsAll, mark_changes, own_tree, span_changes, text_changes, spans_changed, texts_changed, marks_changed, live_changed}
 use Rattle.lpis_register_sql.proofs.InsertLemmas.{inside_next, span_stands, text_stands, mark_stands}
 use Rattle.lpis_register_sql.proofs.WriteLemmas.{deletes, step_of, Kept, kept_of}
 
@@ -50,10 +53,10 @@ pub record Empties (o : Origin) (old new : State) (tree : ℕ) : Type 0 where
   pub others : Kept o tree old.now.trees new.now.trees
 
 clears : (o : Origin) (sql : List ℕ) (index tree : ℕ) (table : Table) (old new : State) (count : ℕ)
-    → table.tree ≡ tree → old.now.schema ≡ schema_of (Whole o) → slice_get (schema_of (Whole o)).tables index ≡ Some table
+    → table.tree ≡ tree → old.now.schema ≡ schema_of (Whole o) → Fits (Whole o) → may_change o table.tree ≡ true → slice_get (schema_of (Whole o)).tables index ≡ Some table
     → Says o sql (Delete index (whole (ids_query tree))) → overlay old.now.trees [] tree ≡ old.now.trees tree
     → AreKeyed (old.now.trees tree) → Executes sql [] old new (Ok count) → Empties o old new tree
-clears o sql index tree table old new count named has at says own keyed h =
+clears o sql index tree table old new count named has fits changes at says own keyed h =
     let s = schema_of (Whole o) in
     let db = old.now.trees in
     let q = ids_query tree in
@@ -63,7 +66,7 @@ clears o sql index tree table old new count named has at says own keyed h =
     let it = deletes old.step_limit (mode_of old) [] s db text index table (whole q) w.tally new.now at
     (subst (λ s. Does old.step_limit (mode_of old) [] (record old.now { schema = s }) text None command
     (Ok (w.tally, new.now))) has w.changed) in
-    let step = step_of o db new.now.trees _ it.edited in
+    let step = step_of o db new.now.trees _ fits changes it.edited in
     let a : IsAnswer q (overlay db []) [] it.found = it.answer.answer Null in
     let shows : Output → Row = λ o. o.1 in
     let rows = db tree in
@@ -94,8 +97,8 @@ clear_spans_inside o base old new c count before h =
     let m = before.holds.means in
     let db = old.now.trees in
     let tree = span_tree o in
-    let e = clears o clear_span (span_place o) tree (span_table tree) old new count refl before.holds.schema
-    (span_stands o) (clear_span_means o) (own_tree o span_tree db refl refl) m.spans_are.1 h.0 in
+    let e = clears o clear_span (span_place o) tree (span_table tree) old new count refl before.holds.schema m.stands.0
+    (span_changes o) (span_stands o) (clear_span_means o) (own_tree o span_tree db (λ x. refl) (λ x. refl)) m.spans_are.1 h.0 in
     inside_next (Whole o) (Whole o) base old new c _ before h.1 (record {
       schema = e.schema;
       sound = e.sound;
@@ -109,8 +112,8 @@ clear_texts_inside o base old new c count before h =
     let m = before.holds.means in
     let db = old.now.trees in
     let tree = text_tree o in
-    let e = clears o clear_text (text_place o) tree (text_table tree) old new count refl before.holds.schema
-    (text_stands o) (clear_text_means o) (own_tree o text_tree db refl refl) m.texts_are.1 h.0 in
+    let e = clears o clear_text (text_place o) tree (text_table tree) old new count refl before.holds.schema m.stands.0
+    (text_changes o) (text_stands o) (clear_text_means o) (own_tree o text_tree db (λ x. refl) (λ x. refl)) m.texts_are.1 h.0 in
     inside_next (Whole o) (Whole o) base old new c _ before h.1 (record {
       schema = e.schema;
       sound = e.sound;
@@ -124,8 +127,8 @@ clear_marks_inside o base old new c count before h =
     let m = before.holds.means in
     let db = old.now.trees in
     let tree = mark_tree o in
-    let e = clears o clear_mark (mark_place o) tree (mark_table tree) old new count refl before.holds.schema
-    (mark_stands o) (clear_mark_means o) (own_tree o mark_tree db refl refl) m.marks_are.1 h.0 in
+    let e = clears o clear_mark (mark_place o) tree (mark_table tree) old new count refl before.holds.schema m.stands.0
+    (mark_changes o) (mark_stands o) (clear_mark_means o) (own_tree o mark_tree db (λ x. refl) (λ x. refl)) m.marks_are.1 h.0 in
     inside_next (Whole o) (Whole o) base old new c _ before h.1 (record {
       schema = e.schema;
       sound = e.sound;
@@ -133,14 +136,14 @@ clear_marks_inside o base old new c count before h =
     })
 
 -- in a register that was made in version 1, the text that clears `lpis_live` takes out its rows and no others
-pub clear_live_inside : (base : Database) (old new : State) (c : Content) (count : ℕ) → Inside (Whole Moved) base old c
-    → ExecutesInside 0 clear_live [] old new (Ok count) → Inside (Whole Moved) base new (without_live c)
-clear_live_inside base old new c count before h =
+pub clear_live_inside : (x : Beside) (base : Database) (old new : State) (c : Content) (count : ℕ) → Inside (Whole (Moved x)) base old c
+    → ExecutesInside 0 clear_live [] old new (Ok count) → Inside (Whole (Moved x)) base new (without_live c)
+clear_live_inside x base old new c count before h =
     let m = before.holds.means in
     let db = old.now.trees in
-    let e = clears Moved clear_live 2 2 (live_table 2) old new count refl before.holds.schema refl clear_live_means refl m.live_are.1 h.0 in
-    inside_next (Whole Moved) (Whole Moved) base old new c _ before h.1 (record {
+    let e = clears (Moved x) clear_live 2 2 (live_table 2) old new count refl before.holds.schema m.stands.0 refl refl (clear_live_means x) refl m.live_are.1 h.0 in
+    inside_next (Whole (Moved x)) (Whole (Moved x)) base old new c _ before h.1 (record {
       schema = e.schema;
       sound = e.sound;
-      means = live_changed db new.now.trees c [] e.others m (none_there live_row (new.now.trees 2) e.empty);
+      means = live_changed x db new.now.trees c [] e.others m (none_there live_row (new.now.trees 2) e.empty);
     })

@@ -30,8 +30,7 @@ pub use Rattle.sqlite.specs.declared.error.Error.{Error}
 pub use Rattle.sqlite.specs.declared.types.Value.TheVariants.{Int, Null}
 pub use Rattle.sqlite_rules.specs.Calls.{ids_of}
 pub use Rattle.sqlite_rules.specs.Lists.{Has}
-pub use Rattle.std.proofs.lemmas.Bool.{and_parts, cases_Bool, not-true}
+pub use Rattle.std.proofs.lemmas.Bool.{and_parts, not-true}
 pub use Rattle.std.proofs.lemmas.Bool.Decides.{nat_tests}
 pub use Rattle.std.proofs.lemmas.List.Concat.{flat_map_single}
 pub use Rattle.std.proofs.lemmas.List.Sorted.{IsPermutation-map, IsPermutation-refl, IsPermutation-trans}
-pub use Rattle.std.specs.List.{list_any}

@@ -10,7 +10,7 @@ use Rattle.lpis_register_rows.specs.Content.{end_at, with_ended}
 use Rattle.lpis_register_sql.specs.Statements.{end_span}
 use Rattle.lpis_register_sql.specs.private.Shown.{text_in}
 use Rattle.lpis_register_sql.proofs.MeaningLemmas.{ends_query, end_span_means}
-use Rattle.lpis_register_sql.proofs.PartLemmas.{spans_changed, own_tree}
+use Rattle.lpis_register_sql.proofs.PartLemmas.{span_changes, spans_changed, own_tree}
 use Rattle.lpis_register_sql.proofs.InsertLemmas.{inside_next, span_stands}
 use Rattle.lpis_register_sql.proofs.KeyLemmas.{hits, out, same_text, updates_by_key}
 use Rattle.lpis_register_sql.proofs.WriteLemmas.{cast_int}
@@ -44,8 +44,10 @@ end_inside o base old new c id y count before h =
     let m = before.holds.means in
     let tree = span_tree o in
     let q = ends_query tree in
-    let e = updates_by_key o end_span (span_place o) (span_table tree) q.filter q.project (Int y ∷ Text id ∷ []) old new count before.holds.schema (span_stands o)
-    (own_tree o span_tree old.now.trees refl refl) h.0 span_row span_in (λ s. refl) (λ s. bytes_eq s.id id) (λ r. refl) (λ r s n is k. (point tree y id r s n is k).hit) c.spans m.spans_are
+    let e = updates_by_key o end_span (span_place o) (span_table tree) q.filter q.project (Int y ∷ Text id ∷ []) old new count before.holds.schema m.stands.0
+    (span_changes o) (span_stands o)
+    (own_tree o span_tree old.now.trees (λ x. refl) (λ x. refl))
+    h.0 span_row span_in (λ s. refl) (λ s. bytes_eq s.id id) (λ r. refl) (λ r s n is k. (point tree y id r s n is k).hit) c.spans m.spans_are
     (end_span_means o) (λ s. record s { until = y }) (λ r s n is k. (point tree y id r s n is k).rest) (λ r s n is k. (point tree y id r s n is k).key) in
     inside_next (Whole o) (Whole o) base old new c _ before h.1 (record {
       schema = e.schema;

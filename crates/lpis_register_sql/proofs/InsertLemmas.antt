@@ -89,7 +89,7 @@ release_inside o base old new c year count before h =
     })
   where
     stands : (o : Origin) → slice_get (schema_of (Whole o)).tables 1 ≡ Some (release_table 1)
-    stands = in_each _ refl refl
+    stands = in_each _ (λ x. refl) (λ x. refl)
 
 -- one span more, however its row came to be written
 span_more : (o : Origin) (base : Database) (old new : State) (c : Content) (p : StoredSpan) → Inside (Whole o) base old c → Shows old new new.now old.committed true
@@ -104,7 +104,7 @@ span_more o base old new c p before shown a =
 
 -- `lpis_span` is at its place in the list of tables of version 3, wherever the register comes from
 pub span_stands : (o : Origin) → slice_get (schema_of (Whole o)).tables (span_place o) ≡ Some (span_table (span_tree o))
-span_stands = in_each _ refl refl
+span_stands = in_each _ (λ x. refl) (λ x. refl)
 
 -- inserting an identifier and a year into `lpis_span` adds a span from that year on that has not ended
 pub span_inside : (o : Origin) (base : Database) (old new : State) (c : Content) (id : List ℕ) (since : ℤ) (count : ℕ) → Inside (Whole o) base old c
@@ -138,11 +138,11 @@ line_inside o base old new c l count before h =
     })
   where
     stands : (o : Origin) → slice_get (schema_of (Whole o)).tables 3 ≡ Some (row_table 4)
-    stands = in_each _ refl refl
+    stands = in_each _ (λ x. refl) (λ x. refl)
 
 -- `lpis_text` is at its place in the list of tables of version 3, wherever the register comes from
 pub text_stands : (o : Origin) → slice_get (schema_of (Whole o)).tables (text_place o) ≡ Some (text_table (text_tree o))
-text_stands = in_each _ refl refl
+text_stands = in_each _ (λ x. refl) (λ x. refl)
 
 -- inside a transaction, the text that inserts into `lpis_text` adds that text of a shape and leaves the other rows
 pub text_inside : (o : Origin) (base : Database) (old new : State) (c : Content) (t : StoredText) (count : ℕ) → Inside (Whole o) base old c
@@ -160,7 +160,7 @@ text_inside o base old new c t count before h =
 
 -- `lpis_mark` is at its place in the list of tables of version 3, wherever the register comes from
 pub mark_stands : (o : Origin) → slice_get (schema_of (Whole o)).tables (mark_place o) ≡ Some (mark_table (mark_tree o))
-mark_stands = in_each _ refl refl
+mark_stands = in_each _ (λ x. refl) (λ x. refl)
 
 -- inside a transaction, the text that inserts into `lpis_mark` adds that mark and leaves the other rows
 pub mark_inside : (o : Origin) (base : Database) (old new : State) (c : Content) (k : Mark) (count : ℕ) → Inside (Whole o) base old c

@@ -2,7 +2,8 @@
 use Rattle.std.proofs.Common.{◌≡◌, ◌⊎◌, inl, inr, ℕ, ℤ, List, [], ◌∷◌, ◌++◌, map, drop, slice_get, Bool, true, false, not, None, Some, Ok, refl, sym, ap, ap₂, subst, ◌∙◌, IsPermutation}
 use Rattle.std.proofs.Common.{is_eq, true≢false}
 use Rattle.std.proofs.Common.{if◌then◌else◌, filter, bytes_eq, flat_map, nat_cmp}
-use Rattle.lpis_register_sql.proofs.Common.{cases_Bool, not-true, IsPermutation-refl, IsPermutation-trans, IsPermutation-map, Null, Int, Row, value_cmp, Update, edit_of, ids_of, Has, Given}
+use Rattle.std.proofs.lemmas.Bool.{cases_Bool}
+use Rattle.lpis_register_sql.proofs.Common.{not-true, IsPermutation-refl, IsPermutation-trans, IsPermutation-map, Null, Int, Row, value_cmp, Update, edit_of, ids_of, Has, Given}
 use Rattle.lpis_register_sql.proofs.Common.{Does, Table, Term, Trees}
 use Rattle.lpis_register_sql.proofs.Common.{IsAnswer, Output, output, overlay, rowid, understood, State, mode_of, statement_of, runs_as}
 use Rattle.lpis_register_sql.proofs.Common.{Origin, Whole, schema_of, AreKeyed}
@@ -24,7 +25,9 @@ use Rattle.sqlite_rules.proofs.ProbeLemmas.{mapped_has, has_mapped}
 use Rattle.sqlite.specs.Cast.{cast_row}
 use Rattle.sqlite.specs.Term.{holds}
 use Rattle.lpis_register_sql.proofs.MeaningLemmas.{Says, from_all, whole}
+use Rattle.lpis_register_sql.specs.Standing.{Fits}
 use Rattle.lpis_register_sql.proofs.PartLemmas.{KeepsAll}
+use Rattle.lpis_register_sql.proofs.StandLemmas.{may_change}
 use Rattle.lpis_register_sql.proofs.WriteLemmas.{Kept, deletes, updates, step_of, kept_of}
 use Rattle.lpis_register_sql.proofs.UpdateLemmas.{has_permuted, filter_same, found_are_replaced, gone_are, walk_replaces, map_same_at, numbered_given, key_of, without_is}
 
@@ -227,7 +230,8 @@ module _ (tree : ℕ) (tests project : List Term) (given : Row) where
 -- ---- the statements
 
 module _ (o : Origin) (sql : List ℕ) (index : ℕ) (table : Table) (tests project : List Term) (given : Row) (old new : State) (count : ℕ)
-    (has : old.now.schema ≡ schema_of (Whole o)) (at : slice_get (schema_of (Whole o)).tables index ≡ Some table) (own : overlay old.now.trees [] table.tree ≡ old.now.trees table.tree)
+    (has : old.now.schema ≡ schema_of (Whole o)) (fits : Fits (Whole o)) (changes : may_change o table.tree ≡ true)
+    (at : slice_get (schema_of (Whole o)).tables index ≡ Some table) (own : overlay old.now.trees [] table.tree ≡ old.now.trees table.tree)
     (ran : Executes sql given old new (Ok count))
     {X : Type 0} (row : X → Row) (back : Row → X) (undone : (x : X) → back (row x) ≡ x) (test : X → Bool)
     (first : (r : Row) → key_of (out table.tree tests project given r) ≡ key_of r)
@@ -244,7 +248,7 @@ module _ (o : Origin) (sql : List ℕ) (index : ℕ) (table : Table) (tests proj
       let text = statement_of sql (understood s sql) in
       let it = deletes old.step_limit (mode_of old) given s db text index table (whole q) w.tally new.now at
       (subst (λ s. Does old.step_limit (mode_of old) given (record old.now { schema = s }) text None command (Ok (w.tally, new.now))) has w.changed) in
-      let step = step_of o db new.now.trees _ it.edited in
+      let step = step_of o db new.now.trees _ fits changes it.edited in
       let a : IsAnswer q (overlay db []) given it.found = it.answer.answer Null in
       let found = finds table.tree tests project given db it.found own a in
       let next : new.now.trees table.tree ≡ without_all (db table.tree) (ids_of it.found) = step.rows in
@@ -269,7 +273,7 @@ module _ (o : Origin) (sql : List ℕ) (index : ℕ) (table : Table) (tests proj
       let text = statement_of sql (understood s sql) in
       let it = updates old.step_limit (mode_of old) given s db text index table (whole q) w.tally new.now at
       (subst (λ s. Does old.step_limit (mode_of old) given (record old.now { schema = s }) text None command (Ok (w.tally, new.now))) has w.changed) in
-      let step = step_of o db new.now.trees _ it.edited in
+      let step = step_of o db new.now.trees _ fits changes it.edited in
       let a : IsAnswer q (overlay db []) given it.found = it.answer.answer Null in
       let found = finds table.tree tests project given db it.found own a in
       let p = hits table.tree tests project given in

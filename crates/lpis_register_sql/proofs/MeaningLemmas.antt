@@ -7,6 +7,7 @@ use Rattle.lpis_register_sql.proofs.Common.{Layout, Origin, New, First, Moved, W
 use Rattle.lpis_register_sql.proofs.Common.{origin_of, no_schema, span_place}
 use Rattle.lpis_register_sql.proofs.Common.{text_place, mark_place, one_table, two_tables, three_tables, read_format, read_release, read_span, read_line_text, read_live, read_text, read_mark}
 use Rattle.lpis_register_sql.proofs.Common.{text_table, mark_table}
+use Rattle.lpis_register_sql.specs.Beside.{Beside, nothing}
 use Rattle.sqlite_schema.specs.declared.program.Program.{Program}
 use Rattle.sqlite.specs.Term.{lit, col, op2}
 use Rattle.sqlite_sql.specs.declared.ops.BinaryOp.TheVariants.{Compare}
@@ -121,18 +122,19 @@ abbrev pub format_query : Query
 format_query = from_all 0 [] (col 1 0 ∷ col 1 2 ∷ []) []
 
 -- what holds of each origin, and of each order of the tables
-pub in_each : (P : Origin → Type 0) → P New → P Moved → (o : Origin) → P o
-in_each P new moved New = new
-in_each P new moved Moved = moved
+pub in_each : (P : Origin → Type 0) → ((x : Beside) → P (New x)) → ((x : Beside) → P (Moved x)) → (o : Origin) → P o
+in_each P new moved (New x) = new x
+in_each P new moved (Moved x) = moved x
 
 -- what holds of each of the seven orders of the tables holds of any order
-pub in_all : (P : Layout → Type 0) → P (Whole New) → P (Whole Moved) → P (LessMarks New) → P (LessMarks Moved) → P (LessTexts New) → P (LessTexts Moved) → P First → (s : Layout) → P s
-in_all P a b c d e f g (Whole New) = a
-in_all P a b c d e f g (Whole Moved) = b
-in_all P a b c d e f g (LessMarks New) = c
-in_all P a b c d e f g (LessMarks Moved) = d
-in_all P a b c d e f g (LessTexts New) = e
-in_all P a b c d e f g (LessTexts Moved) = f
+pub in_all : (P : Layout → Type 0) → ((x : Beside) → P (Whole (New x))) → ((x : Beside) → P (Whole (Moved x))) → ((x : Beside) → P (LessMarks (New x))) → ((x : Beside) → P (LessMarks (Moved x)))
+    → ((x : Beside) → P (LessTexts (New x))) → ((x : Beside) → P (LessTexts (Moved x))) → P First → (s : Layout) → P s
+in_all P a b c d e f g (Whole (New x)) = a x
+in_all P a b c d e f g (Whole (Moved x)) = b x
+in_all P a b c d e f g (LessMarks (New x)) = c x
+in_all P a b c d e f g (LessMarks (Moved x)) = d x
+in_all P a b c d e f g (LessTexts (New x)) = e x
+in_all P a b c d e f g (LessTexts (Moved x)) = f x
 in_all P a b c d e f g First = g
 
 -- what a text that writes means
@@ -146,119 +148,119 @@ Asks s sql q names = (command_of (understood (schema_of s) sql) ≡ Select (whol
 -- the text that inserts the version is an INSERT of its terms into the first table, `lpis_format`
 pub insert_format_means : (o : Origin) → Says o insert_format (Insert 0 (Values format_terms 3))
 unfolding understood everything
-insert_format_means = in_each _ (refl, (refl, refl)) (refl, (refl, refl))
+insert_format_means = in_each _ (λ x. (refl, (refl, refl))) (λ x. (refl, (refl, refl)))
 
 -- the text that inserts a release is an INSERT of its terms into the second table, `lpis_release`
 pub insert_release_means : (o : Origin) → Says o insert_release (Insert 1 (Values release_terms 2))
 unfolding understood everything
-insert_release_means = in_each _ (refl, (refl, refl)) (refl, (refl, refl))
+insert_release_means = in_each _ (λ x. (refl, (refl, refl))) (λ x. (refl, (refl, refl)))
 
 -- the text that inserts a row of lineage is an INSERT of its terms into the fourth table, `lpis_row`
 pub insert_line_means : (o : Origin) → Says o insert_line (Insert 3 (Values line_terms 5))
 unfolding understood everything
-insert_line_means = in_each _ (refl, (refl, refl)) (refl, (refl, refl))
+insert_line_means = in_each _ (λ x. (refl, (refl, refl))) (λ x. (refl, (refl, refl)))
 
 -- the text that inserts a span that has not ended is an INSERT of its terms at the place of `lpis_span`
 pub insert_span_means : (o : Origin) → Says o insert_span (Insert (span_place o) (Values span_terms 4))
 unfolding understood everything
-insert_span_means = in_each _ (refl, (refl, refl)) (refl, (refl, refl))
+insert_span_means = in_each _ (λ x. (refl, (refl, refl))) (λ x. (refl, (refl, refl)))
 
 -- the text that inserts a span with its end is an INSERT of its terms at the place of `lpis_span`
 pub insert_whole_span_means : (o : Origin) → Says o insert_whole_span (Insert (span_place o) (Values whole_span_terms 4))
 unfolding understood everything
-insert_whole_span_means = in_each _ (refl, (refl, refl)) (refl, (refl, refl))
+insert_whole_span_means = in_each _ (λ x. (refl, (refl, refl))) (λ x. (refl, (refl, refl)))
 
 -- the text that ends a span is an UPDATE of `lpis_span` by the query that finds the rows with that identifier
 pub end_span_means : (o : Origin) → Says o end_span (Update (span_place o) (whole (ends_query (span_tree o))))
 unfolding understood everything
-end_span_means = in_each _ (refl, (refl, refl)) (refl, (refl, refl))
+end_span_means = in_each _ (λ x. (refl, (refl, refl))) (λ x. (refl, (refl, refl)))
 
 -- the text that clears `lpis_span` is a DELETE of all its rowids
 pub clear_span_means : (o : Origin) → Says o clear_span (Delete (span_place o) (whole (ids_query (span_tree o))))
 unfolding understood everything
-clear_span_means = in_each _ (refl, (refl, refl)) (refl, (refl, refl))
+clear_span_means = in_each _ (λ x. (refl, (refl, refl))) (λ x. (refl, (refl, refl)))
 
 -- the text that inserts a text of a shape is an INSERT of its terms at the place of `lpis_text`
 pub insert_text_means : (o : Origin) → Says o insert_text (Insert (text_place o) (Values pair_terms 3))
 unfolding understood everything
-insert_text_means = in_each _ (refl, (refl, refl)) (refl, (refl, refl))
+insert_text_means = in_each _ (λ x. (refl, (refl, refl))) (λ x. (refl, (refl, refl)))
 
 -- the text that clears `lpis_text` is a DELETE of all its rowids
 pub clear_text_means : (o : Origin) → Says o clear_text (Delete (text_place o) (whole (ids_query (text_tree o))))
 unfolding understood everything
-clear_text_means = in_each _ (refl, (refl, refl)) (refl, (refl, refl))
+clear_text_means = in_each _ (λ x. (refl, (refl, refl))) (λ x. (refl, (refl, refl)))
 
 -- the text that replaces one of a shape is an UPDATE of `lpis_text` by the query that finds the rows with its identifier
 pub replace_text_means : (o : Origin) → Says o replace_text (Update (text_place o) (whole (replaces_query (text_tree o))))
 unfolding understood everything
-replace_text_means = in_each _ (refl, (refl, refl)) (refl, (refl, refl))
+replace_text_means = in_each _ (λ x. (refl, (refl, refl))) (λ x. (refl, (refl, refl)))
 
 -- the text that deletes one of a shape is a DELETE of the rowids with its identifier
 pub delete_text_means : (o : Origin) → Says o delete_text (Delete (text_place o) (whole (deletes_query (text_tree o))))
 unfolding understood everything
-delete_text_means = in_each _ (refl, (refl, refl)) (refl, (refl, refl))
+delete_text_means = in_each _ (λ x. (refl, (refl, refl))) (λ x. (refl, (refl, refl)))
 
 -- the text that inserts a mark is an INSERT of its terms at the place of `lpis_mark`
 pub insert_mark_means : (o : Origin) → Says o insert_mark (Insert (mark_place o) (Values pair_terms 3))
 unfolding understood everything
-insert_mark_means = in_each _ (refl, (refl, refl)) (refl, (refl, refl))
+insert_mark_means = in_each _ (λ x. (refl, (refl, refl))) (λ x. (refl, (refl, refl)))
 
 -- the text that clears `lpis_mark` is a DELETE of all its rowids
 pub clear_mark_means : (o : Origin) → Says o clear_mark (Delete (mark_place o) (whole (ids_query (mark_tree o))))
 unfolding understood everything
-clear_mark_means = in_each _ (refl, (refl, refl)) (refl, (refl, refl))
+clear_mark_means = in_each _ (λ x. (refl, (refl, refl))) (λ x. (refl, (refl, refl)))
 
 -- the text that sets the version is an UPDATE of each row of `lpis_format` to version 3
 pub set_version_means : (o : Origin) → Says o set_version (Update 0 (whole version_query))
 unfolding understood everything
-set_version_means = in_each _ (refl, (refl, refl)) (refl, (refl, refl))
+set_version_means = in_each _ (λ x. (refl, (refl, refl))) (λ x. (refl, (refl, refl)))
 
 -- where `lpis_live` is there
-pub clear_live_means : Says Moved clear_live (Delete 2 (whole (ids_query 2)))
+pub clear_live_means : (x : Beside) → Says (Moved x) clear_live (Delete 2 (whole (ids_query 2)))
 unfolding understood everything
-clear_live_means = (refl, (refl, refl))
+clear_live_means x = (refl, (refl, refl))
 
 -- in each order of the tables, the text that reads `lpis_format` asks its query, with the names of two columns
 pub read_format_means : (s : Layout) → Asks s read_format format_query (codes "one" ∷ codes "version" ∷ [])
 unfolding understood everything
-read_format_means = in_all _ (refl, refl, (refl, refl)) (refl, refl, (refl, refl)) (refl, refl, (refl, refl))
-    (refl, refl, (refl, refl)) (refl, refl, (refl, refl)) (refl, refl, (refl, refl)) (refl, refl, (refl, refl))
+read_format_means = in_all _ (λ x. (refl, refl, (refl, refl))) (λ x. (refl, refl, (refl, refl))) (λ x. (refl, refl, (refl, refl)))
+    (λ x. (refl, refl, (refl, refl))) (λ x. (refl, refl, (refl, refl))) (λ x. (refl, refl, (refl, refl))) (refl, refl, (refl, refl))
 
 -- in each order of the tables, the text that reads `lpis_release` asks its query, with the name of one column
 pub read_release_means : (s : Layout) → Asks s read_release release_query (codes "year" ∷ [])
 unfolding understood everything
-read_release_means = in_all _ (refl, refl, (refl, refl)) (refl, refl, (refl, refl)) (refl, refl, (refl, refl))
-    (refl, refl, (refl, refl)) (refl, refl, (refl, refl)) (refl, refl, (refl, refl)) (refl, refl, (refl, refl))
+read_release_means = in_all _ (λ x. (refl, refl, (refl, refl))) (λ x. (refl, refl, (refl, refl))) (λ x. (refl, refl, (refl, refl)))
+    (λ x. (refl, refl, (refl, refl))) (λ x. (refl, refl, (refl, refl))) (λ x. (refl, refl, (refl, refl))) (refl, refl, (refl, refl))
 
 -- where `lpis_span` is there, the text that reads it asks its query, with the names of three columns
 pub read_span_means : (s : Layout) → has_spans s ≡ true → Asks s read_span (span_query (span_tree (origin_of s))) (codes "id" ∷ codes "since" ∷ codes "until" ∷ [])
 unfolding understood everything
-read_span_means = in_all _ (λ p. (refl, refl, (refl, refl))) (λ p. (refl, refl, (refl, refl))) (λ p. (refl, refl, (refl, refl)))
-    (λ p. (refl, refl, (refl, refl))) (λ p. (refl, refl, (refl, refl))) (λ p. (refl, refl, (refl, refl))) (λ p. absurd (true≢false (sym p)))
+read_span_means = in_all _ (λ x p. (refl, refl, (refl, refl))) (λ x p. (refl, refl, (refl, refl))) (λ x p. (refl, refl, (refl, refl)))
+    (λ x p. (refl, refl, (refl, refl))) (λ x p. (refl, refl, (refl, refl))) (λ x p. (refl, refl, (refl, refl))) (λ p. absurd (true≢false (sym p)))
 
 -- in each order of the tables, the text that reads `lpis_row` asks its query, with the names of four columns
 pub read_line_means : (s : Layout) → Asks s read_line_text line_query (codes "year" ∷ codes "pos" ∷ codes "old" ∷ codes "new" ∷ [])
 unfolding understood everything
-read_line_means = in_all _ (refl, refl, (refl, refl)) (refl, refl, (refl, refl)) (refl, refl, (refl, refl))
-    (refl, refl, (refl, refl)) (refl, refl, (refl, refl)) (refl, refl, (refl, refl)) (refl, refl, (refl, refl))
+read_line_means = in_all _ (λ x. (refl, refl, (refl, refl))) (λ x. (refl, refl, (refl, refl))) (λ x. (refl, refl, (refl, refl)))
+    (λ x. (refl, refl, (refl, refl))) (λ x. (refl, refl, (refl, refl))) (λ x. (refl, refl, (refl, refl))) (refl, refl, (refl, refl))
 
 -- where `lpis_live` is there, the text that reads it asks its query, with the names of two columns
 pub read_live_means : (s : Layout) → has_live s ≡ true → Asks s read_live live_query (codes "year" ∷ codes "id" ∷ [])
 unfolding understood everything
-read_live_means = in_all _ (λ p. absurd (true≢false (sym p))) (λ p. (refl, refl, (refl, refl))) (λ p. absurd (true≢false (sym p)))
-    (λ p. (refl, refl, (refl, refl))) (λ p. absurd (true≢false (sym p))) (λ p. (refl, refl, (refl, refl))) (λ p. (refl, refl, (refl, refl)))
+read_live_means = in_all _ (λ x p. absurd (true≢false (sym p))) (λ x p. (refl, refl, (refl, refl))) (λ x p. absurd (true≢false (sym p)))
+    (λ x p. (refl, refl, (refl, refl))) (λ x p. absurd (true≢false (sym p))) (λ x p. (refl, refl, (refl, refl))) (λ p. (refl, refl, (refl, refl)))
 
 -- where `lpis_text` is there, the text that reads it asks its query, with the names of two columns
 pub read_text_means : (s : Layout) → has_texts s ≡ true → Asks s read_text (text_query (text_tree (origin_of s))) (codes "id" ∷ codes "wkt" ∷ [])
 unfolding understood everything
-read_text_means = in_all _ (λ p. (refl, refl, (refl, refl))) (λ p. (refl, refl, (refl, refl))) (λ p. (refl, refl, (refl, refl)))
-    (λ p. (refl, refl, (refl, refl))) (λ p. absurd (true≢false (sym p))) (λ p. absurd (true≢false (sym p))) (λ p. absurd (true≢false (sym p)))
+read_text_means = in_all _ (λ x p. (refl, refl, (refl, refl))) (λ x p. (refl, refl, (refl, refl))) (λ x p. (refl, refl, (refl, refl)))
+    (λ x p. (refl, refl, (refl, refl))) (λ x p. absurd (true≢false (sym p))) (λ x p. absurd (true≢false (sym p))) (λ p. absurd (true≢false (sym p)))
 
 -- where `lpis_mark` is there, the text that reads it asks its query, with the names of two columns
 pub read_mark_means : (s : Layout) → has_marks s ≡ true → Asks s read_mark (mark_query (mark_tree (origin_of s))) (codes "year" ∷ codes "pos" ∷ [])
 unfolding understood everything
-read_mark_means = in_all _ (λ p. (refl, refl, (refl, refl))) (λ p. (refl, refl, (refl, refl))) (λ p. absurd (true≢false (sym p)))
-    (λ p. absurd (true≢false (sym p))) (λ p. absurd (true≢false (sym p))) (λ p. absurd (true≢false (sym p))) (λ p. absurd (true≢false (sym p)))
+read_mark_means = in_all _ (λ x p. (refl, refl, (refl, refl))) (λ x p. (refl, refl, (refl, refl))) (λ x p. absurd (true≢false (sym p)))
+    (λ x p. absurd (true≢false (sym p))) (λ x p. absurd (true≢false (sym p))) (λ x p. absurd (true≢false (sym p))) (λ p. absurd (true≢false (sym p)))
 
 -- the text makes this table
 pub record Makes (sql : List ℕ) (from into_ : Schema) (made : Table) : Type 0 where
@@ -284,21 +286,27 @@ unfolding understood everything
 span_is = record { is = refl; text = refl; plain = (refl, refl); defines = refl; into = refl }
 
 -- behind three tables, the text that makes `lpis_row` makes it as the fourth: these are the tables of version 2
-pub row_is : Makes make_row three_tables (schema_of (LessTexts New)) (row_table 0)
+pub row_is : Makes make_row three_tables (schema_of (LessTexts (New nothing))) (row_table 0)
 unfolding understood everything
 row_is = record { is = refl; text = refl; plain = (refl, refl); defines = refl; into = refl }
 
 -- the first step of a move from version 1
-pub span_moves : Makes make_span (schema_of First) (schema_of (LessTexts Moved)) (span_table 0)
+pub span_moves : Makes make_span (schema_of First) (schema_of (LessTexts (Moved nothing))) (span_table 0)
 unfolding understood everything
 span_moves = record { is = refl; text = refl; plain = (refl, refl); defines = refl; into = refl }
 
 -- what version 3 has more
 pub text_is : (o : Origin) → Makes make_text (schema_of (LessTexts o)) (schema_of (LessMarks o)) (text_table 0)
 unfolding understood everything
-text_is = in_each _ (record { is = refl; text = refl; plain = (refl, refl); defines = refl; into = refl }) (record { is = refl; text = refl; plain = (refl, refl); defines = refl; into = refl })
+text_is = in_each _ (λ x. record { is = refl; text = refl; plain = (refl, refl); defines = refl; into = refl })
+    (λ x. record { is = refl; text = refl; plain = (refl, refl); defines = refl; into = refl })
 
 -- behind the others, the text that makes `lpis_mark` makes it as the last table of version 3
-pub mark_is : (o : Origin) → Makes make_mark (schema_of (LessMarks o)) (schema_of (Whole o)) (mark_table 0)
+pub mark_is : Makes make_mark (schema_of (LessMarks (New nothing))) (schema_of (Whole (New nothing))) (mark_table 0)
 unfolding understood everything
-mark_is = in_each _ (record { is = refl; text = refl; plain = (refl, refl); defines = refl; into = refl }) (record { is = refl; text = refl; plain = (refl, refl); defines = refl; into = refl })
+mark_is = record { is = refl; text = refl; plain = (refl, refl); defines = refl; into = refl }
+
+-- and behind those of a move from version 1
+pub mark_moves : Makes make_mark (schema_of (LessMarks (Moved nothing))) (schema_of (Whole (Moved nothing))) (mark_table 0)
+unfolding understood everything
+mark_moves = record { is = refl; text = refl; plain = (refl, refl); defines = refl; into = refl }

@@ -12,7 +12,7 @@ use Rattle.lpis_register_sql.specs.private.Texts.{set_version}
 use Rattle.lpis_register_sql.proofs.MeaningLemmas.{in_each, whole, version_query, set_version_means}
 use Rattle.lpis_register_sql.proofs.ClearLemmas.{all_kept, none_kept}
 use Rattle.lpis_register_sql.proofs.InsertLemmas.{inside_next}
-use Rattle.lpis_register_sql.proofs.PartLemmas.{formats_changed}
+use Rattle.lpis_register_sql.proofs.PartLemmas.{format_changes, formats_changed}
 use Rattle.lpis_register_sql.proofs.UpdateLemmas.{has_permuted, found_are_replaced, numbered_given, key_of}
 use Rattle.lpis_register_sql.proofs.WriteLemmas.{cast_null, cast_int, updates, step_of, kept_of}
 
@@ -55,7 +55,7 @@ one_keyed n rows same = record { whole = λ x there. (pos 1, ap rowid (is x ther
         only (inr none) = absurd none
 
 format_stands : (o : Origin) → slice_get (schema_of (Whole o)).tables 0 ≡ Some (format_table 0)
-format_stands = in_each _ refl refl
+format_stands = in_each _ (λ x. refl) (λ x. refl)
 
 -- inside a transaction, over one row of `lpis_format`, the text that sets the version makes it 3 and leaves the rest
 pub version_inside : (o : Origin) (base : Database) (old new : State) (c : Content) (version count : ℕ) → c.formats ≡ only_format version → Inside (Whole o) base old c
@@ -75,7 +75,7 @@ version_inside o base old new c version count one before h =
     (format_stands o)
     (subst (λ s. Does old.step_limit (mode_of old) [] (record old.now { schema = s }) text None command
     (Ok (w.tally, new.now))) before.holds.schema w.changed) in
-    let step = step_of o db next _ it.edited in
+    let step = step_of o db next _ m.stands.0 (format_changes o) it.edited in
     let a : IsAnswer q (overlay db []) [] it.found = it.answer.answer Null in
     let shows : Output → Row = λ o. o.1 in
     let staged : a.staged ≡ map (λ r. [] ∷ r ∷ []) rows = a.grouped ∙ flat_map_single (λ r. [] ∷ r ∷ []) (overlay db [] 0) in

@@ -110,7 +110,7 @@ spans_shown s old new rows c spans r h =
     let o = origin_of s in
     let tree = span_tree o in
     shows_kept (span_query tree) span_shown span_shown (drop 1) span_row (span_seen tree) (λ x. refl) c.spans _ rows
-    (sorts s read_span tree _ _ _ (read_span_means s spans) old new rows r.holds.schema h (own_tree o span_tree old.now.trees refl refl))
+    (sorts s read_span tree _ _ _ (read_span_means s spans) old new rows r.holds.schema h (own_tree o span_tree old.now.trees (λ x. refl) (λ x. refl)))
     (keeps_there (has_spans s) span_row c.spans (old.now.trees tree) spans r.holds.means.spans_are).0
 
 -- the rows of lineage that a query shows are those that are stored, in some order
@@ -133,7 +133,7 @@ texts_shown s old new rows c texts r h =
     let o = origin_of s in
     let tree = text_tree o in
     shows_kept (text_query tree) text_shown text_shown (drop 1) text_row (text_seen tree) (λ x. refl) c.texts _ rows
-    (sorts s read_text tree _ _ _ (read_text_means s texts) old new rows r.holds.schema h (own_tree o text_tree old.now.trees refl refl))
+    (sorts s read_text tree _ _ _ (read_text_means s texts) old new rows r.holds.schema h (own_tree o text_tree old.now.trees (λ x. refl) (λ x. refl)))
     (keeps_there (has_texts s) text_row c.texts (old.now.trees tree) texts r.holds.means.texts_are).0
 
 -- where `lpis_mark` is there, the marks that a query shows are those that are stored, in some order
@@ -142,7 +142,7 @@ marks_shown s old new rows c marks r h =
     let o = origin_of s in
     let tree = mark_tree o in
     shows_kept (mark_query tree) mark_shown mark_shown (drop 1) mark_row (mark_seen tree) (λ x. refl) c.marks _ rows
-    (sorts s read_mark tree _ _ _ (read_mark_means s marks) old new rows r.holds.schema h (own_tree o mark_tree old.now.trees refl refl))
+    (sorts s read_mark tree _ _ _ (read_mark_means s marks) old new rows r.holds.schema h (own_tree o mark_tree old.now.trees (λ x. refl) (λ x. refl)))
     (keeps_there (has_marks s) mark_row c.marks (old.now.trees tree) marks r.holds.means.marks_are).0
 
 -- ---- a query changes nothing

@@ -14,10 +14,13 @@ use Rattle.sqlite.specs.Does.{lacks_sequence, MakesTable, sequence_text}
 use Rattle.lpis_register_sql.specs.Holding.{Means}
 use Rattle.lpis_register_sql.specs.private.Texts.{insert_format, make_span, make_text, make_mark}
 use Rattle.lpis_register_sql.specs.private.Stages.{Stage}
+use Rattle.lpis_register_sql.specs.Beside.{nothing}
+use Rattle.lpis_register_sql.specs.Standing.{Stands}
 use Rattle.lpis_register_rows.specs.Content.{no_content}
-use Rattle.lpis_register_sql.proofs.MeaningLemmas.{insert_format_means, format_terms, Makes, span_moves, text_is, mark_is}
+use Rattle.lpis_register_sql.proofs.MeaningLemmas.{insert_format_means, format_terms, Makes, span_moves, text_is, mark_is, mark_moves}
 use Rattle.lpis_register_sql.proofs.WriteLemmas.{did_not_stop, same_value, adds}
-use Rattle.lpis_register_sql.proofs.PartLemmas.{KeepsAll, far, keeps_same}
+use Rattle.lpis_register_sql.proofs.PartLemmas.{KeepsAll, keeps_same}
+use Rattle.lpis_register_sql.proofs.StandLemmas.{far}
 use Rattle.lpis_register_sql.proofs.InsertLemmas.{format_news, inside_next}
 use Rattle.lpis_register_sql.proofs.ClearLemmas.{none_there}
 
@@ -70,11 +73,13 @@ stage_next sql from into made m plain base old new count before h =
     }
 
 -- the row of lpis_format
-pub begins : (base : Database) (old new : State) (count : ℕ) → Stage (schema_of (Whole New)) base old → ExecutesInside 0 insert_format [] old new (Ok count) → Inside (Whole New) base new no_content
+pub begins : (base : Database) (old new : State) (count : ℕ) → Stage (schema_of (Whole (New nothing))) base old → ExecutesInside 0 insert_format [] old new (Ok count)
+    → Inside (Whole (New nothing)) base new no_content
 begins base old new count before h =
     let e = before.empty in
     let first : Format = record { one = pos 1; version = pos 3 } in
-    let a = adds New insert_format 0 3 (format_table 0) format_terms [] (format_row first) old new count before.schema refl refl (insert_format_means New) (format_news old.now.trees) h.0 in
+    let a = adds (New nothing) insert_format 0 3 (format_table 0) format_terms [] (format_row first) old new count before.schema refl refl
+    (insert_format_means (New nothing)) (format_news old.now.trees) h.0 in
     let e1 : new.now.trees 1 ≡ [] = a.others.years (far 1 0 refl) ∙ e.1.0 in
     let e2 : new.now.trees 2 ≡ [] = a.others.spans (far 2 0 refl) ∙ e.1.1.0 in
     let e4 : new.now.trees 4 ≡ [] = a.others.lines (far 4 0 refl) ∙ e.1.1.1.0 in
@@ -95,6 +100,7 @@ begins base old new count before h =
           live_are = refl;
           texts_are = none_there text_row (new.now.trees 6) e6;
           marks_are = none_there mark_row (new.now.trees 8) e8;
+          stands = (tt, tt);
         };
       };
     }
@@ -117,6 +123,7 @@ record Grows (s t : Layout) (db next : Trees) : Type 0 where
   pub live : has_live s ≡ true → next 2 ≡ db 2
   pub texts : Grown (has_texts s) (has_texts t) (db (text_tree (origin_of s))) (next (text_tree (origin_of s)))
   pub marks : Grown (has_marks s) (has_marks t) (db (mark_tree (origin_of s))) (next (mark_tree (origin_of s)))
+  pub stands : Stands s db → Stands t next
 
 keeps_grown : {X : Type 0} (b d : Bool) (row : X → Row) (xs : List X) (rows next : List Row) → Grown b d rows next → Keeps b row xs rows → Keeps d row xs next
 keeps_grown true true row xs rows next same k = subst (Keeps true row xs) (sym same) k
@@ -138,6 +145,7 @@ means_grown s t db next c g m =
           (keeps_grown (has_texts s) (has_texts t) text_row c.texts (db (text_tree o)) (next (text_tree o)) g.texts m.texts_are);
       marks_are = subst (λ p. Keeps (has_marks t) mark_row c.marks (next (mark_tree p))) g.origin
           (keeps_grown (has_marks s) (has_marks t) mark_row c.marks (db (mark_tree o)) (next (mark_tree o)) g.marks m.marks_are);
+      stands = g.stands m.stands;
     }
 
 -- what CREATE TABLE leaves of the others, and the table that it makes
@@ -162,8 +170,9 @@ beside s t sql table it plain grows base old new c count before h =
     })
 
 -- making `lpis_span` beside the tables of version 1 leaves the rows that they hold
-pub span_beside : (base : Database) (old new : State) (c : Content) (count : ℕ) → Inside First base old c → ExecutesInside 0 make_span [] old new (Ok count) → Inside (LessTexts Moved) base new c
-span_beside = beside First (LessTexts Moved) make_span (span_table 0) span_moves refl (λ db next k. record {
+pub span_beside : (base : Database) (old new : State) (c : Content) (count : ℕ) → Inside First base old c → ExecutesInside 0 make_span [] old new (Ok count)
+    → Inside (LessTexts (Moved nothing)) base new c
+span_beside = beside First (LessTexts (Moved nothing)) make_span (span_table 0) span_moves refl (λ db next k. record {
   origin = refl;
   formats = k.1.0;
   years = k.1.1.0;
@@ -172,12 +181,13 @@ span_beside = beside First (LessTexts Moved) make_span (span_table 0) span_moves
   live = λ is. k.1.1.1.0;
   texts = tt;
   marks = tt;
+  stands = λ it. refl;
 })
 
 -- making `lpis_text` beside the tables of version 2 leaves the rows that they hold
 pub text_beside : (o : Origin) (base : Database) (old new : State) (c : Content) (count : ℕ) → Inside (LessTexts o) base old c
     → ExecutesInside 0 make_text [] old new (Ok count) → Inside (LessMarks o) base new c
-text_beside New = beside (LessTexts New) (LessMarks New) make_text (text_table 0) (text_is New) refl (λ db next k. record {
+text_beside (New x) = beside (LessTexts (New x)) (LessMarks (New x)) make_text (text_table 0) (text_is (New x)) refl (λ db next k. record {
   origin = refl;
   formats = k.1.0;
   years = k.1.1.0;
@@ -186,8 +196,9 @@ text_beside New = beside (LessTexts New) (LessMarks New) make_text (text_table 0
   live = λ is. absurd (true≢false (sym is));
   texts = k.0;
   marks = tt;
+  stands = λ alone. alone;
 })
-text_beside Moved = beside (LessTexts Moved) (LessMarks Moved) make_text (text_table 0) (text_is Moved) refl (λ db next k. record {
+text_beside (Moved x) = beside (LessTexts (Moved x)) (LessMarks (Moved x)) make_text (text_table 0) (text_is (Moved x)) refl (λ db next k. record {
   origin = refl;
   formats = k.1.0;
   years = k.1.1.0;
@@ -196,12 +207,12 @@ text_beside Moved = beside (LessTexts Moved) (LessMarks Moved) make_text (text_t
   live = λ is. k.1.1.1.0;
   texts = k.0;
   marks = tt;
+  stands = λ alone. alone;
 })
 
--- making `lpis_mark` beside the tables of version 3 that are there before it leaves the rows that they hold
-pub mark_beside : (o : Origin) (base : Database) (old new : State) (c : Content) (count : ℕ) → Inside (LessMarks o) base old c
-    → ExecutesInside 0 make_mark [] old new (Ok count) → Inside (Whole o) base new c
-mark_beside New = beside (LessMarks New) (Whole New) make_mark (mark_table 0) (mark_is New) refl (λ db next k. record {
+mark_new : (base : Database) (old new : State) (c : Content) (count : ℕ) → Inside (LessMarks (New nothing)) base old c → ExecutesInside 0 make_mark [] old new (Ok count)
+    → Inside (Whole (New nothing)) base new c
+mark_new = beside (LessMarks (New nothing)) (Whole (New nothing)) make_mark (mark_table 0) mark_is refl (λ db next k. record {
   origin = refl;
   formats = k.1.0;
   years = k.1.1.0;
@@ -210,8 +221,12 @@ mark_beside New = beside (LessMarks New) (Whole New) make_mark (mark_table 0) (m
   live = λ is. absurd (true≢false (sym is));
   texts = k.1.1.1.1.1.0;
   marks = k.0;
+  stands = λ alone. (tt, tt);
 })
-mark_beside Moved = beside (LessMarks Moved) (Whole Moved) make_mark (mark_table 0) (mark_is Moved) refl (λ db next k. record {
+
+mark_moved : (base : Database) (old new : State) (c : Content) (count : ℕ) → Inside (LessMarks (Moved nothing)) base old c → ExecutesInside 0 make_mark [] old new (Ok count)
+    → Inside (Whole (Moved nothing)) base new c
+mark_moved = beside (LessMarks (Moved nothing)) (Whole (Moved nothing)) make_mark (mark_table 0) mark_moves refl (λ db next k. record {
   origin = refl;
   formats = k.1.0;
   years = k.1.1.0;
@@ -220,4 +235,15 @@ mark_beside Moved = beside (LessMarks Moved) (Whole Moved) make_mark (mark_table
   live = λ is. k.1.1.1.0;
   texts = k.1.1.1.1.1.1.0;
   marks = k.0;
+  stands = λ alone. (tt, tt);
 })
+
+-- making `lpis_mark` beside the tables of version 3 that are there before it leaves the rows that they hold
+pub mark_beside : (o : Origin) (base : Database) (old new : State) (c : Content) (count : ℕ) → Inside (LessMarks o) base old c
+    → ExecutesInside 0 make_mark [] old new (Ok count) → Inside (Whole o) base new c
+mark_beside (New x) base old new c count before h =
+    let alone : x ≡ nothing = before.holds.means.stands in
+    subst (λ z. Inside (Whole (New z)) base new c) (sym alone) (mark_new base old new c count (subst (λ z. Inside (LessMarks (New z)) base old c) alone before) h)
+mark_beside (Moved x) base old new c count before h =
+    let alone : x ≡ nothing = before.holds.means.stands in
+    subst (λ z. Inside (Whole (Moved z)) base new c) (sym alone) (mark_moved base old new c count (subst (λ z. Inside (LessMarks (Moved z)) base old c) alone before) h)

@@ -25,7 +25,7 @@ on_ok (Err _) f p = tt
 -- ---- one statement
 
 -- it failed for want of memory, by the disk, or for its row's size
-failing : (too_big : Type 0) (a b : State) (e : Error) → IsTrue a.is_open → Fails a b too_big e → (e ≡ SqliteFailure code.OutOfMemory) ⊎ (MoreFaults a.faults b.faults ⊎ too_big)
+pub failing : (too_big : Type 0) (a b : State) (e : Error) → IsTrue a.is_open → Fails a b too_big e → (e ≡ SqliteFailure code.OutOfMemory) ⊎ (MoreFaults a.faults b.faults ⊎ too_big)
 failing too_big a b e up (cause.OutOfMemory, is, why, back, tells) = inl is
 failing too_big a b e up (cause.Io, is, why, back, tells) = inr (inl why)
 failing too_big a b e up (cause.Corrupt, is, why, back, tells) = inr (inl why)
@@ -34,7 +34,7 @@ failing too_big a b e up (cause.Broken, is, why, back, tells) = absurd cc
 failing too_big a b e up (cause.Unstorable, is, why, back, tells) = inr (inr why)
 
 -- an open connection is as it is
-unchanged : (a : State) → IsTrue a.is_open → IsUnchanged a a
+pub unchanged : (a : State) → IsTrue a.is_open → IsUnchanged a a
 unchanged a up = (
   record { was_open = up; is_open = up; now_is = refl; committed_is = refl; mode = refl },
   record { changes = refl; last_rowid = refl },
@@ -78,10 +78,12 @@ stopped : (x : BoundStatement) (a b : State) (e : Error) → IsTrue a.is_open �
 stopped x a b e up (inl (run, _)) = stopped_in x a b e up run
 stopped x a b e up (inr late) = inr (inr (inl (e, inr (late.0, late.1, unchanged a up))))
 
-more_faults : (a b c : ℕ) → a ≤ b → MoreFaults b c → MoreFaults a c
+-- what was counted before counts too
+pub more_faults : (a b c : ℕ) → a ≤ b → MoreFaults b c → MoreFaults a c
 more_faults a b c low more = omega arith
 
-faults_kept : (a b c : ℕ) → MoreFaults a b → b ≤ c → MoreFaults a c
+-- and what is counted later
+pub faults_kept : (a b c : ℕ) → MoreFaults a b → b ≤ c → MoreFaults a c
 faults_kept a b c more low = omega arith
 
 -- a call that makes these statements in an open transaction fails, and says why

@@ -9,7 +9,7 @@ use Rattle.lpis_register_rows.specs.Content.{StoredText, put_at, with_replaced, 
 use Rattle.lpis_register_sql.specs.Statements.{delete_text, replace_text}
 use Rattle.lpis_register_sql.specs.private.Shown.{text_in}
 use Rattle.lpis_register_sql.proofs.MeaningLemmas.{delete_text_means, deletes_query, replace_text_means, replaces_query}
-use Rattle.lpis_register_sql.proofs.PartLemmas.{texts_changed, own_tree}
+use Rattle.lpis_register_sql.proofs.PartLemmas.{text_changes, texts_changed, own_tree}
 use Rattle.lpis_register_sql.proofs.InsertLemmas.{inside_next, text_stands}
 use Rattle.lpis_register_sql.proofs.KeyLemmas.{deletes_by_key, hits, out, same_text, updates_by_key}
 use Rattle.lpis_register_sql.proofs.WriteLemmas.{cast_int}
@@ -43,8 +43,10 @@ replace_inside o base old new c t count before h =
     let m = before.holds.means in
     let tree = text_tree o in
     let q = replaces_query tree in
-    let e = updates_by_key o replace_text (text_place o) (text_table tree) q.filter q.project (Text t.wkt ∷ Text t.id ∷ []) old new count before.holds.schema (text_stands o)
-    (own_tree o text_tree old.now.trees refl refl) h.0 text_row text_of (λ s. refl) (λ s. bytes_eq s.id t.id) (λ r. refl) (λ r s n is k. (point tree t r s n is k).hit) c.texts m.texts_are
+    let e = updates_by_key o replace_text (text_place o) (text_table tree) q.filter q.project (Text t.wkt ∷ Text t.id ∷ []) old new count before.holds.schema m.stands.0
+    (text_changes o) (text_stands o)
+    (own_tree o text_tree old.now.trees (λ x. refl) (λ x. refl))
+    h.0 text_row text_of (λ s. refl) (λ s. bytes_eq s.id t.id) (λ r. refl) (λ r s n is k. (point tree t r s n is k).hit) c.texts m.texts_are
     (replace_text_means o) (λ s. record s { wkt = t.wkt }) (λ r s n is k. (point tree t r s n is k).rest) (λ r s n is k. (point tree t r s n is k).key) in
     inside_next (Whole o) (Whole o) base old new c _ before h.1 (record {
       schema = e.schema;
@@ -65,8 +67,10 @@ delete_inside o base old new c id count before h =
     let m = before.holds.means in
     let tree = text_tree o in
     let q = deletes_query tree in
-    let e = deletes_by_key o delete_text (text_place o) (text_table tree) q.filter q.project (Text id ∷ []) old new count before.holds.schema (text_stands o)
-    (own_tree o text_tree old.now.trees refl refl) h.0 text_row text_of (λ s. refl) (λ s. bytes_eq s.id id) (λ r. refl) (gone_hit tree id) c.texts m.texts_are (delete_text_means o) in
+    let e = deletes_by_key o delete_text (text_place o) (text_table tree) q.filter q.project (Text id ∷ []) old new count before.holds.schema m.stands.0
+    (text_changes o) (text_stands o)
+    (own_tree o text_tree old.now.trees (λ x. refl) (λ x. refl))
+    h.0 text_row text_of (λ s. refl) (λ s. bytes_eq s.id id) (λ r. refl) (gone_hit tree id) c.texts m.texts_are (delete_text_means o) in
     inside_next (Whole o) (Whole o) base old new c _ before h.1 (record {
       schema = e.schema;
       sound = e.sound;

@@ -1,6 +1,8 @@
 -- What UPDATE .. WHERE makes of a table's rows.
 use Rattle.std.proofs.Common.{◌≡◌, inl, inr, ℤ, List, [], ◌∷◌, ◌++◌, map, Bool, true, not, refl, sym, ap, ap₂, subst, ◌∙◌, IsPermutation, true≢false, is_eq, arith, if◌then◌else◌, ◌||◌, filter}
-use Rattle.lpis_register_sql.proofs.Common.{nat_tests, list_any, cases_Bool, and_parts, not-true, IsPermutation-refl, IsPermutation-trans, IsPermutation-map, Int, Row, value_cmp, rowid, put_row}
+use Rattle.std.specs.List.{list_any}
+use Rattle.std.proofs.lemmas.Bool.{cases_Bool}
+use Rattle.lpis_register_sql.proofs.Common.{nat_tests, and_parts, not-true, IsPermutation-refl, IsPermutation-trans, IsPermutation-map, Int, Row, value_cmp, rowid, put_row}
 use Rattle.lpis_register_sql.proofs.Common.{is_taken}
 use Rattle.lpis_register_sql.proofs.Common.{Given, Has, AreKeyed}
 use Rattle.std.proofs.lemmas.Int.{ints}

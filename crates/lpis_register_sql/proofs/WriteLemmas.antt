@@ -1,7 +1,7 @@
 -- What a statement that writes does to the trees.
 use Rattle.std.proofs.Common.{◌≡◌, ◌≢◌, ◌⊎◌, inl, inr, ℕ, ℤ, List, [], ◌∷◌, length, slice_get, Bool, true, false, cond, Some, None, Ok, Err, Result, refl, sym, ap, subst, ◌∙◌, IsPermutation, is_eq}
 use Rattle.std.proofs.lemmas.Bool.{or_parts}
-use Rattle.std.proofs.Common.{true≢false, if◌then◌else◌, ◌/◌, ◌==◌, Option, MatchBool, flat_map, filter_map, is_lt, int_cmp}
+use Rattle.std.proofs.Common.{true≢false, if◌then◌else◌, ◌/◌, ◌+◌, Option, MatchBool, is_lt, int_cmp, nat_lt}
 use Rattle.lpis_register_sql.proofs.Common.{and_parts, not-true, Null, Int, Row, value_cmp, Table, Update, edit_of, is_taken, ids_of, Has, Given, Does, Database, Schema, Term}
 use Rattle.lpis_register_sql.proofs.Common.{Trees}
 use Rattle.lpis_register_sql.proofs.Common.{rowid, put_row, Error, understood, State, mode_of, statement_of, runs_as, Origin, New, Moved, Whole, schema_of, is_moved, span_tree, text_tree, mark_tree}
@@ -18,9 +18,7 @@ use Rattle.sqlite.specs.Kind.TheVariants.{Integer}
 use Rattle.sqlite.specs.Source.TheVariants.{Values}
 use Rattle.sqlite.specs.Command.TheVariants.{Delete, Insert}
 use Rattle.sqlite.specs.Edit.{Edit, Applies, are_fresh, put_all, taken_by}
-use Rattle.sqlite_rules.specs.Action.{works, work_by, pairs, deed_for}
 use Rattle.sqlite_rules.proofs.TableLemmas.{put_has}
-use Rattle.sqlite_schema.specs.Rules.{parent_key}
 use Rattle.sqlite_schema.specs.declared.schema.Keys.{Keys}
 use Rattle.sqlite_schema.specs.declared.schema.Keys.TheVariants.{Enforced}
 use Rattle.sqlite.specs.Cast.{cast}
@@ -31,7 +29,9 @@ use Rattle.sqlite.specs.Effect.{value_rows, IsDatabase, Answers}
 use Rattle.sqlite.specs.State.{Executes}
 use Rattle.sqlite.proofs.Callers.{one_step}
 use Rattle.lpis_register_sql.proofs.MeaningLemmas.{Says}
+use Rattle.lpis_register_sql.specs.Standing.{Fits, Stands}
 use Rattle.lpis_register_sql.proofs.PutLemmas.{put_more}
+use Rattle.lpis_register_sql.proofs.StandLemmas.{behind_kept, may_change, no_work, no_work_of_insert}
 
 either : (b : Bool) (x : Value) → cond b x x ≡ x
 either true x = refl
@@ -145,10 +145,11 @@ pub record Kept (o : Origin) (at : ℕ) (db next : Trees) : Type 0 where
   pub live : is_moved o ≡ true → (2 ≡ at → ⊥) → next 2 ≡ db 2
   pub texts : (text_tree o ≡ at → ⊥) → next (text_tree o) ≡ db (text_tree o)
   pub marks : (mark_tree o ≡ at → ⊥) → next (mark_tree o) ≡ db (mark_tree o)
+  pub behind : nat_lt at (mark_tree o + 2) ≡ true → Stands (Whole o) db → Stands (Whole o) next
 
 -- a step that leaves every table's tree but one leaves each of the register's tables, by name, but that one
 pub kept_of : (o : Origin) (at : ℕ) (db next : Trees) → AllByRecursion (λ t. t.tree ≢ at → next t.tree ≡ db t.tree) (schema_of (Whole o)).tables → Kept o at db next
-kept_of New at db next h = record {
+kept_of (New x) at db next h = record {
   formats = h.0;
   years = h.1.0;
   spans = h.1.1.0;
@@ -156,8 +157,9 @@ kept_of New at db next h = record {
   live = λ is. absurd (true≢false (sym is));
   texts = h.1.1.1.1.0;
   marks = h.1.1.1.1.1.0;
+  behind = behind_kept (New x) at db next h;
 }
-kept_of Moved at db next h = record {
+kept_of (Moved x) at db next h = record {
   formats = h.0;
   years = h.1.0;
   spans = h.1.1.1.1.0;
@@ -165,24 +167,14 @@ kept_of Moved at db next h = record {
   live = λ is. h.1.1.0;
   texts = h.1.1.1.1.1.0;
   marks = h.1.1.1.1.1.1.0;
+  behind = behind_kept (Moved x) at db next h;
 }
 
--- no foreign key of the register acts
-no_work : (o : Origin) (tree : ℕ) (olds news : List Row) → works (schema_of (Whole o)) Enforced 0 tree olds news ≡ []
-no_work o tree olds news = go o (length news == 0)
-  where
-    go : (o : Origin) (b : Bool)
-        → flat_map
-        (λ child. filter_map (λ ref. work_by 0 tree (pairs olds news) child ref (deed_for Enforced b ref)
-        (parent_key (schema_of (Whole o)).tables ref)) child.references) (schema_of (Whole o)).tables ≡ []
-    go New true = refl
-    go New false = refl
-    go Moved true = refl
-    go Moved false = refl
-
--- an edit that came to its end, foreign keys enforced, is one step: no foreign key of the register acts
-pub step_of : (o : Origin) (trees next : Trees) (edit : Edit) → Edited (schema_of (Whole o)) Enforced trees edit (Ok next) → Applies (schema_of (Whole o)) Enforced trees edit next
-step_of o trees next edit h = one_step (schema_of (Whole o)) Enforced trees next edit (no_work o edit.table.tree (taken_by trees edit) edit.news) h
+-- an edit that came to its end, foreign keys enforced, is one step: no foreign key acts
+pub step_of : (o : Origin) (trees next : Trees) (edit : Edit) → Fits (Whole o) → may_change o edit.table.tree ≡ true → Edited (schema_of (Whole o)) Enforced trees edit (Ok next)
+    → Applies (schema_of (Whole o)) Enforced trees edit next
+step_of o trees next edit fits changes h =
+    one_step (schema_of (Whole o)) Enforced trees next edit (no_work o edit.table.tree (taken_by trees edit) edit.news fits changes) h
 
 -- one row more in one table
 pub record Adds (o : Origin) (old new : State) (tree : ℕ) (row : Row) : Type 0 where
@@ -208,7 +200,7 @@ adds o sql index width table terms params row old new count has at plain_key mea
     at plain_key
     (subst (λ s. Does old.step_limit (mode_of old) params (record old.now { schema = s }) text None
     (Insert index (Values terms width)) (Ok (w.tally, new.now))) has w.changed) in
-    let step = step_of o db new.now.trees _ made.1 in
+    let step = one_step s (mode_of old).keys db new.now.trees _ (no_work_of_insert o (mode_of old).keys table.tree _) made.1 in
     let free : is_taken (db table.tree) row ≡ false = not-true _ (and_parts _ _ (subst (λ n. are_fresh (db table.tree) n ≡ true) news step.fresh)).0 in
     let rows : new.now.trees table.tree ≡ put_row row (db table.tree) = step.rows ∙ ap (λ n. put_all (db table.tree) n) news in
     record {

@@ -6,6 +6,7 @@ use Rattle.sqlite.specs.declared.error.Error.{Error}
 use Rattle.lpis_register_rows.specs.Content.{Content, no_content}
 use Rattle.lpis_register_rows.specs.Histories.{only_format}
 use Rattle.lpis_register_sql.specs.Bare.{IsBare}
+use Rattle.lpis_register_sql.specs.Beside.{nothing}
 use Rattle.lpis_register_sql.specs.Layouts.{Layout, New, Whole, has_marks, made_whole}
 use Rattle.lpis_register_sql.specs.Holding.{IsStored, Leaves}
 use Rattle.lpis_register_sql.specs.Quiet.{IsFound}
@@ -14,7 +15,7 @@ use Rattle.lpis_register_sql.specs.declared.found.Found.{Found}
 -- the tables of a new register, where there was none
 abbrev pub LeavesMade : Found → State → Trees → Type 0
 LeavesMade found old trees =
-    found.format ≡ false → IsBare old → Leaves (Whole New) no_content trees
+    found.format ≡ false → IsBare old → Leaves (Whole (New nothing)) no_content trees
 
 -- rows of a version, in the tables that were found
 abbrev pub IsFoundOf : Found → ℕ → Layout → Content → Type 0

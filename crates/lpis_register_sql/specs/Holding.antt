@@ -10,6 +10,7 @@ use Rattle.sqlite.specs.State.{State}
 use Rattle.lpis_register_rows.specs.Content.{Format, StoredSpan, Line, Live, StoredText, Mark}
 use Rattle.lpis_register_rows.specs.Content.{Content}
 use Rattle.lpis_register_sql.specs.Layouts.{Layout, schema_of, origin_of, has_spans, has_live}
+use Rattle.lpis_register_sql.specs.Standing.{Stands}
 use Rattle.lpis_register_sql.specs.Layouts.{has_texts, has_marks, span_tree, text_tree, mark_tree}
 
 -- ---- rows as the tables keep them: whole where the key is the rowid, else less the rowid
@@ -53,6 +54,8 @@ pub record Means (s : Layout) (trees : Trees) (c : Content) : Type 0 where
   pub live_are : Keeps (has_live s) live_row c.live (trees 2)
   pub texts_are : Keeps (has_texts s) text_row c.texts (trees (text_tree (origin_of s)))
   pub marks_are : Keeps (has_marks s) mark_row c.marks (trees (mark_tree (origin_of s)))
+  -- and what stands behind is there
+  pub stands : Stands s trees
 
 pub record HoldsRows (s : Layout) (db : Database) (c : Content) : Type 0 where
   pub schema : db.schema ≡ schema_of s

@@ -1,20 +1,21 @@
--- The orders in which the register's tables may stand.
+-- The orders in which the register's tables may stand, and what may stand behind them.
 use Rattle.std.specs.Prelude.{ℕ, Bool, true, false, [], ◌∷◌, ◌++◌, List}
 use Rattle.sqlite.specs.Schema.{Schema}
 use Rattle.sqlite.specs.Table.{Table}
 use Rattle.sqlite_schema.specs.declared.schema.Index.{Index}
+use Rattle.lpis_register_sql.specs.Beside.{Beside, nothing}
 use Rattle.lpis_register_sql.specs.Tables.{format_table, release_table, live_table, span_table}
 use Rattle.lpis_register_sql.specs.Tables.{row_table}
 use Rattle.lpis_register_sql.specs.Tables.{text_table, mark_table}
 use Rattle.lpis_register_sql.specs.Tables.{live_index, span_index, row_index, text_index}
 use Rattle.lpis_register_sql.specs.Tables.{mark_index}
 
--- where a register comes from
+-- where a register comes from, with what other people have put behind its tables
 pub data Origin : Type 0 where
   -- this program made it, in version 2 or 3
-  New : Origin
+  New : Beside → Origin
   -- it was made in version 1: `lpis_live` stays, and `lpis_span` stands behind its tables
-  Moved : Origin
+  Moved : Beside → Origin
 
 pub data Layout : Type 0 where
   -- version 3: `lpis_text` and then `lpis_mark` are made last
@@ -30,40 +31,44 @@ abbrev pub origin_of : Layout → Origin
 origin_of (Whole origin) = origin
 origin_of (LessMarks origin) = origin
 origin_of (LessTexts origin) = origin
-origin_of First = Moved
+origin_of First = Moved nothing
+
+abbrev pub beside_of : Origin → Beside
+beside_of (New beside) = beside
+beside_of (Moved beside) = beside
 
 -- ---- the trees that differ; an index takes the next
 
 abbrev pub span_tree : Origin → ℕ
-span_tree New = 2
-span_tree Moved = 6
+span_tree (New beside) = 2
+span_tree (Moved beside) = 6
 
 abbrev pub text_tree : Origin → ℕ
-text_tree New = 6
-text_tree Moved = 8
+text_tree (New beside) = 6
+text_tree (Moved beside) = 8
 
 abbrev pub mark_tree : Origin → ℕ
-mark_tree New = 8
-mark_tree Moved = 10
+mark_tree (New beside) = 8
+mark_tree (Moved beside) = 10
 
 -- ---- the tables in their order
 
 abbrev pub older_tables : Origin → List Table
-older_tables New = format_table 0 ∷ release_table 1 ∷ span_table 2 ∷ row_table 4 ∷ []
-older_tables Moved = format_table 0 ∷ release_table 1 ∷ live_table 2 ∷ row_table 4 ∷ span_table 6
-    ∷ []
+older_tables (New beside) = format_table 0 ∷ release_table 1 ∷ span_table 2 ∷ row_table 4 ∷ []
+older_tables (Moved beside) = format_table 0 ∷ release_table 1 ∷ live_table 2 ∷ row_table 4
+    ∷ span_table 6 ∷ []
 
 abbrev pub older_indexes : Origin → List Index
-older_indexes New = span_index 2 ∷ row_index 4 ∷ []
-older_indexes Moved = live_index 2 ∷ row_index 4 ∷ span_index 6 ∷ []
+older_indexes (New beside) = span_index 2 ∷ row_index 4 ∷ []
+older_indexes (Moved beside) = live_index 2 ∷ row_index 4 ∷ span_index 6 ∷ []
 
 abbrev pub schema_of : Layout → Schema
 schema_of (Whole origin) = record {
   tables = older_tables origin ++ text_table (text_tree origin) ∷ mark_table (mark_tree origin)
-      ∷ [];
+      ∷ (beside_of origin).tables;
   indexes = older_indexes origin ++ text_index (text_tree origin) ∷ mark_index (mark_tree origin)
-      ∷ [];
-  views = [];
+      ∷ (beside_of origin).indexes;
+  views = (beside_of origin).views;
 }
 schema_of (LessMarks origin) = record {
   tables = older_tables origin ++ text_table (text_tree origin) ∷ [];
@@ -84,8 +89,8 @@ schema_of First = record {
 -- ---- which tables there are
 
 abbrev pub is_moved : Origin → Bool
-is_moved New = false
-is_moved Moved = true
+is_moved (New beside) = false
+is_moved (Moved beside) = true
 
 abbrev pub has_live : Layout → Bool
 has_live layout = is_moved (origin_of layout)

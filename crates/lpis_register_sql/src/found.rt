@@ -3,9 +3,13 @@
 ghost use Rattle.std.specs.Prelude.{◌≡◌, true, false};
 ghost use Rattle.std.specs.List.{list_any};
 ghost use Rattle.sqlite_schema.specs.Names.{same_name};
+ghost use Rattle.lpis_register_sql.specs.Hiding.{hides_table, is_table_name};
 ghost use Rattle.lpis_register_sql.specs.Quiet.{IsFound};
 ghost use Rattle.lpis_register_sql.specs.Layouts.{has_marks, no_schema, schema_of};
+ghost use Rattle.lpis_register_sql.specs.Standing.{Stands};
+ghost use Rattle.lpis_register_sql.specs.Unread.{AreThere};
 
+use sqlite_schema::names::same_name;
 use sqlite_schema::schema::Schema;
 
 /// The tables of the register that stand in a database.
@@ -23,6 +27,8 @@ pub struct Found {
     pub texts: bool,
     /// `lpis_mark` is there.
     pub marks: bool,
+    /// Something has the name of one of them that no statement can read as a table.
+    pub hidden: bool,
 }
 
 impl Found {
@@ -36,7 +42,8 @@ impl Found {
     /// The tables once those that are not there are made.
     pub fn completed(self) -> Found
         ensures made { (result.spans ≡ true) × (result.texts ≡ true) × (result.marks ≡ true) }
-        ensures same { result.lives ≡ self.lives }
+        ensures same { (result.format ≡ self.format) × (result.common ≡ self.common)
+            × (result.lives ≡ self.lives) × (result.hidden ≡ self.hidden) }
     {
         Found {
             spans: true,
@@ -59,12 +66,39 @@ fn has_table(schema: &Schema, name: &str) -> bool
         .any(|table| table.is_named(name))
 }
 
+/// Whether it is the name of a table of the register.
+fn is_table_name(name: &[u8]) -> bool
+    ensures { result ≡ is_table_name name.now }
+{
+    let format = same_name(name, b"lpis_format");
+    let release = same_name(name, b"lpis_release");
+    let span = same_name(name, b"lpis_span");
+    let live = same_name(name, b"lpis_live");
+    let row = same_name(name, b"lpis_row");
+    let text = same_name(name, b"lpis_text");
+    let mark = same_name(name, b"lpis_mark");
+    format | release | span | live | row | text | mark
+}
+
+/// Whether a table of the register is hidden behind something else of its name.
+fn hides_table(schema: &Schema) -> bool
+    ensures { result ≡ hides_table schema.now }
+{
+    schema
+        .views
+        .as_slice()
+        .iter()
+        .any(|view| is_table_name(view.name.as_slice()))
+}
+
 /// The tables that are there.
 pub fn tables_in(schema: &Schema) -> Found
     ensures bare { schema.now ≡ no_schema → (result.format ≡ false) × (result.common ≡ false)
         × (result.lives ≡ false) }
-    ensures laid_out { (layout : _) → schema.now ≡ schema_of layout → (result.common ≡ true)
-        × IsFound result layout }
+    ensures hidden { result.hidden ≡ hides_table schema.now }
+    ensures there { AreThere schema.now result }
+    ensures laid_out { (layout : _) (trees : _) → Stands layout trees
+        → schema.now ≡ schema_of layout → (result.common ≡ true) × IsFound result layout }
 {
     let format = has_table(schema, "lpis_format");
     let release = has_table(schema, "lpis_release");
@@ -73,6 +107,7 @@ pub fn tables_in(schema: &Schema) -> Found
     let lives = has_table(schema, "lpis_live");
     let texts = has_table(schema, "lpis_text");
     let marks = has_table(schema, "lpis_mark");
+    let hidden = hides_table(schema);
     Found {
         format,
         common: format & release & row,
@@ -80,5 +115,6 @@ pub fn tables_in(schema: &Schema) -> Found
         lives,
         texts,
         marks,
+        hidden,
     }
 }

@@ -5,6 +5,7 @@ ghost use Rattle.sqlite.specs.Held.{state};
 ghost use Rattle.lpis_register_rows.specs.Content.{without_texts};
 ghost use Rattle.lpis_register_rows.specs.Histories.{IsSameContent};
 ghost use Rattle.lpis_register_sql.specs.Quiet.{IsFound, ReadsRows};
+ghost use Rattle.lpis_register_sql.specs.Unread.{Tells};
 
 use crate::found::Found;
 use crate::reading::load_rows;
@@ -22,6 +23,7 @@ pub fn load_found<S: Alter>(
     ensures autocommit { conn.new.in_transaction ≡ false }
     ensures reads { ReadsRows (IsFound found.now) (λ c. IsSameContent (without_texts c))
         (state S.Store conn.old) (state S.Store conn.new) result }
+    ensures tells { Tells found.now (state S.Store conn.old) (state S.Store conn.new) result }
 {
     let formats: Vec<FormatRow> = load_rows(alloc, conn, found)?;
     let years: Vec<i64> = load_rows(alloc, conn, found)?;
@@ -43,6 +45,7 @@ pub fn load_texts<S: Alter>(
     ensures reads { ReadsRows (IsFound found.now)
         (λ c texts. IsPermutation c.texts texts.items) (state S.Store conn.old)
         (state S.Store conn.new) result }
+    ensures tells { Tells found.now (state S.Store conn.old) (state S.Store conn.new) result }
 {
     load_rows(alloc, conn, found)
 }

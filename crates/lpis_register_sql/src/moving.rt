@@ -34,9 +34,10 @@ fn clear_spans<S: Alter>(tx: &mut Transaction<'_, S>) -> Result<(), Error>
 /// Nothing is left of what version 1 has in place of spans.
 fn clear_lives<S: Alter>(tx: &mut Transaction<'_, S>) -> Result<(), Error>
     ensures same_reference { tx.new.conn.ghost_name ≡ tx.old.conn.ghost_name }
-    ensures cleared { HasCleanDisk (state S.Store tx.new.conn.now) → (base : _) (c : _)
-        → Inside (Whole Moved) base (state S.Store tx.old.conn.now) c
-        → OnOk result (Inside (Whole Moved) base (state S.Store tx.new.conn.now) (without_live c)) }
+    ensures cleared { HasCleanDisk (state S.Store tx.new.conn.now) → (beside : _) (base : _) (c : _)
+        → Inside (Whole (Moved beside)) base (state S.Store tx.old.conn.now) c
+        → OnOk result (Inside (Whole (Moved beside)) base (state S.Store tx.new.conn.now)
+        (without_live c)) }
     ensures quiet { IsQuiet (state S.Store tx.old.conn.now) (state S.Store tx.new.conn.now) }
 {
     tx.execute("DELETE FROM lpis_live", &[])?;

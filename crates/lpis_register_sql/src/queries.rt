@@ -7,9 +7,12 @@ use sqlite::{Alter, Connection, Error, Row};
 use std::alloc::Global;
 
 impl FromRow for FormatRow {
+    ghost use Rattle.lpis_register_sql.specs.Unread.{Formats, kinds_of};
     ghost use Rattle.lpis_register_sql.specs.private.Shown.{format_shown};
 
     ghost shown = { format_shown };
+
+    ghost kinds = { kinds_of Formats };
 
     fn read(row: &Row) -> Result<FormatRow, Error> {
         let one = row.get(0)?;
@@ -21,6 +24,9 @@ impl FromRow for FormatRow {
 impl Stored for FormatRow {
     ghost use Rattle.std.specs.Prelude.{true};
     ghost use Rattle.std.proofs.Common.{rules};
+    ghost use Rattle.lpis_register_sql.specs.Unread.{Formats};
+
+    ghost table = { Formats };
 
     ghost rows = { λ c. c.formats };
 
@@ -39,9 +45,12 @@ impl Stored for FormatRow {
 
 /// A year of a release.
 impl FromRow for i64 {
+    ghost use Rattle.lpis_register_sql.specs.Unread.{Years, kinds_of};
     ghost use Rattle.lpis_register_sql.specs.private.Shown.{year_shown};
 
     ghost shown = { year_shown };
+
+    ghost kinds = { kinds_of Years };
 
     fn read(row: &Row) -> Result<i64, Error> {
         row.get(0)
@@ -51,6 +60,9 @@ impl FromRow for i64 {
 impl Stored for i64 {
     ghost use Rattle.std.specs.Prelude.{true};
     ghost use Rattle.std.proofs.Common.{rules};
+    ghost use Rattle.lpis_register_sql.specs.Unread.{Years};
+
+    ghost table = { Years };
 
     ghost rows = { λ c. c.years };
 
@@ -68,9 +80,12 @@ impl Stored for i64 {
 }
 
 impl FromRow for SpanRow {
+    ghost use Rattle.lpis_register_sql.specs.Unread.{Spans, kinds_of};
     ghost use Rattle.lpis_register_sql.specs.private.Shown.{span_shown};
 
     ghost shown = { span_shown };
+
+    ghost kinds = { kinds_of Spans };
 
     fn read(row: &Row) -> Result<SpanRow, Error> {
         let id = row.get(0)?;
@@ -82,7 +97,10 @@ impl FromRow for SpanRow {
 
 impl Stored for SpanRow {
     ghost use Rattle.std.proofs.Common.{rules};
+    ghost use Rattle.lpis_register_sql.specs.Unread.{Spans};
     ghost use Rattle.lpis_register_sql.specs.Layouts.{has_spans};
+
+    ghost table = { Spans };
 
     ghost rows = { λ c. c.spans };
 
@@ -104,9 +122,12 @@ impl Stored for SpanRow {
 }
 
 impl FromRow for LineRow {
+    ghost use Rattle.lpis_register_sql.specs.Unread.{Lines, kinds_of};
     ghost use Rattle.lpis_register_sql.specs.private.Shown.{line_shown};
 
     ghost shown = { line_shown };
+
+    ghost kinds = { kinds_of Lines };
 
     fn read(row: &Row) -> Result<LineRow, Error> {
         let year = row.get(0)?;
@@ -125,6 +146,9 @@ impl FromRow for LineRow {
 impl Stored for LineRow {
     ghost use Rattle.std.specs.Prelude.{true};
     ghost use Rattle.std.proofs.Common.{rules};
+    ghost use Rattle.lpis_register_sql.specs.Unread.{Lines};
+
+    ghost table = { Lines };
 
     ghost rows = { λ c. c.lines };
 
@@ -146,9 +170,12 @@ impl Stored for LineRow {
 }
 
 impl FromRow for LiveRow {
+    ghost use Rattle.lpis_register_sql.specs.Unread.{Lives, kinds_of};
     ghost use Rattle.lpis_register_sql.specs.private.Shown.{live_shown};
 
     ghost shown = { live_shown };
+
+    ghost kinds = { kinds_of Lives };
 
     fn read(row: &Row) -> Result<LiveRow, Error> {
         let year = row.get(0)?;
@@ -159,7 +186,10 @@ impl FromRow for LiveRow {
 
 impl Stored for LiveRow {
     ghost use Rattle.std.proofs.Common.{rules};
+    ghost use Rattle.lpis_register_sql.specs.Unread.{Lives};
     ghost use Rattle.lpis_register_sql.specs.Layouts.{has_live};
+
+    ghost table = { Lives };
 
     ghost rows = { λ c. c.live };
 
@@ -181,9 +211,12 @@ impl Stored for LiveRow {
 }
 
 impl FromRow for TextRow {
+    ghost use Rattle.lpis_register_sql.specs.Unread.{Texts, kinds_of};
     ghost use Rattle.lpis_register_sql.specs.private.Shown.{text_shown};
 
     ghost shown = { text_shown };
+
+    ghost kinds = { kinds_of Texts };
 
     fn read(row: &Row) -> Result<TextRow, Error> {
         let id = row.get(0)?;
@@ -194,7 +227,10 @@ impl FromRow for TextRow {
 
 impl Stored for TextRow {
     ghost use Rattle.std.proofs.Common.{rules};
+    ghost use Rattle.lpis_register_sql.specs.Unread.{Texts};
     ghost use Rattle.lpis_register_sql.specs.Layouts.{has_texts};
+
+    ghost table = { Texts };
 
     ghost rows = { λ c. c.texts };
 
@@ -212,9 +248,12 @@ impl Stored for TextRow {
 }
 
 impl FromRow for MarkRow {
+    ghost use Rattle.lpis_register_sql.specs.Unread.{Marks, kinds_of};
     ghost use Rattle.lpis_register_sql.specs.private.Shown.{mark_shown};
 
     ghost shown = { mark_shown };
+
+    ghost kinds = { kinds_of Marks };
 
     fn read(row: &Row) -> Result<MarkRow, Error> {
         let year = row.get(0)?;
@@ -225,7 +264,10 @@ impl FromRow for MarkRow {
 
 impl Stored for MarkRow {
     ghost use Rattle.std.proofs.Common.{rules};
+    ghost use Rattle.lpis_register_sql.specs.Unread.{Marks};
     ghost use Rattle.lpis_register_sql.specs.Layouts.{has_marks};
+
+    ghost table = { Marks };
 
     ghost rows = { λ c. c.marks };
 

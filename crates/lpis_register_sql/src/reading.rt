@@ -8,6 +8,8 @@ ghost use Rattle.sqlite.specs.Listing.{understood};
 ghost use Rattle.sqlite.specs.State.{CommitsShowing, HasCleanDisk, IsRolledBack, IsUnchanged};
 ghost use Rattle.sqlite.specs.State.{Shown, Survives};
 ghost use Rattle.lpis_register_sql.specs.Quiet.{IsFound, ReadsRows};
+ghost use Rattle.lpis_register_sql.specs.Unread.{Tells};
+ghost use Rattle.lpis_register_sql.specs.private.Telling.{TellsRows};
 
 use crate::found::Found;
 use sqlite::{Alter, Connection, Error, ErrorCode, Row};
@@ -15,14 +17,21 @@ use std::alloc::Global;
 
 /// What a row that a query shows is read as.
 pub(crate) trait FromRow: Drop {
-    ghost use Rattle.std.specs.Prelude.{◌≡◌, IfOk};
+    ghost use Rattle.std.specs.Prelude.{◌≡◌, ◌≢◌, IfErr, IfOk, List};
     ghost use Rattle.sqlite.specs.Order.{Row};
+    ghost use Rattle.sqlite.specs.declared.error.Error.TheVariants.{SqliteFailure};
+    ghost use Rattle.sqlite.specs.declared.error.ErrorCode.TheVariants.{OutOfMemory};
+    ghost use Rattle.lpis_register_sql.specs.Unread.{HasColumns, ColumnKind};
 
     ghost shown: { Row → Self };
 
+    ghost kinds: { List ColumnKind };
+
     /// A row that the query showed.
     fn read(row: &Row) -> Result<Self, Error>
-        ensures { IfOk result (λ it. shown row.now ≡ it) };
+        ensures shown { IfOk result (λ it. shown row.now ≡ it) }
+        ensures misfit { IfErr result (λ e. e ≢ SqliteFailure OutOfMemory
+            → ¬ HasColumns kinds row.now) };
 }
 
 /// Puts what a query shows into a list, one row after the other.
@@ -41,6 +50,8 @@ fn take_rows<T: FromRow, S: Alter>(
         → HasCleanDisk (state S.Store conn.new)
         → OnErr result (IsUnchanged (state S.Store conn.old) (state S.Store conn.new)
         ⊎ IsRolledBack (state S.Store conn.old) (state S.Store conn.new)) }
+    ensures tells { TellsRows sql.now T.kinds (state S.Store conn.old)
+        (state S.Store conn.new) result }
     ensures survives { Survives (state S.Store conn.old) (state S.Store conn.new)
         (CommitsShowing sql.now [] (state S.Store conn.old)) }
 {
@@ -71,6 +82,8 @@ pub(crate) fn read_rows<T: FromRow, S: Alter>(
         → HasCleanDisk (state S.Store conn.new)
         → OnErr result (IsUnchanged (state S.Store conn.old) (state S.Store conn.new)
         ⊎ IsRolledBack (state S.Store conn.old) (state S.Store conn.new)) }
+    ensures tells { TellsRows sql.now T.kinds (state S.Store conn.old)
+        (state S.Store conn.new) result }
     ensures survives { Survives (state S.Store conn.old) (state S.Store conn.new)
         (CommitsShowing sql.now [] (state S.Store conn.old)) }
 {
@@ -88,6 +101,10 @@ pub(crate) trait Stored: FromRow {
     ghost use Rattle.lpis_register_sql.specs.Layouts.{Layout};
     ghost use Rattle.lpis_register_sql.specs.Holding.{Means};
     ghost use Rattle.lpis_register_sql.specs.Quiet.{IsFound, ReadsRows};
+    ghost use Rattle.lpis_register_sql.specs.Unread.{StoredTable, is_read, kinds_of, query_of};
+    ghost use Rattle.lpis_register_sql.specs.private.Telling.{TellsRows};
+
+    ghost table: { StoredTable };
 
     ghost rows: { Content → List Self };
 
@@ -95,7 +112,8 @@ pub(crate) trait Stored: FromRow {
 
     /// Whether its table was found.
     fn was_found(found: &Found) -> bool
-        ensures { (layout : Layout) → IsFound found.now layout → result ≡ has_table layout };
+        ensures there { (layout : Layout) → IsFound found.now layout → result ≡ has_table layout }
+        ensures read { result ≡ is_read found.now table };
 
     /// The rows of its table.
     fn query<S: Alter>(alloc: Global, conn: &mut Connection<S>) -> Result<Vec<Self>, Error>
@@ -103,7 +121,9 @@ pub(crate) trait Stored: FromRow {
         ensures autocommit { conn.new.in_transaction ≡ false }
         ensures reads { ReadsRows (λ layout. has_table layout ≡ true)
             (λ c all. IsPermutation (rows c) all.items)
-            (state S.Store conn.old) (state S.Store conn.new) result };
+            (state S.Store conn.old) (state S.Store conn.new) result }
+        ensures tells { TellsRows (query_of table) (kinds_of table) (state S.Store conn.old)
+            (state S.Store conn.new) result };
 
     ghost without_table: { (layout : Layout) (trees : Trees) (c : Content) → Means layout trees c
         → has_table layout ≡ false → rows c ≡ [] };
@@ -119,6 +139,7 @@ pub(crate) fn load_rows<T: Stored, S: Alter>(
     ensures autocommit { conn.new.in_transaction ≡ false }
     ensures reads { ReadsRows (IsFound found.now) (λ c all. IsPermutation (T.rows c) all.items)
         (state S.Store conn.old) (state S.Store conn.new) result }
+    ensures tells { Tells found.now (state S.Store conn.old) (state S.Store conn.new) result }
 {
     if T::was_found(found) {
         T::query(alloc, conn)

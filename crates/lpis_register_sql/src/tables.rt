@@ -1,9 +1,10 @@
 //! The tables of a new register.
 
-ghost use Rattle.std.specs.Prelude.{◌≡◌, false, IsTrue, OnOk, OnErr};
+ghost use Rattle.std.specs.Prelude.{◌≡◌, false, true, IsTrue, OnOk, OnErr};
 ghost use Rattle.sqlite.specs.Held.{state};
 ghost use Rattle.sqlite.specs.State.{HasCleanDisk, Survives};
 ghost use Rattle.lpis_register_rows.specs.Content.{no_content};
+ghost use Rattle.lpis_register_sql.specs.Beside.{nothing};
 ghost use Rattle.lpis_register_sql.specs.Layouts.{New, First, Moved, LessTexts, LessMarks};
 ghost use Rattle.lpis_register_sql.specs.Layouts.{Whole, schema_of, no_schema};
 ghost use Rattle.lpis_register_sql.specs.private.Stages.{one_table, two_tables, three_tables};
@@ -54,7 +55,7 @@ pub(crate) fn make_span<S: Alter>(tx: &mut Transaction<'_, S>) -> Result<(), Err
         → OnOk result (Stage three_tables base (state S.Store tx.new.conn.now)) }
     ensures beside { HasCleanDisk (state S.Store tx.new.conn.now) → (base : _) (c : _)
         → Inside First base (state S.Store tx.old.conn.now) c
-        → OnOk result (Inside (LessTexts Moved) base (state S.Store tx.new.conn.now) c) }
+        → OnOk result (Inside (LessTexts (Moved nothing)) base (state S.Store tx.new.conn.now) c) }
     ensures quiet { IsQuiet (state S.Store tx.old.conn.now) (state S.Store tx.new.conn.now) }
 {
     tx.execute(
@@ -69,7 +70,8 @@ fn make_row<S: Alter>(tx: &mut Transaction<'_, S>) -> Result<(), Error>
     ensures same_reference { tx.new.conn.ghost_name ≡ tx.old.conn.ghost_name }
     ensures made { HasCleanDisk (state S.Store tx.new.conn.now) → (base : _)
         → Stage three_tables base (state S.Store tx.old.conn.now)
-        → OnOk result (Stage (schema_of (LessTexts New)) base (state S.Store tx.new.conn.now)) }
+        → OnOk result (Stage (schema_of (LessTexts (New nothing))) base
+        (state S.Store tx.new.conn.now)) }
     ensures quiet { IsQuiet (state S.Store tx.old.conn.now) (state S.Store tx.new.conn.now) }
 {
     tx.execute(
@@ -83,8 +85,9 @@ fn make_row<S: Alter>(tx: &mut Transaction<'_, S>) -> Result<(), Error>
 pub(crate) fn make_text<S: Alter>(tx: &mut Transaction<'_, S>) -> Result<(), Error>
     ensures same_reference { tx.new.conn.ghost_name ≡ tx.old.conn.ghost_name }
     ensures made { HasCleanDisk (state S.Store tx.new.conn.now) → (base : _)
-        → Stage (schema_of (LessTexts New)) base (state S.Store tx.old.conn.now)
-        → OnOk result (Stage (schema_of (LessMarks New)) base (state S.Store tx.new.conn.now)) }
+        → Stage (schema_of (LessTexts (New nothing))) base (state S.Store tx.old.conn.now)
+        → OnOk result (Stage (schema_of (LessMarks (New nothing))) base
+        (state S.Store tx.new.conn.now)) }
     ensures beside { HasCleanDisk (state S.Store tx.new.conn.now) → (origin : _) (base : _) (c : _)
         → Inside (LessTexts origin) base (state S.Store tx.old.conn.now) c
         → OnOk result (Inside (LessMarks origin) base (state S.Store tx.new.conn.now) c) }
@@ -101,8 +104,9 @@ pub(crate) fn make_text<S: Alter>(tx: &mut Transaction<'_, S>) -> Result<(), Err
 pub(crate) fn make_mark<S: Alter>(tx: &mut Transaction<'_, S>) -> Result<(), Error>
     ensures same_reference { tx.new.conn.ghost_name ≡ tx.old.conn.ghost_name }
     ensures made { HasCleanDisk (state S.Store tx.new.conn.now) → (base : _)
-        → Stage (schema_of (LessMarks New)) base (state S.Store tx.old.conn.now)
-        → OnOk result (Stage (schema_of (Whole New)) base (state S.Store tx.new.conn.now)) }
+        → Stage (schema_of (LessMarks (New nothing))) base (state S.Store tx.old.conn.now)
+        → OnOk result (Stage (schema_of (Whole (New nothing))) base
+        (state S.Store tx.new.conn.now)) }
     ensures beside { HasCleanDisk (state S.Store tx.new.conn.now) → (origin : _) (base : _) (c : _)
         → Inside (LessMarks origin) base (state S.Store tx.old.conn.now) c
         → OnOk result (Inside (Whole origin) base (state S.Store tx.new.conn.now) c) }
@@ -119,8 +123,9 @@ pub(crate) fn make_mark<S: Alter>(tx: &mut Transaction<'_, S>) -> Result<(), Err
 fn insert_format<S: Alter>(tx: &mut Transaction<'_, S>) -> Result<(), Error>
     ensures same_reference { tx.new.conn.ghost_name ≡ tx.old.conn.ghost_name }
     ensures begun { HasCleanDisk (state S.Store tx.new.conn.now) → (base : _)
-        → Stage (schema_of (Whole New)) base (state S.Store tx.old.conn.now)
-        → OnOk result (Inside (Whole New) base (state S.Store tx.new.conn.now) no_content) }
+        → Stage (schema_of (Whole (New nothing))) base (state S.Store tx.old.conn.now)
+        → OnOk result (Inside (Whole (New nothing)) base (state S.Store tx.new.conn.now)
+        no_content) }
     ensures quiet { IsQuiet (state S.Store tx.old.conn.now) (state S.Store tx.new.conn.now) }
 {
     tx.execute("INSERT INTO lpis_format (one, version) VALUES (1, 3)", &[])?;
@@ -132,8 +137,10 @@ fn begin_format<S: Alter>(tx: &mut Transaction<'_, S>, found: &Found) -> Result<
     ensures same_reference { tx.new.conn.ghost_name ≡ tx.old.conn.ghost_name }
     ensures begun { found.now.format ≡ false → HasCleanDisk (state S.Store tx.new.conn.now)
         → (base : _)
-        → Stage (schema_of (Whole New)) base (state S.Store tx.old.conn.now)
-        → OnOk result (Inside (Whole New) base (state S.Store tx.new.conn.now) no_content) }
+        → Stage (schema_of (Whole (New nothing))) base (state S.Store tx.old.conn.now)
+        → OnOk result (Inside (Whole (New nothing)) base (state S.Store tx.new.conn.now)
+        no_content) }
+    ensures stays { found.now.format ≡ true → tx.new ≡ tx.old }
     ensures quiet { IsQuiet (state S.Store tx.old.conn.now) (state S.Store tx.new.conn.now) }
 {
     if found.format {
@@ -149,7 +156,8 @@ fn make_all<S: Alter>(tx: &mut Transaction<'_, S>, found: &Found) -> Result<(), 
     ensures begun { found.now.format ≡ false → HasCleanDisk (state S.Store tx.new.conn.now)
         → (base : _)
         → Stage no_schema base (state S.Store tx.old.conn.now)
-        → OnOk result (Inside (Whole New) base (state S.Store tx.new.conn.now) no_content) }
+        → OnOk result (Inside (Whole (New nothing)) base (state S.Store tx.new.conn.now)
+        no_content) }
     ensures quiet { IsQuiet (state S.Store tx.old.conn.now) (state S.Store tx.new.conn.now) }
 {
     make_format(tx)?;
@@ -167,7 +175,7 @@ pub fn create<S: Alter>(conn: &mut Connection<S>, found: &Found) -> Result<(), E
     ensures autocommit { conn.new.in_transaction ≡ false }
     ensures made { found.now.format ≡ false → HasCleanDisk (state S.Store conn.new)
         → IsBare (state S.Store conn.old)
-        → OnOk result (IsStored (Whole New) (state S.Store conn.new) no_content) }
+        → OnOk result (IsStored (Whole (New nothing)) (state S.Store conn.new) no_content) }
     ensures err { found.now.format ≡ false → HasCleanDisk (state S.Store conn.new)
         → IsTrue (state S.Store conn.new).is_open → IsBare (state S.Store conn.old)
         → OnErr result (IsBare (state S.Store conn.new)) }

@@ -8,7 +8,7 @@ use Rattle.lpis_register_rows.specs.Content.{Content}
 use Rattle.lpis_register_rows.specs.Shapes.{Shape}
 use Rattle.lpis_register_rows.specs.declared.version.Version.{Version}
 use Rattle.lpis_register_sql.specs.declared.found.Found.{Found}
-use Rattle.lpis_register_sql.specs.Layouts.{Layout}
+use Rattle.lpis_register_sql.specs.Layouts.{Layout, origin_of}
 use Rattle.lpis_register_sql.specs.Holding.{IsStored}
 use Rattle.lpis_register_sql.specs.Quiet.{IsFound}
 use Rattle.lpis_register.specs.Faults.{IsFailure, IsOpeningFault}
@@ -22,20 +22,21 @@ use Rattle.lpis_register.specs.declared.opening.Loaded.{Loaded}
 abbrev pub LeavesSettled : Found → Version → List Entry → State → Trees → Type 0
 LeavesSettled found version h old trees =
     (layout : Layout) → IsFound found layout → (c : Content) (shapes : List Shape)
-    → HasRegister version c h shapes → IsStored layout old c → LeavesRegister h shapes trees
+    → HasRegister version c h shapes → IsStored layout old c
+    → LeavesRegister (origin_of layout) h shapes trees
 
 -- tables of version 3 that say what the tables said
 abbrev pub LeavesFound : Found → State → Trees → Type 0
 LeavesFound found old trees =
     (layout : Layout) → IsFound found layout → (c : Content) → IsStored layout old c
-    → LeavesKept c trees
+    → LeavesKept (origin_of layout) c trees
 
 -- tables that say this history, in this version, are made to say it in version 3
 pub record Settles (found : Found) (version : Version) (h : List Entry) (old new : State)
     (r : Result (Unit {0}) PublishFault) : Type 0 where
   pub ok : HasCleanDisk new → (layout : Layout) → IsFound found layout → (c : Content)
       (shapes : List Shape) → HasRegister version c h shapes → IsStored layout old c
-      → OnOk r (HoldsRegister new h shapes)
+      → OnOk r (HoldsRegister (origin_of layout) new h shapes)
   pub err : HasCleanDisk new → IsTrue new.is_open → (layout : Layout) → IsFound found layout
       → (c : Content) (shapes : List Shape) → HasRegister version c h shapes
       → IsStored layout old c → OnErr r (IsStored layout new c)
@@ -48,7 +49,8 @@ pub record OpensFound (found : Found) (old new : State) (r : Result Loaded Publi
   where
     pub ok : HasCleanDisk new → (layout : Layout) → IsFound found layout → (c : Content)
         → IsStored layout old c
-        → IfOk r (λ (told : Loaded). IsOpenedAs new c told.history told.shapes.items)
+        → IfOk r (λ (told : Loaded). IsOpenedAs (origin_of layout) new c told.history
+        told.shapes.items)
     pub err : HasCleanDisk new → IsTrue new.is_open → (layout : Layout) → IsFound found layout
         → (c : Content) → IsStored layout old c → OnErr r (IsStored layout new c)
     pub unlawful : HasCleanDisk new → (layout : Layout) → IsFound found layout → (c : Content)

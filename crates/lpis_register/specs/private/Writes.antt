@@ -9,6 +9,7 @@ use Rattle.lpis_lineage.specs.declared.row.Entry.{Entry}
 use Rattle.lpis_lineage.specs.Lineage.{last_year}
 use Rattle.lpis_parcels.specs.declared.parcel.Parcel.{Parcel}
 use Rattle.lpis_register_rows.specs.Shapes.{Shape}
+use Rattle.lpis_register_sql.specs.Layouts.{Origin}
 use Rattle.lpis_register.specs.Accepting.{IsPrepared}
 use Rattle.lpis_register.specs.Failing.{HasStoreCause}
 use Rattle.lpis_register.specs.Faults.{IsStoreFault}
@@ -33,15 +34,15 @@ module _ (now : List Entry) (last : ℕ) (a : Accepted) where
   -- call the whole one
   pub record WritesRelease {E : Type 0} (kept : List Shape) (old new : State)
       (r : Result (Unit {0}) E) : Type 0 where
-    pub ok : (h : List Entry) → IsToWrite h → HasCleanDisk new
-        → HoldsRegister old h kept → OnOk r (HoldsRegister new now a.shapes.items)
-    pub err : (h : List Entry) → HasCleanDisk new → IsTrue new.is_open
-        → HoldsRegister old h kept → OnErr r (HoldsRegister new h kept)
-    pub crash : (h : List Entry) → IsToWrite h → HoldsRegister old h kept
-        → Survives old new (LeavesRegister now a.shapes.items)
-    pub durable : (h : List Entry) → IsToWrite h → HasCleanDisk new
-        → HoldsRegister old h kept
-        → OnOk r ((db : Trees) → new.may_leave db → LeavesRegister now a.shapes.items db)
+    pub ok : (h : List Entry) → IsToWrite h → HasCleanDisk new → (o : Origin)
+        → HoldsRegister o old h kept → OnOk r (HoldsRegister o new now a.shapes.items)
+    pub err : (h : List Entry) → HasCleanDisk new → IsTrue new.is_open → (o : Origin)
+        → HoldsRegister o old h kept → OnErr r (HoldsRegister o new h kept)
+    pub crash : (h : List Entry) → IsToWrite h → (o : Origin) → HoldsRegister o old h kept
+        → Survives old new (LeavesRegister o now a.shapes.items)
+    pub durable : (h : List Entry) → IsToWrite h → HasCleanDisk new → (o : Origin)
+        → HoldsRegister o old h kept
+        → OnOk r ((db : Trees) → new.may_leave db → LeavesRegister o now a.shapes.items db)
 
 -- publishing an accepted release after the one of a year failed: either the database did, and there
 -- is a cause, or memory ran out before it was asked
@@ -61,10 +62,11 @@ module _ (h k : List Entry) (year : ℕ) (parcels : List Parcel) (rows : List Ro
         (r : Result (Unit {0}) E) : Type 0 where
       pub follows : EndsWithRelease r
       pub refused : OnErr r (k ≡ h)
-      pub ok : HasCleanDisk new → HoldsRegister old h kept
-          → OnOk r (HoldsRegister new k a.shapes.items)
-      pub err : HasCleanDisk new → IsTrue new.is_open
-          → HoldsRegister old h kept → OnErr r (HoldsRegister new h kept)
-      pub crash : HoldsRegister old h kept → Survives old new (LeavesRelease h year parcels rows)
-      pub durable : HasCleanDisk new → HoldsRegister old h kept
-          → OnOk r ((db : Trees) → new.may_leave db → LeavesRegister k a.shapes.items db)
+      pub ok : HasCleanDisk new → (o : Origin) → HoldsRegister o old h kept
+          → OnOk r (HoldsRegister o new k a.shapes.items)
+      pub err : HasCleanDisk new → IsTrue new.is_open → (o : Origin)
+          → HoldsRegister o old h kept → OnErr r (HoldsRegister o new h kept)
+      pub crash : (o : Origin) → HoldsRegister o old h kept
+          → Survives old new (LeavesRelease h year parcels rows o)
+      pub durable : HasCleanDisk new → (o : Origin) → HoldsRegister o old h kept
+          → OnOk r ((db : Trees) → new.may_leave db → LeavesRegister o k a.shapes.items db)

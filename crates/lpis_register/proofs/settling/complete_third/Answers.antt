@@ -10,4 +10,4 @@ returns-then-is_whole-clause-settles g c =
 pub returns-clause-settles : goal.returns-clause-settles
 returns-clause-settles g c =
     settled_by c.args.found.now Third c.args.history.now (state g.S.Store c.args.conn.now) (state g.S.Store c.write_missing.new.conn) _ (λ content. content) (λ layout content there told. there)
-    (λ content told. told) (λ content shapes are. are) c.write_missing.result c.reported.result c.write_missing.ensures.writes c.reported.ensures
+    (λ content told. told) (λ content shapes are. are) c.write_missing.result c.reported.result c.write_missing.ensures.writes c.reported.ensures.reports

@@ -1,10 +1,11 @@
 use Rattle.std.proofs.Common.{◌≡◌, true, codes, refl, ap, ◌∙◌}
 use Rattle.lpis_register_sql.proofs.NamedLemmas.{has_named, tables_there}
+use Rattle.lpis_register_sql.proofs.StandLemmas.{fits_of}
 use Rattle.lpis_register_sql.proofs.found.tables_in.Goals as goal
 
 pub returns-clause-laid_out : goal.returns-clause-laid_out
-returns-clause-laid_out c layout is =
-    let there = tables_there layout in
+returns-clause-laid_out c layout trees stands is =
+    let there = tables_there layout (fits_of layout trees stands) in
     let format : c.has_table-format.result ≡ true = c.has_table-format.ensures ∙ ap (has_named (codes "lpis_format")) is ∙ there.format in
     let release : c.has_table-release.result ≡ true = c.has_table-release.ensures ∙ ap (has_named (codes "lpis_release")) is ∙ there.release in
     let row : c.has_table-row.result ≡ true = c.has_table-row.ensures ∙ ap (has_named (codes "lpis_row")) is ∙ there.row in (

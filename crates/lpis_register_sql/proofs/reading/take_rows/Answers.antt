@@ -1,8 +1,10 @@
-use Rattle.std.proofs.Common.{◌++◌, ◌∷◌, [], refl, rules, arith}
+use Rattle.std.proofs.Common.{◌≡◌, ◌++◌, ◌∷◌, [], refl, rules, arith}
 use Rattle.sqlite.specs.State.{HasCleanDisk}
 use Rattle.sqlite.specs.Held.{state}
 use Rattle.sqlite.proofs.Callers.{begun_plain, unchanged_then}
 use Rattle.lpis_register_sql.proofs.ReadingLemmas.{fails_same, on_err, one_read, shown_since}
+use Rattle.sqlite.proofs.Callers.{given_begin}
+use Rattle.lpis_register_sql.proofs.UnreadLemmas.{misfit_stops, plain_now, query_stops, stops_before, told_err_rows, told_ok_rows}
 use Rattle.lpis_register_sql.proofs.reading.take_rows.Goals as goal
 
 pub returns-in_err-rows-clause-same : goal.returns-in_err-rows-clause-same
@@ -35,7 +37,7 @@ rows-preserved g c =
       search rules,
       (
         inv.0 ++ c.in-Some.row.now ∷ [],
-        one_read g.T.FromRow.shown c.rows.all.items c.push.new.self.items inv.0 c.in-Some.row.now _ c.in_ok-push.ensures.items c.in_ok-item.ensures inv.1,
+        one_read g.T.FromRow.shown c.rows.all.items c.push.new.self.items inv.0 c.in-Some.row.now _ c.in_ok-push.ensures.items c.in_ok-item.ensures.shown inv.1,
         λ plain late.
             let was = inv.2 plain (omega (arith, moved.survives.clean)) in
             let given = (rw (c.in_ok-row.was, c.in-Some.is) at (moved.ok late)) c.args.sql.now [] inv.0 was.0 in
@@ -43,3 +45,48 @@ rows-preserved g c =
             (given, unchanged_then _ _ _ was.1 same),
       ),
     )
+
+pub returns-in_err-rows-clause-tells : goal.returns-in_err-rows-clause-tells
+returns-in_err-rows-clause-tells g c =
+    let held = rw c.in_err-rows.was at c.query.follows.holds-at-none in
+    told_err_rows c.args.sql.now g.T.FromRow.kinds (state g.S.Store c.args.conn.now) (state g.S.Store c.query.follows.lender-at-none) _ c.from_residual.result c.from_residual.ensures.1
+    (λ clean up plain. query_stops c.args.sql.now g.T.FromRow.kinds (state g.S.Store c.args.conn.now) (state g.S.Store c.query.follows.lender-at-none) _ up plain (held.err clean))
+
+pub returns-in_err-row-clause-tells : goal.returns-in_err-row-clause-tells
+returns-in_err-row-clause-tells g c =
+    let moved = c.next.follows.holds-at-none in
+    let old = state g.S.Store c.args.conn.now in
+    let mid = state g.S.Store c.rows.rows.conn.now in
+    let now = state g.S.Store c.next.follows.lender-at-none.conn.now in
+    let inv = c.rows.invariant.3 in
+    let same : c.next.follows.lender-at-none.conn.now ≡ c.conn-in_err-row-1.given.0 = search rules in
+    rw (← same) (told_err_rows c.args.sql.now g.T.FromRow.kinds old now _ c.from_residual-in_err-row.result c.from_residual-in_err-row.ensures.1 (λ clean up plain.
+    let was = inv.2 plain (omega (arith, moved.survives.clean)) in
+    let fails = (rw c.in_err-row.was at (moved.err clean)) c.args.sql.now [] inv.0 was.0 in
+    let stops = query_stops c.args.sql.now g.T.FromRow.kinds mid now _ was.1.0.is_open (plain_now c.args.sql.now old mid was.1 plain) fails in
+    stops_before c.args.sql.now g.T.FromRow.kinds old mid now _ was.1 c.rows.invariant.1.limit c.rows.invariant.1.counts stops))
+
+pub returns-in_err-item-clause-tells : goal.returns-in_err-item-clause-tells
+returns-in_err-item-clause-tells g c =
+    let moved = c.next.follows.holds-at-none in
+    let old = state g.S.Store c.args.conn.now in
+    let now = c.next.follows.lender-at-none.conn.now in
+    let inv = c.rows.invariant.3 in
+    let same : c.next.follows.lender-at-none.conn.now ≡ c.conn-in_err-item-1.given.0 = search rules in
+    rw (← same) (told_err_rows c.args.sql.now g.T.FromRow.kinds old (state g.S.Store now) _ c.from_residual-in_err-item.result c.from_residual-in_err-item.ensures.1 (λ clean up plain.
+    let was = inv.2 plain (omega (arith, moved.survives.clean)) in
+    let given = (rw (c.in_ok-row.was, c.in-Some.is) at (moved.ok clean)) c.args.sql.now [] inv.0 was.0 in
+    let still = (rw (c.in_ok-row.was) at (moved.same clean)) in
+    misfit_stops c.args.sql.now g.T.FromRow.kinds old (state g.S.Store now) _ inv.0 c.in-Some.row.now (unchanged_then _ _ _ was.1 still)
+    (given_begin g.S.Store c.args.sql.now [] now (inv.0 ++ c.in-Some.row.now ∷ []) given) c.in_err-item.ensures.misfit))
+
+pub returns-in_default-clause-tells : goal.returns-in_default-clause-tells
+returns-in_default-clause-tells g c =
+    let moved = c.next.follows.holds-at-none in
+    let old = state g.S.Store c.args.conn.now in
+    let now = state g.S.Store c.next.follows.lender-at-none.conn.now in
+    let inv = c.rows.invariant.3 in
+    let same : c.next.follows.lender-at-none.conn.now ≡ c.conn-in_default-1.given.0 = search rules in
+    rw (← same) (told_ok_rows {X = Unit {0}} c.args.sql.now g.T.FromRow.kinds old now tt (λ clean plain.
+    let was = inv.2 plain (omega (arith, moved.survives.clean)) in
+    unchanged_then _ _ _ was.1 (rw (c.in_ok-row.was) at (moved.same clean))))

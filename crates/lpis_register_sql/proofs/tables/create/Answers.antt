@@ -1,5 +1,6 @@
 use Rattle.std.proofs.Common.{◌≡◌, arith, refl, rules, subst, sym, IsTrue}
 use Rattle.lpis_register_sql.proofs.Common.{state, HasCleanDisk, New, Whole, Leaves}
+use Rattle.lpis_register_sql.specs.Beside.{nothing}
 use Rattle.sqlite.proofs.Callers.{survives_begin}
 use Rattle.lpis_register_rows.specs.Content.{no_content}
 use Rattle.lpis_register_sql.specs.Commits.{LeavesMade}
@@ -15,7 +16,7 @@ returns-clause-made g c bare clean r =
     let late : HasCleanDisk new = search rules in
     let at_last : HasCleanDisk last = omega (arith, c.commit.ensures.survives.clean) in
     let begun = begun_bare g.S.Store c.args.conn.now first c.transaction-tx.ensures.begun r in
-    rw (← same) (commit_ok (Whole New) _ last new _ (c.in_ok-make_all.ensures.begun bare at_last _ begun) c.commit.result
+    rw (← same) (commit_ok (Whole (New nothing)) _ last new _ (c.in_ok-make_all.ensures.begun bare at_last _ begun) c.commit.result
     (c.commit.ensures.ok late))
 
 pub returns-clause-crash : goal.returns-clause-crash
@@ -30,7 +31,7 @@ returns-clause-crash g c =
     rw (← same) (crash_since_quiet old last new _ P quiet_since c.commit.ensures.survives (λ clean db is bare r.
     let at_last : HasCleanDisk last = omega (arith, c.commit.ensures.survives.clean) in
     let inside = c.in_ok-make_all.ensures.begun bare at_last _ (begun_bare g.S.Store c.args.conn.now first c.transaction-tx.ensures.begun r) in
-    subst (Leaves (Whole New) no_content) (sym is) (held_is_left (Whole New) last.now _ inside.holds)))
+    subst (Leaves (Whole (New nothing)) no_content) (sym is) (held_is_left (Whole (New nothing)) last.now _ inside.holds)))
 
 pub returns-clause-err : goal.returns-clause-err
 returns-clause-err g c bare clean up r =
@@ -44,4 +45,4 @@ returns-clause-err g c bare clean up r =
     let begun = begun_bare g.S.Store c.args.conn.now first c.transaction-tx.ensures.begun r in
     let inside = c.in_ok-make_all.ensures.begun bare at_last _ begun in
     let still : IsTrue new.is_open = search rules in
-    rw (← same) (bare_err (Whole New) _ old last new _ r inside refl still c.commit.result (c.commit.ensures.err late))
+    rw (← same) (bare_err (Whole (New nothing)) _ old last new _ r inside refl still c.commit.result (c.commit.ensures.err late))
