@@ -1,11 +1,11 @@
 -- What the matches of the command line say of a command.
-use Rattle.std.proofs.Common.{◌≡◌, ◌∙◌, sym, refl, true, List, ℕ, Option, Some, None, Bor, IfSome, option_map}
-use Rattle.clap.specs.Words.{Row, Text, first_of, found_of, is_simple, is_simple_and_free, rows_of, subcommand_name_of, subcommand_rows_of}
+use Rattle.std.proofs.Common.{◌≡◌, ◌∙◌, sym, refl, true, List, ℕ, Option, Some, None, Bor, IfSome, map, option_map}
+use Rattle.clap.specs.Words.{Row, Text, all_of, first_of, found_of, is_simple, is_simple_and_free, matched_of, raw_values, rows_of, subcommand_name_of, subcommand_rows_of}
 use Rattle.clap.specs.declared.parser.matches.ArgMatches.{ArgMatches}
 use Rattle.clap.specs.declared.parser.matches.ArgMatches.TheViews.{out-ArgMatches}
 use Rattle.clap.specs.Matches.{first_value}
-use Rattle.clap.proofs.WalkLemmas.{first_value-rows}
-use Rattle.lpis_commands.specs.Command.{IsCommand, IsNamedCommand, IsOption, command_line_app}
+use Rattle.clap.proofs.WalkLemmas.{first_value-rows, raw_values-rows}
+use Rattle.lpis_commands.specs.Command.{IsCommand, IsNamedCommand, IsOption, command_line_app, texts_of}
 use Rattle.lpis_commands.specs.declared.command.Cmd.{Cmd}
 use Rattle.clap.proofs.OnLiterals.{clap_on_literals}
 
@@ -28,6 +28,13 @@ option-found m id o e = sym (first_value-rows (found_of m) id) ∙ sym e
 pub word-found : (id : Text) (rows : List Row) (o : Option (Bor (List ℕ))) → IsOption id o rows → IfSome o (λ (word : Bor (List ℕ)). first_of id rows ≡ Some word.now)
 word-found id rows None e = tt
 word-found id rows (Some word) e = e
+
+-- all words of an argument, by the rows
+pub words-found : (m : ArgMatches) (id : Text) (o : Option (Bor (List (Bor Text))))
+    → option_map (λ (s : Bor (List (Bor Text))). map (λ (v : Bor Text). v.now) s.now) o ≡ option_map raw_values (matched_of (found_of m) id)
+    → IfSome o (λ (words : Bor (List (Bor Text))). all_of id (rows_of (found_of m)) ≡ Some (texts_of words))
+words-found m id None e = tt
+words-found m id (Some words) e = sym (raw_values-rows (found_of m) id) ∙ sym e
 
 -- a command by its name and rows
 command-is : (o : Option (Text × List Row)) (name : Text) (rows : List Row) (command : Cmd)

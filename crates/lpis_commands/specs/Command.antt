@@ -1,11 +1,11 @@
 -- The program's command line.
 use Rattle.std.specs.Prelude.{◌≡◌, ◌≤◌, ◌∷◌, [], ℕ, List, Option, Some, None, codes, fold}
-use Rattle.std.specs.Prelude.{option_map, true}
+use Rattle.std.specs.Prelude.{map, option_map, true}
 use Rattle.std.specs.Borrow.{Bor}
 use Rattle.std.specs.Str.Parse.{IsNumeral, digits_value, without_leading_plus}
-use Rattle.clap.specs.Words.{App, Row, Rule, Text, first_of, new_app, new_rule, with_rule}
-use Rattle.clap.specs.Words.{with_subcommand}
-use Rattle.clap.specs.declared.builder.ArgAction.TheVariants.{Set, SetTrue}
+use Rattle.clap.specs.Words.{App, Row, Rule, Text, all_of, first_of, new_app, new_rule}
+use Rattle.clap.specs.Words.{with_rule, with_subcommand}
+use Rattle.clap.specs.declared.builder.ArgAction.TheVariants.{Append, Set, SetTrue}
 use Rattle.clap.specs.declared.builder.value_parser.ValueParser.TheVariants.{Unsigned}
 use Rattle.lpis_commands.specs.declared.command.Cmd.{Cmd}
 use Rattle.lpis_commands.specs.declared.command.Cmd.TheVariants.{Area, Cut, Check, Country, Exact}
@@ -18,6 +18,10 @@ use Rattle.lpis_commands.specs.declared.command.Detail.TheVariants.{Parcels, Reg
 -- a required argument of one word
 abbrev pub word_rule : Text → Rule
 word_rule id = record (new_rule id) { required = true; action = Some Set }
+
+-- a required argument of one word or more
+abbrev pub words_rule : Text → Rule
+words_rule id = record (new_rule id) { required = true; action = Some Append }
 
 -- area FILE
 abbrev pub area_app : App
@@ -110,11 +114,11 @@ abbrev pub publish_country_app : App
 publish_country_app = with_rule (with_rule publish_country_dir_app (option_rule (codes "exact")))
     (flag_rule (codes "parcels"))
 
--- trace DB ID
+-- trace DB ID..
 abbrev pub trace_app : App
 trace_app =
     with_rule (with_rule (new_app (codes "trace")) (word_rule (codes "db")))
-    (word_rule (codes "id"))
+    (words_rule (codes "id"))
 
 -- a program with a version, which wants a command
 abbrev pub wanting_command : App → App
@@ -149,6 +153,10 @@ IsDetail Regions rows = first_of (codes "parcels") rows ≡ Some (codes "false")
 -- the option has this word, or none where it is not there
 abbrev pub IsOption : Text → Option (Bor Text) → List Row → Type 0
 IsOption id word rows = first_of id rows ≡ option_map (λ w. w.now) word
+
+-- the texts of words
+abbrev pub texts_of : Bor (List (Bor Text)) → List Text
+texts_of words = map (λ w. w.now) words.now
 
 -- the options of `publish-country`
 abbrev pub AreOptions : Option (Bor Text) → Detail → List Row → Type 0
@@ -186,9 +194,9 @@ IsNamedCommand (PublishCountry db year dir exact detail) name rows =
 IsNamedCommand (ExactCountry db dir file) name rows =
     (name ≡ codes "exact-country") × (first_of (codes "db") rows ≡ Some db.now)
     × (first_of (codes "dir") rows ≡ Some dir.now) × (first_of (codes "file") rows ≡ Some file.now)
-IsNamedCommand (Trace db id) name rows =
+IsNamedCommand (Trace db ids) name rows =
     (name ≡ codes "trace") × (first_of (codes "db") rows ≡ Some db.now)
-    × (first_of (codes "id") rows ≡ Some id.now)
+    × (all_of (codes "id") rows ≡ Some (texts_of ids))
 
 -- the command is the one that the words name, with its words
 abbrev pub IsCommand : Cmd → Option (Text × List Row) → Type 0

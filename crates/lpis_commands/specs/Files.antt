@@ -2,6 +2,7 @@
 use Rattle.std.specs.Prelude.{◌≡◌, ◌∷◌, [], ◌++◌, ⊤, ℕ, List, Option, Some, None, codes}
 use Rattle.std.specs.Prelude.{string_bytes}
 use Rattle.std.specs.Borrow.{Bor}
+use Rattle.lpis_commands.specs.Command.{texts_of}
 use Rattle.lpis_commands.specs.declared.command.Cmd.{Cmd}
 use Rattle.lpis_commands.specs.declared.command.Cmd.TheVariants as cmd
 use Rattle.lpis_commands.specs.declared.failure.Name.{Name}
@@ -67,7 +68,7 @@ files_of (cmd.PublishCountry db year dir exact detail) =
     country_file dir.now ∷ classes_file dir.now ∷ cert_at exact
 files_of (cmd.ExactCountry db dir file) =
     country_file dir.now ∷ classes_file dir.now ∷ (file.now, Cert) ∷ []
-files_of (cmd.Trace db id) = []
+files_of (cmd.Trace db ids) = []
 
 -- ---- what is seen of files
 abbrev pub shown_file : NamedFile → List ℕ × Name
@@ -101,10 +102,10 @@ listed (files.PublishCountry db year dir country classes exact detail) =
     shown_file country ∷ shown_file classes ∷ option_listed exact
 listed (files.ExactCountry db dir country classes file) =
     shown_file country ∷ shown_file classes ∷ shown_file file ∷ []
-listed (files.Trace db id) = []
+listed (files.Trace db ids) = []
 
--- the files are those of the same command; and the register with the year or the identifier, or the
--- folder with what is printed of it, are the command's
+-- the files are those of the same command; and the register with the year or the identifiers, or
+-- the folder with what is printed of it, are the command's
 abbrev pub HasWords : Cmd → CommandFiles → Type 0
 HasWords (cmd.Area file) (files.Area table) = ⊤
 HasWords (cmd.Cut dir cert) (files.Cut tables c) = ⊤
@@ -121,5 +122,5 @@ HasWords (cmd.PublishCountry db year dir exact detail)
     (d.now ≡ db.now) × (y ≡ year) × (f.now ≡ dir.now) × (e ≡ detail)
 HasWords (cmd.ExactCountry db dir file) (files.ExactCountry d f country classes i) =
     (d.now ≡ db.now) × (f.now ≡ dir.now)
-HasWords (cmd.Trace db id) (files.Trace d i) = (d.now ≡ db.now) × (i.now ≡ id.now)
+HasWords (cmd.Trace db ids) (files.Trace d i) = (d.now ≡ db.now) × (texts_of i ≡ texts_of ids)
 HasWords _ _ = ⊥

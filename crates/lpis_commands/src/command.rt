@@ -1,10 +1,10 @@
 //! The commands, and the one that the words of a command line ask for.
 
 ghost use Rattle.std.specs.Prelude.{◌≡◌, IfOk, IfSome, Some, codes, map};
-ghost use Rattle.clap.specs.Words.{FailsBy, Text, fault_of, first_of, found_of, rows_of};
+ghost use Rattle.clap.specs.Words.{FailsBy, Text, all_of, fault_of, first_of, found_of, rows_of};
 ghost use Rattle.clap.specs.Words.{subcommand_of, subcommand_rows_of};
 ghost use Rattle.lpis_commands.specs.Command.{IsCommand, IsDetail, IsNamedCommand, IsOption};
-ghost use Rattle.lpis_commands.specs.Command.{IsYearWord, command_line_app};
+ghost use Rattle.lpis_commands.specs.Command.{IsYearWord, command_line_app, texts_of};
 
 use crate::command_line::command_line;
 use clap::{ArgMatches, Error};
@@ -108,12 +108,12 @@ pub enum Cmd<'a> {
         /// The path at which the certificate with these blocks is written.
         file: &'a str,
     },
-    /// What became of an identifier.
+    /// What became of identifiers.
     Trace {
         /// The register's path.
         db: &'a str,
-        /// The word that is to be an identifier.
-        id: &'a str,
+        /// The words that are to be identifiers, in their order.
+        ids: &'a [&'a str],
     },
 }
 
@@ -130,6 +130,14 @@ fn word_of<'a>(matches: &ArgMatches<'a>, id: &str) -> Option<&'a str>
         word.now) }
 {
     option_of(matches, id)
+}
+
+/// All words of an argument, in their order.
+fn words_of<'m, 'a>(matches: &'m ArgMatches<'a>, id: &str) -> Option<&'m [&'a str]>
+    ensures { IfSome result (λ words. all_of id.now (rows_of (found_of matches.now)) ≡ Some
+        (texts_of words)) }
+{
+    matches.get_strs(id)
 }
 
 /// The year of an argument. Another number is none: `clap` lets no other through.
@@ -247,17 +255,17 @@ fn exact_country_named<'a>(matches: &ArgMatches<'a>) -> Option<Cmd<'a>>
 }
 
 /// `trace` with its words.
-fn trace_named<'a>(matches: &ArgMatches<'a>) -> Option<Cmd<'a>>
+fn trace_named<'m, 'a>(matches: &'m ArgMatches<'a>) -> Option<Cmd<'m>>
     ensures { IfSome result (λ c. IsNamedCommand c (codes "trace")
         (rows_of (found_of matches.now))) }
 {
     let db = word_of(matches, "db")?;
-    let id = word_of(matches, "id")?;
-    Some(Cmd::Trace { db, id })
+    let ids = words_of(matches, "id")?;
+    Some(Cmd::Trace { db, ids })
 }
 
 /// The command of this name, with its words.
-fn command_named<'a>(name: &str, matches: &ArgMatches<'a>) -> Option<Cmd<'a>>
+fn command_named<'m, 'a>(name: &str, matches: &'m ArgMatches<'a>) -> Option<Cmd<'m>>
     ensures { IfSome result (λ c. IsNamedCommand c name.now
         (rows_of (found_of matches.now))) }
 {
@@ -289,28 +297,34 @@ fn command_named<'a>(name: &str, matches: &ArgMatches<'a>) -> Option<Cmd<'a>>
 }
 
 /// The command that accepted words ask for.
-fn command_in<'a>(matches: &ArgMatches<'a>) -> Option<Cmd<'a>>
+fn command_in<'m, 'a>(matches: &'m ArgMatches<'a>) -> Option<Cmd<'m>>
     ensures { IfSome result (λ c. IsCommand c (subcommand_rows_of matches.now)) }
 {
     let (name, inner) = matches.subcommand()?;
     command_named(name, inner)
 }
 
-/// The command that the words ask for, the program's name being the first of them.
+/// What `clap` makes of the words, the program's name being the first of them: the command that
+/// `command_of` finds in it.
 ///
 /// The error has `clap`'s text and exit code; out of memory is its kind `OutOfMemory`.
-pub fn command_of<'a>(alloc: Global, words: &'a [&'a str]) -> Result<Cmd<'a>, Error>
-    ensures command { IfOk result
-        (λ c. IsCommand c (subcommand_of command_line_app (map (λ s. s.now) words.entry.now))) }
+pub fn matches_of<'a>(alloc: Global, words: &'a [&'a str]) -> Result<ArgMatches<'a>, Error>
+    ensures matches { IfOk result (λ m. subcommand_rows_of m
+        ≡ subcommand_of command_line_app (map (λ s. s.now) words.entry.now)) }
     ensures kinds { FailsBy (fault_of command_line_app (map (λ s. s.now) words.entry.now)) result }
 {
     let mut line = command_line(alloc)?;
-    match line.try_get_matches_from_mut(words) {
-        Ok(matches) => match command_in(&matches) {
-            Some(command) => Ok(command),
-            // No accepted line comes here: a command and its words are required.
-            None => Err(Error::from(AllocError)),
-        },
-        Err(error) => Err(error),
+    line.try_get_matches_from_mut(words)
+}
+
+/// The command that the words of these matches ask for. The identifiers of `trace` are lent by the
+/// matches, so that a command is small and owns nothing.
+pub fn command_of<'m, 'a>(matches: &'m ArgMatches<'a>) -> Result<Cmd<'m>, AllocError>
+    ensures { IfOk result (λ c. IsCommand c (subcommand_rows_of matches.now)) }
+{
+    match command_in(matches) {
+        Some(command) => Ok(command),
+        // No accepted line comes here: a command and its words are required.
+        None => Err(AllocError),
     }
 }

@@ -9,7 +9,8 @@ ghost use Rattle.lpis_commands.specs.Command.{locate_app, locate_country_app, lo
 ghost use Rattle.lpis_commands.specs.Command.{option_rule, program_app, publish_app};
 ghost use Rattle.lpis_commands.specs.Command.{publish_country_app, publish_country_dir_app};
 ghost use Rattle.lpis_commands.specs.Command.{publish_country_year_app, publish_year_app};
-ghost use Rattle.lpis_commands.specs.Command.{trace_app, with_command, word_rule, year_rule};
+ghost use Rattle.lpis_commands.specs.Command.{trace_app, with_command, word_rule, words_rule};
+ghost use Rattle.lpis_commands.specs.Command.{year_rule};
 ghost use Rattle.lpis_commands.specs.private.Commands.{IsCommandOf};
 
 use clap::builder::ValueParser;
@@ -33,6 +34,15 @@ fn word_argument<'a>(alloc: Global, id: &'a str, text: &'a str) -> Arg<'a>
     ensures local { result.global ≡ false }
 {
     let argument = Arg::new(alloc, id).required(true).action(ArgAction::Set);
+    described(argument, text)
+}
+
+/// A required argument of one word or more, with the text that help has for it.
+fn words_argument<'a>(alloc: Global, id: &'a str, text: &'a str) -> Arg<'a>
+    ensures rule { rule_of result ≡ words_rule id.entry.now }
+    ensures local { result.global ≡ false }
+{
+    let argument = Arg::new(alloc, id).required(true).action(ArgAction::Append);
     described(argument, text)
 }
 
@@ -308,16 +318,16 @@ fn publish_country_command<'a>(alloc: Global) -> Result<Command<'a>, AllocError>
         .arg(parcels)
 }
 
-/// `trace DB ID`.
+/// `trace DB ID..`.
 fn trace_command<'a>(alloc: Global) -> Result<Command<'a>, AllocError>
     ensures { IfOk result (λ c. IsCommandOf trace_app c) }
 {
     let db = db_argument(alloc);
-    let id = word_argument(alloc, "id", "The identifier of a parcel of any release");
+    let ids = words_argument(alloc, "id", "The identifier of a parcel of any release");
     Command::new(alloc, "trace")
         .about("Prints the parcels of the last release that came of an earlier one")
         .arg(db)?
-        .arg(id)
+        .arg(ids)
 }
 
 /// The program, before its commands: it has a version, and one of the commands has to be there.

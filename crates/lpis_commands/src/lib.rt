@@ -32,7 +32,7 @@ pub use areas::{Areas, areas_of, print_areas};
 pub use check::{
     InputBytes, cert_in, checked_release, read_inputs, refuse_cert, refuse_text, run_check,
 };
-pub use command::{Cmd, Detail, command_of};
+pub use command::{Cmd, Detail, command_of, matches_of};
 pub use cut::run_cut;
 pub use cut_line::{print_counts, print_refusal};
 pub use failure::{Failure, Name, print_failure};

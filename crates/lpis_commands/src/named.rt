@@ -158,8 +158,8 @@ pub enum CommandFiles<'a> {
     Trace {
         /// The path of the register.
         db: &'a str,
-        /// The word that is to be an identifier.
-        id: &'a str,
+        /// The words that are to be identifiers, in their order.
+        ids: &'a [&'a str],
     },
 }
 
@@ -329,6 +329,6 @@ pub fn named_files<'a>(alloc: Global, command: Cmd<'a>) -> Result<CommandFiles<'
             classes: classes_in(alloc, dir)?,
             file: file_at(alloc, file, Name::Cert)?,
         }),
-        Cmd::Trace { db, id } => Ok(CommandFiles::Trace { db, id }),
+        Cmd::Trace { db, ids } => Ok(CommandFiles::Trace { db, ids }),
     }
 }
