@@ -16,7 +16,7 @@ use countries::{check_country, fill_country, locate_in_country, publish_country}
 use created::Created;
 use lpis_commands::{
     Cmd, CommandFiles, Detail, Failure, Name, NamedFile, SubmissionFiles, TableFiles, command_of,
-    named_files, print_failure, run_area, run_check, run_cut, status_of, usage_ends,
+    matches_of, named_files, print_failure, run_area, run_check, run_cut, status_of, usage_ends,
 };
 use lpis_locate::run_locate;
 use lpis_publishing::{refuse_register, run_exact, run_publish, run_trace};
@@ -67,8 +67,8 @@ fn run_texts(rt: &HostRuntime, words: &[String]) -> Result<u8, Failure> {
     for word in words {
         texts.push(word.as_str())?;
     }
-    match command_of(alloc, texts.as_slice()) {
-        Ok(command) => perform(rt, command),
+    match matches_of(alloc, texts.as_slice()) {
+        Ok(matches) => perform(rt, command_of(&matches)?),
         Err(error) => tell(rt, &error),
     }
 }
@@ -172,7 +172,7 @@ fn perform_on(rt: &HostRuntime, files: &CommandFiles<'_>) -> Result<u8, Failure>
                 detail: *detail,
             },
         ),
-        CommandFiles::Trace { db, id } => in_register(rt, db, Job::Trace { id }),
+        CommandFiles::Trace { db, ids } => in_register(rt, db, Job::Trace { ids }),
     }
 }
 
@@ -241,9 +241,9 @@ enum Job<'a> {
         exact: &'a Option<NamedFile>,
         detail: Detail,
     },
-    /// An identifier is followed.
+    /// Identifiers are followed.
     Trace {
-        id: &'a str,
+        ids: &'a [&'a str],
     },
 }
 
@@ -285,7 +285,7 @@ fn work<S: Alter>(
             exact,
             detail,
         } => publish_country(rt, register, year, dir, country, classes, exact, detail),
-        Job::Trace { id } => run_trace(rt.alloc(), register, id, &mut rt.stdout()),
+        Job::Trace { ids } => run_trace(rt.alloc(), register, ids, &mut rt.stdout()),
     }
 }
 

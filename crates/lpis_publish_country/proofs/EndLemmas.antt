@@ -13,7 +13,7 @@ use Rattle.lpis_country_plan.specs.Tree.{Tree, folders}
 use Rattle.lpis_lineage.specs.declared.row.Row.{Row}
 use Rattle.lpis_register.specs.Failing.{FailsToStore}
 use Rattle.lpis_commands.specs.CheckAnswer.{Answer}
-use Rattle.lpis_commands.specs.Status.{done, refused}
+use Rattle.lpis_commands.specs.Status.{done}
 use Rattle.lpis_commands.specs.Streams.{Begins}
 use Rattle.lpis_commands.specs.declared.answer.Answer.{Answer as Printed}
 use Rattle.lpis_commands.specs.declared.command.Detail.{Detail}
@@ -63,13 +63,13 @@ is_same old = record { history = refl; shapes = refl }
 
 -- it holds what it held
 pub stays_same : {S : Type 0} (store : Ghosts S) (old : RegisterState S) (r : Result ℕ Failure) → Stays r (state store old.conn) old.history old.shapes (state store old.conn) old.history old.shapes
-stays_same store old (Ok status) = record { holds = λ clean opened held. held; served = λ other clean held. held }
-stays_same store old (Err failure) = record { holds = λ clean opened held. held; served = λ other clean held. held }
+stays_same store old (Ok status) = record { holds = λ clean opened o held. held; served = λ other clean o held. held }
+stays_same store old (Err failure) = record { holds = λ clean opened o held. held; served = λ other clean o held. held }
 
 -- a call that refuses leaves it so
 pub leaves_same : {S : Type 0} (store : Ghosts S) (old : RegisterState S) (a : Printed)
     → PublishLeaves (Ok a) (state store old.conn) old.history old.shapes (state store old.conn) old.history old.shapes
-leaves_same store old a = record { same = λ other. (refl, refl); failure = tt; stored = record { holds = λ clean opened held. held; served = λ other clean held. held } }
+leaves_same store old a = record { same = λ other. (refl, refl); failure = tt; stored = record { holds = λ clean opened o held. held; served = λ other clean o held. held } }
 
 -- ---- the union
 module _ {S : Type 0} (store : Ghosts S) (year : ℕ) (g : Setting) (regions : List Contents) (blocks : List ExactBlock) (tables : List (List Row)) (old new : RegisterState S) where

@@ -39,7 +39,7 @@ use Rattle.lpis_country_run.specs.declared.failure.CountryFailure.{CountryFailur
 use Rattle.lpis_publishing.specs.ExactAnswer.{IsBlocksAnswer, IsBlocksOutcome}
 use Rattle.lpis_publish_country.specs.CountryLineage.{country_refusal_text, rows_in}
 use Rattle.lpis_publish_country.specs.ExactCountryAnswer.{FillHalts, FillsCountry, FillsRegions, HasNoParts, IsFillAnswer, IsFillEnd, IsFillOutcome}
-use Rattle.lpis_publish_country.specs.ExactCountryAnswer.{RunsExactCountry, behind}
+use Rattle.lpis_publish_country.specs.ExactCountryAnswer.{RunsExactCountry}
 use Rattle.lpis_publish_country.specs.PublishCountryAnswer.{AreBlocksOf, AreSaid, AreTopRead, CountryFiles, IsExactRead, IsRefusedBefore, PublishCountryInputs}
 use Rattle.lpis_publish_country.specs.PublishCountryRuns.{IsPublishPart, IsUnreadLineage}
 use Rattle.lpis_publish_country.specs.declared.inputs.Prepared.{Prepared}

@@ -5,7 +5,7 @@ use Rattle.std.specs.Prelude.{length}
 use Rattle.lpis_covers.specs.declared.class.Class.{Class}
 use Rattle.lpis_covers.specs.Classes.{classes_table}
 use Rattle.lpis_covers.specs.Faults.{rows_of}
-use Rattle.lpis_parcels.specs.Release.{Contents, parcel_ids}
+use Rattle.lpis_parcels.specs.Release.{Contents}
 use Rattle.lpis_cert.specs.declared.cert.Cert.{Cert}
 use Rattle.lpis_cert.specs.declared.part.ExactBlock.{ExactBlock}
 use Rattle.lpis_cert.specs.Contents.{IsCertText}
@@ -17,7 +17,6 @@ use Rattle.lpis_country_plan.specs.CountryText.{IsCountryText}
 use Rattle.lpis_country_plan.specs.Tree.{Tree, folders}
 use Rattle.lpis_lineage.specs.declared.row.Entry.{Entry}
 use Rattle.lpis_lineage.specs.declared.row.Row.{Row}
-use Rattle.lpis_lineage.specs.Lineage.{last_live}
 use Rattle.lpis_register_rows.specs.Shapes.{Shape}
 use Rattle.lpis_exact_lineage.specs.Asking.{IsShown}
 use Rattle.lpis_register.specs.Faults.{IsRefused, IsSetAside}
@@ -30,8 +29,7 @@ use Rattle.lpis_country_run.specs.CountryAnswer.{IsPlanAnswer, IsReachedBy, IsRe
 use Rattle.lpis_country_run.specs.CountryAnswer.{Setting, setting_of}
 use Rattle.lpis_country_run.specs.CountryLines.{country_lines}
 use Rattle.lpis_country_run.specs.Regions.{AreCountryRead, AreRegionsOf, CountryInputs, Texts}
-use Rattle.lpis_publishing.specs.LineageLines.{dropped_lines, published_line}
-use Rattle.lpis_publishing.specs.Publication.{IsReleasePublished}
+use Rattle.lpis_publishing.specs.Publication.{IsReleasePublished, publication_text}
 use Rattle.lpis_publish_country.specs.CountryLineage.{AreTablesOf, AreTablesRefused}
 use Rattle.lpis_publish_country.specs.CountryLineage.{country_refusal_text, rows_in}
 
@@ -107,14 +105,12 @@ module _ (year : ℕ) (blocks : List ExactBlock) (tables : List (List Row)) (h :
     pub shown : IsShown h s (country_of g.classes regions) blocks (rows_in tables)
     pub published : IsReleasePublished (country_of g.classes regions) (rows_in tables) year h s k t
 
-  -- what is printed of it behind the lines of its regions: the line of the country and the yes, the
-  -- line of each identifier that it drops, and its year
+  -- what is printed of it behind the lines of its regions: as of a release, behind the line of the
+  -- country and the yes
   abbrev pub country_publication_text : Setting → List Contents → List ℕ
   country_publication_text g regions =
       let union = country_of g.classes regions in
-      country_lines (length regions) union
-      ++ dropped_lines (last_live h) (parcel_ids union.parcels) (rows_in tables)
-      ++ published_line year
+      publication_text (country_lines (length regions) union) h year union (rows_in tables)
 
   -- of the regions of all folders: the line of what the register refuses, in its order; or what is
   -- printed of their union, which was published

@@ -5,3 +5,4 @@ pub mod MarkedLemmas
 pub mod PublishLemmas
 pub mod RunLemmas
 pub mod SubmissionLemmas
+pub mod TraceLemmas

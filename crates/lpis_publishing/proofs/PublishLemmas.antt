@@ -137,21 +137,22 @@ published-of x year r c rows h s k t said sound good published =
 
 -- ---- what a call leaves
 -- the database holds what was made of the register
-pub leaves-committed : (a : Answered) (old new : State) (h k : List Entry) (s t : List Shape) → a.status ≡ done → (HasCleanDisk new → HoldsRegister old h s → HoldsRegister new k t)
+pub leaves-committed : (a : Answered) (old new : State) (h k : List Entry) (s t : List Shape) → a.status ≡ done
+    → (HasCleanDisk new → (o : _) → HoldsRegister o old h s → HoldsRegister o new k t)
     → PublishLeaves (Ok a) old h s new k t
 leaves-committed a old new h k s t is held =
     record { same = λ other. absurd (other is); failure = tt; stored = record { holds = λ clean opened. held clean; served = λ other. held } }
 
 -- or what it held
 pub leaves-kept : (failure : Failure) (old new : State) (h k : List Entry) (s t : List Shape) → IsMemoryOrStore failure → (k ≡ h) × (t ≡ s)
-    → (HasCleanDisk new → IsTrue new.is_open → HoldsRegister old h s → HoldsRegister new k t)
-    → ((IsStoreFailure failure → ⊥) → HoldsRegister old h s → HoldsRegister new k t) → PublishLeaves (Err failure) old h s new k t
+    → (HasCleanDisk new → IsTrue new.is_open → (o : _) → HoldsRegister o old h s → HoldsRegister o new k t)
+    → ((IsStoreFailure failure → ⊥) → (o : _) → HoldsRegister o old h s → HoldsRegister o new k t) → PublishLeaves (Err failure) old h s new k t
 leaves-kept failure old new h k s t stopped kept opened served =
     record { same = tt; failure = (stopped, kept.0, kept.1); stored = record { holds = opened; served = λ other clean. served other } }
 
 -- a database left as it was holds the history and the shapes, where they are left too
-pub still-held : (old new : State) (h k : List Entry) (s t : List Shape) → new ≡ old → (k ≡ h) × (t ≡ s) → HoldsRegister old h s → HoldsRegister new k t
-still-held old new h k s t same kept held = rw (same, kept.0, kept.1) held
+pub still-held : (o : _) (old new : State) (h k : List Entry) (s t : List Shape) → new ≡ old → (k ≡ h) × (t ≡ s) → HoldsRegister o old h s → HoldsRegister o new k t
+still-held o old new h k s t same kept held = rw (same, kept.0, kept.1) held
 
 -- ---- why the database failed
 -- that the database ran out of memory is not that it failed

@@ -60,7 +60,7 @@ module _ {S : Type 0} (g : Ghosts S) (year : ℕ) (given : Readers) where
   runs-unread old out failure unread = record {
     answer = tt;
     failure = inr (inl unread, refl, refl, Keeps-refl out);
-    stored = record { holds = λ clean opened held. held; served = λ other clean held. held };
+    stored = record { holds = λ clean opened o held. held; served = λ other clean o held. held };
     cause = λ is. absurd (unread-no-store given failure unread is);
   }
 

@@ -26,18 +26,19 @@ use Rattle.lpis_publishing.specs.LineageLines.{dropped_lines, published_line}
 use Rattle.lpis_publishing.specs.Stored.{IsStoreFailure, Stays}
 
 -- ---- text and status
+-- what is printed of a release that was published after a history: this text before it, the line of
+-- each identifier that it drops, and its year
+abbrev pub publication_text : List ℕ → List Entry → ℕ → Contents → List Row → List ℕ
+publication_text head h year r rows =
+    head ++ dropped_lines (last_live h) (parcel_ids r.parcels) rows ++ published_line year
+
 -- of a history with kept shapes, a year, a release with these blocks of its certificate, and rows
--- of lineage: it may follow, and what is printed is this text, the line of each identifier that it
--- drops, and its year
+-- of lineage: it may follow, and that is printed of it
 pub record IsPublicationAnswer (head : List ℕ) (h : List Entry) (s : List Shape) (year : ℕ)
     (r : Contents) (blocks : List ExactBlock) (rows : List Row) (a : Answer) : Type 0 where
   pub later : last_year h < year
   pub shown : IsShown h s r blocks rows
-  pub told : a ≡ (
-    head ++ dropped_lines (last_live h) (parcel_ids r.parcels) rows
-        ++ published_line year,
-    done,
-  )
+  pub told : a ≡ (publication_text head h year r rows, done)
 
 -- ---- the register after
 -- the rows give an identifier a written ending, or successors, each of which is in the release

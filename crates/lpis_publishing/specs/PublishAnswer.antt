@@ -6,13 +6,13 @@ use Rattle.std.specs.Io.KnownBytes.{Appends, Keeps}
 use Rattle.sqlite.specs.Held.{state}
 use Rattle.sqlite_trees.specs.declared.store.Store.{Ghosts}
 use Rattle.lpis_covers.specs.Faults.{rows_of}
-use Rattle.lpis_parcels.specs.Release.{Contents, parcel_ids}
+use Rattle.lpis_parcels.specs.Release.{Contents}
 use Rattle.lpis_cert.specs.declared.cert.Cert.{Cert}
 use Rattle.lpis_checker.specs.GoodCertificate.{IsGood}
 use Rattle.lpis_checker.specs.SoundMap.{IsSoundMap}
 use Rattle.lpis_lineage.specs.declared.row.Entry.{Entry}
 use Rattle.lpis_lineage.specs.declared.row.Row.{Row}
-use Rattle.lpis_lineage.specs.Lineage.{last_live, last_year}
+use Rattle.lpis_lineage.specs.Lineage.{last_year}
 use Rattle.lpis_lineage.specs.LineageTable.{lineage_table}
 use Rattle.lpis_register_rows.specs.Shapes.{Shape}
 use Rattle.lpis_exact_lineage.specs.Asking.{IsShown}
@@ -26,19 +26,13 @@ use Rattle.lpis_commands.specs.declared.failure.Name.TheVariants.{Out}
 use Rattle.lpis_commands.specs.Report.{report_text}
 use Rattle.lpis_commands.specs.Status.{done, refused}
 use Rattle.lpis_commands.specs.Streams.{Begins}
-use Rattle.lpis_publishing.specs.LineageLines.{dropped_lines, publish_refusal_text, published_line}
-use Rattle.lpis_publishing.specs.Publication.{IsReleasePublished}
+use Rattle.lpis_publishing.specs.LineageLines.{publish_refusal_text}
+use Rattle.lpis_publishing.specs.Publication.{IsReleasePublished, publication_text}
 use Rattle.lpis_publishing.specs.Stored.{RegisterState, IsStoreFailure, Stays}
 use Rattle.lpis_publishing.specs.Submission.{AreAllRead, Readers, IsSubmissionAnswer, IsSubmitted}
 use Rattle.lpis_publishing.specs.Submission.{IsUnreadSubmission, Submission}
 
 -- ---- text and status
--- what is printed of a release that was published after a history: the report of the check, the
--- line of each identifier that it drops, and its year
-abbrev pub publication_text : List Entry → ℕ → Contents → List Row → List ℕ
-publication_text h year r rows =
-    report_text r ++ dropped_lines (last_live h) (parcel_ids r.parcels) rows ++ published_line year
-
 -- of a history with kept shapes, a year, a release with a good certificate and rows of lineage: the
 -- line of what the register refuses, in its order, or what is printed of a release that was
 -- published
@@ -48,7 +42,7 @@ IsHistoryAnswer h s year r c rows a =
     ((fault : PublishFault) × IsRefused h s year r c.exact rows fault × (IsSetAside fault → ⊥)
     × (a ≡ (publish_refusal_text fault, refused)))
     ⊎ ((last_year h < year) × IsShown h s r c.exact rows
-    × (a ≡ (publication_text h year r rows, done)))
+    × (a ≡ (publication_text (report_text r) h year r rows, done)))
 
 -- the answer to what is to be published in a year after a history with kept shapes: faults of the
 -- tables and texts come first, then those of the certificate

@@ -22,10 +22,11 @@ abbrev pub IsStoreFailure : Failure → Type 0
 IsStoreFailure failure = (failure ≡ Store) ⊎ (failure ≡ StoreMemory)
 
 -- a database that held the history `h` with the shapes `s` holds `k` with `t` after a call that
--- ended so, if its disk kept what was written: as long as it is open, and, unless it is the
--- database that failed, open or not
+-- ended so, and behind its tables what stood there, if its disk kept what was written: as long as
+-- it is open, and, unless it is the database that failed, open or not
 pub record Stays {A : Type 0} (result : Result A Failure) (old : State) (h : List Entry)
     (s : List Shape) (new : State) (k : List Entry) (t : List Shape) : Type 0 where
-  pub holds : HasCleanDisk new → IsTrue new.is_open → HoldsRegister old h s → HoldsRegister new k t
+  pub holds : HasCleanDisk new → IsTrue new.is_open → (o : _) → HoldsRegister o old h s
+      → HoldsRegister o new k t
   pub served : IfErr result (λ failure. IsStoreFailure failure → ⊥) → HasCleanDisk new
-      → HoldsRegister old h s → HoldsRegister new k t
+      → (o : _) → HoldsRegister o old h s → HoldsRegister o new k t

@@ -1,5 +1,6 @@
--- The answer to a word that is followed through a history: text and status.
-use Rattle.std.specs.Prelude.{◌≡◌, ◌⊎◌, ◌++◌, false, ℕ, List, Option, codes}
+-- The answer to words that are followed through a history: text and status.
+use Rattle.std.specs.Prelude.{◌≡◌, ◌⊎◌, ◌++◌, ◌∷◌, ◌==◌, [], false, ℕ, List, Option, codes}
+use Rattle.std.specs.Prelude.{if◌then◌else◌}
 use Rattle.std.specs.List.{flat_map}
 use Rattle.std.specs.Io.KnownBytes.{Appends, Keeps}
 use Rattle.lpis_covers.specs.Ids.{is_id}
@@ -26,13 +27,34 @@ IsTraceAnswer h word a =
     × (a ≡ (publish_refusal_text publish.Unknown, refused)))
     ⊎ ((ids : List (List ℕ)) × IsTrace h word ids × (a ≡ (flat_map id_line ids, done)))
 
+-- the line before the answer to a word that is one of several
+abbrev pub trace_line : List ℕ → List ℕ
+trace_line word = codes "trace " ++ word ++ codes "\n"
+
+-- of two statuses: done where both are, else the first that is not
+abbrev pub status_of_both : ℕ → ℕ → ℕ
+status_of_both first next = if first == done then next else first
+
+-- the answers to words, in their order, each after the line of its word: done where each of them is
+abbrev pub AreTraceAnswers : List Entry → List (List ℕ) → Answer → Type 0
+AreTraceAnswers h [] a = a ≡ ([], done)
+AreTraceAnswers h (word ∷ words) a = (first next : Answer) × IsTraceAnswer h word first
+    × AreTraceAnswers h words next
+    × (a ≡ (trace_line word ++ first.0 ++ next.0, status_of_both first.1 next.1))
+
+-- one word's answer alone, or those of several
+abbrev pub IsWholeTrace : List Entry → List (List ℕ) → Answer → Type 0
+IsWholeTrace h (word ∷ []) a = IsTraceAnswer h word a
+IsWholeTrace h words a = AreTraceAnswers h words a
+
 -- the run answered with this status, and wrote the text
-abbrev pub Traces : List Entry → List ℕ → ℕ → Option (List ℕ) → Option (List ℕ) → Type 0
-Traces h word status old new = (text : List ℕ) × IsTraceAnswer h word (text, status)
+abbrev pub Traces : List Entry → List (List ℕ) → ℕ → Option (List ℕ) → Option (List ℕ) → Type 0
+Traces h words status old new = (text : List ℕ) × IsWholeTrace h words (text, status)
     × Appends old new text
 
 -- the run gave no answer: the output failed after a beginning of it, or memory ran out
-abbrev pub TraceHalts : Failure → List Entry → List ℕ → Option (List ℕ) → Option (List ℕ) → Type 0
-TraceHalts failure h word old new =
-    ((a : Answer) × IsTraceAnswer h word a × (failure ≡ Write Out) × Begins old new a.0)
+abbrev pub TraceHalts : Failure → List Entry → List (List ℕ) → Option (List ℕ) → Option (List ℕ)
+    → Type 0
+TraceHalts failure h words old new =
+    ((a : Answer) × IsWholeTrace h words a × (failure ≡ Write Out) × Begins old new a.0)
     ⊎ ((failure ≡ Memory) × Keeps old new)

@@ -1,8 +1,8 @@
 //! The runs over a register: the publication of a release, the blocks that its marked rows ask for,
-//! and the trace of an identifier.
+//! and the trace of identifiers.
 //!
-//! The layer above may cite: the same of `publish`, `exact` and `trace`, over any register; and of a
-//! release that was accepted, whichever run accepted it.
+//! The layer above may cite: the same of `publish`, `exact` and `trace`, over any register; and of
+//! a release that was accepted, whichever run accepted it.
 //! Begin at `specs/PublishAnswer.antt`, then `src/publish.rt`.
 #![tactic(auto)]
 

@@ -1,10 +1,12 @@
 //! The run of `trace`, over any register and writer.
 
-ghost use Rattle.std.specs.Prelude.{◌≡◌, IfErr, IfOk, OnOk};
+ghost use Rattle.std.specs.Prelude.{◌≡◌, ◌++◌, IfErr, IfOk, List, OnOk, map, ℕ};
 ghost use Rattle.std.specs.Io.KnownBytes.{Appends};
 ghost use Rattle.std.specs.List.{flat_map};
 ghost use Rattle.lpis_commands.specs.Status.{done};
-ghost use Rattle.lpis_publishing.specs.TraceAnswer.{TraceHalts, IsTraceAnswer, Traces, id_line};
+ghost use Rattle.lpis_publishing.specs.TraceAnswer.{AreTraceAnswers, IsTraceAnswer, IsWholeTrace};
+ghost use Rattle.lpis_publishing.specs.TraceAnswer.{TraceHalts, Traces, id_line, status_of_both};
+ghost use Rattle.lpis_publishing.specs.TraceAnswer.{trace_line};
 
 use crate::lineage_lines::refuse;
 use lpis_commands::{Answer, DONE, Failure, PrintFault, REFUSED};
@@ -66,24 +68,84 @@ fn answer_to<S: Alter>(
     }
 }
 
+/// Adds the answer to a word, after the word's line. Ok is its status.
+fn add_answer<S: Alter>(
+    alloc: Global,
+    register: &Register<S>,
+    word: &str,
+    text: &mut Vec<u8>,
+) -> Result<u8, AllocError>
+    ensures { IfOk result (λ status. (said : List ℕ)
+        × IsTraceAnswer register.now.history word.now (said, status)
+        × (text.new.items ≡ text.old.items ++ trace_line word.now ++ said)) }
+{
+    let answer = answer_to(alloc, register, word)?;
+    text.extend_from_slice(b"trace ")?;
+    text.extend_from_slice(word.as_bytes())?;
+    text.push(b'\n')?;
+    text.extend_from_slice(answer.text.as_slice())?;
+    Ok(answer.status)
+}
+
+/// Of two statuses, `DONE` where both are, else the first that is not.
+fn status_of_two(first: u8, next: u8) -> u8
+    ensures { result ≡ status_of_both first next }
+{
+    if first == DONE { next } else { first }
+}
+
+/// The answers to words, each after the word's line.
+fn answer_to_each<S: Alter>(
+    alloc: Global,
+    register: &Register<S>,
+    words: &[&str],
+) -> Result<Answer, AllocError>
+    ensures { IfOk result (λ a. AreTraceAnswers register.now.history
+        (map (λ w. w.now) words.now) (a.text.items, a.status)) }
+{
+    let mut text = Vec::new(alloc);
+    let mut status = DONE;
+    for word in words {
+        let next = add_answer(alloc, register, word, &mut text)?;
+        status = status_of_two(status, next);
+    }
+    Ok(Answer { text, status })
+}
+
+/// The answer to words: of one alone, or of several each after its line.
+fn answer_to_words<S: Alter>(
+    alloc: Global,
+    register: &Register<S>,
+    words: &[&str],
+) -> Result<Answer, AllocError>
+    ensures { IfOk result (λ a. IsWholeTrace register.now.history
+        (map (λ w. w.now) words.now) (a.text.items, a.status)) }
+{
+    match words {
+        [word] => answer_to(alloc, register, word),
+        _ => answer_to_each(alloc, register, words),
+    }
+}
+
 /// Prints the identifiers of the last release that chains of lineage rows reach from this one,
-/// itself among them where it is live: ascending, a
-/// line each. A word that is no identifier, or one that no release has, is refused.
+/// itself among them where it is live: ascending, a line each. A word that is no identifier, or one
+/// that no release has, is refused. Of several words, each answer is printed after a line of its
+/// word, in their order.
 ///
-/// What is printed is whole in memory before anything is written. Ok is the status: `DONE` or
-/// `REFUSED`. The register stays as it is.
+/// What is printed is whole in memory before anything is written. Ok is the status: `DONE` where no
+/// word is refused, else `REFUSED`. The register stays as it is.
 pub fn run_trace<S: Alter, W: Write>(
     alloc: Global,
     register: &Register<S>,
-    id: &str,
+    words: &[&str],
     out: &mut W,
 ) -> Result<u8, Failure>
-    ensures answer { IfOk result (λ status. Traces register.now.history id.now status
-        (W.contents out.old) (W.contents out.new)) }
+    ensures answer { IfOk result (λ status. Traces register.now.history
+        (map (λ w. w.now) words.now) status (W.contents out.old) (W.contents out.new)) }
     // A beginning of the answer was written, or nothing.
-    ensures failure { IfErr result (λ failure. TraceHalts failure register.now.history id.now
-        (W.contents out.old) (W.contents out.new)) }
+    ensures failure { IfErr result (λ failure. TraceHalts failure register.now.history
+        (map (λ w. w.now) words.now) (W.contents out.old) (W.contents out.new)) }
 {
-    let answer = answer_to(alloc, register, id)?;
+    let answer = answer_to_words(alloc, register, words)?;
     answer.write_to(out)
 }

@@ -35,10 +35,10 @@ returns-in-Err-Memory-clause-leaves g c =
     let kept = (c.in-Err-Memory.ensures.publishes made.0 made.1 made.2 made.3 made.4).refused in
     let stored = c.in-Err-Memory.ensures.stores made.0 made.1 made.2 made.3 made.4 in
     leaves-kept _ old new h k s t (inl refl) kept stored.err
-    (λ other held. elim c.in-Err-Memory.ensures.untouched [
+    (λ other o held. elim c.in-Err-Memory.ensures.untouched [
       | inl (inl e) ↦ cc e
       | inl (inr e) ↦ cc e
-      | inr p ↦ still-held old new h k s t (ap (state g.S.Store) p.1) kept held
+      | inr p ↦ still-held o old new h k s t (ap (state g.S.Store) p.1) kept held
     ])
 
 pub returns-in-Err-Store-clause-leaves : goal.returns-in-Err-Store-clause-leaves
@@ -49,7 +49,7 @@ returns-in-Err-Store-clause-leaves g c =
     let kept = (c.in-Err-Store.ensures.publishes made.0 made.1 made.2 made.3 made.4).refused in
     let stored = c.in-Err-Store.ensures.stores made.0 made.1 made.2 made.3 made.4 in
     leaves-kept _ old new c.args.register.now.history c.commit.new.self.history c.args.register.now.shapes.items c.commit.new.self.shapes.items
-    (inr (inl refl)) kept stored.err (λ other held. absurd (other (inl refl)))
+    (inr (inl refl)) kept stored.err (λ other o held. absurd (other (inl refl)))
 
 pub returns-in-Err-Store-clause-cause : goal.returns-in-Err-Store-clause-cause
 returns-in-Err-Store-clause-cause g c clean is = c.in-Err-Store.ensures.cause clean c.in-Err-Store.field-0-is
@@ -65,6 +65,6 @@ returns g c =
       answer = λ r blocks rows it. tt;
       published = λ r blocks rows it. tt;
       leaves = leaves-kept _ old new c.args.register.now.history c.commit.new.self.history c.args.register.now.shapes.items c.commit.new.self.shapes.items
-          (inr (inr refl)) kept stored.err (λ other held. absurd (other (inr refl)));
+          (inr (inr refl)) kept stored.err (λ other o held. absurd (other (inr refl)));
       cause = λ clean is. memory-no-store is;
     }
