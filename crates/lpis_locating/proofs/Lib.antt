@@ -1,5 +1,6 @@
 pub mod DigitLemmas
 pub mod SlotLemmas
+pub mod StripLemmas
 pub mod PointsLemmas
 pub mod VisitLemmas
 pub mod BoxLemmas

@@ -1,10 +1,9 @@
 -- Reading the points of a table, a row at a time.
-use Rattle.std.proofs.Common.{◌≡◌, ◌≤◌, ◌+◌, ◌++◌, ◌∷◌, [], ℕ, List, length, Option, Some, None, Result, Ok, Err, true, false, refl, sym, ap, ◌∙◌, arith, append_assoc}
-use Rattle.std.specs.Option.{option_map}
+use Rattle.std.proofs.Common.{◌≡◌, ◌≤◌, ◌+◌, ◌++◌, ◌∷◌, [], List, length, Result, Ok, Err, true, false, refl, sym, ap, ◌∙◌, arith, append_assoc}
 use Rattle.std.proofs.lemmas.List.{append-nil, length-append}
 use Rattle.lpis_covers.specs.declared.fault.TableFault.{TableFault}
 use Rattle.lpis_covers.specs.declared.fault.TableFault.TheVariants as table
-use Rattle.lpis_covers.specs.Table.{Advances, Fields, Reading, and_then, most_rows}
+use Rattle.lpis_covers.specs.Table.{Advances, Reading, most_rows}
 use Rattle.lpis_locating.specs.declared.fault.PointsFault.{PointsFault}
 use Rattle.lpis_locating.specs.declared.fault.PointsFault.TheVariants.{Memory, Table, Number}
 use Rattle.lpis_locating.specs.Codes.{of_table}

@@ -1,5 +1,5 @@
 -- What looking at parcels finds of points.
-use Rattle.std.proofs.Common.{◌≡◌, ℕ, ◌<◌, ◌≤◌, List, [], ◌∷◌, ◌++◌, length, get_or, Option, Some, None, All, Contains, ◌⊎◌, inl, inr, refl, ap, sym, ◌∙◌, subst, arith, slice_get}
+use Rattle.std.proofs.Common.{◌≡◌, ℕ, ◌<◌, List, [], ◌∷◌, ◌++◌, length, get_or, Option, Some, None, ◌⊎◌, inl, inr, refl, ap, sym, ◌∙◌, subst, arith, slice_get}
 use Rattle.std.proofs.Math.ListN.{set}
 use Rattle.std.proofs.lemmas.Bool.{cases_eq}
 use Rattle.std.proofs.lemmas.List.{get_or-set_other, get_or-set_same, length-set}
@@ -12,7 +12,7 @@ use Rattle.lpis_checker.specs.SoundMap.{IsInParcel}
 use Rattle.lpis_locating.specs.declared.place.Place.{Place}
 use Rattle.lpis_locating.specs.Places.{AreFoundIn, FindsIn}
 use Rattle.lpis_locating.specs.Points.{Given}
-use Rattle.lpis_locating.specs.private.Visits.{AreTouched, AreVisited, IsPlaceBy, IsSettled, IsTouched, IsVisited}
+use Rattle.lpis_locating.specs.private.Visits.{AreTouched, AreVisited, IsSettled, IsTouched, IsVisited}
 
 abbrev Places : Type 0
 Places = List (Option Place)

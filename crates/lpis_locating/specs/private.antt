@@ -2,4 +2,5 @@
 pub mod Digits
 pub mod Reaches
 pub mod Slots
+pub mod Strips
 pub mod Visits

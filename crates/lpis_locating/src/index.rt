@@ -1,29 +1,34 @@
-//! The points in order by x.
+//! The points in strips, and in each by y.
 
-ghost use Rattle.std.specs.Prelude.{◌≡◌, ◌≤◌, IfOk, List, length};
+ghost use Rattle.std.specs.Prelude.{◌≡◌, ◌≤◌, All, IfOk, length};
 ghost use Rattle.lpis_covers.specs.Table.{most_rows};
-ghost use Rattle.lpis_locating.specs.Points.{Given};
-ghost use Rattle.lpis_locating.specs.private.Slots.{HasSlots, IsOrder, StartsAt};
+ghost use Rattle.lpis_locating.specs.private.Slots.{AreAscending, HasSlots, IsOrder, StartsAt};
+ghost use Rattle.lpis_locating.specs.private.Slots.{stands_before};
+ghost use Rattle.lpis_locating.specs.private.Strips.{IsInStrip};
 
 use crate::given::GivenPoint;
+use crate::grid::Grid;
 use crate::reach::Reach;
 use crate::spot::Spot;
+use crate::strips::{grid_of, strip_at};
 use std::alloc::{AllocError, Global};
 use std::marker::Model;
 
-/// Where a row of the table has its point. Sorted, these ascend by x.
-#[derive(Clone, Copy, Debug, PartialEq, Eq, PartialOrd, Ord)]
+/// Where a row of the table has its point, and in which strip that is.
+#[derive(Clone, Copy, Debug)]
 pub(crate) struct Slot {
-    pub spot: Spot,
     /// The row, from 0.
     pub row: u32,
+    pub strip: u32,
+    pub spot: Spot,
 }
 
-/// The points of a table in the order of its rows, and beside it in order by x. Contracts see their
-/// list.
+/// The points of a table in the order of its rows, and beside it in order by strip and y. Contracts
+/// see their list.
 #[derive(Drop)]
 pub struct Points {
     given: Vec<GivenPoint>,
+    grid: Grid,
     slots: Vec<Slot>,
 }
 
@@ -36,30 +41,48 @@ impl Model for Points {
 
     ghost view = { λ p. p.given.items };
 
-    ghost invariant = { λ p. IsOrder p.given.items p.slots.items };
+    ghost invariant = { λ p. IsOrder p.given.items p.grid p.slots.items };
 }
 
 /// A slot for each of these points.
-fn slots_of(alloc: Global, given: &[GivenPoint]) -> Result<Vec<Slot>, AllocError>
+fn slots_of(alloc: Global, given: &[GivenPoint], grid: &Grid) -> Result<Vec<Slot>, AllocError>
     requires { length given.now ≤ most_rows }
-    ensures { IfOk result (λ v. HasSlots given.now v.items) }
+    ensures slots { IfOk result (λ v. HasSlots given.now v.items) }
+    ensures strips { IfOk result (λ v. All (IsInStrip grid.now) v.items) }
 {
     let mut slots = Vec::with_capacity(alloc, given.len())?;
     for (i, point) in given.iter().enumerate() {
+        let spot = point.spot();
         slots.push(Slot {
-            spot: point.spot(),
             row: i as u32,
+            strip: strip_at(grid, spot),
+            spot,
         })?;
     }
     Ok(slots)
 }
 
-/// How many of these slots are left of a box. It is found by halving.
-pub(crate) fn first_from(slots: &[Slot], reach: &Reach) -> usize
-    requires { (given : List Given) × IsOrder given slots.now }
-    ensures { StartsAt slots.now reach.now.left result }
+/// Whether a slot is of an earlier strip, or of this one and below a height.
+fn stands_before(slot: &Slot, strip: u64, height: i128) -> bool
+    ensures { result ≡ stands_before slot.now strip height }
 {
-    slots.partition_point(|slot| (slot.spot.x as i128) < reach.left)
+    let own = u64::from(slot.strip);
+    own < strip || own == strip && (slot.spot.y as i128) < height
+}
+
+/// How many of these slots stand before the low side of a box in a strip. It is found by halving.
+pub(crate) fn first_from(slots: &[Slot], strip: u64, reach: &Reach) -> usize
+    requires { AreAscending slots.now }
+    ensures { StartsAt slots.now strip reach.now.low result }
+{
+    slots.partition_point(|slot| stands_before(slot, strip, reach.low))
+}
+
+/// Whether a slot stands before the high side of a box in a strip.
+pub(crate) fn is_before_top(slot: &Slot, strip: u64, reach: &Reach) -> bool
+    ensures { result ≡ stands_before slot.now strip reach.now.high }
+{
+    stands_before(slot, strip, reach.high)
 }
 
 impl Points {
@@ -68,9 +91,10 @@ impl Points {
         requires { length given.items ≤ most_rows }
         ensures { IfOk result (λ points. points ≡ given.items) }
     {
-        let mut slots = slots_of(alloc, &given)?;
-        slots.sort_unstable();
-        Ok(Points { given, slots })
+        let grid = grid_of(&given);
+        let mut slots = slots_of(alloc, &given, &grid)?;
+        slots.sort_unstable_by_key(|slot| (slot.strip, slot.spot.y));
+        Ok(Points { given, grid, slots })
     }
 
     /// The points in the order of the table's rows.
@@ -80,10 +104,10 @@ impl Points {
         &self.given
     }
 
-    /// The points in order by x.
-    pub(crate) fn slots(&self) -> &[Slot]
-        ensures { IsOrder self.now result.now }
+    /// The strips, and the points in order by strip and y.
+    pub(crate) fn strips(&self) -> (Grid, &[Slot])
+        ensures { IsOrder self.now result.0 result.1.now }
     {
-        &self.slots
+        (self.grid, &self.slots)
     }
 }

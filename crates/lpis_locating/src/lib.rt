@@ -1,5 +1,5 @@
 //! Points, and the parcel and the piece of each: a table of points is read, its points are put in
-//! order by x, and releases pass by, one after the other.
+//! strips, and releases pass by, one after the other.
 //!
 //! The layer above may cite: the points of a table, or its first fault; where each of them is in a
 //! release, or that no parcel of it contains it.
@@ -14,6 +14,7 @@
 
 mod fault;
 mod given;
+mod grid;
 mod index;
 mod locating;
 mod numbers;
@@ -21,6 +22,7 @@ mod place;
 mod reach;
 mod reading;
 mod spot;
+mod strips;
 
 pub use fault::{Axis, BAD_NUMBER, PointsFault};
 pub use given::GivenPoint;

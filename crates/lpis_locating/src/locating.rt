@@ -10,13 +10,14 @@ ghost use Rattle.lpis_country.specs.Polygons.{HasClosedRings, box_of_members};
 ghost use Rattle.lpis_locating.specs.Places.{AreFoundIn};
 ghost use Rattle.lpis_locating.specs.Points.{Given, rational_at};
 ghost use Rattle.lpis_locating.specs.private.Reaches.{reach_of};
-ghost use Rattle.lpis_locating.specs.private.Slots.{IsSlot};
+ghost use Rattle.lpis_locating.specs.private.Slots.{AreAscending, HasSlots, IsSlot};
 ghost use Rattle.lpis_locating.specs.private.Visits.{AreTouched, AreVisited, IsPlaceBy, IsSettled};
-ghost use Rattle.lpis_locating.specs.private.Visits.{IsTouched};
+ghost use Rattle.lpis_locating.specs.private.Visits.{IsStripSettled, IsTouched};
 
-use crate::index::{Points, Slot, first_from};
+use crate::index::{Points, Slot, first_from, is_before_top};
 use crate::place::Place;
-use crate::reach::{Reach, is_in_height, is_past, scaled_box};
+use crate::reach::{Reach, is_in_width, scaled_box};
+use crate::strips::{first_met, last_met};
 use lpis_country::is_region;
 use lpis_covers::Piece;
 use lpis_parcels::{Parcel, Release, pieces_of};
@@ -68,7 +69,7 @@ fn place_by(release: &Release, parcel: &Parcel, slot: &Slot) -> Result<Option<Pl
     Ok(Some(place_in(release, parcel, &p)?))
 }
 
-/// The place of a slot's point is found where it has none, is in the height of the parcel's box,
+/// The place of a slot's point is found where it has none, is in the width of the parcel's box,
 /// and the parcel contains it.
 fn settle(
     release: &Release,
@@ -86,7 +87,7 @@ fn settle(
     ensures settled { OnOk result (found.new ≡ None
         → IsInParcel (rational_at slot.now.spot) parcel.now → ⊥) }
 {
-    if is_in_height(reach, slot.spot) && found.is_none() {
+    if is_in_width(reach, slot.spot) && found.is_none() {
         *found = place_by(release, parcel, slot)?;
     }
     Ok(())
@@ -113,6 +114,37 @@ fn visit_slot(
     settle(release, parcel, reach, slot, &mut found[slot.row as usize])
 }
 
+/// Looks at the points of a strip for those that a parcel contains.
+fn visit_strip(
+    release: &Release,
+    parcel: &Parcel,
+    reach: &Reach,
+    slots: &[Slot],
+    strip: u64,
+    found: &mut [Option<Place>],
+) -> Result<(), AllocError>
+    requires sound { IsSoundMap release.now }
+    requires among { Contains release.now.parcels parcel.now }
+    requires closed { HasClosedRings parcel.now.polygon }
+    requires reach { reach.now ≡ reach_of (box_of_members parcel.now.polygon) }
+    requires ascend { AreAscending slots.now }
+    requires within { (ps : List Given) × HasSlots ps slots.now
+        × (length found.old ≡ length ps) }
+    ensures touched { (ps : List Given) → HasSlots ps slots.now
+        → OnOk result (AreTouched release.now parcel.now ps found.old found.new) }
+    ensures settled { (ps : List Given) → HasSlots ps slots.now
+        → OnOk result (IsStripSettled parcel.now ps slots.now found.new strip) }
+{
+    for k in first_from(slots, strip, reach)..slots.len() {
+        let slot = &slots[k];
+        if !is_before_top(slot, strip, reach) {
+            return Ok(());
+        }
+        visit_slot(release, parcel, reach, slot, found)?;
+    }
+    Ok(())
+}
+
 /// Looks at all points for those that a parcel contains.
 fn visit(
     release: &Release,
@@ -128,20 +160,18 @@ fn visit(
         found.new) }
 {
     let reach = scaled_box(&parcel.polygon);
-    let slots = points.slots();
-    for k in first_from(slots, &reach)..slots.len() {
-        let slot = &slots[k];
-        if is_past(&reach, slot.spot) {
-            return Ok(());
-        }
-        visit_slot(release, parcel, &reach, slot, found)?;
+    let (grid, slots) = points.strips();
+    let first = first_met(&grid, &reach);
+    for strip in first..last_met(&grid, &reach) + 1 {
+        visit_strip(release, parcel, &reach, slots, strip, found)?;
     }
     Ok(())
 }
 
 /// Finds the places of points in a release that is a sound map. A point that has a place keeps it.
 ///
-/// Each parcel looks at the points between the left and the right side of its box alone.
+/// In each strip that its box meets, a parcel looks at the points between the low and the high side
+/// of the box alone.
 pub fn locate_in(
     release: &Release,
     points: &Points,

@@ -1,8 +1,8 @@
 //! The box of a polygon, in millionths of a millimetre.
 
-ghost use Rattle.std.specs.Prelude.{◌≡◌, ◌↔◌, ◌≤ℤ◌, IsTrue};
+ghost use Rattle.std.specs.Prelude.{◌≡◌, ◌↔◌, IsTrue};
 ghost use Rattle.lpis_country.specs.Polygons.{box_of_members};
-ghost use Rattle.lpis_locating.specs.private.Reaches.{IsInHeight, reach_of, up};
+ghost use Rattle.lpis_locating.specs.private.Reaches.{IsInWidth, reach_of, up};
 
 use crate::spot::{PARTS, Spot};
 use lpis_country::box_of_polygon;
@@ -37,17 +37,10 @@ pub(crate) fn scaled_box(polygon: &Polygon) -> Reach
     }
 }
 
-/// Whether a point is right of the box, or on its right side.
-pub(crate) fn is_past(reach: &Reach, spot: Spot) -> bool
-    ensures { IsTrue result ↔ (reach.now.right ≤ℤ spot.x) }
+/// Whether a point is between the left and the right side of the box.
+pub(crate) fn is_in_width(reach: &Reach, spot: Spot) -> bool
+    ensures { IsTrue result ↔ IsInWidth reach.now spot }
 {
-    reach.right <= spot.x as i128
-}
-
-/// Whether a point is between the low and the high side of the box.
-pub(crate) fn is_in_height(reach: &Reach, spot: Spot) -> bool
-    ensures { IsTrue result ↔ IsInHeight reach.now spot }
-{
-    let y = spot.y as i128;
-    reach.low <= y && y < reach.high
+    let x = spot.x as i128;
+    reach.left <= x && x < reach.right
 }

@@ -12,6 +12,6 @@ up z = z *ℤ parts
 abbrev pub reach_of : Box4 → Reach
 reach_of b = record { left = up b.x0; low = up b.y0; right = up b.x1; high = up b.y1 }
 
--- the point is between the low and the high side
-abbrev pub IsInHeight : Reach → Spot → Type 0
-IsInHeight b s = (b.low ≤ℤ s.y) × (s.y <ℤ b.high)
+-- the point is between the left and the right side
+abbrev pub IsInWidth : Reach → Spot → Type 0
+IsInWidth b s = (b.left ≤ℤ s.x) × (s.x <ℤ b.right)

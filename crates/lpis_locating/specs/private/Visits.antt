@@ -1,11 +1,12 @@
 -- What looking at parcels finds of points.
-use Rattle.std.specs.Prelude.{◌≡◌, ⊤, ℕ, List, All, Contains as IsAmong, length, slice_get}
-use Rattle.std.specs.Prelude.{Option, None, Some}
+use Rattle.std.specs.Prelude.{◌≡◌, ◌<◌, ⊤, ℕ, List, All, Contains as IsAmong, length}
+use Rattle.std.specs.Prelude.{Option, None, Some, get_or, slice_get}
 use Rattle.lpis_points.specs.Plane.{RationalPoint}
 use Rattle.lpis_covers.specs.declared.piece.Piece.{Piece}
 use Rattle.lpis_parcels.specs.declared.parcel.Parcel.{Parcel}
 use Rattle.lpis_parcels.specs.Release.{Contents, pieces_named}
 use Rattle.lpis_checker.specs.SoundMap.{IsInParcel, IsInPiece}
+use Rattle.lpis_locating.specs.declared.index.Slot.{Slot}
 use Rattle.lpis_locating.specs.declared.place.Place.{Place}
 use Rattle.lpis_locating.specs.Points.{Given}
 
@@ -37,6 +38,11 @@ pub record AreTouched (r : Contents) (k : Parcel) (ps : List Given)
 abbrev pub IsSettled : Parcel → List Given → List (Option Place) → ℕ → Type 0
 IsSettled k ps found i =
     (g : Given) → slice_get ps i ≡ Some g → slice_get found i ≡ Some None → IsInParcel g.at k → ⊥
+
+-- so it is of the points of a strip
+abbrev pub IsStripSettled : Parcel → List Given → List Slot → List (Option Place) → ℕ → Type 0
+IsStripSettled k ps slots found n = (m : ℕ) (d : Slot) → m < length slots
+    → (get_or slots m d).strip ≡ n → IsSettled k ps found (get_or slots m d).row
 
 -- ---- parcels
 -- a place that was found stays; where none was there is one in one of the parcels, or none of them

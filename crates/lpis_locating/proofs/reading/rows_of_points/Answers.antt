@@ -1,8 +1,5 @@
-use Rattle.std.proofs.Common.{◌≡◌, ◌∷◌, [], List, ℕ, Ok, Bor, codes, refl, rules}
 use Rattle.lpis_covers.specs.declared.fault.Table.TheVariants.{Area}
-use Rattle.lpis_covers.specs.Table.{Reading, table_of, texts}
 use Rattle.lpis_covers.proofs.Shared.{table-start}
-use Rattle.lpis_locating.specs.Points.{point_columns}
 use Rattle.lpis_locating.proofs.reading.rows_of_points.Goals as goal
 
 pub points_under_header-requires : goal.points_under_header-requires
