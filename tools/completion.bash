@@ -29,9 +29,10 @@ _lpis() {
     esac
     return
   fi
+  [[ ${row[*]} != *' -..' || $place -lt ${#row[@]} ]] || place=$((${#row[@]} - 1))
   case ${row[place]-} in
     */) _lpis_files -d ;;
-    -) COMPREPLY=() ;;
+    - | -..) COMPREPLY=() ;;
     *) _lpis_files -f ;;
   esac
 }

@@ -71,7 +71,7 @@ register_of() {
   local words valued row options place
   plain_words "$@"
   row_of "${words[0]-}"
-  [[ ${#words[@]} -eq $((${#row[@]} + 1)) ]] || return 0
+  [[ ${#words[@]} -eq $((${#row[@]} + 1)) || ${row[*]} == *' -..' && ${#words[@]} -gt ${#row[@]} ]] || return 0
   for place in "${!row[@]}"; do
     [[ ${row[place]} != register ]] || printf '%s' "${words[place + 1]}"
   done
@@ -208,10 +208,14 @@ base = sqlite3.connect(pathlib.Path(sys.argv[1]).resolve().as_uri() + "?mode=ro"
 try:
     told = base.execute("PRAGMA quick_check(1)").fetchone()[0]
     keys = base.execute("PRAGMA foreign_key_check").fetchone()
-    print("" if told == "ok" and not keys else f"a row of {keys[0]} names a year that is no release" if keys else f"SQLite says of it: {told.splitlines()[-1]}")
+    print("" if told == "ok" and not keys else f"a row of {keys[0]} names a row of {keys[2]} that is not there" if keys else f"SQLite says of it: {told.splitlines()[-1]}")
 except sqlite3.Error as error:
     print("another process holds it" if "locked" in str(error) else f"SQLite says of it: {error}")' "$1" 2>/dev/null || true
 }
+
+# What others have put into a register's file that keeps the program from it (`keeps`), or may have refused a release (`refuses`), where Python
+# is there.
+guest_of() { python3 -B "${BASH_SOURCE[0]%/*}/lpis_tools/beside.py" "$@" 2>/dev/null || true; }
 
 # How many bytes the polygons of parcels have that a publish reads, those of all regions of a country together.
 bytes_of_parcels() {
@@ -242,8 +246,10 @@ trouble_of_register() {
     found='it is no SQLite database'
   fi
   [[ -n $found ]] || found=$(holder_of "$1")
+  [[ -n $found || ! -e $1 ]] || found=$(guest_of keeps "$1")
   [[ -n $found || ! -e $1 ]] || found=$(damage_of "$1")
   [[ -n $found ]] || found=$(shortage_at "$@")
+  [[ -n $found || ! -e $1 ]] || found=$(guest_of refuses "$1")
   echo "${found:-it is there, and using it failed: perhaps another process held it just now}"
 }
 

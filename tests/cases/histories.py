@@ -168,10 +168,19 @@ def follow(cases, folder, steps):
             cases.expect(f"the register after {step}", before, said(register))
 
 
+def follow_together(cases, register, words):
+    """Of several words the answers are those to each alone, behind a line of the word."""
+    alone = [lpis("trace", register, word) for word in words]
+    cases.expect(f"trace of {words}", [line for word, answer in zip(words, alone) for line in (f"trace {word}", *answer)], lpis("trace", register, *words))
+
+
 def run(cases, folder):
     for number, steps in enumerate(HISTORIES):
         (folder / str(number)).mkdir()
         follow(cases, folder / str(number), steps)
+        words = [step[0] for step in steps if isinstance(step[0], str)]
+        if len(words) > 1:
+            follow_together(cases, folder / str(number) / "years.db", words)
     register, release = folder / "two.db", folder / "two"
     hand_in(register, release, 2024, TWO[2024], "")
     for edits, fault in BLOCKS[1:] + BLOCKS[:1]:

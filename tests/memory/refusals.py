@@ -179,8 +179,8 @@ def older_out(folder):
     (folder / "out.txt").write_text("older\n")
 
 
-def trace(name, identifier, *makers):
-    return Command(f"trace of {name}", ["trace", "years.db", identifier], makers, "years.db")
+def trace(name, identifiers, *makers):
+    return Command(f"trace of {name}", ["trace", "years.db", *identifiers.split()], makers, "years.db")
 
 
 COMMANDS = [
@@ -213,6 +213,7 @@ COMMANDS = [
     Command("exact-country of 2025 with a row that is not marked", ["exact-country", "years.db", "2025", "out.txt"], [country("2025"), unmarked_row, older_out], "years.db", "out.txt"),
     trace("north", "north", published("2024"), published("2025")),
     trace("an identifier in no release", "brook", published("2024"), published("2025")),
+    trace("several identifiers", "north south brook", published("2024"), published("2025")),
     trace("a new file", "north"),
     trace("a register of version 1", "A", register(VERSION_1)),
     trace("a register of version 2", "A", register(VERSION_2)),
