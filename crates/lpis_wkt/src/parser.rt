@@ -1,12 +1,13 @@
 //! The polygon that tokens spell, token by token.
 
-ghost use Rattle.std.specs.Prelude.{◌≡◌, ◌<◌, ◌≤◌, ℕ, true, List, length, Ok, IfOk, IfErr};
+ghost use Rattle.std.specs.Prelude.{◌≡◌, ◌<◌, ◌≤◌, ℕ, true, List, [], length, Ok, IfOk, IfErr};
+ghost use Rattle.std.specs.Prelude.{OnErr, OnOk};
 ghost use Rattle.lpis_points.specs.declared.point.Point.{Point};
 ghost use Rattle.lpis_wkt.specs.Tokens.{End};
 ghost use Rattle.lpis_wkt.specs.declared.fault.WktFault.TheVariants.{Memory};
 ghost use Rattle.lpis_wkt.specs.Table.{open_code, first_open_code};
 ghost use Rattle.lpis_wkt.specs.private.Machine.{Context, AtKeyword, AfterPoint, AfterRing};
-ghost use Rattle.lpis_wkt.specs.private.Machine.{limited_step, close_ring, close_body};
+ghost use Rattle.lpis_wkt.specs.private.Machine.{limited_step, close_ring, close_body, member_of};
 ghost use Rattle.lpis_wkt.specs.private.Coordinates.{point_of};
 ghost use Rattle.lpis_wkt.specs.private.Views.{token_of};
 ghost use Rattle.lpis_wkt.specs.private.Parsing.{Took, ParseEnds, IsOpening, IsAtCoordinate};
@@ -20,7 +21,7 @@ use crate::tokens::{Placed, Token, Tokens};
 use crate::words::{is_dimension, is_empty, is_multi, is_polygon, keyword_code};
 use lpis_points::Point;
 use lpis_rings::{MOST_POINTS, Member, Polygon, Ring, RingFault, Sequence, without_spare};
-use std::alloc::Global;
+use std::alloc::{AllocError, Global};
 use std::marker::Model;
 
 /// What is expected next.
@@ -104,6 +105,18 @@ fn point_of(x: Coordinate, y: Coordinate) -> Point
     }
 }
 
+/// The member of these rings. They leave their list, which keeps its room for those of the next.
+fn take_member(rings: &mut Vec<Ring>) -> Result<Member, AllocError>
+    requires { 0 < length rings.old.items }
+    ensures is { IfOk result (λ member. member ≡ member_of rings.old.items) }
+    ensures ok { OnOk result (rings.new.items ≡ []) }
+    ensures err { OnErr result (rings.new ≡ rings.old) }
+{
+    let holes = Sequence::new(rings.split_off(1)?);
+    let shell = rings.remove(0);
+    Ok(Member { shell, holes })
+}
+
 impl Parser {
     /// A parser that has taken no token.
     pub fn new(alloc: Global) -> Parser
@@ -120,8 +133,9 @@ impl Parser {
     }
 
     /// Takes the next token.
-    pub fn take(self, alloc: Global, next: Placed<'_>) -> Result<Parser, WktFault>
-        ensures { Took result (limited_step self (token_of next.entry.token)) next.entry.offset }
+    pub fn take(&mut self, alloc: Global, next: Placed<'_>) -> Result<(), WktFault>
+        ensures { Took result self.new (limited_step self.old (token_of next.entry.token))
+            next.entry.offset }
     {
         match self.expecting {
             Expecting::Keyword | Expecting::FirstBody | Expecting::Body | Expecting::Ring =>
@@ -134,9 +148,10 @@ impl Parser {
     }
 
     /// Takes the next token where the keyword or a `(` is expected.
-    fn take_opening(mut self, next: Placed<'_>) -> Result<Parser, WktFault>
-        requires { IsOpening self }
-        ensures { Took result (limited_step self (token_of next.entry.token)) next.entry.offset }
+    fn take_opening(&mut self, next: Placed<'_>) -> Result<(), WktFault>
+        requires { IsOpening self.old }
+        ensures { Took result self.new (limited_step self.old (token_of next.entry.token))
+            next.entry.offset }
     {
         let offset = next.offset;
         let code = match self.expecting {
@@ -144,12 +159,12 @@ impl Parser {
                 Token::Word(word) if is_polygon(word) => {
                     self.expecting = Expecting::FirstBody;
                     self.multi = false;
-                    return Ok(self);
+                    return Ok(());
                 }
                 Token::Word(word) if is_multi(word) => {
                     self.expecting = Expecting::FirstBody;
                     self.multi = true;
-                    return Ok(self);
+                    return Ok(());
                 }
                 Token::Word(word) => keyword_code(word),
                 _ => WktCode::Keyword,
@@ -161,21 +176,21 @@ impl Parser {
                     } else {
                         Expecting::Ring
                     };
-                    return Ok(self);
+                    return Ok(());
                 }
                 token => first_open_code(token),
             },
             Expecting::Body => match next.token {
                 Token::Open => {
                     self.expecting = Expecting::Ring;
-                    return Ok(self);
+                    return Ok(());
                 }
                 token => open_code(token),
             },
             Expecting::Ring => match next.token {
                 Token::Open => {
                     self.expecting = Expecting::X;
-                    return Ok(self);
+                    return Ok(());
                 }
                 token => open_code(token),
             },
@@ -185,9 +200,10 @@ impl Parser {
     }
 
     /// Takes the next token where an x or a y is expected.
-    fn take_coordinate(mut self, next: Placed<'_>) -> Result<Parser, WktFault>
-        requires { IsAtCoordinate self }
-        ensures { Took result (limited_step self (token_of next.entry.token)) next.entry.offset }
+    fn take_coordinate(&mut self, next: Placed<'_>) -> Result<(), WktFault>
+        requires { IsAtCoordinate self.old }
+        ensures { Took result self.new (limited_step self.old (token_of next.entry.token))
+            next.entry.offset }
     {
         let offset = next.offset;
         let code = match self.expecting {
@@ -196,7 +212,7 @@ impl Parser {
                 Token::Word(word) => match coordinate_of(word) {
                     Ok(x) => {
                         self.expecting = Expecting::Y(x);
-                        return Ok(self);
+                        return Ok(());
                     }
                     Err(code) => code,
                 },
@@ -208,7 +224,7 @@ impl Parser {
                         self.points.push(point_of(x, y))?;
                         self.count += 1;
                         self.expecting = Expecting::PointEnd;
-                        return Ok(self);
+                        return Ok(());
                     }
                     Err(code) => code,
                 },
@@ -220,16 +236,17 @@ impl Parser {
     }
 
     /// Takes the next token where a `,`, a `)` or the end is expected.
-    fn take_closing(mut self, alloc: Global, next: Placed<'_>) -> Result<Parser, WktFault>
-        requires { IsClosing self }
-        ensures { Took result (limited_step self (token_of next.entry.token)) next.entry.offset }
+    fn take_closing(&mut self, alloc: Global, next: Placed<'_>) -> Result<(), WktFault>
+        requires { IsClosing self.old }
+        ensures { Took result self.new (limited_step self.old (token_of next.entry.token))
+            next.entry.offset }
     {
         let offset = next.offset;
         let code = match self.expecting {
             Expecting::PointEnd => match next.token {
                 Token::Comma => {
                     self.expecting = Expecting::X;
-                    return Ok(self);
+                    return Ok(());
                 }
                 Token::Close => return self.end_ring(alloc, offset),
                 Token::Word(_) => WktCode::Dimension,
@@ -238,19 +255,19 @@ impl Parser {
             Expecting::RingEnd => match next.token {
                 Token::Comma => {
                     self.expecting = Expecting::Ring;
-                    return Ok(self);
+                    return Ok(());
                 }
-                Token::Close => return self.end_body(alloc),
+                Token::Close => return self.end_body(),
                 _ => WktCode::Syntax,
             },
             Expecting::BodyEnd => match next.token {
                 Token::Comma => {
                     self.expecting = Expecting::Body;
-                    return Ok(self);
+                    return Ok(());
                 }
                 Token::Close => {
                     self.expecting = Expecting::End;
-                    return Ok(self);
+                    return Ok(());
                 }
                 _ => WktCode::Syntax,
             },
@@ -300,31 +317,18 @@ impl Parser {
     }
 
     /// Takes the `)` of a ring.
-    fn end_ring(self, alloc: Global, offset: usize) -> Result<Parser, WktFault>
-        ensures { (b : Context) (ps : List Point) → self ≡ AfterPoint b ps
-            → Took result (close_ring b ps) offset }
+    fn end_ring(&mut self, alloc: Global, offset: usize) -> Result<(), WktFault>
+        ensures { (b : Context) (ps : List Point) → self.old ≡ AfterPoint b ps
+            → Took result self.new (close_ring b ps) offset }
     {
-        let Parser {
-            expecting: _,
-            multi,
-            members,
-            mut rings,
-            mut points,
-            count,
-        } = self;
         // A list that is cut to its length where it lies leaves a gap that few lists fit.
-        match Ring::new(Vec::from_slice(alloc, points.as_slice())?) {
+        let points = Vec::from_slice(alloc, self.points.as_slice())?;
+        match Ring::new(points) {
             Ok(ring) => {
-                rings.push(ring)?;
-                points.clear();
-                Ok(Parser {
-                    expecting: Expecting::RingEnd,
-                    multi,
-                    members,
-                    rings,
-                    points,
-                    count,
-                })
+                self.rings.push(ring)?;
+                self.points.clear();
+                self.expecting = Expecting::RingEnd;
+                Ok(())
             }
             Err(bad) => {
                 let code = match bad.why {
@@ -337,38 +341,23 @@ impl Parser {
     }
 
     /// Takes the `)` of a body.
-    fn end_body(self, alloc: Global) -> Result<Parser, WktFault>
-        requires { IsAfterRing self }
-        ensures { (b : Context) (at : ℕ) → self ≡ AfterRing b → Took result (Ok (close_body b)) at }
+    fn end_body(&mut self) -> Result<(), WktFault>
+        requires { IsAfterRing self.old }
+        ensures { (b : Context) (at : ℕ) → self.old ≡ AfterRing b
+            → Took result self.new (Ok (close_body b)) at }
     {
-        let Parser {
-            expecting: _,
-            multi,
-            mut members,
-            mut rings,
-            points,
-            count,
-        } = self;
-        let shell = rings.remove(0);
-        let holes = Sequence::new(without_spare(rings)?);
-        if !multi {
-            // The one member that there will be.
-            members.reserve_exact(1)?;
-        }
-        members.push(Member { shell, holes })?;
-        let expecting = if multi {
+        let next = if self.multi {
+            self.members.reserve(1)?;
             Expecting::BodyEnd
         } else {
+            // The one member that there will be.
+            self.members.reserve_exact(1)?;
             Expecting::End
         };
-        Ok(Parser {
-            expecting,
-            multi,
-            members,
-            rings: Vec::new(alloc),
-            points,
-            count,
-        })
+        let member = take_member(&mut self.rings)?;
+        self.members.push_reserved(member);
+        self.expecting = next;
+        Ok(())
     }
 
     /// The polygon, where the text ends at this offset.

@@ -22,7 +22,7 @@ fn parse(alloc: Global, text: &[u8]) -> Result<Polygon, WktFault>
     let mut tokens = Tokens::new(text);
     let mut parser = Parser::new(alloc);
     while let Some(token) = tokens.next() {
-        parser = parser.take(alloc, token)?;
+        parser.take(alloc, token)?;
         parser.take_points(&mut tokens)?;
     }
     parser.finish(text.len())

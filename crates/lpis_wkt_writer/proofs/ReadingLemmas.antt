@@ -15,7 +15,7 @@ use Rattle.lpis_points.specs.Range.{IsInRange}
 use Rattle.lpis_wkt.specs.Number.{greatest_coordinate, is_fine, is_negative, is_numeral, is_point, number, signed, size, unsigned}
 use Rattle.lpis_wkt.specs.declared.fault.WktCode.{WktCode}
 use Rattle.lpis_wkt.specs.declared.fault.WktCode.TheVariants.{NotANumber, OutOfRange, TooFine}
-use Rattle.lpis_wkt.specs.private.Runs.{AllWord, is_word}
+use Rattle.lpis_wkt.proofs.Shared.{AllWord, is_word}
 use Rattle.lpis_wkt_writer.specs.Text.{number_text}
 use Rattle.lpis_points.specs.Decimals.{last_digits}
 

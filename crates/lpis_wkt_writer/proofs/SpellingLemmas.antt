@@ -11,31 +11,31 @@ use Rattle.lpis_rings.specs.declared.polygon.Member.{Member}
 use Rattle.lpis_wkt.specs.Grammar.{BodyText, Commas, Parens, PointText, Reads, RingText}
 use Rattle.lpis_wkt.specs.Text.{PolygonText}
 use Rattle.lpis_wkt.specs.Tokens.{Close, Comma, End, Open, Token, Word, kinds, tokens, tokens_from}
-use Rattle.lpis_wkt.specs.private.Runs.{AllWord, is_word}
+use Rattle.lpis_wkt.proofs.Shared.{AllWord, Stops, is_word}
 use Rattle.lpis_wkt_writer.specs.Text.{HaveRings, HasRings, in_parens, member_text, number_text, polygon_point_text, ring_text, polygon_text, with_commas}
 use Rattle.lpis_wkt_writer.proofs.ReadingLemmas.{coordinate_is_spelled}
-use Rattle.lpis_wkt_writer.proofs.WordLemmas.{Ends, Spells, at_close, at_comma, at_end, at_open, next_word, word_is_one_token}
+use Rattle.lpis_wkt_writer.proofs.WordLemmas.{Spells, word_is_one_token}
 
-joined : (a b : List ℕ) (ts us : List Token) → Spells a ts → Spells b us → ((rest : List ℕ) → Ends (b ++ rest)) → Spells (a ++ b) (ts ++ us)
-joined a b ts us f g stop = λ at rest ends.
+joined : (a b : List ℕ) (ts us : List Token) → Spells a ts → Spells b us → ((rest : List ℕ) → Stops (b ++ rest)) → Spells (a ++ b) (ts ++ us)
+joined a b ts us f g stop = λ at rest stops.
     let first = f at (b ++ rest) (stop rest) in
-    let second = g first.0 rest ends in (
+    let second = g first.0 rest stops in (
       second.0,
       ap (λ (bytes : List ℕ). kinds (tokens_from at bytes)) (append_assoc a b rest) ∙ first.1
           ∙ ap (λ (more : List Token). ts ++ more) second.1 ∙ sym (append_assoc ts us (kinds (tokens_from second.0 rest))),
     )
 
 opened : (text : List ℕ) (ts : List Token) → Spells text ts → Spells (40 ∷ text) (Open ∷ ts)
-opened text ts f = λ at rest ends. let more = f (at + 1) rest ends in (more.0, ap (λ (l : List Token). Open ∷ l) more.1)
+opened text ts f = λ at rest stops. let more = f (at + 1) rest stops in (more.0, ap (λ (l : List Token). Open ∷ l) more.1)
 
 after_comma : (text : List ℕ) (ts : List Token) → Spells text ts → Spells (44 ∷ text) (Comma ∷ ts)
-after_comma text ts f = λ at rest ends. let more = f (at + 1) rest ends in (more.0, ap (λ (l : List Token). Comma ∷ l) more.1)
+after_comma text ts f = λ at rest stops. let more = f (at + 1) rest stops in (more.0, ap (λ (l : List Token). Comma ∷ l) more.1)
 
 after_space : (text : List ℕ) (ts : List Token) → Spells text ts → Spells (32 ∷ text) ts
-after_space text ts f = λ at rest ends. f (at + 1) rest ends
+after_space text ts f = λ at rest stops. f (at + 1) rest stops
 
 closing : Spells (41 ∷ []) (Close ∷ [])
-closing = λ at rest ends. (at + 1, refl)
+closing = λ at rest stops. (at + 1, refl)
 
 -- the text of a thing has tokens that spell it
 abbrev Spelled : {A : Type 0} → (A → List Token → Type 0) → (A → List ℕ) → A → Type 0
@@ -49,7 +49,7 @@ point p =
       (number_text p.x, number_text p.y, refl, x.number, y.number),
       joined (number_text p.x) (32 ∷ number_text p.y) (Word (number_text p.x) ∷ []) (Word (number_text p.y) ∷ [])
           (word_is_one_token (number_text p.x) x.word x.some)
-          (after_space (number_text p.y) (Word (number_text p.y) ∷ []) (word_is_one_token (number_text p.y) y.word y.some)) (next_word (number_text p.y) y.word y.some),
+          (after_space (number_text p.y) (Word (number_text p.y) ∷ []) (word_is_one_token (number_text p.y) y.word y.some)) (λ rest. refl),
     )
 
 commas : {A : Type 0} (P : A → List Token → Type 0) (text : A → List ℕ) (things : List A) → 0 < length things → All (Spelled P text) things → Spelled (Commas P) (with_commas text) things
@@ -63,7 +63,7 @@ commas P text (a ∷ b ∷ more) some h =
       one.0 ++ Comma ∷ others.0,
       (one.0, others.0, one.1, refl, others.1),
       joined (text a) (44 ∷ with_commas text (b ∷ more)) one.0 (Comma ∷ others.0) one.2
-          (after_comma (with_commas text (b ∷ more)) others.0 others.2) (λ rest. at_comma),
+          (after_comma (with_commas text (b ∷ more)) others.0 others.2) (λ rest. refl),
     )
 
 parens : {A : Type 0} (P : A → List Token → Type 0) (text : A → List ℕ) (a : A) → Spelled P text a → Spelled (Parens P) (λ a. in_parens (text a)) a
@@ -71,7 +71,7 @@ parens P text a inner = (
   Open ∷ inner.0 ++ Close ∷ [],
   (inner.0, inner.1, refl),
   opened (text a ++ 41 ∷ []) (inner.0 ++ Close ∷ [])
-      (joined (text a) (41 ∷ []) inner.0 (Close ∷ []) inner.2 closing (λ rest. at_close)),
+      (joined (text a) (41 ∷ []) inner.0 (Close ∷ []) inner.2 closing (λ rest. refl)),
 )
 
 all_points : (ps : List Point) → All (Spelled PointText polygon_point_text) ps
@@ -90,11 +90,11 @@ member m h =
     (commas RingText ring_text (m.shell ∷ m.holes) (omega arith) (All-weaker IsRing (Spelled RingText ring_text) ring (m.shell ∷ m.holes) rings))
 
 -- the tokens of a whole text
-whole : (keyword text : List ℕ) (ts : List Token) → AllWord keyword → 0 < length keyword → Spells text ts → ((rest : List ℕ) → Ends (text ++ rest))
+whole : (keyword text : List ℕ) (ts : List Token) → AllWord keyword → 0 < length keyword → Spells text ts → ((rest : List ℕ) → Stops (text ++ rest))
     → kinds (tokens (keyword ++ text)) ≡ Word keyword ∷ ts ++ End ∷ []
 whole keyword text ts all some f stop =
     let bytes : List ℕ = keyword ++ text in
-    let r = joined keyword text (Word keyword ∷ []) ts (word_is_one_token keyword all some) f stop 0 [] at_end in
+    let r = joined keyword text (Word keyword ∷ []) ts (word_is_one_token keyword all some) f stop 0 [] tt in
     map-append (λ (t : ℕ × Token). t.1) (tokens_from 0 bytes) ((length bytes, End) ∷ [])
     ∙ ap (λ (l : List Token). l ++ End ∷ []) (ap (λ (l : List ℕ). kinds (tokens_from 0 l)) (sym (append-nil bytes)) ∙ r.1 ∙ append-nil (Word keyword ∷ ts))
 
@@ -107,12 +107,12 @@ unfolding polygon_text
 reads [] some h = absurd (omega arith)
 reads (m ∷ []) some h =
     let body = member m (All-head HasRings m [] h) in
-    (codes "POLYGON", body.0, whole (codes "POLYGON") (member_text m) body.0 (letters (codes "POLYGON") refl) (omega arith) body.2 (λ rest. at_open), inl (refl, (m, refl, body.1)))
+    (codes "POLYGON", body.0, whole (codes "POLYGON") (member_text m) body.0 (letters (codes "POLYGON") refl) (omega arith) body.2 (λ rest. refl), inl (refl, (m, refl, body.1)))
 reads (m ∷ n ∷ more) some h =
     let all = All-weaker HasRings (Spelled BodyText member_text) member (m ∷ n ∷ more) h in
     let body = parens (Commas BodyText) (with_commas member_text) (m ∷ n ∷ more) (commas BodyText member_text (m ∷ n ∷ more) (omega arith) all) in
     let text = in_parens (with_commas member_text (m ∷ n ∷ more)) in
-    (codes "MULTIPOLYGON", body.0, whole (codes "MULTIPOLYGON") text body.0 (letters (codes "MULTIPOLYGON") refl) (omega arith) body.2 (λ rest. at_open), inr (refl, body.1))
+    (codes "MULTIPOLYGON", body.0, whole (codes "MULTIPOLYGON") text body.0 (letters (codes "MULTIPOLYGON") refl) (omega arith) body.2 (λ rest. refl), inr (refl, body.1))
 
 -- the text of a polygon whose lists of points are rings spells the polygon
 pub polygon_is_spelled : (members : List Member) → IsPolygon members → HaveRings members → PolygonText (polygon_text members) members

@@ -75,8 +75,10 @@ abbrev pub TookAs : {A : Type 0} → (A → ParserState) → Result A WktFault
 TookAs {A} state answer r at = AnswersUnless wkt_fault_reported (λ (x : A). r ≡ Ok (state x))
     (λ (f : WktCode × ℕ). (r ≡ Err f.0) × (f.1 ≡ at)) answer
 
-abbrev pub Took : Result ParserState WktFault → Result ParserState WktCode → ℕ → Type 0
-Took answer r at = TookAs (λ s. s) answer r at
+-- a call that left this state did what a step does, unless memory ran out
+abbrev pub Took : {A : Type 0} → Result A WktFault → ParserState → Result ParserState WktCode → ℕ
+    → Type 0
+Took answer s r at = TookAs (λ _. s) answer r at
 
 -- the members where the last step finishes with them
 abbrev pub ParseEnds : Result (List Member) WktFault → Result ParserState WktCode → ℕ → Type 0

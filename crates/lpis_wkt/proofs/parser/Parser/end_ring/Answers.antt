@@ -9,8 +9,8 @@ returns-after-bad c = λ b ps e.
     let i = c.self.inside in
     let ctx : Context = record { multi = i.multi; members = i.members.items; rings = i.rings.items } in
     let same : i.points.items ≡ ps = points_at i.expecting ctx b i.points.items ps (c.self.view_is ∙ e) in
-    let ended = c.in_ok-from_slice.field-0.items in
-    let kept : ended ≡ i.points.items = c.in_ok-from_slice.ensures.items ∙ c.as_slice.ensures.value in
+    let ended = c.in_ok-points.points.items in
+    let kept : ended ≡ i.points.items = c.in_ok-points.ensures.items ∙ c.as_slice.ensures.value in
     let why = c.in-Err.ensures.why in
     let closes : close_ring b ended ≡ Err c.match-bad.code = elim c.match-bad.branch [
       | in-Short w ↦ short_ring b ended (why.0 w.in-Short.is) ∙ ap Err (sym w.code-is)
