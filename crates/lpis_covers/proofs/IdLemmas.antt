@@ -1,16 +1,17 @@
 -- Identifiers are text.
-use Rattle.std.proofs.Common.{Some, None, ◌≡◌, ◌<◌, ◌≤◌, ◌+◌, ◌++◌, ℕ, List, [], ◌∷◌, length, drop, take}
-use Rattle.std.proofs.Common.{true, false, refl, ap, ◌∙◌, arith, slice_index, zero, suc, ◌&&◌, cond, eqb, not, position, IsUtf8, nat_le}
+use Rattle.std.proofs.Common.{◌≡◌, ◌<◌, ◌≤◌, ◌-◌, ◌++◌, ◌⊎◌, ℕ, List, [], ◌∷◌, inl, inr, length, drop, take, get_or, min}
+use Rattle.std.proofs.Common.{true, ap, ◌∙◌, arith, slice_index, zero, suc, ◌&&◌, IsUtf8, nat_le}
+use Rattle.std.proofs.Math.Nat.{min-eq_left, min-eq_right}
+use Rattle.std.proofs.lemmas.Bool.{cases_lt}
+use Rattle.std.proofs.lemmas.List.{get_or_append_left, get_or-drop}
+use Rattle.std.proofs.Math.Seq.{get_or-append_right}
 use Rattle.lpis_covers.proofs.Common.{nat_tests}
-use Rattle.std.specs.List.{before_first, list_all, position_or_len}
-use Rattle.std.proofs.lemmas.List.Folds.{prefix_len-append}
-use Rattle.std.proofs.lemmas.List.Sums.{prefix_len-le-length}
-use Rattle.std.proofs.lemmas.Grind.{common_steps}
+use Rattle.std.specs.List.{list_all}
 use Rattle.std.proofs.Math.Seq.{take-append_seam}
-use Rattle.lpis_covers.specs.private.Padding.{is_padding}
 use Rattle.std.proofs.lemmas.Bool.{and_parts}
 use Rattle.std.proofs.lemmas.Str.{IsUtf8-from_ascii}
 use Rattle.lpis_covers.specs.Ids.{is_id, is_id_byte, longest_id}
+use Rattle.lpis_covers.specs.private.Characters.{characters_in, count_in}
 
 small : (b : ℕ) → is_id_byte b ≡ true → b < 128
 small b h = grind (arith, nat_tests)
@@ -30,39 +31,34 @@ id-short bs h =
     let within : nat_le (length bs) longest_id ≡ true = (and_parts (nat_le 1 (length bs)) _ (and_parts _ _ h).0).1 in
     grind (arith, nat_tests)
 
--- an identifier ends where the zeros behind it begin
-not-zero : (b : ℕ) → is_id_byte b ≡ true → is_padding b ≡ false
-not-zero b h = grind (arith, nat_tests)
+-- each byte of an identifier is above the most characters
+above : (b : ℕ) → is_id_byte b ≡ true → longest_id < b
+above b h = grind (arith, nat_tests)
 
-no-zero : (bs : List ℕ) → list_all is_id_byte bs ≡ true → position_or_len is_padding bs ≡ length bs
-no-zero [] h = refl
-no-zero (b ∷ bs) h = let parts = and_parts (is_id_byte b) _ h in rw (not-zero b parts.0) (omega (arith, no-zero bs parts.1))
+all-above : (bs : List ℕ) (i : ℕ) → list_all is_id_byte bs ≡ true → i < length bs → longest_id < get_or bs i 0
+all-above [] i h l = absurd (omega (arith, l))
+all-above (b ∷ bs) zero h l = above b (and_parts (is_id_byte b) _ h).0
+all-above (b ∷ bs) (suc i) h l = all-above bs i (and_parts (is_id_byte b) _ h).1 (omega (arith, l))
 
-zeros-first : (n : ℕ) (zs : List ℕ) → list_all is_padding zs ≡ true → position_or_len is_padding (drop n zs) ≡ 0
-zeros-first zero [] h = refl
-zeros-first (suc n) [] h = refl
-zeros-first zero (z ∷ zs) h = rw (and_parts (is_padding z) _ h).0 refl
-zeros-first (suc n) (z ∷ zs) h = zeros-first n zs (and_parts (is_padding z) _ h).1
+-- an identifier that leaves the last byte free is followed there by what stood there before, its count
+last-free : (bs zs : List ℕ) → length bs ≤ 39 → get_or zs 39 0 ≡ length bs → get_or (bs ++ drop (length bs) zs) 39 0 ≡ length bs
+last-free bs zs short last =
+    get_or-append_right bs (drop (length bs) zs) 39 0 short ∙ get_or-drop (length bs) zs (39 - length bs) 0
+    ∙ ap (λ (i : ℕ). get_or zs i 0) (omega (arith, short)) ∙ last
 
--- the bytes before the first zero are no more than all bytes
-pub ends-within : (xs : List ℕ) → position_or_len is_padding xs ≤ length xs
-ends-within xs = prefix_len-le-length (λ c. not (is_padding c)) xs
-
--- where a zero is found, the bytes before the first zero end at its index
-pub ends-at : (xs : List ℕ) (n : ℕ) → position is_padding xs ≡ Some n → n ≡ position_or_len is_padding xs
-ends-at xs n h = grind (arith, common_steps)
-
--- where no zero is found, the bytes before the first zero are all bytes
-pub ends-nowhere : (xs : List ℕ) → position is_padding xs ≡ None → length xs ≡ position_or_len is_padding xs
-ends-nowhere xs h = let within = ends-within xs in grind (arith, common_steps)
-
--- of an identifier with zeros behind it, however few are kept, the bytes before the first zero are the identifier
-pub before-padding : (bs zs : List ℕ) (n : ℕ) → is_id bs ≡ true → list_all is_padding zs ≡ true → before_first is_padding (bs ++ drop n zs) ≡ bs
-before-padding bs zs n h z =
-    let whole = no-zero bs (and_parts (nat_le 1 (length bs) && nat_le (length bs) longest_id) _ h).1 in
-    let ends : position_or_len is_padding (bs ++ drop n zs) ≡ length bs =
-    prefix_len-append (λ c. not (is_padding c)) bs (drop n zs) ∙ rw (whole, zeros-first n zs z) (by (length bs)) in
-    ap (λ (k : ℕ). take k (bs ++ drop n zs)) ends ∙ take-append_seam bs _
+-- its bytes are as many as the last byte says, or the most
+count-kept : (bs zs : List ℕ) → is_id bs ≡ true → get_or zs 39 0 ≡ length bs → count_in (bs ++ drop (length bs) zs) ≡ length bs
+count-kept bs zs h last = by (cases_lt 39 (length bs))
   where
-    by : (k : ℕ) → cond (eqb k k) (k + 0) k ≡ k
-    by k = grind (arith, nat_tests)
+    by : (39 < length bs) ⊎ (length bs ≤ 39) → count_in (bs ++ drop (length bs) zs) ≡ length bs
+    by (inl long) =
+        let all = (and_parts (nat_le 1 (length bs) && nat_le (length bs) longest_id) _ h).1 in
+        let same = get_or_append_left bs (drop (length bs) zs) 0 39 long in
+        let full : length bs ≡ longest_id = omega (arith, long, id-short bs h) in
+        let most : longest_id ≤ get_or bs 39 0 = omega (arith, all-above bs 39 all long) in
+        rw (same, full) (min-eq_right most)
+    by (inr short) = ap (λ (k : ℕ). min k longest_id) (last-free bs zs short last) ∙ min-eq_left (id-short bs h)
+
+-- so they are read again
+pub characters-kept : (bs zs : List ℕ) → is_id bs ≡ true → get_or zs 39 0 ≡ length bs → characters_in (bs ++ drop (length bs) zs) ≡ bs
+characters-kept bs zs h last = ap (λ (k : ℕ). take k (bs ++ drop (length bs) zs)) (count-kept bs zs h last) ∙ take-append_seam bs _

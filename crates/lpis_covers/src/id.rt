@@ -1,18 +1,16 @@
 //! Identifiers.
 
-ghost use Rattle.std.specs.Prelude.{◌≡◌, ◌≤◌, ℕ, List, true, false, length, nat_eq, position, IfOk};
-ghost use Rattle.std.specs.Prelude.{IfSome};
+ghost use Rattle.std.specs.Prelude.{◌≡◌, ◌≤◌, ◌∷◌, [], ℕ, List, true, false, nat_eq, IfOk, IfSome};
 ghost use Rattle.std.specs.Prelude.{IfNone, Some};
-ghost use Rattle.std.specs.Hash as fed;
 ghost use Rattle.std.specs.Cmp;
 ghost use Rattle.std.specs.Cmp.Lexicographic.{pointwise, slice_cmp, nat_list_eq_equiv};
 ghost use Rattle.std.specs.Cmp.Lexicographic.{nat_list_cmp_total, texts_po, texts_ties};
 ghost use Rattle.std.specs.Ordering.{nat_cmp};
 ghost use Rattle.std.specs.Cmp.Rules.{hashing};
 ghost use Rattle.std.proofs.Common.{rules, refl};
-ghost use Rattle.std.specs.List.{before_first, list_all, position_or_len};
+ghost use Rattle.std.specs.List.{list_all};
 ghost use Rattle.lpis_covers.specs.Ids.{is_id, is_id_byte as id_byte};
-ghost use Rattle.lpis_covers.specs.private.Padding.{is_padding};
+ghost use Rattle.lpis_covers.specs.private.Characters.{characters_in, count_in};
 
 use std::alloc::{AllocError, Global};
 use std::cmp::Ordering;
@@ -23,8 +21,9 @@ use std::marker::Model;
 const LONGEST_ID: usize = 40;
 
 /// An identifier: 1 to 40 characters of `A-Z a-z 0-9 . _ : / -`, compared by its bytes. They lie in
-/// the value itself, with zeros behind them, since a release has many identifiers and most are
-/// short. Contracts see them.
+/// the value itself, since a release has many identifiers and most are short, with zeros behind them
+/// and their count as the last byte. Where there are 40 the last byte is a character, and each
+/// character is above 40. Contracts see them.
 #[derive(Debug, Drop)]
 pub struct Id {
     characters: [u8; LONGEST_ID],
@@ -33,9 +32,9 @@ pub struct Id {
 impl Model for Id {
     ghost Value = { List ℕ };
 
-    ghost view = { λ a. before_first is_padding a.characters };
+    ghost view = { λ a. characters_in a.characters };
 
-    ghost invariant = { λ a. is_id (before_first is_padding a.characters) ≡ true };
+    ghost invariant = { λ a. is_id (characters_in a.characters) ≡ true };
 }
 
 impl PartialEq for Id {
@@ -53,12 +52,12 @@ impl Eq for Id {
 }
 
 impl Hash for Id {
-    ghost hash_input = { fed.str };
+    ghost hash_input = { λ x. x ∷ [] };
 
     ghost respects_eq = { Prim.search (hashing, rules) };
 
     fn hash<H: Hasher>(&self, state: &mut H) {
-        self.as_str().hash(state);
+        state.write(self.as_bytes());
     }
 }
 
@@ -102,11 +101,11 @@ impl Id {
     }
 
     /// Its bytes.
-    fn as_bytes(&self) -> &[u8]
+    pub fn as_bytes(&self) -> &[u8]
         ensures bytes { result.now ≡ self.now }
         ensures id { is_id self.now ≡ true }
     {
-        &self.characters[..length_of(&self.characters)]
+        &self.characters[..count_in(&self.characters)]
     }
 
     /// Its text.
@@ -131,30 +130,21 @@ impl Id {
     }
 }
 
-/// Where the first zero stands.
-fn first_zero(characters: &[u8]) -> Option<usize>
-    ensures { result ≡ position is_padding characters.now }
+/// How many characters there are.
+fn count_in(characters: &[u8; LONGEST_ID]) -> usize
+    ensures count { result ≡ count_in characters.now }
+    ensures within { result ≤ LONGEST_ID }
 {
-    characters.iter().position(|c| *c == 0)
+    usize::from(characters[LONGEST_ID - 1]).min(LONGEST_ID)
 }
 
-/// How many characters stand before the first zero.
-fn length_of(characters: &[u8]) -> usize
-    ensures first { result ≡ position_or_len is_padding characters.now }
-    ensures within { result ≤ length characters.now }
-{
-    match first_zero(characters) {
-        Some(length) => length,
-        None => characters.len(),
-    }
-}
-
-/// The bytes of an identifier, and zeros behind them.
+/// The bytes of an identifier, and behind them zeros and their count, as far as there is room.
 fn padded(bytes: &[u8]) -> [u8; LONGEST_ID]
     requires { is_id bytes.now ≡ true }
-    ensures { before_first is_padding result ≡ bytes.now }
+    ensures { characters_in result ≡ bytes.now }
 {
     let mut characters = [0; LONGEST_ID];
+    characters[LONGEST_ID - 1] = bytes.len() as u8;
     characters[..bytes.len()].copy_from_slice(bytes);
     characters
 }
