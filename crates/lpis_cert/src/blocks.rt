@@ -92,127 +92,96 @@ fn cert_of(
 /// The lines of a piece.
 fn piece_block<'a>(
     alloc: Global,
-    draft: Draft,
+    draft: &mut Draft,
     id: Id,
     triangle_count: u32,
     flat_count: u32,
     start: Rest<'a>,
     after: Rest<'a>,
-) -> Result<(Draft, Rest<'a>), CertFault>
-    requires begins { ReadsLines draft.version start.text.now start.line
+) -> Result<Rest<'a>, CertFault>
+    requires begins { ReadsLines draft.old.version start.text.now start.line
         (PieceLine id triangle_count flat_count ∷ [])
         after.text.now after.line }
     requires named { is_id id ≡ true }
-    requires fresh { draft.stage ≡ stage.Pieces }
-    ensures ok { IfOk result (λ x. DraftGrown draft x.0 start.entry.text.now start.entry.line
-        x.1.text.now x.1.line) }
-    ensures err { IfErr result (λ e. FaultFrom draft.version e start.entry.line
-        (draft_state draft) start.entry.text.now) }
+    requires fresh { draft.old.stage ≡ stage.Pieces }
+    ensures ok { IfOk result (λ rest. DraftGrown draft.old draft.new start.entry.text.now
+        start.entry.line rest.text.now rest.line) }
+    ensures err { IfErr result (λ e. FaultFrom draft.old.version e start.entry.line
+        (draft_state draft.old) start.entry.text.now) }
 {
-    let Draft {
-        mut pieces,
-        parcels,
-        exact,
-        stage,
-        triangles,
-        flats,
-        version,
-    } = draft;
-    let all_triangles = triangles + triangle_count as u64;
-    let all_flats = flats + flat_count as u64;
+    let all_triangles = draft.triangles + triangle_count as u64;
+    let all_flats = draft.flats + flat_count as u64;
     if all_triangles > MOST_TRIANGLES || all_flats > MOST_FLATS {
         return Err(CertFault::At {
             code: CertCode::TooMany,
             line: start.line,
         });
     }
-    let (own_triangles, middle) = corner_lines(alloc, version, false, triangle_count, after)?;
-    let (own_flats, rest) = corner_lines(alloc, version, true, flat_count, middle)?;
-    pieces.push(piece_part(id, own_triangles, own_flats))?;
-    let grown = Draft {
-        pieces,
-        parcels,
-        exact,
-        stage,
-        triangles: all_triangles,
-        flats: all_flats,
-        version,
-    };
-    Ok((grown, rest))
+    let (own_triangles, middle) = corner_lines(alloc, draft.version, false, triangle_count, after)?;
+    let (own_flats, rest) = corner_lines(alloc, draft.version, true, flat_count, middle)?;
+    draft.pieces.push(piece_part(id, own_triangles, own_flats))?;
+    draft.triangles = all_triangles;
+    draft.flats = all_flats;
+    Ok(rest)
 }
 
-/// The parcels and the exact blocks with one more block of flats.
-fn with_flats(
-    mut parcels: Vec<ParcelPart>,
-    mut exact: Vec<ExactBlock>,
+/// One more block of flats, among the parcels or the exact blocks.
+fn add_flats(
+    parcels: &mut Vec<ParcelPart>,
+    exact: &mut Vec<ExactBlock>,
     owner: Owner,
     id: Id,
     flats: Vec<Triangle>,
-) -> Result<(Vec<ParcelPart>, Vec<ExactBlock>), CertFault>
+) -> Result<(), CertFault>
     requires { is_id id ≡ true }
-    ensures ok { IfOk result (λ x. OneMore owner id flats.items parcels.items
-        exact.items x.0.items x.1.items) }
-    ensures err { IfErr result (λ e. e ≡ Memory) }
+    ensures ok { IfOk result (λ _. OneMore owner id flats.items parcels.old.items
+        exact.old.items parcels.new.items exact.new.items) }
+    ensures err { IfErr result (λ e. (e ≡ Memory) × (parcels.new.items ≡ parcels.old.items)
+        × (exact.new.items ≡ exact.old.items)) }
 {
     match owner {
         Owner::Parcel => parcels.push(parcel_part(id, flats))?,
         Owner::Exact { merge } => exact.push(exact_part(merge, id, flats))?,
     }
-    Ok((parcels, exact))
+    Ok(())
 }
 
 /// The lines of a block of flats alone.
 fn flat_block<'a>(
     alloc: Global,
-    draft: Draft,
+    draft: &mut Draft,
     owner: Owner,
     id: Id,
     flat_count: u32,
     start: Rest<'a>,
     after: Rest<'a>,
-) -> Result<(Draft, Rest<'a>), CertFault>
-    requires begins { ReadsLines draft.version start.text.now start.line
+) -> Result<Rest<'a>, CertFault>
+    requires begins { ReadsLines draft.old.version start.text.now start.line
         (flats_line owner id flat_count ∷ []) after.text.now after.line }
-    requires fits { LineFits draft.version (flats_line owner id flat_count) }
-    requires stands { can_stand (Block draft.stage) (line_kind (flats_line owner id flat_count))
-        ≡ true }
-    ensures ok { IfOk result (λ x. DraftGrown draft x.0 start.entry.text.now start.entry.line
-        x.1.text.now x.1.line) }
-    ensures err { IfErr result (λ e. FaultFrom draft.version e start.entry.line
-        (draft_state draft) start.entry.text.now) }
+    requires fits { LineFits draft.old.version (flats_line owner id flat_count) }
+    requires stands { can_stand (Block draft.old.stage)
+        (line_kind (flats_line owner id flat_count)) ≡ true }
+    ensures ok { IfOk result (λ rest. DraftGrown draft.old draft.new start.entry.text.now
+        start.entry.line rest.text.now rest.line) }
+    ensures err { IfErr result (λ e. FaultFrom draft.old.version e start.entry.line
+        (draft_state draft.old) start.entry.text.now) }
 {
-    let Draft {
-        pieces,
-        parcels,
-        exact,
-        stage: _,
-        triangles,
-        flats,
-        version,
-    } = draft;
-    let all_flats = flats + flat_count as u64;
+    let all_flats = draft.flats + flat_count as u64;
     if all_flats > MOST_FLATS {
         return Err(CertFault::At {
             code: CertCode::TooMany,
             line: start.line,
         });
     }
-    let (own_flats, rest) = corner_lines(alloc, version, true, flat_count, after)?;
-    let (parcels, exact) = with_flats(parcels, exact, owner, id, own_flats)?;
-    let grown = Draft {
-        pieces,
-        parcels,
-        exact,
-        stage: owner.stage(),
-        triangles,
-        flats: all_flats,
-        version,
-    };
-    Ok((grown, rest))
+    let (own_flats, rest) = corner_lines(alloc, draft.version, true, flat_count, after)?;
+    add_flats(&mut draft.parcels, &mut draft.exact, owner, id, own_flats)?;
+    draft.stage = owner.stage();
+    draft.flats = all_flats;
+    Ok(rest)
 }
 
 /// The pairs and the end.
-fn finish(
+pub(crate) fn finish(
     alloc: Global,
     draft: Draft,
     count: u32,
@@ -249,29 +218,27 @@ fn finish(
     Ok(cert_of(pieces, parcels, exact, pairs))
 }
 
-/// The next block, or the end.
+/// The next block, or the line that counts the pairs.
 pub(crate) fn next_block<'a>(
     alloc: Global,
-    draft: Draft,
+    draft: &mut Draft,
     rest: Rest<'a>,
 ) -> Result<Progress<'a>, CertFault>
-    ensures ok { IfOk result (λ t. Progressed draft t rest.entry.text.now rest.entry.line) }
-    ensures err { IfErr result (λ e. FaultFrom draft.version e rest.entry.line
-        (draft_state draft) rest.entry.text.now) }
+    ensures ok { IfOk result
+        (λ t. Progressed draft.old draft.new t rest.entry.text.now rest.entry.line) }
+    ensures err { IfErr result (λ e. FaultFrom draft.old.version e rest.entry.line
+        (draft_state draft.old) rest.entry.text.now) }
 {
     let (head, after) = head_at(alloc, draft.version, draft.stage, rest)?;
     match head {
         Head::Piece(id, triangles, flats) => {
-            let (grown, left) = piece_block(alloc, draft, id, triangles, flats, rest, after)?;
-            Ok(Progress::More(grown, left))
+            let left = piece_block(alloc, draft, id, triangles, flats, rest, after)?;
+            Ok(Progress::More(left))
         }
         Head::Flats(owner, id, flats) => {
-            let (grown, left) = flat_block(alloc, draft, owner, id, flats, rest, after)?;
-            Ok(Progress::More(grown, left))
+            let left = flat_block(alloc, draft, owner, id, flats, rest, after)?;
+            Ok(Progress::More(left))
         }
-        Head::Pairs(count) => {
-            let cert = finish(alloc, draft, count, rest, after)?;
-            Ok(Progress::Done(cert))
-        }
+        Head::Pairs(count) => Ok(Progress::Pairs(count, after)),
     }
 }

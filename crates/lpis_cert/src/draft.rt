@@ -8,7 +8,6 @@ ghost use Rattle.lpis_cert.specs.declared.kind.Kind.TheVariants.{Parcel};
 ghost use Rattle.lpis_cert.specs.declared.kind.Expected.TheVariants.{Block};
 ghost use Rattle.lpis_cert.specs.Reading.{can_stand};
 
-use crate::cert::Cert;
 use crate::kind::Stage;
 use crate::part::{ExactBlock, ParcelPart, PiecePart};
 use crate::rest::Rest;
@@ -33,9 +32,9 @@ pub(crate) struct Draft {
     pub ghost no_exact: { can_stand (Block stage) Parcel ≡ true → length exact.items ≡ 0 },
 }
 
-/// What came next: one more block, or the end.
-#[derive(Drop)]
+/// What came next, and the rest of the text: one more block, or the line that counts the pairs.
+#[derive(Clone, Copy)]
 pub(crate) enum Progress<'a> {
-    More(Draft, Rest<'a>),
-    Done(Cert),
+    More(Rest<'a>),
+    Pairs(u32, Rest<'a>),
 }

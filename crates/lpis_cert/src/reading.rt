@@ -10,7 +10,7 @@ ghost use Rattle.lpis_cert.specs.private.Taken.{FaultFrom};
 ghost use Rattle.lpis_cert.specs.Contents.{IsCertText, content_of};
 ghost use Rattle.lpis_cert.specs.private.Drafts.{draft_lines, draft_state};
 
-use crate::blocks::next_block;
+use crate::blocks::{finish, next_block};
 use crate::cert::Cert;
 use crate::draft::{Draft, Progress};
 use crate::fault::{CertCode, CertFault};
@@ -73,12 +73,9 @@ fn read_blocks(alloc: Global, version: Version, start: Rest<'_>) -> Result<Cert,
     let mut draft = no_blocks(alloc, version);
     let mut rest = start;
     'reading: loop {
-        match next_block(alloc, draft, rest)? {
-            Progress::More(grown, left) => {
-                draft = grown;
-                rest = left;
-            }
-            Progress::Done(cert) => return Ok(cert),
+        match next_block(alloc, &mut draft, rest)? {
+            Progress::More(left) => rest = left,
+            Progress::Pairs(count, after) => return finish(alloc, draft, count, rest, after),
         }
     }
 }

@@ -5,7 +5,7 @@ use Rattle.std.specs.List.{AllByRecursion}
 use Rattle.lpis_cert.specs.declared.version.Version.{Version}
 use Rattle.lpis_cert.specs.declared.draft.Draft.{Draft}
 use Rattle.lpis_cert.specs.declared.draft.Progress.{Progress}
-use Rattle.lpis_cert.specs.declared.draft.Progress.TheVariants.{More, Done}
+use Rattle.lpis_cert.specs.declared.draft.Progress.TheVariants.{More, Pairs}
 use Rattle.lpis_points.specs.declared.triangle.Triangle.{Triangle}
 use Rattle.lpis_cert.specs.declared.cert.Cert.{Cert}
 use Rattle.lpis_cert.specs.declared.part.PiecePart.{PiecePart}
@@ -20,12 +20,12 @@ use Rattle.lpis_cert.specs.declared.head.Head.{Head}
 use Rattle.lpis_cert.specs.declared.head.Head.TheVariants as head
 use Rattle.lpis_cert.specs.CertText.{CertLine, PieceLine, ParcelLine, ExactLine, PairsLine}
 use Rattle.lpis_cert.specs.CertText.{PieceBlock, ParcelBlock, ExactBlock as FlatsBlock}
-use Rattle.lpis_cert.specs.CertText.{piece_lines, parcel_lines, exact_lines, content_lines}
+use Rattle.lpis_cert.specs.CertText.{piece_lines, parcel_lines, exact_lines}
 use Rattle.lpis_cert.specs.CertText.{text_of_lines}
 use Rattle.lpis_cert.specs.Fitting.{LineFits}
 use Rattle.lpis_cert.specs.Faults.{LineState, InBody, lines_outcome, lines as cut}
 use Rattle.lpis_cert.specs.private.Taken.{ReadsLines}
-use Rattle.lpis_cert.specs.Contents.{block_of_piece, block_of_parcel, exact_of, content_of}
+use Rattle.lpis_cert.specs.Contents.{block_of_piece, block_of_parcel, exact_of}
 
 -- the line that begins a block of flats alone
 abbrev pub flats_line : Owner → List ℕ → ℕ → CertLine
@@ -85,17 +85,18 @@ abbrev pub DraftGrown : Draft → Draft → List ℕ → ℕ → List ℕ → �
 DraftGrown old new text n rest m = (new.version ≡ old.version) × Grown old.version
     (draft_lines old) (draft_lines new) (draft_state old) (draft_state new) text n rest m
 
+-- a draft with one more block, or the line that counts the pairs
+abbrev pub Progressed : Draft → Draft → Progress → List ℕ → ℕ → Type 0
+Progressed old new (More rest) text n = DraftGrown old new text n rest.text.now rest.line
+Progressed old new (Pairs count rest) text n = (new ≡ old) × ReadsLines old.version text n
+    (PairsLine count ∷ []) rest.text.now rest.line
+
 -- the whole rest of a text
 pub record Whole (v : Version) (before more : List CertLine) (text : List ℕ) : Type 0 where
   pub added : List CertLine
   pub parts : text ≡ text_of_lines v added
   pub fits : AllByRecursion (LineFits v) added
   pub lines : more ≡ before ++ added
-
-abbrev pub Progressed : Draft → Progress → List ℕ → ℕ → Type 0
-Progressed old (More new rest) text n = DraftGrown old new text n rest.text.now rest.line
-Progressed old (Done cert) text n = Whole old.version (draft_lines old)
-    (content_lines (content_of cert)) text
 
 -- a certificate consists of these
 pub record HasParts (c : Cert) (pieces : List PiecePart) (parcels : List ParcelPart)

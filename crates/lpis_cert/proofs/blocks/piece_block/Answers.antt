@@ -8,7 +8,7 @@ use Rattle.lpis_cert.proofs.blocks.piece_block.Goals as goal
 
 pub returns-then-all_triangles-gt-MOST_TRIANGLES-clause-err : goal.returns-then-all_triangles-gt-MOST_TRIANGLES-clause-err
 returns-then-all_triangles-gt-MOST_TRIANGLES-clause-err c =
-    let d = c.args.draft in
+    let d = c.args.draft.now in
     let over : (most_triangles < d.triangles + c.args.triangle_count) ⊎ (most_flats < d.flats + c.args.flat_count) = elim c.then-all_triangles-gt-MOST_TRIANGLES.branch [
       | then-all_triangles-gt-MOST_TRIANGLES-via-then-all_triangles-gt-MOST_TRIANGLES w ↦ inl w.if-all_triangles-gt-MOST_TRIANGLES.true
       | then-all_triangles-gt-MOST_TRIANGLES-via-else-all_triangles-gt-MOST_TRIANGLES+then-all_flats-gt-MOST_FLATS w ↦ inr w.if-all_flats-gt-MOST_FLATS.true
@@ -20,7 +20,7 @@ returns-then-all_triangles-gt-MOST_TRIANGLES-clause-err c =
 pub returns-in_err-own_triangles-clause-err : goal.returns-in_err-own_triangles-clause-err
 returns-in_err-own_triangles-clause-err c =
     let p = err_from_is_err_and c.from_residual.result c.from_residual.ensures.1 in
-    let d = c.args.draft in
+    let d = c.args.draft.now in
     rw (p.1, p.2) (piece_fault c.in_err-own_triangles.field-0.0 (record { triangles = d.triangles; flats = d.flats })
     d.stage c.args.id c.args.triangle_count c.args.flat_count
     c.requires.fresh (c.requires.named, omega arith, omega arith) c.if-all_triangles-gt-MOST_TRIANGLES.false c.if-all_flats-gt-MOST_FLATS.false c.requires.begins
@@ -29,7 +29,7 @@ returns-in_err-own_triangles-clause-err c =
 pub returns-in_err-own_flats-clause-err : goal.returns-in_err-own_flats-clause-err
 returns-in_err-own_flats-clause-err c =
     let p = err_from_is_err_and c.from_residual-in_err-own_flats.result c.from_residual-in_err-own_flats.ensures.1 in
-    let d = c.args.draft in
+    let d = c.args.draft.now in
     let ts = c.in_ok-own_triangles.own_triangles.items in
     rw (p.1, p.2) (flat_fault c.in_err-own_flats.field-0.0 (record { triangles = d.triangles; flats = d.flats }) d.stage
     c.args.id c.args.triangle_count c.args.flat_count (triangle_corners ts)
@@ -40,7 +40,7 @@ returns-in_err-own_flats-clause-err c =
 
 pub returns-clause-ok : goal.returns-clause-ok
 returns-clause-ok c =
-    let d = c.args.draft in
+    let d = c.args.draft.now in
     let ts = c.in_ok-own_triangles.own_triangles.items in
     let fs = c.in_ok-own_flats.own_flats.items in
     let q : PieceBlock = record { id = c.args.id; triangles = triangle_corners ts; flats = triangle_corners fs } in

@@ -1,4 +1,5 @@
 use Rattle.std.proofs.Common.{refl, ◌∙◌, sym}
+use Rattle.std.proofs.lemmas.Result.{IfOk-weaker}
 use Rattle.lpis_cert.proofs.Common.{content_lines, content_of, draft_state}
 use Rattle.lpis_cert.proofs.StepLemmas.{follows_none}
 use Rattle.lpis_cert.proofs.ReadLemmas.{follows_grown, whole_text}
@@ -19,21 +20,31 @@ pub reading-preserved : goal.reading-preserved
 reading-preserved c =
     let is = c.in-More.is in
     let same = c.reading.invariant.version in
-    let grown = rw is at c.in_ok-grown.ensures.ok in
+    let grown = rw is at c.in_ok-left.ensures.ok in
     let more = rw same at grown.1 in
     record {
       version = grown.0 ∙ same;
       follows = follows_grown c.args.version c.args.start.text.now c.args.start.line (draft_lines c.reading.draft)
-          (draft_lines c.in-More.grown) (draft_state c.reading.draft) (draft_state c.in-More.grown) c.reading.rest.text.now
+          (draft_lines c.next_block.new.draft) (draft_state c.reading.draft) (draft_state c.next_block.new.draft) c.reading.rest.text.now
           c.reading.rest.line c.in-More.left.text.now c.in-More.left.line c.reading.invariant.follows more;
       state = sym more.state ∙ c.reading.invariant.state;
     }
 
-pub returns-in-Done-clause-ok : goal.returns-in-Done-clause-ok
-returns-in-Done-clause-ok c =
-    let is = c.in-Done.is in
+pub returns-in-Pairs-clause-ok : goal.returns-in-Pairs-clause-ok
+returns-in-Pairs-clause-ok c =
+    let is = c.in-Pairs.is in
+    let pairs = rw is at c.in_ok-left.ensures.ok in
+    let unchanged = pairs.0 in
     let same = c.reading.invariant.version in
-    let whole = rw same at (rw is at c.in_ok-grown.ensures.ok) in
-    whole_text c.args.version c.args.start.text.now c.args.start.line (draft_lines c.reading.draft)
-    (content_lines (content_of c.in-Done.cert)) c.reading.rest.text.now c.reading.rest.line c.reading.invariant.follows
-    whole
+    let whole = rw (unchanged, same) at c.finish.ensures.ok in
+    IfOk-weaker c.finish.result _ _ (λ cert. whole_text c.args.version c.args.start.text.now c.args.start.line (draft_lines c.reading.draft)
+    (content_lines (content_of cert)) c.reading.rest.text.now c.reading.rest.line c.reading.invariant.follows) whole
+
+pub returns-in-Pairs-clause-err : goal.returns-in-Pairs-clause-err
+returns-in-Pairs-clause-err c =
+    let is = c.in-Pairs.is in
+    let pairs = rw is at c.in_ok-left.ensures.ok in
+    let unchanged = pairs.0 in
+    let same = c.reading.invariant.version in
+    let state = c.reading.invariant.state in
+    rw (← state, ← same, ← unchanged) c.finish.ensures.err
