@@ -1,6 +1,6 @@
 //! The first exact block at which a condition fails.
 
-ghost use Rattle.std.specs.Prelude.{◌≡◌, ◌↔◌, ◌+◌, IsTrue, IfOk};
+ghost use Rattle.std.specs.Prelude.{◌≡◌, ◌↔◌, ◌+◌, ⊤, IsTrue, IfOk};
 ghost use Rattle.lpis_edge_sums.specs.Making.{EdgesCancel, FlatsHaveCorners, polygons};
 ghost use Rattle.lpis_checker.specs.ExactBlocks.{OnBlock, block_name, order_of, part_name};
 ghost use Rattle.lpis_checker.specs.private.ExactSearches.{ExactBelow, FindsExact};
@@ -65,10 +65,13 @@ impl Places for ExactCondition {
 
     ghost holds = { λ q x b. OnBlock q x b };
 
+    ghost stands = { λ q k x. ⊤ };
+
     fn holds_of(
         &self,
         alloc: Global,
         sum: &mut EdgeSum,
+        _index: usize,
         part: &ExactPart,
         block: &ExactBlock,
     ) -> Result<bool, AllocError> {

@@ -1,6 +1,6 @@
 //! The conditions on a piece and its part.
 
-ghost use Rattle.std.specs.Prelude.{◌≡◌, ◌↔◌, ◌<◌, All, IsTrue, length};
+ghost use Rattle.std.specs.Prelude.{◌≡◌, ◌↔◌, ◌<◌, ⊤, All, IsTrue, length};
 ghost use Rattle.lpis_points.specs.Triangles.{IsCounterClockwise};
 ghost use Rattle.lpis_checker.specs.GoodCertificate.{OnPiece};
 
@@ -40,10 +40,13 @@ impl Places for PieceCondition {
 
     ghost holds = { λ q x t. OnPiece q x t };
 
+    ghost stands = { λ q k x. ⊤ };
+
     fn holds_of(
         &self,
         alloc: Global,
         sum: &mut EdgeSum,
+        _index: usize,
         piece: &Piece,
         part: &PiecePart,
     ) -> Result<bool, AllocError> {

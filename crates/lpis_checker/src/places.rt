@@ -1,6 +1,6 @@
 //! The first place of two lists at which a condition fails.
 
-ghost use Rattle.std.specs.Prelude.{◌↔◌, IsTrue, IfOk, slice_get};
+ghost use Rattle.std.specs.Prelude.{◌≡◌, ◌↔◌, ℕ, IsTrue, IfOk, Some, slice_get};
 ghost use Rattle.lpis_checker.specs.GoodCertificate.{SideBySide};
 ghost use Rattle.lpis_checker.specs.private.Searches.{FindsPlace};
 
@@ -15,14 +15,19 @@ pub(crate) trait Places {
 
     ghost holds: { Self → Self.Item → Self.Part → Type 0 };
 
-    /// Whether it holds of an item and its part. The sum is for edges: its room is used again.
+    ghost stands: { Self → ℕ → Self.Item → Type 0 };
+
+    /// Whether it holds of an item, which stands at this index, and its part. The sum is for edges:
+    /// its room is used again.
     fn holds_of(
         &self,
         alloc: Global,
         sum: &mut EdgeSum,
+        index: usize,
         item: &Self::Item,
         part: &Self::Part,
     ) -> Result<bool, AllocError>
+        requires { stands self.now index item.now }
         ensures { IfOk result (λ b. IsTrue b ↔ holds self.now item.now part.now) };
 }
 
@@ -35,11 +40,13 @@ fn holds_at<P: Places>(
     parts: &[P::Part],
     index: usize,
 ) -> Result<bool, AllocError>
+    requires { (k : ℕ) (item : P.Item) → slice_get items.now k ≡ Some item
+        → P.stands places.now k item }
     ensures { IfOk result (λ b. IsTrue b ↔ SideBySide (P.holds places.now)
         (slice_get items.now index) (slice_get parts.now index)) }
 {
     match (items.get(index), parts.get(index)) {
-        (Some(item), Some(part)) => places.holds_of(alloc, sum, item, part),
+        (Some(item), Some(part)) => places.holds_of(alloc, sum, index, item, part),
         (None, None) => Ok(true),
         _ => Ok(false),
     }
@@ -52,6 +59,8 @@ pub(crate) fn first_place<P: Places>(
     items: &[P::Item],
     parts: &[P::Part],
 ) -> Result<Option<usize>, AllocError>
+    requires { (k : ℕ) (item : P.Item) → slice_get items.now k ≡ Some item
+        → P.stands places.now k item }
     ensures { IfOk result (FindsPlace (λ k. SideBySide (P.holds places.now)
         (slice_get items.now k) (slice_get parts.now k))) }
 {

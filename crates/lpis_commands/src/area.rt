@@ -5,7 +5,6 @@ ghost use Rattle.lpis_rings.specs.declared.polygon.Member.{Member};
 ghost use Rattle.lpis_covers.specs.declared.fault.Table.TheVariants.{Area};
 ghost use Rattle.lpis_covers.specs.Faults.{rows_of, unless_faulty, values_of};
 ghost use Rattle.lpis_covers.specs.Table.{Answers, AnswersBy};
-ghost use Rattle.lpis_covers.specs.private.Header.{IsHeaderRead};
 ghost use Rattle.lpis_commands.specs.AreaAnswer.{AnswersArea, AreaHalts, answer_from, area_answer};
 ghost use Rattle.lpis_commands.specs.AreaAnswer.{area_table, polygon_area_line};
 ghost use Rattle.lpis_commands.specs.Status.{done};
@@ -44,7 +43,8 @@ fn add_lines(
     reader: &mut TableReader<'_>,
     lines: &mut Vec<u8>,
 ) -> Result<(), TableFault>
-    requires header { IsHeaderRead area_table reader.old }
+    requires table { reader.old.table ≡ Area }
+    requires start { reader.old.number ≡ 0 }
     requires empty { lines.old.items ≡ [] }
     ensures { MatchResult result
         (λ _. answer_from (values_of area_table (Ok reader.old)) ≡ (lines.new.items, done))

@@ -1,6 +1,7 @@
 //! The areas of parcels, one by one and added.
 
-ghost use Rattle.std.specs.Prelude.{◌≤◌, ◌+◌, ◌∷◌, ◌++◌, [], Contains, List, OnOk, nat_abs};
+ghost use Rattle.std.specs.Prelude.{◌≡◌, ◌≤◌, ◌<◌, ◌+◌, ◌∷◌, ◌++◌, [], Contains, List, OnOk};
+ghost use Rattle.std.specs.Prelude.{Some, length, nat_abs, slice_get};
 ghost use Rattle.std.specs.Io.KnownBytes.{Appends};
 ghost use Rattle.lpis_checker.specs.SoundMap.{AreasAdd};
 ghost use Rattle.lpis_parcels.specs.Release.{Contents};
@@ -10,7 +11,7 @@ ghost use Rattle.lpis_commands.specs.Areas.{AreasOf};
 ghost use Rattle.lpis_commands.specs.Report.{areas_text};
 
 use crate::printing::{PrintFault, print_area, print_eligible};
-use lpis_parcels::{Parcel, Release, weighted2};
+use lpis_parcels::{Parcel, Release, weighted2, weighted2_at};
 use lpis_rings::area2;
 use std::io::Write;
 
@@ -58,6 +59,19 @@ pub fn areas_of(release: &Release, parcel: &Parcel) -> Areas
     Areas {
         area: area2(&parcel.polygon),
         weighted: weighted2(release, &parcel.id),
+    }
+}
+
+/// The areas of the parcel at an index.
+pub(crate) fn areas_at(release: &Release, index: usize) -> Areas
+    requires areas { AreasAdd release.now }
+    requires within { index < length release.now.parcels }
+    ensures { (parcel : Parcel) → slice_get release.now.parcels index ≡ Some parcel
+        → AreasOf release.now (parcel ∷ []) result }
+{
+    Areas {
+        area: area2(&release.parcels()[index].polygon),
+        weighted: weighted2_at(release, index),
     }
 }
 

@@ -4,11 +4,12 @@ ghost use Rattle.std.specs.Prelude.{◌≤◌, ◌++◌, ◌∷◌, [], Contains
 ghost use Rattle.std.specs.Io.KnownBytes.{Appends};
 ghost use Rattle.std.specs.List.{flat_map};
 ghost use Rattle.lpis_checker.specs.SoundMap.{AreasAdd, IsSoundMap};
+ghost use Rattle.lpis_parcels.specs.Release.{Contents};
 ghost use Rattle.lpis_commands.specs.Area.{most_printed};
 ghost use Rattle.lpis_commands.specs.Areas.{AreasOf};
 ghost use Rattle.lpis_commands.specs.Report.{areas_text, counts_line, parcel_line, report_text};
 
-use crate::areas::{Areas, areas_of, print_areas};
+use crate::areas::{Areas, areas_at, areas_of, print_areas};
 use crate::printing::PrintFault;
 use lpis_checker::Yes;
 use lpis_parcels::{Parcel, Release};
@@ -25,6 +26,18 @@ fn print_counts<W: Write>(release: &Release, out: &mut W) -> Result<(), PrintFau
     Ok(())
 }
 
+/// Writes the line of a parcel that has these areas.
+fn print_areas_of<W: Write>(parcel: &Parcel, areas: Areas, out: &mut W) -> Result<(), PrintFault>
+    requires { (r : Contents) × AreasOf r (parcel.now ∷ []) areas }
+    ensures { (r : Contents) → AreasOf r (parcel.now ∷ []) areas
+        → OnOk result (Appends (W.contents out.old) (W.contents out.new)
+        (parcel_line r parcel.now)) }
+{
+    out.write_all(b"parcel ")?;
+    out.write_all(parcel.id.as_str().as_bytes())?;
+    print_areas(areas, out)
+}
+
 /// Writes the line of a parcel, and answers its areas.
 pub fn print_parcel<W: Write>(
     release: &Release,
@@ -38,9 +51,7 @@ pub fn print_parcel<W: Write>(
         (parcel_line release.now parcel.now)) }
 {
     let areas = areas_of(release, parcel);
-    out.write_all(b"parcel ")?;
-    out.write_all(parcel.id.as_str().as_bytes())?;
-    print_areas(areas, out)?;
+    print_areas_of(parcel, areas, out)?;
     Ok(areas)
 }
 
@@ -53,7 +64,8 @@ fn print_parcels<W: Write>(release: &Release, out: &mut W) -> Result<Areas, Prin
 {
     let mut sum = Areas::none();
     for (count, parcel) in release.parcels().iter().enumerate() {
-        let areas = print_parcel(release, parcel, out)?;
+        let areas = areas_at(release, count);
+        print_areas_of(parcel, areas, out)?;
         sum = sum.plus(areas);
     }
     Ok(sum)

@@ -1,5 +1,5 @@
 -- The parcel of an identifier, by its index.
-use Rattle.std.proofs.Common.{◌≡◌, ◌∙◌, ◌≤◌, ◌+◌, ℕ, suc, List, [], ◌∷◌, Option, Some, None, Bool, cond, not, length, slice_get, refl, sym, ap, arith}
+use Rattle.std.proofs.Common.{◌≡◌, ◌∙◌, ◌≤◌, ◌<◌, ◌+◌, ℕ, zero, suc, List, [], ◌∷◌, Option, Some, None, Bool, cond, not, length, slice_get, refl, sym, ap, arith}
 use Rattle.std.proofs.lemmas.Grind.{common_steps}
 use Rattle.std.specs.List.{ItemBy, find, position, position_or_len}
 use Rattle.std.specs.Option.{option_map}
@@ -42,3 +42,21 @@ pub parcel-missing : (id : List ℕ) (xs : List Parcel) (c : Contents) (at : Opt
 parcel-missing id xs c at same is missing =
     let past : length xs ≤ position_or_len (has id) xs = let h = no-place (same_id id) (parcel_ids xs) (sym is ∙ missing) in let s = as-many xs in let b = by-ids id xs in omega (arith, h, s, b) in
     sym (find_at (has id) xs ∙ slice_get_past xs (position_or_len (has id) xs) past) ∙ ap (λ (l : List Parcel). find (has id) l) same
+
+-- the identifier at the index of a parcel is that of the parcel
+pub id-at : (ps : List Parcel) (i : ℕ) (p : Parcel) → slice_get ps i ≡ Some p → slice_get (parcel_ids ps) i ≡ Some p.id
+id-at [] i p e = cc e
+id-at (q ∷ qs) zero p e = let is : q ≡ p = cc e in rw is refl
+id-at (q ∷ qs) (suc i) p e = id-at qs i p e
+
+-- at an index within the parcels stands an identifier
+pub id-within : (ps : List Parcel) (i : ℕ) → i < length ps → (id : List ℕ) × (slice_get (parcel_ids ps) i ≡ Some id)
+id-within [] i lt = absurd (omega arith)
+id-within (q ∷ qs) zero lt = (q.id, refl)
+id-within (q ∷ qs) (suc i) lt = id-within qs i (omega arith)
+
+-- an index where an identifier stands is within the parcels
+pub within-ids : (ps : List Parcel) (i : ℕ) (id : List ℕ) → slice_get (parcel_ids ps) i ≡ Some id → i < length ps
+within-ids [] i id e = cc e
+within-ids (q ∷ qs) zero id e = omega arith
+within-ids (q ∷ qs) (suc i) id e = let lt = within-ids qs i id e in omega (arith, lt)

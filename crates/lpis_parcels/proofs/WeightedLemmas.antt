@@ -1,27 +1,23 @@
 -- Weighted areas, a piece at a time.
-use Rattle.std.proofs.Common.{◌≡◌, ◌≤◌, ◌<◌, ◌+◌, ◌*◌, ◌∷◌, [], ℕ, zero, suc, ℤ, pos, ◌+ℤ◌, List, length, drop, get_or, Some, refl, sym, ap, ◌∙◌, arith, nat_abs}
+use Rattle.std.proofs.Common.{◌≡◌, ◌≤◌, ◌<◌, ◌+◌, ◌*◌, ◌∷◌, [], ℕ, zero, suc, ℤ, ◌+ℤ◌, List, length, drop, get_or, Some, refl, sym, ap, ◌∙◌, arith, nat_abs}
 use Rattle.std.proofs.Common.{slice_get}
 use Rattle.lpis_parcels.proofs.Common.{slice_get_read, Piece, indices_where, Contents, names_parcel}
 use Rattle.std.proofs.lemmas.Int.{ints, to_z-of_z}
 use Rattle.std.proofs.lemmas.List.{drop_all}
-use Rattle.std.proofs.Math.IntN.{+ℤ_assoc, +ℤ_idl, +ℤ_idr}
+use Rattle.std.proofs.Math.IntN.{+ℤ_assoc, +ℤ_idr}
 use mir.Syntax.{w128}
 use mir.Val.{SFits, to_z, of_z}
 use Rattle.lpis_covers.specs.Table.{most_rows}
 use Rattle.lpis_points.specs.Sums.{int_sum_by}
 use Rattle.lpis_parcels.specs.Weighted.{most_weighted, piece_weight, weighted2}
-use Rattle.lpis_parcels.specs.private.Groups.{at_indices}
+use Rattle.lpis_parcels.specs.private.Weights.{weighted_at}
 use Rattle.lpis_parcels.proofs.JoinLemmas.{drop-at}
 use Rattle.lpis_parcels.proofs.IndexLemmas.{at-indices-where}
 
--- the weighted area of the pieces at indices
-abbrev pub weighted_at : Contents → List ℕ → ℤ
-weighted_at c indices = int_sum_by (piece_weight c.classes) (at_indices c.pieces indices)
-
--- from 0, the weighted areas of the pieces at a parcel's indices make up that of the parcel, all doubled
-pub weighted-start : (c : Contents) (id : List ℕ) (indices : List ℕ) → indices ≡ indices_where (names_parcel id) 0 c.pieces → pos 0 +ℤ weighted_at c indices ≡ weighted2 c id
-weighted-start c id indices e =
-    +ℤ_idl _ ∙ ap (λ (ps : List Piece). int_sum_by (piece_weight c.classes) ps) (at-indices-where (names_parcel id) c.pieces c.pieces indices refl e)
+-- the weighted areas of the pieces at a parcel's indices make up that of the parcel, all doubled
+pub weighted-all : (c : Contents) (id : List ℕ) (indices : List ℕ) → indices ≡ indices_where (names_parcel id) 0 c.pieces → weighted_at c indices ≡ weighted2 c id
+weighted-all c id indices e =
+    ap (λ (ps : List Piece). int_sum_by (piece_weight c.classes) ps) (at-indices-where (names_parcel id) c.pieces c.pieces indices refl e)
 
 next-indices : (indices : List ℕ) (i index : ℕ) → i < length indices → index ≡ get_or indices i index → drop i indices ≡ index ∷ drop (i + 1) indices
 next-indices indices i index lt e = drop-at indices i index (slice_get_read indices _ i index refl lt e)

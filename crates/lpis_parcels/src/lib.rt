@@ -13,7 +13,7 @@ mod release;
 mod weighted;
 
 pub use parcel::{Parcel, Parcels};
-pub use pieces::{PiecesOf, pieces_of};
+pub use pieces::{PiecesOf, pieces_at, pieces_of};
 pub use reading::read_release;
 pub use release::Release;
-pub use weighted::weighted2;
+pub use weighted::{weighted2, weighted2_at};

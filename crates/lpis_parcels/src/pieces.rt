@@ -3,6 +3,7 @@
 ghost use Rattle.std.specs.Prelude.{◌≡◌, ◌<◌, Some, length, slice_get};
 ghost use Rattle.std.specs.Iterator.{YieldsFirstRef, item_count};
 ghost use Rattle.lpis_parcels.specs.Release.{pieces_named};
+ghost use Rattle.lpis_parcels.specs.declared.parcel.Parcel.{Parcel};
 
 use crate::groups::Join;
 use crate::release::Release;
@@ -49,6 +50,19 @@ impl<'a> Iterator for PiecesOf<'a> {
         let piece = piece_at(self.pieces, first.piece);
         self.joins = others;
         Some(piece)
+    }
+}
+
+/// The pieces of the parcel at an index in the order of their table. The time of going over them is
+/// that of their number.
+pub fn pieces_at(release: &Release, index: usize) -> PiecesOf<'_>
+    requires { index < length release.now.parcels }
+    ensures { (parcel : Parcel) → slice_get release.now.parcels index ≡ Some parcel
+        → result ≡ pieces_named release.now parcel.id }
+{
+    PiecesOf {
+        pieces: release.pieces(),
+        joins: release.joins_at(index),
     }
 }
 

@@ -1,6 +1,6 @@
 //! Releases.
 
-ghost use Rattle.std.specs.Prelude.{◌≡◌, ◌≤◌, ◌<◌, [], All, Some, length, slice_get};
+ghost use Rattle.std.specs.Prelude.{◌≡◌, ◌≤◌, ◌<◌, ℕ, List, [], All, Some, length, slice_get};
 ghost use Rattle.std.specs.List.{IsDistinct};
 ghost use Rattle.std.specs.Option.{option_copied};
 ghost use Rattle.lpis_covers.specs.Ids.{same_id};
@@ -107,7 +107,18 @@ impl Release {
         self.classes.as_slice()
     }
 
-    /// The joins of a parcel.
+    /// The joins of the parcel at an index.
+    pub(crate) fn joins_at(&self, index: usize) -> &[Join]
+        requires { index < length self.now.parcels }
+        ensures pieces { (id : List ℕ) → slice_get (parcel_ids self.now.parcels) index ≡ Some id
+            → joined_pieces result.now ≡ indices_where (names_parcel id) 0 self.now.pieces }
+        ensures within { All (λ i. i < length self.now.pieces) (joined_pieces result.now) }
+        ensures few { length result.now ≤ length self.now.pieces }
+    {
+        self.joins.groups.get(index)
+    }
+
+    /// The joins of the parcel of an identifier.
     pub(crate) fn joins_of(&self, parcel: &Id) -> &[Join]
         ensures pieces { joined_pieces result.now
             ≡ indices_where (names_parcel parcel.now) 0 self.now.pieces }
@@ -115,7 +126,7 @@ impl Release {
         ensures few { length result.now ≤ length self.now.pieces }
     {
         match self.parcels.position(parcel) {
-            Some(index) => self.joins.groups.get(index),
+            Some(index) => self.joins_at(index),
             None => &[],
         }
     }

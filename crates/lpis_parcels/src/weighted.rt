@@ -1,11 +1,17 @@
 //! Weighted areas.
 
-ghost use Rattle.std.specs.Prelude.{◌≡◌, ◌≤◌, ◌<◌, ◌*ℤ◌, Some, length, slice_get, unsigned_abs};
+ghost use Rattle.std.specs.Prelude.{◌≡◌, ◌≤◌, ◌<◌, ◌*ℤ◌, All, Some, length, slice_get};
+ghost use Rattle.std.specs.Prelude.{unsigned_abs};
 ghost use Rattle.lpis_covers.specs.declared.piece.Piece.{Piece};
 ghost use Rattle.lpis_covers.specs.Percentages.{most_percent};
 ghost use Rattle.lpis_rings.specs.AreaBounds.{most_area};
+ghost use Rattle.lpis_covers.specs.Table.{most_rows};
 ghost use Rattle.lpis_parcels.specs.Weighted.{most_weighted, piece_weight, weighted2};
+ghost use Rattle.lpis_parcels.specs.declared.parcel.Parcel.{Parcel};
+ghost use Rattle.lpis_parcels.specs.private.Groups.{joined_pieces};
+ghost use Rattle.lpis_parcels.specs.private.Weights.{weighted_at};
 
+use crate::groups::Join;
 use crate::release::Release;
 use lpis_covers::Id;
 use lpis_rings::area2;
@@ -32,17 +38,36 @@ fn weight(release: &Release, index: usize) -> i128
     product(percent as i128, area)
 }
 
-/// Twice the weighted area of a parcel in square millimetres and percent: the areas of its pieces,
-/// each times the percentage of its class, added. It is 0 for an identifier that is no parcel's,
-/// and it takes no memory.
+/// Twice the areas of the pieces of joins, each times the percentage of its class, added.
+fn joined_weight(release: &Release, joins: &[Join]) -> i128
+    requires within { All (λ i. i < length release.now.pieces) (joined_pieces joins.now) }
+    requires few { length joins.now ≤ most_rows }
+    ensures { result ≡ weighted_at release.now (joined_pieces joins.now) }
+{
+    let mut sum = 0;
+    for join in joins {
+        sum += weight(release, join.piece as usize);
+    }
+    sum
+}
+
+/// Twice the weighted area of the parcel at an index in square millimetres and percent: the areas
+/// of its pieces, each times the percentage of its class, added. It takes no memory.
+pub fn weighted2_at(release: &Release, index: usize) -> i128
+    requires { index < length release.now.parcels }
+    ensures { (parcel : Parcel) → slice_get release.now.parcels index ≡ Some parcel
+        → result ≡ weighted2 release.now parcel.id }
+{
+    // They are not too many for the sum.
+    let _ = release.pieces();
+    joined_weight(release, release.joins_at(index))
+}
+
+/// Twice the weighted area of the parcel of an identifier; 0 for an identifier that is no parcel's.
 pub fn weighted2(release: &Release, parcel: &Id) -> i128
     ensures { result ≡ weighted2 release.now parcel.now }
 {
     // They are not too many for the sum.
     let _ = release.pieces();
-    let mut sum = 0;
-    for join in release.joins_of(parcel) {
-        sum += weight(release, join.piece as usize);
-    }
-    sum
+    joined_weight(release, release.joins_of(parcel))
 }

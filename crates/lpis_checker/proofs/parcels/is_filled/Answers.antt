@@ -6,4 +6,4 @@ use Rattle.lpis_checker.proofs.parcels.is_filled.Goals as goal
 pub returns : goal.returns
 returns c =
     told_alike (EdgesCancel c.args.parcel.now.polygon) c.cancels.result
-    (ap polygons c.as_slice.ensures.value ∙ c.in_ok-pieces.ensures) refl c.cancels.ensures
+    (ap polygons c.as_slice.ensures.value ∙ c.in_ok-polygons.ensures) refl c.cancels.ensures

@@ -1,7 +1,7 @@
 use Rattle.std.proofs.Common.{◌≡◌, ◌++◌}
 use Rattle.lpis_edge_sums.specs.Making.{polygons}
-use Rattle.lpis_checker.proofs.Common.{pieces_named, polygons_of}
+use Rattle.lpis_checker.proofs.Common.{polygons_of}
 use Rattle.lpis_checker.proofs.parcels.polygons_in.Given as goal
 
 abbrev pub invariant-loop-piece : goal.invariant-loop-piece
-invariant-loop-piece l = polygons l.polygons.items ++ polygons_of l.piece-iterator ≡ polygons_of (pieces_named l.release l.parcel)
+invariant-loop-piece l = polygons l.polygons.items ++ polygons_of l.piece-iterator ≡ polygons_of l.fn.pieces

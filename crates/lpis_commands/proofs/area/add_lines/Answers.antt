@@ -8,7 +8,7 @@ use Rattle.lpis_commands.proofs.ReportLemmas.{flat_map-push}
 use Rattle.lpis_commands.proofs.area.add_lines.Goals as goal
 
 pub rows-init : goal.rows-init
-rows-init c = ([], [], rows-start area_table c.args.reader.now c.requires.header.table c.requires.header.start refl, c.requires.empty)
+rows-init c = ([], [], rows-start area_table c.args.reader.now c.requires.table c.requires.start refl, c.requires.empty)
 
 pub add_line-requires : goal.add_line-requires
 add_line-requires c = record { table = (rw c.if-branch.true at c.in_ok-next_row.ensures).3 ∙ c.rows.invariant.2.table }

@@ -21,11 +21,15 @@ opened : (columns further : List (Bor (List ℕ))) (bytes : List ℕ) (reader : 
     → table_of Area (texts columns) (texts further) bytes ≡ Ok reader → table_of Area (codes "wkt" ∷ []) [] bytes ≡ Ok reader
 opened columns further bytes reader e f h = rw (e, f) at h
 
-pub add_lines-requires-clause-header : goal.add_lines-requires-clause-header
-add_lines-requires-clause-header c =
+pub add_lines-requires-clause-table : goal.add_lines-requires-clause-table
+add_lines-requires-clause-table c =
     let table = opened c.as_slice-2.result.now [] c.args.bytes.now c.in_ok-reader.reader (search rules) refl c.in_ok-reader.ensures in
-    let header = table-start Area (codes "wkt" ∷ []) [] c.args.bytes.now c.in_ok-reader.reader table in
-    record { table = header.0; start = header.1; enough = refl }
+    (table-start Area (codes "wkt" ∷ []) [] c.args.bytes.now c.in_ok-reader.reader table).0
+
+pub add_lines-requires-clause-start : goal.add_lines-requires-clause-start
+add_lines-requires-clause-start c =
+    let table = opened c.as_slice-2.result.now [] c.args.bytes.now c.in_ok-reader.reader (search rules) refl c.in_ok-reader.ensures in
+    (table-start Area (codes "wkt" ∷ []) [] c.args.bytes.now c.in_ok-reader.reader table).1
 
 pub returns-in_err-add_lines : goal.returns-in_err-add_lines
 returns-in_err-add_lines c =

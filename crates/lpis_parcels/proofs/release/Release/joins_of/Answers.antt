@@ -1,22 +1,19 @@
-use Rattle.std.proofs.Common.{◌∙◌, sym, ap, is_some, arith}
-use Rattle.lpis_parcels.proofs.Common.{Contents, Join, indices_where, joined_pieces, names_parcel}
-use Rattle.std.proofs.lemmas.List.{length-map}
-use Rattle.lpis_parcels.proofs.IndexLemmas.{absent-none, few-indices, first-faults, within-indices}
+use Rattle.std.proofs.Common.{◌≡◌, ◌∙◌, Some, sym, ap, subst, is_some, slice_get}
+use Rattle.lpis_parcels.proofs.Common.{Contents, indices_where, names_parcel}
+use Rattle.lpis_parcels.proofs.IndexLemmas.{absent-none, first-faults}
+use Rattle.lpis_parcels.proofs.NamingLemmas.{within-ids}
+use Rattle.lpis_parcels.specs.Release.{parcel_ids}
 use Rattle.lpis_parcels.proofs.release.Release.joins_of.Goals as goal
+
+pub joins_at-requires : goal.joins_at-requires
+joins_at-requires c =
+    within-ids c.args.self.now.parcels c.in-Some.index c.args.parcel.now
+    (subst (λ (r : Contents). slice_get (parcel_ids r.parcels) c.in-Some.index ≡ Some c.args.parcel.now) c.self.view_is c.in-Some.ensures.at_index)
 
 pub returns-in-Some-clause-pieces : goal.returns-in-Some-clause-pieces
 returns-in-Some-clause-pieces c =
-    ap joined_pieces c.get.ensures
-    ∙ c.self.invariant.indexed.groups_are c.in-Some.index c.args.parcel.now c.in-Some.ensures.at_index
-    ∙ ap (λ (r : Contents). indices_where (names_parcel c.args.parcel.now) 0 r.pieces) c.self.view_is
-
-pub returns-in-Some-clause-within : goal.returns-in-Some-clause-within
-returns-in-Some-clause-within c = within-indices (names_parcel c.args.parcel.now) c.args.self.now.pieces (joined_pieces c.get.result.now) (returns-in-Some-clause-pieces c)
-
-pub returns-in-Some-clause-few : goal.returns-in-Some-clause-few
-returns-in-Some-clause-few c =
-    let few = few-indices (names_parcel c.args.parcel.now) c.args.self.now.pieces (joined_pieces c.get.result.now) (returns-in-Some-clause-pieces c) in
-    omega (arith, length-map c.get.result.now (λ (j : Join). j.piece))
+    c.joins_at.ensures.pieces c.args.parcel.now
+    (subst (λ (r : Contents). slice_get (parcel_ids r.parcels) c.in-Some.index ≡ Some c.args.parcel.now) c.self.view_is c.in-Some.ensures.at_index)
 
 pub returns-in-None-clause-pieces : goal.returns-in-None-clause-pieces
 returns-in-None-clause-pieces c =
