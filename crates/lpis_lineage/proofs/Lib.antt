@@ -21,4 +21,5 @@ pub mod PopStepLemmas
 pub mod SpanPickLemmas
 pub mod RowsLemmas
 pub mod WalkingLemmas
+pub mod StepLemmas
 pub mod Shared

@@ -9,3 +9,5 @@ pub use Rattle.lpis_lineage.proofs.SeenLemmas.{any-push, or-cond}
 pub use Rattle.lpis_lineage.proofs.SpanLemmas.{above-zero, first-index, span-tells}
 pub use Rattle.lpis_lineage.proofs.SpanStepLemmas.{span-more}
 pub use Rattle.lpis_lineage.proofs.TellingLemmas.{take-at}
+pub use Rattle.lpis_lineage.specs.private.Follows.{Follows}
+pub use Rattle.lpis_lineage.specs.private.Keeping.{begun, ended_in}

@@ -3,7 +3,7 @@ use Rattle.std.proofs.Common.{◌≡◌, ◌∙◌, ◌<◌, ◌≤◌, refl, sy
 use Rattle.lpis_lineage.proofs.Common.{option_or, has_id, Row, Entry, Span, entry_at, holds, last_live, last_year, IsLawful, RowsFit, faults, Follows, first_held, last_held, span_between, span_of}
 use Rattle.lpis_lineage.proofs.Common.{begun, ended_in}
 use Rattle.lpis_lineage.specs.Accepts.{IsReleaseEntry}
-use Rattle.lpis_lineage.specs.private.Keeping.{IsHistory}
+use Rattle.lpis_lineage.specs.private.Keeping.{IsHistory, IsNext}
 use Rattle.lpis_lineage.proofs.IdentifierLemmas.{in-history, entry-here}
 use Rattle.lpis_lineage.proofs.ExtensionLemmas.{last-at, last-some, longer, year-at}
 use Rattle.lpis_lineage.proofs.CleanLemmas.{follows-from-clean, held-some}
@@ -111,23 +111,20 @@ history-same h new old spans keeps n s = record {
 
 -- a history with a release more that has no fault
 pub history-more : (h new : List Entry) (e : Entry) (live : List (List ℕ)) (rows : List Row) (year : ℕ) (fresh gone : List (List ℕ)) (old mid more spans : List ℕ → Option Span)
-    → IsHistory h old → faults h live rows ≡ [] → IsReleaseEntry live rows e → e.year ≡ year → last_year h < year → new ≡ h ++ e ∷ []
-    → fresh ≡ filter (λ id. not (is_some (span_of h id))) e.live → gone ≡ filter (λ id. not (has_id e.live id)) (last_live h)
+    → IsHistory h old → IsNext h live rows gone fresh → IsReleaseEntry live rows e → e.year ≡ year → last_year h < year → new ≡ h ++ e ∷ []
     → ((q : List ℕ) → mid q ≡ old q) → ((q : List ℕ) → more q ≡ begun (has_id fresh q) year (mid q)) → ((q : List ℕ) → spans q ≡ ended_in (has_id gone q) (last_year h) (more q)) → IsHistory new spans
-history-more h new e live rows year fresh gone old mid more spans keeps clean is at later n ef eg reserved begins ends =
+history-more h new e live rows year fresh gone old mid more spans keeps next is at later n reserved begins ends =
     let later-year : last_year h < e.year = omega arith in
-    let follows : Follows h e.live e.rows = to-release h live rows e is (follows-from-clean h live rows clean) in
-    let both = may-follow h live rows keeps.lawful keeps.fits clean e is later-year in
+    let follows : Follows h e.live e.rows = to-release h live rows e is (follows-from-clean h live rows next.faultless) in
+    let both = may-follow h live rows keeps.lawful keeps.fits next.faultless e is later-year in
     record {
       lawful = subst IsLawful (sym n) both.0;
       fits = subst RowsFit (sym n) both.1;
       spans_are = λ q.
           ends q ∙ ap (λ (o : Option Span). ended_in (has_id gone q) (last_year h) o) (begins q ∙ ap (λ (o : Option Span). begun (has_id fresh q) year o) (reserved q ∙ keeps.spans_are q))
-          ∙ ap (λ (b : Bool). ended_in b (last_year h) (begun (has_id fresh q) year (span_of h q)))
-          (ap (λ (l : List (List ℕ)). has_id l q) eg ∙ has-filter (λ id. not (has_id e.live id)) (last_live h) q)
-          ∙ ap (λ (b : Bool). ended_in (has_id (last_live h) q && not (has_id e.live q)) (last_year h)
-          (begun b year (span_of h q))) (ap (λ (l : List (List ℕ)). has_id l q) ef
-          ∙ has-filter (λ id. not (is_some (span_of h id))) e.live q)
+          ∙ ap (λ (b : Bool). ended_in b (last_year h) (begun (has_id fresh q) year (span_of h q))) (next.gone_are q)
+          ∙ ap (λ (b : Bool). ended_in (has_id (last_live h) q && not (has_id live q)) (last_year h) (begun b year (span_of h q))) (next.fresh_are q)
+          ∙ ap (λ (b : Bool). ended_in (has_id (last_live h) q && not b) (last_year h) (begun (b && not (is_some (span_of h q))) year (span_of h q))) (sym (is.ids q))
           ∙ ap (λ (y : ℕ). ended_in (has_id (last_live h) q && not (has_id e.live q)) (last_year h) (begun (has_id e.live q && not (is_some (span_of h q))) y (span_of h q))) (sym at)
           ∙ span-more h e q follows ∙ ap (λ (l : List Entry). span_of l q) (sym n);
     }

@@ -147,13 +147,20 @@ forget-gone rest id q year s f new had at n =
       by true e = ap (λ (b : Bool). cond b None (Some s)) (sym (eq-eqb s.first year at)) ∙ ap (λ (o : Option Span). forgotten true year o) (sym (sym (ap f (same-exact id q (sym e))) ∙ had))
       by false e = refl
 
--- a span that goes on
-pub reopen-some : (rest : List (List ℕ)) (id q : List ℕ) (s : Span) (f : List ℕ → Option Span) (new : Option Span)
-    → f id ≡ Some s → new ≡ cond (same_id id q) (Some (record { first = s.first; last = 0 })) (f q)
-    → ended_in (has_id rest q) 0 new ≡ ended_in (has_id (id ∷ rest) q) 0 (f q)
-reopen-some rest id q s f new had n =
-    ap (λ (o : Option Span). ended_in (has_id rest q) 0 o) n ∙ by (has_id rest q) (same_id id q) refl ∙ ap (λ (b : Bool). ended_in (b || has_id rest q) 0 (f q)) (same-sym id q) where
-      by : (h t : Bool) → t ≡ same_id id q → ended_in h 0 (cond t (Some (record { first = s.first; last = 0 })) (f q)) ≡ ended_in (t || h) 0 (f q)
-      by true true e = ap (λ (o : Option Span). ended_in true 0 o) (sym had ∙ ap f (same-exact id q (sym e)))
-      by false true e = ap (λ (o : Option Span). ended_in true 0 o) (sym had ∙ ap f (same-exact id q (sym e)))
+-- a span that goes on, or ends with a year
+pub reopen-some : (rest : List (List ℕ)) (id q : List ℕ) (year : ℕ) (s : Span) (f : List ℕ → Option Span) (new : Option Span)
+    → f id ≡ Some s → new ≡ cond (same_id id q) (Some (record { first = s.first; last = year })) (f q)
+    → ended_in (has_id rest q) year new ≡ ended_in (has_id (id ∷ rest) q) year (f q)
+reopen-some rest id q year s f new had n =
+    ap (λ (o : Option Span). ended_in (has_id rest q) year o) n ∙ by (has_id rest q) (same_id id q) refl ∙ ap (λ (b : Bool). ended_in (b || has_id rest q) year (f q)) (same-sym id q) where
+      by : (h t : Bool) → t ≡ same_id id q → ended_in h year (cond t (Some (record { first = s.first; last = year })) (f q)) ≡ ended_in (t || h) year (f q)
+      by true true e = ap (λ (o : Option Span). ended_in true year o) (sym had ∙ ap f (same-exact id q (sym e)))
+      by false true e = ap (λ (o : Option Span). ended_in true year o) (sym had ∙ ap f (same-exact id q (sym e)))
       by h false e = refl
+
+-- an identifier without a span
+pub reopen-none : (rest : List (List ℕ)) (id q : List ℕ) (year : ℕ) (f : List ℕ → Option Span) → f id ≡ None → ended_in (has_id rest q) year (f q) ≡ ended_in (has_id (id ∷ rest) q) year (f q)
+reopen-none rest id q year f had = by (has_id rest q) (same_id id q) refl ∙ ap (λ (b : Bool). ended_in (b || has_id rest q) year (f q)) (same-sym id q) where
+  by : (h t : Bool) → t ≡ same_id id q → ended_in h year (f q) ≡ ended_in (t || h) year (f q)
+  by h true e = let n : f q ≡ None = ap f (sym (same-exact id q (sym e))) ∙ had in ap (λ (o : Option Span). ended_in h year o) n ∙ ap (λ (o : Option Span). ended_in true year o) (sym n)
+  by h false e = refl

@@ -1,11 +1,10 @@
 -- Faults of identifiers, looked for among those alone that another set lacks.
 use Rattle.std.proofs.Common.{◌≡◌, ◌∙◌, refl, sym, ap, ℕ, List, [], ◌∷◌, Bool, true, false, Option, None, Some, cond, ◌&&◌, not, is_some, filter}
-use Rattle.lpis_lineage.proofs.Common.{list_any, has_id, Row, Entry, Span, LineageFault, is_row_of, last_live, fault_before, dropped_faults, used_faults, last_held, span_of}
+use Rattle.lpis_lineage.proofs.Common.{list_any, has_id, Row, Entry, Span, LineageFault, is_row_of, fault_before, dropped_faults, used_faults, last_held, span_of}
 use Rattle.lpis_lineage.specs.declared.fault.LineageFault.TheVariants.{NoRow}
 use Rattle.lpis_lineage.specs.Faults.{used_fault_before}
 use Rattle.lpis_lineage.proofs.CleanLemmas.{used-clean, clean-used}
-use Rattle.lpis_lineage.proofs.ExtensionLemmas.{last-some}
-use Rattle.lpis_lineage.proofs.SpanStepLemmas.{none-held, unlive-none}
+use Rattle.lpis_lineage.proofs.SpanStepLemmas.{unlive-none}
 
 -- the faults of identifiers that have no row
 abbrev pub rowless : List Row → List (List ℕ) → List LineageFault
@@ -43,23 +42,3 @@ used-unheld h last id rest (Some s) e none = absurd cc
 -- a list with the same members has no fault either
 pub used-alike : (h : List Entry) (last a b : List (List ℕ)) → ((q : List ℕ) → has_id a q ≡ has_id b q) → used_faults h last a ≡ [] → used_faults h last b ≡ []
 used-alike h last a b alike none = clean-used h last b (λ id i hi is. used-clean h last a none id i hi (alike id ∙ is))
-
--- identifiers that no release holds are among those that the last one lacks
-pub unheld-lacking : (h : List Entry) (ids : List (List ℕ)) → filter (λ id. not (is_some (span_of h id)))
-    (filter (λ id. not (has_id (last_live h) id)) ids) ≡ filter (λ id. not (is_some (span_of h id))) ids
-unheld-lacking h [] = refl
-unheld-lacking h (x ∷ xs) = by (filter (λ id. not (has_id (last_live h) id)) xs) (has_id (last_live h) x) refl (is_some (span_of h x)) refl (unheld-lacking h xs) where
-  unheld : List (List ℕ) → List (List ℕ)
-  unheld ids = filter (λ id. not (is_some (span_of h id))) ids
-
-  has-span : has_id (last_live h) x ≡ true → is_some (span_of h x) ≡ true
-  has-span was = seen (span_of h x) refl where
-    seen : (o : Option Span) → o ≡ span_of h x → is_some o ≡ true
-    seen None e = absurd (let p = last-some h x was in let n = none-held h x (sym e) p.0 in let y = p.2 in cc)
-    seen (Some s) e = refl
-
-  by : (rest : List (List ℕ)) (b : Bool) → b ≡ has_id (last_live h) x → (s : Bool) → s ≡ is_some (span_of h x)
-      → unheld rest ≡ unheld xs → unheld (cond (not b) (x ∷ rest) rest) ≡ cond (not s) (x ∷ unheld xs) (unheld xs)
-  by rest true eb true es e = e
-  by rest true eb false es e = absurd (let t = has-span (sym eb) in cc)
-  by rest false eb s es e = ap (λ (t : Bool). cond (not t) (x ∷ unheld rest) (unheld rest)) (sym es) ∙ ap (λ (l : List (List ℕ)). cond (not s) (x ∷ l) l) e

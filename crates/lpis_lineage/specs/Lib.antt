@@ -7,6 +7,7 @@ pub mod Codes
 pub mod Accepts
 pub mod Kinds
 pub mod Changes
+pub mod Steps
 pub mod LineageTable
 pub mod ExactGroups
 pub mod ExactLaws

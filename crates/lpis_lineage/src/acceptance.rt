@@ -9,15 +9,15 @@ ghost use Rattle.lpis_lineage.specs.Faults.{used_faults};
 ghost use Rattle.lpis_lineage.specs.Faults.{faults, faults_but_marks, ReportsFirstOf};
 ghost use Rattle.lpis_lineage.specs.private.Seen.{IsSeen};
 ghost use Rattle.lpis_lineage.specs.Accepts.{Decides};
-ghost use Rattle.lpis_lineage.specs.Changes.{IsChange};
+ghost use Rattle.lpis_lineage.specs.Steps.{IsStep};
 
-use crate::change::Change;
 use crate::fault::LineageFault;
 use crate::history::History;
 use crate::id_set::IdSet;
 use crate::marks::check_marks_of;
 use crate::row::Row;
 use crate::seen::Seen;
+use crate::step::Step;
 use lpis_covers::Id;
 use std::alloc::Global;
 
@@ -117,9 +117,9 @@ fn find_used(history: &History, ids: &[Id]) -> Result<(), LineageFault>
     Ok(())
 }
 
-/// What a release with these identifiers and rows changes, where it may follow the history: where
-/// the history with it at the end is lawful and its rows fit, whatever later year it has. With no
-/// release before, each row is refused.
+/// What a release with these identifiers and rows changes, where it may follow the history, with
+/// all that `History::extend` takes: where the history with it at the end is lawful and its rows
+/// fit, whatever later year it has. With no release before, each row is refused.
 ///
 /// Else the first fault: row by row, in a row in the order of `LineageFault`'s variants; then the
 /// dropped identifiers without a row, ascending; then the identifiers of `live` that were used
@@ -130,14 +130,15 @@ pub fn accept(
     history: &History,
     live: &[Id],
     rows: &[Row],
-) -> Result<Change, LineageFault>
+) -> Result<Step, LineageFault>
     ensures tells { ReportsFirstOf (faults history.now live.now rows.now) result }
     ensures decides { Decides history.now live.now rows.now result }
-    ensures change { IfOk result (IsChange (last_live history.now) live.now rows.now) }
+    ensures step { IfOk result
+        (λ s. IsStep history.now live.now rows.now s.live s.change s.fresh.items) }
 {
     let set = check(alloc, history, live, rows)?;
-    match Change::of(alloc, history.last_live(), &set, rows) {
-        Ok(change) => Ok(change),
+    match Step::of(alloc, history, set, rows) {
+        Ok(step) => Ok(step),
         Err(_) => Err(LineageFault::Memory),
     }
 }

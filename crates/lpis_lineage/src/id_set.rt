@@ -1,8 +1,8 @@
 //! Sets of identifiers.
 
 ghost use Rattle.std.specs.Prelude.{◌≡◌, not, ℕ, List, IfOk, OnOk, true, cond, [], ◌∷◌};
-ghost use Rattle.std.specs.List.{filter};
-ghost use Rattle.lpis_covers.specs.Ids.{has_id, same_id};
+ghost use Rattle.std.specs.List.{All, filter};
+ghost use Rattle.lpis_covers.specs.Ids.{has_id, is_id, same_id};
 ghost use Rattle.lpis_lineage.specs.Order.{IsAscending};
 
 use lpis_covers::Id;
@@ -121,9 +121,11 @@ impl IdSet {
         ensures list { IfOk result (λ v. v.items ≡ filter (λ id. not (has_id self.now id))
             other.now) }
         ensures ascending { IfOk result (λ v. IsAscending v.items) }
+        ensures ids { IfOk result (λ v. All (λ id. is_id id ≡ true) v.items) }
     {
         let mut found = Vec::new(alloc);
         for id in other.lacking(self) {
+            let _ = id.as_str();
             let copy = id.copy()?;
             found.push(copy)?;
         }
@@ -132,7 +134,7 @@ impl IdSet {
 }
 
 /// Copies of these identifiers, in their order.
-fn copy_ids(alloc: Global, ids: &[Id]) -> Result<Vec<Id>, AllocError>
+pub(crate) fn copy_ids(alloc: Global, ids: &[Id]) -> Result<Vec<Id>, AllocError>
     ensures { IfOk result (λ v. v.items ≡ ids.now) }
 {
     let mut copies = Vec::with_capacity(alloc, ids.len())?;

@@ -18,6 +18,7 @@ mod reading;
 mod row;
 mod seen;
 mod span;
+mod step;
 mod tally;
 mod tracing;
 
@@ -32,4 +33,5 @@ pub use laws::{decided_by_faults, held_identifiers_have_spans, kinds_show_splits
 pub use reading::read_rows;
 pub use row::{Entry, Row};
 pub use span::{Span, live_in};
+pub use step::Step;
 pub use tracing::descendants;

@@ -3,7 +3,6 @@
 ghost use Rattle.std.specs.Prelude.{◌≡◌, ◌∷◌, [], codes, false, unwrap_or, Ok, Err, IfErr, OnOk};
 ghost use Rattle.lpis_covers.specs.Faults.{rows_of, unless_faulty, values_of};
 ghost use Rattle.lpis_covers.specs.Table.{Answers, field_of, texts};
-ghost use Rattle.lpis_covers.specs.private.Header.{IsHeaderRead};
 ghost use Rattle.lpis_covers.specs.declared.fault.Table.TheVariants as tables;
 ghost use Rattle.lpis_lineage.specs.LineageTable.{AnswersRows, lineage_faults, lineage_table};
 ghost use Rattle.lpis_lineage.specs.LineageTable.{mark_field_faults, mark_of_text};
@@ -91,7 +90,8 @@ fn add_rows(
     reader: &mut TableReader<'_>,
     rows: &mut Vec<Row>,
 ) -> Result<(), TableFault>
-    requires header { IsHeaderRead lineage_table reader.old }
+    requires table { reader.old.table ≡ tables.Lineage }
+    requires start { reader.old.number ≡ 0 }
     requires empty { rows.old.items ≡ [] }
     ensures fault { IfErr result
         (λ fault. Answers (Err fault) (values_of lineage_table (Ok reader.old))) }

@@ -62,22 +62,14 @@ pub(crate) fn begin_spans(spans: &mut HashMap<Id, Span>, mut ids: Vec<Id>, year:
     }
 }
 
-/// Lets the spans of these identifiers end with a year.
-pub(crate) fn end_spans(spans: &mut HashMap<Id, Span>, mut ids: Vec<Id>, year: u16)
-    ensures { (q : List ℕ) → get same_id spans.new q ≡ ended_in (has_id ids.items q) year
+/// Lets the spans of these identifiers end with a year. It takes no memory.
+pub(crate) fn end_spans(spans: &mut HashMap<Id, Span>, ids: &[Id], year: u16)
+    ensures { (q : List ℕ) → get same_id spans.new q ≡ ended_in (has_id ids.now q) year
         (get same_id spans.old q) }
 {
-    'ids: while let Some(id) = ids.pop() {
-        if let Some(span) = spans.get(&id).copied() {
-            let span = Span {
-                first: span.first,
-                last: year,
-            };
-            match spans.insert(id, span) {
-                Ok(_) => {}
-                // The identifier has its place.
-                Err(_) => unreachable!(),
-            }
+    for id in ids {
+        if let Some(span) = spans.get_mut(id) {
+            span.last = year;
         }
     }
 }

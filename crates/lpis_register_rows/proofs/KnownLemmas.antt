@@ -1,9 +1,9 @@
 -- Rows with their identifiers read, one more.
 use Rattle.std.proofs.Common.{◌≡◌, ◌∙◌, ◌<◌, ◌≤◌, ◌+◌, refl, sym, ap, ap₂, subst, arith, ℕ, ℤ, pos, zero, suc, List, [], ◌∷◌, ◌++◌, Bool, true, false, cond, length, map, take, drop, get_or, ◌||◌}
 use Rattle.std.proofs.Common.{◌&&◌, add-one, drop-cons, not, nat_lt, All, filter, is_eq, nat_cmp}
-use Rattle.lpis_register_rows.proofs.Common.{list_any, slice_cmp, nat_tests, map-append, All-push, and-false, has_id, is_id, same_id, Row, same-exact, same-refl, filter-none, take-at, KnownLine}
+use Rattle.lpis_register_rows.proofs.Common.{list_any, slice_cmp, nat_tests, map-append, All-push, and-false, has_id, same_id, Row, same-exact, same-refl, filter-none, take-at, KnownLine}
 use Rattle.lpis_register_rows.proofs.Common.{KnownSpan}
-use Rattle.lpis_register_rows.proofs.Common.{StoredSpan, covers, known_from, span_in}
+use Rattle.lpis_register_rows.proofs.Common.{covers, known_from, span_in}
 use Rattle.std.proofs.lemmas.Grind.{common_steps}
 use Rattle.std.proofs.lemmas.List.{take-append-drop, append_assoc}
 use Rattle.std.proofs.lemmas.Bool.{not-false}
@@ -120,11 +120,11 @@ live-else spans i s ids year lt at doesnt live = subst (AreLive ids year) (take-
     ∙ ap (λ (b : Bool). list_any (λ t. same_id q t.id && covers (span_in t) year) (take i spans) || b) (sym (and-false (same_id q s.id)) ∙ ap (λ (b : Bool). same_id q s.id && b) (sym doesnt))
     ∙ sym (any-push (λ (t : KnownSpan). same_id q t.id && covers (span_in t) year) (take i spans) s))
 
--- rows of spans that were read, with well-formed identifiers, one row further
-pub spans-more : (rows : List StoredSpan) (i : ℕ) (row : StoredSpan) (known new : List KnownSpan) (s : KnownSpan) → i < length rows → row ≡ get_or rows i row
-    → span_in s ≡ row → is_id s.id ≡ true → new ≡ known ++ s ∷ []
-    → (map span_in known ≡ take i rows) × All (λ s. is_id s.id ≡ true) known → (map span_in new ≡ take (i + 1) rows) × All (λ s. is_id s.id ≡ true) new
-spans-more rows i row known new s lt at is id n inv = rw n (read-more span_in known s rows i row inv.0 lt at is, All-push (λ (s : KnownSpan). is_id s.id ≡ true) known s inv.1 id)
+-- rows that were read, of which each has a property, one row further
+pub rows-more : {A B : Type 0} (f : A → B) (P : A → Type 0) (rows : List B) (i : ℕ) (row : B) (known new : List A) (s : A) → i < length rows → row ≡ get_or rows i row
+    → f s ≡ row → P s → new ≡ known ++ s ∷ []
+    → (map f known ≡ take i rows) × All P known → (map f new ≡ take (i + 1) rows) × All P new
+rows-more f P rows i row known new s lt at is p n inv = rw n (read-more f known s rows i row inv.0 lt at is, All-push P known s inv.1 p)
 
 -- what all of the first i elements and the next one have, all of the first i + 1 have
 pub all-more : {A : Type 0} (P : A → Type 0) (xs : List A) (i : ℕ) (x : A) → i < length xs → x ≡ get_or xs i x → All P (take i xs) → P x → All P (take (i + 1) xs)

@@ -12,12 +12,10 @@ use Rattle.std.proofs.lemmas.List.{append-nil, append_assoc}
 use Rattle.std.proofs.lemmas.List.Sorted.{IsPermutation-cons, IsPermutation-to_front, IsPermutation-append_right, IsPermutation-append_comm}
 use Rattle.std.proofs.lemmas.List.Folds.{list_any-append}
 use Rattle.lpis_lineage.specs.declared.span.Span.{Span as Years}
-use Rattle.lpis_lineage.specs.private.Follows.{Follows}
-use Rattle.lpis_lineage.specs.private.Keeping.{begun, ended_in}
 use Rattle.lpis_lineage.specs.Lineage.{last_year}
 use Rattle.lpis_lineage.specs.Order.{IsAscending}
 use Rattle.lpis_lineage.specs.Spans.{span_between}
-use Rattle.lpis_lineage.proofs.Shared.{same-by_order, filter-append, follows-back, first-index, span-more}
+use Rattle.lpis_lineage.proofs.Shared.{Follows, begun, ended_in, same-by_order, filter-append, follows-back, first-index, span-more}
 use Rattle.lpis_country_rows.specs.Equality.{same_polygon}
 use Rattle.lpis_points.specs.Chain.{IsEquality}
 use Rattle.lpis_register_rows.specs.Shapes.{AreLive, IsLive, IsSpelled, Shape, ShapesAre, shape_ids, text_edits}

@@ -1,7 +1,8 @@
 -- The spans of a history's identifiers, as a list of rows.
 use Rattle.std.proofs.Common.{◌≡◌, ◌∙◌, ◌<◌, ◌+◌, refl, sym, ap, ap₂, arith, ℕ, zero, suc, List, [], ◌∷◌, ◌++◌, Bool, true, false, Option, None, Some, cond, length, map, take, get_or, IsPermutation}
 use Rattle.std.proofs.Common.{◌||◌, is_some, IsSorted, All, filter, nat_cmp}
-use Rattle.lpis_register_rows.proofs.Common.{list_any, slice_cmp, All-push, recursion_from_All, list_any-IsPermutation, has_id, same_id, Entry, holds, last_live, first_held, last_held, span_of}
+use Rattle.std.proofs.lemmas.List.Sorted.{list_any-IsPermutation}
+use Rattle.lpis_register_rows.proofs.Common.{list_any, slice_cmp, All-push, recursion_from_All, has_id, same_id, Entry, holds, last_live, first_held, last_held, span_of}
 use Rattle.lpis_register_rows.proofs.Common.{same-refl}
 use Rattle.lpis_register_rows.proofs.Common.{take-at, StoredSpan, IsSpanRow, AreSpansOf, all_live}
 use Rattle.std.specs.List.{dedup}
@@ -11,7 +12,7 @@ use Rattle.std.proofs.lemmas.List.Kept.{IsStrictlySortedBy-dedup}
 use Rattle.std.proofs.lemmas.List.Folds.{list_any-append}
 use Rattle.lpis_lineage.specs.Spans.{span_between}
 use Rattle.lpis_lineage.proofs.Shared.{held-some, first-index}
-use Rattle.lpis_register_rows.proofs.FreshLemmas.{has-dedup}
+use Rattle.lpis_register_rows.proofs.RepeatLemmas.{has-dedup}
 use Rattle.lpis_register_rows.proofs.KnownLemmas.{read-more}
 use Rattle.lpis_register_rows.proofs.PublishingLemmas.{once-ascending, same-length}
 

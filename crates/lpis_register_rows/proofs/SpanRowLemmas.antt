@@ -1,6 +1,7 @@
 -- Rows of spans against a history.
 use Rattle.std.proofs.Common.{◌≡◌, ◌∙◌, refl, sym, ap, arith, ℕ, ℤ, List, [], ◌∷◌, Bool, true, false, length, Option, None, Some, IsPermutation, ◌||◌, is_some, filter}
-use Rattle.lpis_register_rows.proofs.Common.{AllByRecursion, list_any, list_any-IsPermutation, same_id, Entry, span_of, same-exact, StoredSpan, IsSpanRow, AreSpansOf, shown_span}
+use Rattle.std.proofs.lemmas.List.Sorted.{list_any-IsPermutation}
+use Rattle.lpis_register_rows.proofs.Common.{AllByRecursion, list_any, same_id, Entry, span_of, same-exact, StoredSpan, IsSpanRow, AreSpansOf, shown_span}
 use Rattle.std.proofs.lemmas.List.Sums.{length-filter}
 use Rattle.std.proofs.lemmas.List.Sorted.{sum_by-IsPermutation}
 use Rattle.lpis_lineage.specs.declared.span.Span.{Span as Years}

@@ -3,10 +3,11 @@
 ghost use Rattle.std.specs.Prelude.{◌≡◌, ◌↔◌, ◌≤◌, ℕ, List, [], pos, IsPermutation};
 ghost use Rattle.std.specs.List.{AllByRecursion};
 ghost use Rattle.lpis_lineage.specs.Accepts.{Adds};
-ghost use Rattle.lpis_lineage.specs.Changes.{Changes, IsChange};
+ghost use Rattle.lpis_lineage.specs.Changes.{Changes};
 ghost use Rattle.lpis_lineage.specs.Lawful.{IsLawful, RowsFit};
 ghost use Rattle.lpis_lineage.specs.Lineage.{last_live, last_year};
 ghost use Rattle.lpis_lineage.specs.Order.{IsAscending};
+ghost use Rattle.lpis_lineage.specs.Steps.{IsStep};
 ghost use Rattle.lpis_lineage.specs.declared.row.Entry.{Entry};
 ghost use Rattle.lpis_lineage.specs.declared.row.Row.{Row};
 ghost use Rattle.lpis_register_rows.specs.Content.{Content, StoredSpan, StoredText, TextEdit};
@@ -15,7 +16,7 @@ ghost use Rattle.lpis_register_rows.specs.Content.{marks_from, no_content, publi
 ghost use Rattle.lpis_register_rows.specs.Content.{released, without_live, without_texts};
 ghost use Rattle.lpis_register_rows.specs.Shapes.{AreLive, IsSpelled, Shape, ShapesAre};
 ghost use Rattle.lpis_register_rows.specs.Shapes.{shape_ids, text_edits};
-ghost use Rattle.lpis_register_rows.specs.Histories.{AreFresh, IsSameContent};
+ghost use Rattle.lpis_register_rows.specs.Histories.{IsSameContent};
 ghost use Rattle.lpis_register_rows.specs.Histories.{IsSameHistory, IsWriting};
 ghost use Rattle.lpis_register_rows.specs.Histories.{TablesHave, AreSpansOf};
 ghost use Rattle.lpis_register_rows.specs.Histories.{HasHistory, HasHistoryByLive};
@@ -86,9 +87,9 @@ pub fn moving_keeps_the_history()
     ensures bare { (c : Content) (spans : List StoredSpan) → (moved spans c).texts ≡ [] }
 {}
 
-/// What a change drops and what is fresh is what publishing writes.
-pub fn changes_are_what_is_written()
-    ensures { (h : List Entry) (live fresh : List (List ℕ)) (rows : List Row) (change : Changes)
-        → IsChange (last_live h) live rows change → AreFresh h live fresh
+/// What a step drops and what is fresh with it is what publishing writes.
+pub fn steps_are_what_is_written()
+    ensures { (h : List Entry) (live set fresh : List (List ℕ)) (rows : List Row)
+        (change : Changes) → IsStep h live rows set change fresh
         → IsWriting h live change.dropped_ids fresh }
 {}

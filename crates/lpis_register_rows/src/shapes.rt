@@ -22,7 +22,6 @@ use crate::fault::RowsFault;
 use crate::known::read_id;
 use crate::rows::TextRow;
 use crate::spelling::has_text;
-use crate::writing::copy_of;
 use lpis_covers::Id;
 use lpis_lineage::History;
 use lpis_parcels::Parcel;
@@ -123,6 +122,15 @@ pub fn shapes_of(
         return Err(RowsFault::Unlawful);
     }
     Ok(shapes)
+}
+
+/// An equal identifier, which is well formed.
+fn copy_of(id: &Id) -> Result<Id, AllocError>
+    ensures same { IfOk result (λ copy. copy ≡ id.now) }
+    ensures id { is_id id.now ≡ true }
+{
+    let _ = id.as_str();
+    id.copy()
 }
 
 /// A copy of the shape of a parcel.

@@ -1,14 +1,27 @@
 -- What a history keeps beside its releases.
-use Rattle.std.specs.Prelude.{◌≡◌, ◌&&◌, Bool, ℕ, List, Option, None, Some, cond, nat_eq}
+use Rattle.std.specs.Prelude.{◌≡◌, ◌&&◌, Bool, ℕ, List, [], Option, None, Some, cond}
+use Rattle.std.specs.Prelude.{is_some, nat_eq, not}
+use Rattle.lpis_covers.specs.Ids.{has_id}
+use Rattle.lpis_lineage.specs.declared.row.Row.{Row}
 use Rattle.lpis_lineage.specs.declared.row.Entry.{Entry}
 use Rattle.lpis_lineage.specs.declared.span.Span.{Span}
+use Rattle.lpis_lineage.specs.Faults.{faults}
 use Rattle.lpis_lineage.specs.Lawful.{IsLawful, RowsFit}
+use Rattle.lpis_lineage.specs.Lineage.{last_live}
 use Rattle.lpis_lineage.specs.Spans.{span_of}
 
 pub record IsHistory (h : List Entry) (spans : List ℕ → Option Span) : Type 0 where
   pub lawful : IsLawful h
   pub fits : RowsFit h
   pub spans_are : (id : List ℕ) → spans id ≡ span_of h id
+
+-- a release without a fault after a history, the identifiers that it drops, and those that no
+-- release of the history holds
+pub record IsNext (h : List Entry) (live : List (List ℕ)) (rows : List Row)
+    (gone fresh : List (List ℕ)) : Type 0 where
+  pub faultless : faults h live rows ≡ []
+  pub gone_are : (q : List ℕ) → has_id gone q ≡ (has_id (last_live h) q && not (has_id live q))
+  pub fresh_are : (q : List ℕ) → has_id fresh q ≡ (has_id live q && not (is_some (span_of h q)))
 
 -- a span that begins in a year, where the test is true
 abbrev pub begun : Bool → ℕ → Option Span → Option Span

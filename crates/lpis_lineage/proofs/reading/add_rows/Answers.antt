@@ -17,7 +17,7 @@ read_row-requires-clause-number c = ap (λ (n : ℕ). n + 1) c.rows.invariant.1 
 
 pub rows-init : goal.rows-init
 rows-init c =
-    let read = rows-start lineage_table c.args.reader.now c.requires.header.table c.requires.header.start refl in
+    let read = rows-start lineage_table c.args.reader.now c.requires.table c.requires.start refl in
     rw c.requires.empty (read, sym read.count)
 
 pub returns-in_err-next_row-clause-fault : goal.returns-in_err-next_row-clause-fault

@@ -1,9 +1,6 @@
-use Rattle.std.proofs.Common.{◌≡◌, ℕ, List, length}
+use Rattle.std.proofs.Common.{◌≡◌, ℕ, List, drop}
 use Rattle.lpis_lineage.proofs.Common.{get, has_id, same_id, ended_in}
 use Rattle.lpis_lineage.proofs.span.end_spans.Given as goal
 
-abbrev pub invariant-ids : goal.invariant-ids
-invariant-ids l = (q : List ℕ) → ended_in (has_id l.ids.items q) l.year (get same_id l.spans q) ≡ ended_in (has_id l.initial.ids.items q) l.year (get same_id l.initial.spans q)
-
-abbrev pub decreases-ids : goal.decreases-ids
-decreases-ids l = length l.ids.items
+abbrev pub invariant-loop-id : goal.invariant-loop-id
+invariant-loop-id l = (q : List ℕ) → ended_in (has_id (drop l.id-index l.ids) q) l.year (get same_id l.spans q) ≡ ended_in (has_id l.ids q) l.year (get same_id l.initial.spans q)
