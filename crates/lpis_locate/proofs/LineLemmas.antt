@@ -1,9 +1,7 @@
 -- The lines of points.
 use Rattle.std.proofs.Common.{◌≡◌, ℕ, suc, ◌+◌, ◌<◌, ◌≤◌, List, [], ◌∷◌, ◌++◌, length, get_or, take, Option, Some, None, All, refl, ap, ap₂, sym, ◌∙◌, subst, arith, slice_get, append_assoc}
-use Rattle.std.specs.Io.KnownBytes.{Appends}
 use Rattle.std.proofs.lemmas.List.{append-nil, length-take-le, take_all, take_more}
 use Rattle.std.proofs.lemmas.Option.{get_or_from_slice_get, slice_get-get_or, slice_get_within}
-use Rattle.lpis_commands.proofs.Shared.{appends-more}
 use Rattle.lpis_edge_sums.proofs.Shared.{all_at}
 use Rattle.lpis_parcels.specs.Release.{Contents}
 use Rattle.lpis_locating.specs.declared.place.Place.{Place}
@@ -25,16 +23,11 @@ front {A} xs i x e = take_more xs i x (slice_get_within xs i x e) ∙ ap (λ (y 
 fronts : {A B : Type 0} (xs : List A) (ys : List B) (i : ℕ) → i < length xs → i < length ys → length (take i xs) ≡ length (take i ys)
 fronts xs ys i l k = length-take-le i xs (omega (arith, l)) ∙ sym (length-take-le i ys (omega (arith, k)))
 
-more-lines : (gs : List Given) (fs : List (Option Place)) (i : ℕ) (g : Given) (f : Option Place) → slice_get gs i ≡ Some g → slice_get fs i ≡ Some f
+-- the lines so far, and that of one point more
+pub more-lines : (gs : List Given) (fs : List (Option Place)) (i : ℕ) (g : Given) (f : Option Place) → slice_get gs i ≡ Some g → slice_get fs i ≡ Some f
     → lines_of (take (i + 1) gs) (take (i + 1) fs) ≡ lines_of (take i gs) (take i fs) ++ point_line g.id f
 more-lines gs fs i g f a b =
     ap₂ lines_of (front gs i g a) (front fs i f b) ∙ last_line (take i gs) (take i fs) g f (fronts gs fs i (slice_get_within gs i g a) (slice_get_within fs i f b))
-
--- the texts so far, and the line of one point more
-pub line-goes-on : (gs : List Given) (fs : List (Option Place)) (i : ℕ) (g : Given) (f : Option Place) (start now next : Option (List ℕ)) → slice_get gs i ≡ Some g → slice_get fs i ≡ Some f
-    → Appends start now (lines_of (take i gs) (take i fs)) → Appends now next (point_line g.id f) → Appends start next (lines_of (take (i + 1) gs) (take (i + 1) fs))
-line-goes-on gs fs i g f start now next a b so_far this =
-    subst (Appends start next) (sym (more-lines gs fs i g f a b)) (appends-more start now next (lines_of (take i gs) (take i fs)) (point_line g.id f) so_far this)
 
 -- past the last point all lines were written
 pub all-lines : (gs : List Given) (fs : List (Option Place)) (i : ℕ) → length fs ≡ length gs → length gs ≤ i → lines_of (take i gs) (take i fs) ≡ lines_of gs fs

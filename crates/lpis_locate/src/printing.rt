@@ -11,58 +11,68 @@ ghost use Rattle.lpis_locate.specs.LocateLines.{points_refusal_text};
 ghost use Rattle.lpis_locate.specs.private.Lines.{lines_of};
 
 use lpis_commands::{Answer, DONE, PrintFault, UNREADABLE};
-use lpis_covers::TableCode;
+use lpis_covers::{Id, TableCode};
 use lpis_locating::{Axis, GivenPoint, Place, PointsFault};
 use lpis_wkt::WktCode;
 use std::alloc::{AllocError, Global};
 use std::io::Write;
 
-/// Writes where a point is, up to the end of its line.
-fn print_place<W: Write>(found: &Option<Place>, out: &mut W) -> Result<(), PrintFault>
-    ensures { OnOk result (Appends (W.contents out.old) (W.contents out.new)
-        (place_text found.now)) }
+/// For how many bytes of a line room is made at once. Where lines are longer the text grows.
+const LINE_ROOM: usize = 64;
+
+/// Adds bytes to a text.
+fn add_bytes(bytes: &[u8], text: &mut Vec<u8>) -> Result<(), AllocError>
+    ensures { OnOk result (text.new.items ≡ text.old.items ++ bytes.now) }
+{
+    text.extend_from_slice(bytes)
+}
+
+/// Adds an identifier to a text, after what stands before it.
+fn add_id(before: &[u8], id: &Id, text: &mut Vec<u8>) -> Result<(), AllocError>
+    ensures { OnOk result (text.new.items ≡ text.old.items ++ (before.now ++ id.now)) }
+{
+    add_bytes(before, text)?;
+    add_bytes(id.as_bytes(), text)
+}
+
+/// Adds where a point is to a text, up to the end of its line.
+fn add_place(found: &Option<Place>, text: &mut Vec<u8>) -> Result<(), AllocError>
+    ensures { OnOk result (text.new.items ≡ text.old.items ++ place_text found.now) }
 {
     match found {
-        Some(place) => write!(
-            out,
-            " parcel {} piece {} class {}\n",
-            place.parcel.as_str(),
-            place.piece.as_str(),
-            place.class.as_str()
-        )?,
-        None => out.write_all(b" nowhere\n")?,
+        Some(place) => {
+            add_id(b" parcel ", &place.parcel, text)?;
+            add_id(b" piece ", &place.piece, text)?;
+            add_id(b" class ", &place.class, text)?;
+            add_bytes(b"\n", text)
+        }
+        None => add_bytes(b" nowhere\n", text),
     }
-    Ok(())
 }
 
-/// Writes the line of a point.
-fn print_point<W: Write>(
-    point: &GivenPoint,
-    found: &Option<Place>,
-    out: &mut W,
-) -> Result<(), PrintFault>
-    ensures { OnOk result (Appends (W.contents out.old) (W.contents out.new)
-        (point_line point.now.id found.now)) }
+/// Adds the line of a point to a text.
+fn add_line(point: &GivenPoint, found: &Option<Place>, text: &mut Vec<u8>) -> Result<(), AllocError>
+    ensures { OnOk result (text.new.items ≡ text.old.items ++ point_line point.now.id found.now) }
 {
-    write!(out, "point {}", point.id().as_str())?;
-    print_place(found, out)
+    add_id(b"point ", point.id(), text)?;
+    add_place(found, text)
 }
 
-/// Writes the lines of points, and the yes.
-fn print_points<W: Write>(
+/// The lines of points, and the yes.
+fn lines_of(
+    alloc: Global,
     points: &[GivenPoint],
     found: &[Option<Place>],
-    out: &mut W,
-) -> Result<(), PrintFault>
+) -> Result<Vec<u8>, AllocError>
     requires { length found.now ≡ length points.now }
-    ensures { OnOk result (Appends (W.contents out.old) (W.contents out.new)
-        (lines_of points.now found.now ++ codes "yes\n")) }
+    ensures { IfOk result (λ v. v.items ≡ lines_of points.now found.now ++ codes "yes\n") }
 {
+    let mut text = Vec::with_capacity(alloc, points.len().saturating_mul(LINE_ROOM))?;
     for i in 0..points.len() {
-        print_point(&points[i], &found[i], out)?;
+        add_line(&points[i], &found[i], &mut text)?;
     }
-    out.write_all(b"yes\n")?;
-    Ok(())
+    add_bytes(b"yes\n", &mut text)?;
+    Ok(text)
 }
 
 /// The text of points and what was found of them.
@@ -75,9 +85,8 @@ fn text_of_points(
     ensures { IfOk result (λ a. (a.text.items ≡ lines_of points.now found.now ++ codes "yes\n")
         × (a.status ≡ done)) }
 {
-    let mut text = Vec::new(alloc);
-    let printed = print_points(points, found, &mut text);
-    Answer::of(text, DONE, printed)
+    let text = lines_of(alloc, points, found)?;
+    Ok(Answer { text, status: DONE })
 }
 
 /// The lines of points, of which this was found, and the yes.

@@ -4,3 +4,4 @@ pub mod StripLemmas
 pub mod PointsLemmas
 pub mod VisitLemmas
 pub mod BoxLemmas
+pub mod InsideLemmas

@@ -16,6 +16,7 @@ mod fault;
 mod given;
 mod grid;
 mod index;
+mod inside;
 mod locating;
 mod numbers;
 mod place;

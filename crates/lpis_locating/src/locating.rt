@@ -2,7 +2,6 @@
 
 ghost use Rattle.std.specs.Prelude.{◌≡◌, ◌<◌, ◌∷◌, [], All, Contains, IfOk, List, MatchOption};
 ghost use Rattle.std.specs.Prelude.{None, OnOk, length};
-ghost use Rattle.lpis_points.specs.RatPoints.{rational_of};
 ghost use Rattle.lpis_covers.specs.declared.piece.Piece.{Piece};
 ghost use Rattle.lpis_parcels.specs.Release.{pieces_named};
 ghost use Rattle.lpis_checker.specs.SoundMap.{IsInParcel, IsInPiece, IsSoundMap};
@@ -15,25 +14,25 @@ ghost use Rattle.lpis_locating.specs.private.Visits.{AreTouched, AreVisited, IsP
 ghost use Rattle.lpis_locating.specs.private.Visits.{IsStripSettled, IsTouched};
 
 use crate::index::{Points, Slot, first_from, is_before_top};
+use crate::inside::is_inside;
 use crate::place::Place;
 use crate::reach::{Reach, is_in_width, scaled_box};
+use crate::spot::Spot;
 use crate::strips::{first_met, last_met};
 use lpis_country::is_region;
 use lpis_covers::Piece;
 use lpis_parcels::{Parcel, Release, pieces_of};
-use lpis_points::RatPoint;
-use lpis_rings::contains;
 use std::alloc::AllocError;
 
 /// The first piece of the parcel that contains the point.
-fn piece_at<'a>(release: &'a Release, parcel: &Parcel, p: &RatPoint) -> Option<&'a Piece>
-    ensures { MatchOption result (All (λ (y : Piece). IsInPiece (rational_of p.now) y → ⊥)
+fn piece_at<'a>(release: &'a Release, parcel: &Parcel, spot: Spot) -> Option<&'a Piece>
+    ensures { MatchOption result (All (λ (y : Piece). IsInPiece (rational_at spot) y → ⊥)
         (pieces_named release.now parcel.now.id))
         (λ y. Contains (pieces_named release.now parcel.now.id) y.now
-        × IsInPiece (rational_of p.now) y.now) }
+        × IsInPiece (rational_at spot) y.now) }
 {
     for piece in pieces_of(release, &parcel.id) {
-        if contains(&piece.polygon, p) {
+        if is_inside(&piece.polygon, spot) {
             return Some(piece);
         }
     }
@@ -41,13 +40,13 @@ fn piece_at<'a>(release: &'a Release, parcel: &Parcel, p: &RatPoint) -> Option<&
 }
 
 /// The place of a point in a parcel that contains it.
-fn place_in(release: &Release, parcel: &Parcel, p: &RatPoint) -> Result<Place, AllocError>
+fn place_in(release: &Release, parcel: &Parcel, spot: Spot) -> Result<Place, AllocError>
     requires sound { IsSoundMap release.now }
     requires among { Contains release.now.parcels parcel.now }
-    requires inside { IsInParcel (rational_of p.now) parcel.now }
-    ensures { IfOk result (IsPlaceBy release.now (rational_of p.now) parcel.now) }
+    requires inside { IsInParcel (rational_at spot) parcel.now }
+    ensures { IfOk result (IsPlaceBy release.now (rational_at spot) parcel.now) }
 {
-    match piece_at(release, parcel, p) {
+    match piece_at(release, parcel, spot) {
         Some(piece) => Place::of(parcel, piece),
         // A point of a parcel is in one of its pieces.
         None => unreachable!(),
@@ -62,11 +61,10 @@ fn place_by(release: &Release, parcel: &Parcel, slot: &Slot) -> Result<Option<Pl
         (IsInParcel (rational_at slot.now.spot) parcel.now → ⊥)
         (IsPlaceBy release.now (rational_at slot.now.spot) parcel.now)) }
 {
-    let p = slot.spot.as_fraction();
-    if !contains(&parcel.polygon, &p) {
+    if !is_inside(&parcel.polygon, slot.spot) {
         return Ok(None);
     }
-    Ok(Some(place_in(release, parcel, &p)?))
+    Ok(Some(place_in(release, parcel, slot.spot)?))
 }
 
 /// The place of a slot's point is found where it has none, is in the width of the parcel's box,

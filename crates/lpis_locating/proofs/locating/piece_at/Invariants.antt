@@ -1,12 +1,12 @@
 use Rattle.std.proofs.Common.{All, Contains}
-use Rattle.lpis_points.specs.RatPoints.{rational_of}
 use Rattle.lpis_covers.specs.declared.piece.Piece.{Piece}
 use Rattle.lpis_parcels.specs.Release.{pieces_named}
 use Rattle.lpis_checker.specs.SoundMap.{IsInPiece}
+use Rattle.lpis_locating.specs.Points.{rational_at}
 use Rattle.lpis_locating.proofs.locating.piece_at.Given as goal
 
 abbrev pub invariant-loop-piece : goal.invariant-loop-piece
 invariant-loop-piece l =
-    (All (λ (y : Piece). IsInPiece (rational_of l.p) y → ⊥) l.piece-iterator
-    → All (λ (y : Piece). IsInPiece (rational_of l.p) y → ⊥) (pieces_named l.release l.parcel.id))
+    (All (λ (y : Piece). IsInPiece (rational_at l.spot) y → ⊥) l.piece-iterator
+    → All (λ (y : Piece). IsInPiece (rational_at l.spot) y → ⊥) (pieces_named l.release l.parcel.id))
     × ((y : Piece) → Contains l.piece-iterator y → Contains (pieces_named l.release l.parcel.id) y)
