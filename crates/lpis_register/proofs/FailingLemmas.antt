@@ -1,23 +1,34 @@
 -- Why the database fails when a release is published.
-use Rattle.std.proofs.Common.{◌≡◌, ◌⊎◌, inl, inr, Bool, true, false, List, IsTrue, Result, Ok, Err, IfErr, ℕ, pos, refl, subst, subst₂}
+use Rattle.std.proofs.Common.{◌≡◌, ◌⊎◌, inl, inr, Bool, true, false, List, IsTrue, Result, Ok, Err, IfErr, ℕ, ap, arith, pos, refl, subst, subst₂}
+use Rattle.std.proofs.lemmas.Result.{IfErr-weaker}
 use Rattle.sqlite.specs.Held.{Held}
+use Rattle.sqlite.specs.State.{IsUnchanged}
 use Rattle.sqlite.specs.declared.error.Error.{Error}
 use Rattle.sqlite.specs.declared.error.Error.TheVariants.{SqliteFailure}
 use Rattle.sqlite.specs.declared.error.ErrorCode.TheVariants.{OutOfMemory}
 use Rattle.sqlite_trees.specs.declared.store.Store as store
-use Rattle.lpis_register_sql.specs.Stopping.{BoundStatement, StopsWithin, release_statements}
+use Rattle.lpis_register_sql.specs.Making.{completed, making_statements}
+use Rattle.lpis_register_sql.specs.Quiet.{IsFound}
+use Rattle.lpis_register_sql.specs.Stopping.{BoundStatement, IsStopped, RanAlone, StopsWithin, release_statements}
 use Rattle.lpis_register_sql.specs.Unread.{AreThere, IsUnread}
 use Rattle.lpis_register_sql.specs.declared.found.Found.{Found}
 use Rattle.lpis_lineage.specs.Lineage.{last_year}
-use Rattle.lpis_cert.specs.declared.part.ExactBlock.{ExactBlock}
-use Rattle.lpis_parcels.specs.Release.{Contents}
 use Rattle.lpis_register_rows.specs.Shapes.{text_edits}
-use Rattle.lpis_register.proofs.Common.{Entry, PublishFault, Row, Shape, State, state}
+use Rattle.lpis_register_rows.specs.Content.{StoredSpan}
+use Rattle.lpis_register_rows.specs.Histories.{AreSpansOf}
+use Rattle.lpis_register_sql.proofs.Shared.{unread_still}
+use Rattle.lpis_register.proofs.Common.{Content, Entry, First, HasCleanDisk, IsStored, Layout, PublishFault, Row, Shape, State, Survives, Trees, Version, state}
+use Rattle.lpis_register.specs.FailingToOpen.{FailsToMake, FailsToOpen, FailsWith, HasOpeningCause, settling_statements}
+use Rattle.lpis_register.specs.Opening.{HasRegister}
+use Rattle.lpis_register.specs.private.Commits.{HasSettlingCause, IsReported}
+use Rattle.lpis_register.specs.declared.opening.Loaded.{Loaded}
 use Rattle.lpis_register.specs.Accepting.{IsAccepted}
 use Rattle.lpis_register.specs.Faults.{IsStoreFault}
-use Rattle.lpis_register.specs.Failing.{FailsToRead, FailsToRun, FailsToStore, HasStoreCause, accepted_statements}
+use Rattle.lpis_register.specs.Failing.{FailsToRead, FailsToRun, FailsToStore, HasStoreCause, writing_statements}
+use Rattle.lpis_register.specs.Holdings.{Candidate, Holdings, RegisterState}
 use Rattle.lpis_register.specs.private.Writes.{FailsToCommit}
 use Rattle.lpis_register.specs.declared.accepting.Accepted.{Accepted}
+use Rattle.lpis_register.specs.declared.accepting.Writing.{Writing}
 use Rattle.lpis_register.specs.declared.fault.PublishFault.TheVariants.{Memory, Store, StoreMemory}
 
 or_shut : {X : Type 0} (b : Bool) → (b ≡ true → X) → (b ≡ false) ⊎ X
@@ -42,24 +53,100 @@ unread_cause found old new e fault memory is (inr unread) = unread
 pub fails_to_read : (found : Found) (old new : State) → AreThere old.now.schema found → (IsTrue old.is_open → IsUnread found old new) → FailsToRead old new
 fails_to_read found old new there unread = or_shut old.is_open (λ up. (found, there, unread up))
 
--- the statements are those of the accepted release
-pub stops_as : {S : Type 0} (g : store.Ghosts S) (last : ℕ) (kept : List Shape) (a : Accepted) (y l : ℕ) (gone fresh : List (List ℕ)) (rows : List Row) (shapes : List Shape) → y ≡ a.year
-    → l ≡ last → gone ≡ a.step.change.dropped_ids → fresh ≡ a.step.fresh.items → rows ≡ a.step.change.rows → shapes ≡ a.shapes.items → (old new : Held S) (r : Result (Unit {0}) Error)
-    → IfErr r (StopsWithin g (release_statements (pos y) (pos l) gone fresh rows (text_edits kept shapes)) old new) → IfErr r (StopsWithin g (accepted_statements last kept a) old new)
-stops_as g last kept a y l gone fresh rows shapes ey el eg ef er es old new r h =
-    let one = subst₂ (λ v w. IfErr r (StopsWithin g (release_statements (pos v) (pos w) gone fresh rows (text_edits kept shapes)) old new)) ey el h in
-    let two = subst₂ (λ v w. IfErr r (StopsWithin g (release_statements (pos a.year) (pos last) v w rows (text_edits kept shapes)) old new)) eg ef one in
-    subst₂ (λ v w. IfErr r (StopsWithin g (release_statements (pos a.year) (pos last) a.step.change.dropped_ids a.step.fresh.items v (text_edits kept w)) old new)) er es two
+-- the statements are those of the release that is written
+pub stops_as : {S : Type 0} (g : store.Ghosts S) (before : Holdings) (w : Writing) (y l : ℕ) (gone fresh : List (List ℕ)) (rows : List Row) (shapes : List Shape) → y ≡ w.year
+    → l ≡ last_year before.history → gone ≡ w.change.dropped_ids → fresh ≡ w.fresh.items → rows ≡ w.change.rows → shapes ≡ w.shapes.items → (old new : Held S) (r : Result (Unit {0}) Error)
+    → IfErr r (StopsWithin g (release_statements (pos y) (pos l) gone fresh rows (text_edits before.shapes shapes)) old new) → IfErr r (StopsWithin g (writing_statements w before) old new)
+stops_as g before w y l gone fresh rows shapes ey el eg ef er es old new r h =
+    let last = last_year before.history in
+    let one = subst₂ (λ v k. IfErr r (StopsWithin g (release_statements (pos v) (pos k) gone fresh rows (text_edits before.shapes shapes)) old new)) ey el h in
+    let two = subst₂ (λ v k. IfErr r (StopsWithin g (release_statements (pos w.year) (pos last) v k rows (text_edits before.shapes shapes)) old new)) eg ef one in
+    subst₂ (λ v k. IfErr r (StopsWithin g (release_statements (pos w.year) (pos last) w.change.dropped_ids w.fresh.items v (text_edits before.shapes k)) old new)) er es two
 
--- the database failed to write the accepted release, which follows the last one
-pub fails_to_commit : {S : Type 0} (g : store.Ghosts S) (l last : ℕ) (kept : List Shape) (a : Accepted) (old new : Held S) (r : Result (Unit {0}) PublishFault) → l ≡ last → IfErr r IsStoreFault
-    → IfErr r (λ fault. HasStoreCause g l kept a old new (fault ≡ Store)) → IfErr r (FailsToCommit g last kept a old new)
-fails_to_commit g l last kept a old new (Ok x) is either cause = tt
-fails_to_commit g l last kept a old new (Err e) is either cause = record { untouched = inl either; cause = subst (λ n. HasStoreCause g n kept a old new (e ≡ Store)) is cause }
+-- the database failed to run the statements of a release
+pub fails_to_commit : {S : Type 0} (g : store.Ghosts S) (xs : List BoundStatement) (old new : Held S) (r : Result (Unit {0}) PublishFault) → IfErr r IsStoreFault
+    → (HasCleanDisk (state g new) → IfErr r (λ fault. fault ≡ Store → FailsToRun g xs old new)) → IfErr r (FailsToCommit g xs old new)
+fails_to_commit g xs old new (Ok x) either cause = tt
+fails_to_commit g xs old new (Err e) either cause = record { untouched = inl either; cause = cause }
 
--- a release that was accepted is one that could not be stored
-pub fails_to_store : {S X : Type 0} (g : store.Ghosts S) (h : List Entry) (kept : List Shape) (year : ℕ) (r : Contents) (blocks : List ExactBlock) (rows : List Row) (a : Accepted) (old new : Held S)
-    (answer : Result X PublishFault) → IsAccepted h kept year r blocks rows a → IfErr answer (λ fault. HasStoreCause g (last_year h) kept a old new (fault ≡ Store))
-    → IfErr answer (λ fault. IsStoreFault fault → FailsToStore g h kept year r blocks rows old new (fault ≡ Store))
-fails_to_store g h kept year r blocks rows a old new (Ok x) made fails = tt
-fails_to_store g h kept year r blocks rows a old new (Err e) made fails = λ is. (a, made, fails)
+-- a release that failed to be written has its cause in the register as it was
+pub fails_as : {S : Type 0} (g : store.Ghosts S) (w : Writing) (it old : RegisterState S) (conn : Held S) (fault : PublishFault) → it ≡ old
+    → FailsToCommit g (writing_statements w it.held) it.conn conn fault → HasCleanDisk (state g conn) → fault ≡ Store → FailsToRun g (writing_statements w old.held) old.conn conn
+fails_as g w it old conn fault same fails =
+    subst (λ s. HasCleanDisk (state g conn) → fault ≡ Store → FailsToRun g (writing_statements w s.held) s.conn conn) same fails.cause
+
+-- a candidate that was accepted is one that could not be stored
+pub fails_to_store : {S X : Type 0} (g : store.Ghosts S) (c : Candidate) (a : Accepted) (old new : RegisterState S) (answer : Result X PublishFault) → IsAccepted c old.held a
+    → IfErr answer (λ fault. HasStoreCause g a old new (fault ≡ Store)) → IfErr answer (λ fault. IsStoreFault fault → FailsToStore g c old new (fault ≡ Store))
+fails_to_store g c a old new (Ok x) made fails = tt
+fails_to_store g c a old new (Err e) made fails = λ is. (a, made, fails)
+
+-- ---- why opening a register fails
+
+-- what a write tells, reported: where that is the database's failure, its statements stopped
+pub stopped_as_reported : {S : Type 0} (g : store.Ghosts S) (xs : List BoundStatement) (old new : Held S) (w : Result (Unit {0}) Error) (r : Result (Unit {0}) PublishFault) → IsReported w r
+    → (w ≡ Err (SqliteFailure OutOfMemory) → r ≡ Err Memory)
+    → (IsTrue (state g old).is_open → HasCleanDisk (state g new) → IfErr w (StopsWithin g xs (record old { in_transaction = true }) new))
+    → IfErr r (λ fault. fault ≡ Store → HasCleanDisk (state g new) → IsTrue (state g old).is_open → IsStopped g xs (record old { in_transaction = true }) new)
+stopped_as_reported g xs old new (Ok x) (Ok y) is memory stops = tt
+stopped_as_reported g xs old new (Err e) (Err fault) is memory stops = λ failed clean up. elim (stops up clean) [
+  | inl refused ↦ absurd (let m = memory (ap Err refused) in cc)
+  | inr stopped ↦ stopped
+]
+stopped_as_reported g xs old new w r is memory stops = absurd is
+
+-- so tables of that version are not settled
+pub not_settled : {S : Type 0} (g : store.Ghosts S) (found : Found) (version : Version) (h : List Entry) (spans : List StoredSpan) (old new : Held S) (r : Result (Unit {0}) PublishFault)
+    → (version ≡ First → AreSpansOf spans h)
+    → IfErr r (λ fault. fault ≡ Store → HasCleanDisk (state g new) → IsTrue (state g old).is_open → IsStopped g (settling_statements version found spans) (record old { in_transaction = true }) new)
+    → HasSettlingCause g found version h old new r
+not_settled g found version h spans old new r are = IfErr-weaker r _ _ (λ fault stops is clean up. record { spans = spans; are = are; stopped = stops is clean up })
+
+-- tables were read, and then not settled
+pub not_settled_after : {S : Type 0} (g : store.Ghosts S) (found : Found) (told : Loaded) (version : Version) (old mid new : Held S) (fault : PublishFault) {P Q : Trees → Type 0}
+    → Survives (state g old) (state g mid) P → Survives (state g mid) (state g new) Q
+    → (HasCleanDisk (state g mid) → (layout : Layout) → IsFound found layout → (c : Content) → IsStored layout (state g old) c
+    → HasRegister version c told.history told.shapes.items × IsStored layout (state g mid) c)
+    → (HasCleanDisk (state g mid) → IsTrue (state g old).is_open → IsUnchanged (state g old) (state g mid) ⊎ IsUnread found (state g old) (state g mid))
+    → HasSettlingCause g found version told.history mid new (Err fault)
+    → fault ≡ Store → HasCleanDisk (state g new) → IsTrue (state g old).is_open → FailsWith g found old new
+not_settled_after g found told version old mid new fault one two says tells cause is clean up =
+    let at_mid : HasCleanDisk (state g mid) = omega (arith, clean, two.clean) in elim (tells at_mid up) [
+      | inr unread ↦ inl (unread_still found (state g old) (state g mid) (state g new) two.counts unread)
+      | inl same ↦ inr (record {
+        read = mid;
+        unchanged = same;
+        limit = one.limit;
+        counts = one.counts;
+        version = version;
+        history = told.history;
+        says = λ layout there c stored. (says at_mid layout there c stored).0.says;
+        fails = cause is clean same.0.is_open;
+      })
+    ]
+
+-- ---- of a database with a table unseen, and of one that has those of each version
+
+module _ {S : Type 0} (g : store.Ghosts S) (old new : Held S) (found : Found) (there : AreThere old.schema found) where
+  pub fails_with_those : (failed : Type 0) → found.common ≡ true → (failed → HasCleanDisk (state g new) → IsTrue (state g old).is_open → FailsWith g found old new)
+      → HasOpeningCause g old new failed
+  fails_with_those failed common fails clean is = or_shut (state g old).is_open (λ up. inr (found, there, inl (common, fails is clean up)))
+
+  fails_to_make : found.common ≡ false → (IsTrue (state g old).is_open → FailsToMake g found old new) → FailsToOpen g old new
+  fails_to_make common fails = or_shut (state g old).is_open (λ up. inr (found, there, inr (common, fails up)))
+
+  -- of one that has not, where they can't be made
+  pub fails_unmade : (e : Error) (fault : PublishFault) → found.common ≡ false → (e ≡ SqliteFailure OutOfMemory → fault ≡ Memory)
+      → (IsTrue (state g old).is_open → HasCleanDisk (state g new) → StopsWithin g (making_statements found) (record old { in_transaction = true }) new e) → HasOpeningCause g old new (fault ≡ Store)
+  fails_unmade e fault common memory stops clean is = fails_to_make common (λ up. elim (stops up clean) [
+    | inl refused ↦ absurd (let m = memory refused in cc)
+    | inr stopped ↦ inl stopped
+  ])
+
+  -- and where they are made, and it fails with those
+  pub fails_made : (failed : Type 0) (all : Found) (made : Held S) {P : Trees → Type 0} → found.common ≡ false → all ≡ completed found → Survives (state g old) (state g made) P
+      → (HasCleanDisk (state g new) → HasCleanDisk (state g made)) → (IsTrue (state g old).is_open → HasCleanDisk (state g made) → RanAlone g (making_statements found) old made)
+      → (failed → HasCleanDisk (state g new) → IsTrue (state g made).is_open → FailsWith g all made new) → HasOpeningCause g old new failed
+  fails_made failed all made common is one before ran fails clean so = fails_to_make common (λ up.
+      let alone = ran up (before clean) in
+      inr (record { made = made; ran = alone; limit = one.limit; counts = one.counts; fails = subst (λ f. FailsWith g f made new) is (fails so clean alone.2.0.is_open) }))

@@ -1,5 +1,5 @@
 -- From rows and texts that were read to what the tables say.
-use Rattle.std.proofs.Common.{◌≡◌, ◌↔◌, ℕ, List, Result, Ok, Err, IfErr, IsTrue, IsPermutation}
+use Rattle.std.proofs.Common.{◌≡◌, ◌≢◌, ◌↔◌, ◌⊎◌, arith, inl, inr, ℕ, List, Result, Ok, Err, IfErr, IsTrue, IsPermutation}
 use Rattle.std.proofs.lemmas.List.Sorted.{IsPermutation-sym}
 use Rattle.lpis_register.proofs.Common.{State, Trees, HasCleanDisk, Survives, survives_weaker, Entry, AreLive, Content}
 use Rattle.lpis_register.proofs.Common.{HoldsRegister, IsStored, Layout, PublishFault, TablesHave, Shape, ShapesAre}
@@ -14,7 +14,16 @@ use Rattle.lpis_register_sql.specs.Layouts.{Origin, schema_of}
 use Rattle.lpis_register_sql.specs.Standing.{Stands}
 use Rattle.lpis_register_sql.specs.Quiet.{IsFound}
 use Rattle.lpis_register.specs.Histories.{ReadsHistory}
-use Rattle.lpis_register.specs.private.Finding.{ReadsFound}
+use Rattle.sqlite.specs.State.{IsUnchanged}
+use Rattle.sqlite.specs.declared.error.Error.{Error}
+use Rattle.sqlite.specs.declared.error.Error.TheVariants.{SqliteFailure}
+use Rattle.sqlite.specs.declared.error.ErrorCode.TheVariants.{OutOfMemory}
+use Rattle.lpis_register_sql.specs.Unread.{IsUnread, Tells}
+use Rattle.lpis_register_sql.proofs.Shared.{unread_before, unread_still}
+use Rattle.sqlite.proofs.Callers.{unchanged_then}
+use Rattle.lpis_register.proofs.FailingLemmas.{unread_cause}
+use Rattle.lpis_register.specs.declared.fault.PublishFault.TheVariants.{Memory, Store}
+use Rattle.lpis_register.specs.private.Finding.{ReadsFound, TellsFound}
 
 -- rows without texts, in another order, report the same histories
 abbrev pub Textless : Type 0
@@ -79,3 +88,35 @@ module _ (old new : State) (h : List Entry) (shapes : List Shape) (found : Found
     crash = quiet _ finds;
     kinds = finds.kinds;
   }
+
+-- ---- what a reading tells
+
+-- rows that were read are of something, or fail otherwise than as the database
+pub told_read : {X Y : Type 0} (found : Found) (old new : State) (x : X) (r : Result Y PublishFault) → Tells found old new (Ok x) → IfErr r (λ e. e ≢ Store) → TellsFound found old new r
+told_read found old new x (Ok y) told never = told
+told_read found old new x (Err e) told never = λ clean up is. absurd (never is)
+
+-- rows that were not read
+pub told_unread : (found : Found) (old new : State) (e : Error) (fault : PublishFault) → (e ≡ SqliteFailure OutOfMemory → fault ≡ Memory)
+    → (HasCleanDisk new → IsTrue old.is_open → (e ≡ SqliteFailure OutOfMemory) ⊎ IsUnread found old new) → HasCleanDisk new → IsTrue old.is_open → fault ≡ Store → IsUnread found old new
+told_unread found old new e fault memory told clean up is = unread_cause found old new e fault memory is (told clean up)
+
+-- one reading after the other
+module _ {P Q : Trees → Type 0} (found : Found) (a b c : State) (one : Survives a b P) (two : Survives b c Q)
+    (first : HasCleanDisk b → IsTrue a.is_open → IsUnchanged a b ⊎ IsUnread found a b) where
+  -- which answers
+  pub told_then : (HasCleanDisk c → IsTrue b.is_open → IsUnchanged b c ⊎ IsUnread found b c) → HasCleanDisk c → IsTrue a.is_open → IsUnchanged a c ⊎ IsUnread found a c
+  told_then more clean up = elim (first (omega (arith, clean, two.clean)) up) [
+    | inr unread ↦ inr (unread_still found a b c two.counts unread)
+    | inl same ↦ elim (more clean same.0.is_open) [
+      | inl still ↦ inl (unchanged_then a b c same still)
+      | inr unread ↦ inr (unread_before found a b c same one.limit one.counts unread)
+    ]
+  ]
+
+  -- or fails
+  pub told_then_not : (fault : PublishFault) → (HasCleanDisk c → IsTrue b.is_open → fault ≡ Store → IsUnread found b c) → HasCleanDisk c → IsTrue a.is_open → fault ≡ Store → IsUnread found a c
+  told_then_not fault more clean up is = elim (first (omega (arith, clean, two.clean)) up) [
+    | inr unread ↦ unread_still found a b c two.counts unread
+    | inl same ↦ unread_before found a b c same one.limit one.counts (more clean same.0.is_open is)
+  ]

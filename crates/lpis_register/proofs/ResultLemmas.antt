@@ -1,10 +1,9 @@
 -- Results, and the faults in them.
-use Rattle.std.proofs.Common.{◌≡◌, ◌⊎◌, inl, inr, ℕ, List, Result, Ok, Err, OnOk, OnErr, refl, sym, subst}
-use Rattle.lpis_cert.specs.declared.part.ExactBlock.{ExactBlock}
-use Rattle.lpis_parcels.specs.Release.{Contents}
+use Rattle.std.proofs.Common.{◌≡◌, ◌⊎◌, inl, inr, Result, Ok, Err, OnOk, OnErr, refl, sym, subst}
 use Rattle.lpis_register.specs.Faults.{IsStoreFault, IsRefused, IsOpeningFault}
+use Rattle.lpis_register.specs.Holdings.{Candidate, Holdings}
 use Rattle.lpis_register.specs.declared.fault.PublishFault.TheVariants.{Memory, Year, Lineage, NotKept, Exact, Store, StoreMemory, Unknown}
-use Rattle.lpis_register.proofs.Common.{Entry, Row, IsFailure, PublishFault, Shape, Unlawful}
+use Rattle.lpis_register.proofs.Common.{IsFailure, PublishFault, Unlawful}
 
 -- what a promise of Ok implies is a promise of Ok
 pub on_ok : {A E : Type 0} (r : Result A E) {P Q : Type 0} → (P → Q) → OnOk r P → OnOk r Q
@@ -44,9 +43,8 @@ lawful_failure StoreMemory k never = k
 lawful_failure Unknown k never = k
 lawful_failure Unlawful k never = never refl
 
--- what failed beside the call tells nothing of the release
-pub failure_refused : (h : List Entry) (kept : List Shape) (year : ℕ) (r : Contents) (blocks : List ExactBlock) (rows : List Row) (X : Type 0) (e : PublishFault) → IsStoreFault e ⊎ ((e ≡ Memory) × X)
-    → IsRefused h kept year r blocks rows e
-failure_refused h kept year r blocks rows X e (inl (inl is)) = subst (IsRefused h kept year r blocks rows) (sym is) tt
-failure_refused h kept year r blocks rows X e (inl (inr is)) = subst (IsRefused h kept year r blocks rows) (sym is) tt
-failure_refused h kept year r blocks rows X e (inr is) = subst (IsRefused h kept year r blocks rows) (sym is.0) tt
+-- what failed beside the call tells nothing of the candidate
+pub failure_refused : (c : Candidate) (before : Holdings) (X : Type 0) (e : PublishFault) → IsStoreFault e ⊎ ((e ≡ Memory) × X) → IsRefused c before e
+failure_refused c before X e (inl (inl is)) = subst (IsRefused c before) (sym is) tt
+failure_refused c before X e (inl (inr is)) = subst (IsRefused c before) (sym is) tt
+failure_refused c before X e (inr is) = subst (IsRefused c before) (sym is.0) tt

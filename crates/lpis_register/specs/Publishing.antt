@@ -1,63 +1,63 @@
--- What publishing a release does to the history and the shapes in memory, and to the database.
-use Rattle.std.specs.Prelude.{◌≡◌, ℕ, List, Result, IsTrue, IfOk, OnErr, OnOk}
+-- What publishing a release does to what the register holds in memory, and to its database.
+use Rattle.std.specs.Prelude.{◌≡◌, List, Result, IsTrue, IfOk, OnErr, OnOk}
+use Rattle.sqlite.specs.Held.{state}
 use Rattle.sqlite.specs.Tree.{Trees}
-use Rattle.sqlite.specs.State.{HasCleanDisk, State, Survives}
-use Rattle.lpis_cert.specs.declared.part.ExactBlock.{ExactBlock}
-use Rattle.lpis_exact_lineage.specs.Asking.{kinds_from}
-use Rattle.lpis_exact_lineage.specs.ExactLineage.{IsExactLineage, ShapesTurnOnce}
-use Rattle.lpis_exact_lineage.specs.Shapes.{shape_named, shapes_in}
-use Rattle.lpis_lineage.specs.declared.row.Row.{Row}
+use Rattle.sqlite.specs.State.{HasCleanDisk, Survives}
+use Rattle.sqlite_trees.specs.declared.store.Store.{Ghosts}
+use Rattle.lpis_exact_lineage.specs.ExactLineage.{ShapesTurnOnce}
+use Rattle.lpis_exact_lineage.specs.Shapes.{shape_named}
 use Rattle.lpis_lineage.specs.declared.row.Entry.{Entry}
 use Rattle.lpis_lineage.specs.Accepts.{Adds}
 use Rattle.lpis_lineage.specs.Changes.{Changes, IsChange}
 use Rattle.lpis_lineage.specs.Lawful.{IsLawful, RowsFit}
 use Rattle.lpis_lineage.specs.Lineage.{last_live}
-use Rattle.lpis_parcels.specs.declared.parcel.Parcel.{Parcel}
-use Rattle.lpis_parcels.specs.Release.{Contents, parcel_ids}
-use Rattle.lpis_register_rows.specs.Shapes.{AreShapesOf, Shape}
+use Rattle.lpis_register_rows.specs.Shapes.{AreShapesOf}
 use Rattle.lpis_register_sql.specs.Layouts.{Origin}
+use Rattle.lpis_register.specs.Accepting.{HasExactLineage}
 use Rattle.lpis_register.specs.Faults.{PublishRefuses}
 use Rattle.lpis_register.specs.Histories.{HoldsRegister, LeavesRegister}
+use Rattle.lpis_register.specs.Holdings.{Candidate, Holdings, RegisterState, candidate_ids}
 use Rattle.lpis_register.specs.declared.fault.PublishFault.{PublishFault}
 
--- after this history, a release of this year, of these parcels and with these rows of lineage
-module _ (h : List Entry) (year : ℕ) (parcels : List Parcel) (rows : List Row) where
-  -- it stands at the end of this history, and these are its shapes
-  pub record FollowsHistory (k : List Entry) (shapes : List Shape) : Type 0 where
-    pub adds : Adds h k year (parcel_ids parcels) rows
-    pub lawful : IsLawful k
-    pub fits : RowsFit k
-    pub keeps : AreShapesOf parcels shapes
+-- the candidate stands at the end of this history, and its shapes are kept
+pub record FollowsHistory (c : Candidate) (before : List Entry) (after : Holdings) : Type 0 where
+  pub adds : Adds before after.history c.year (candidate_ids c) c.rows
+  pub lawful : IsLawful after.history
+  pub fits : RowsFit after.history
+  pub keeps : AreShapesOf c.release.parcels after.shapes
 
-  -- a crash leaves tables that say such a history and keep its shapes
-  abbrev pub LeavesRelease : Origin → Trees → Type 0
-  LeavesRelease o trees = (k : List Entry) × (shapes : List Shape) × FollowsHistory k shapes
-      × LeavesRegister o k shapes trees
+-- a crash leaves tables that say such a history and keep its shapes
+abbrev pub LeavesRelease : Candidate → List Entry → Origin → Trees → Type 0
+LeavesRelease c before o trees = (after : Holdings) × FollowsHistory c before after
+    × LeavesRegister o after.history after.shapes trees
 
-  -- a database that holds the history and the shapes of before holds those of after, and what stood
-  -- behind the tables. A crash leaves what it left before, or the release whole; right after Ok the
-  -- release
-  pub record Stores (kept : List Shape) (k : List Entry) (shapes : List Shape) (old new : State)
+module _ {S : Type 0} (store : Ghosts S) where
+  -- the tables of a register, of this origin, hold what it holds
+  abbrev pub TablesHold : Origin → RegisterState S → Type 0
+  TablesHold o it = HoldsRegister o (state store it.conn) it.held.history it.held.shapes
+
+  -- tables that held what the register held before hold what it holds after, and what stood behind
+  -- them. A crash leaves what it left before, or the candidate whole; right after Ok the candidate
+  pub record Stores (c : Candidate) (old new : RegisterState S)
       (answer : Result Changes PublishFault) : Type 0 where
-    pub ok : HasCleanDisk new → (o : Origin) → HoldsRegister o old h kept
-        → OnOk answer (HoldsRegister o new k shapes)
-    pub err : HasCleanDisk new → IsTrue new.is_open → (o : Origin) → HoldsRegister o old h kept
-        → OnErr answer (HoldsRegister o new k shapes)
-    pub crash : (o : Origin) → HoldsRegister o old h kept → Survives old new (LeavesRelease o)
-    pub durable : HasCleanDisk new → (o : Origin) → HoldsRegister o old h kept
-        → OnOk answer ((db : Trees) → new.may_leave db → LeavesRegister o k shapes db)
+    pub ok : HasCleanDisk (state store new.conn) → (o : Origin) → TablesHold o old
+        → OnOk answer (TablesHold o new)
+    pub err : HasCleanDisk (state store new.conn) → IsTrue (state store new.conn).is_open
+        → (o : Origin) → TablesHold o old → OnErr answer (TablesHold o new)
+    pub crash : (o : Origin) → TablesHold o old
+        → Survives (state store old.conn) (state store new.conn)
+        (LeavesRelease c old.held.history o)
+    pub durable : HasCleanDisk (state store new.conn) → (o : Origin) → TablesHold o old
+        → OnOk answer ((db : Trees) → (state store new.conn).may_leave db
+        → LeavesRegister o new.held.history new.held.shapes db)
 
--- publishing a release of this year with these blocks of its certificate and these rows, after this
--- history and when these shapes are kept, makes that history and those shapes of them
-pub record Publishes (h : List Entry) (kept : List Shape) (year : ℕ) (r : Contents)
-    (blocks : List ExactBlock) (rows : List Row) (k : List Entry) (shapes : List Shape)
+-- publishing the candidate makes what is held after of what was held before, and this is answered
+pub record Publishes (c : Candidate) (before after : Holdings)
     (answer : Result Changes PublishFault) : Type 0 where
-  pub tells : PublishRefuses h kept year r blocks rows answer
-  pub change : IfOk answer (IsChange (last_live h) (parcel_ids r.parcels) rows)
-  pub follows : OnOk answer (FollowsHistory h year r.parcels rows k shapes)
-  -- its exact splits and merges are those of points, by the shapes of before and its own
-  pub exact : OnOk answer
-      (IsExactLineage (kinds_from h r rows) rows (shape_named kept) (shape_named (shapes_in r)))
+  pub tells : PublishRefuses c before answer
+  pub change : IfOk answer (IsChange (last_live before.history) (candidate_ids c) c.rows)
+  pub follows : OnOk answer (FollowsHistory c before.history after)
+  pub exact : OnOk answer (HasExactLineage c before)
   -- which the merges of the next release rest on
-  pub once : OnOk answer (ShapesTurnOnce (shape_named shapes))
-  pub refused : OnErr answer ((k ≡ h) × (shapes ≡ kept))
+  pub once : OnOk answer (ShapesTurnOnce (shape_named after.shapes))
+  pub refused : OnErr answer (after ≡ before)

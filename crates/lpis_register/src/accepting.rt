@@ -9,12 +9,14 @@ ghost use Rattle.lpis_lineage.specs.Changes.{IsChange};
 ghost use Rattle.lpis_lineage.specs.Faults.{faults};
 ghost use Rattle.lpis_lineage.specs.Lineage.{last_live, last_year};
 ghost use Rattle.lpis_lineage.specs.Order.{IsAscending};
+ghost use Rattle.lpis_lineage.specs.Steps.{IsStep};
 ghost use Rattle.lpis_lineage.specs.declared.row.Entry.{Entry};
 ghost use Rattle.lpis_lineage.specs.declared.row.Row.{Row};
 ghost use Rattle.lpis_parcels.specs.Release.{Contents, parcel_ids};
 ghost use Rattle.lpis_register_rows.specs.Shapes.{AreShapesOf, Shape, shape_ids};
-ghost use Rattle.lpis_register.specs.Accepting.{AreKept, IsStep};
+ghost use Rattle.lpis_register.specs.Accepting.{AreKept};
 ghost use Rattle.lpis_register.specs.Faults.{IsRefused};
+ghost use Rattle.lpis_register.specs.Holdings.{candidate, holdings};
 ghost use Rattle.lpis_register.specs.private.Answering.{AnswersRelease, AreOfSoundMap};
 ghost use Rattle.lpis_register.specs.declared.fault.PublishFault.TheVariants.{Store, StoreMemory};
 
@@ -25,38 +27,38 @@ use lpis_covers::Id;
 use lpis_exact_lineage::{
     sound_maps_have_such_shapes, wanted_parts, what_is_shown_has_exact_lineage,
 };
-use lpis_lineage::{Change, History, Row, accept};
+use lpis_lineage::{Change, History, IdSet, Row, Step, accept};
 use lpis_parcels::Parcel;
-use lpis_register_rows::{changes_are_what_is_written, fresh_ids, shapes_in};
+use lpis_register_rows::shapes_in;
 use lpis_rings::Polygon;
 use std::alloc::{AllocError, Global};
 
-/// What a release changes in the history that it may follow.
+/// What writing an accepted release takes.
 #[derive(Drop)]
-pub(crate) struct Step {
-    /// The identifiers of its parcels.
-    pub(crate) live: Vec<Id>,
-    /// What became of those of the last release.
+pub(crate) struct Writing {
+    pub(crate) year: u16,
+    /// What became of the identifiers of the last release.
     pub(crate) change: Change,
     /// The identifiers that no release held.
     pub(crate) fresh: Vec<Id>,
+    /// The shapes of its parcels, ascending by identifier.
+    pub(crate) shapes: Vec<(Id, Polygon)>,
 }
 
 /// A release that may follow the history that it was accepted for. The register alone makes one.
 #[derive(Drop)]
 pub struct Accepted {
-    pub(crate) year: u16,
-    pub(crate) step: Step,
-    /// The shapes of its parcels, ascending by identifier.
-    pub(crate) shapes: Vec<(Id, Polygon)>,
+    /// Its identifiers, as the history takes them.
+    pub(crate) live: IdSet,
+    pub(crate) writing: Writing,
 }
 
 impl Accepted {
     /// What the release changes.
     pub fn change(&self) -> &Change
-        ensures { result.now ≡ self.now.step.change }
+        ensures { result.now ≡ self.now.writing.change }
     {
-        &self.step.change
+        &self.writing.change
     }
 }
 
@@ -72,8 +74,7 @@ pub fn ids_of(alloc: Global, parcels: &[Parcel]) -> Result<Vec<Id>, AllocError>
     Ok(ids)
 }
 
-/// What a release of these parcels changes in a history, and the identifiers that are new with it;
-/// or why its lineage is refused.
+/// What a release of these parcels changes in a history, or why its lineage is refused.
 fn step_of(
     alloc: Global,
     history: &History,
@@ -81,23 +82,19 @@ fn step_of(
     rows: &[Row],
 ) -> Result<Step, PublishFault>
     ensures refused { (r : Contents) (kept : List Shape) (year : ℕ) (blocks : List ExactBlock)
-        → r.parcels ≡ parcels.now → last_year history.now < year
-        → IfErr result (IsRefused history.now kept year r blocks rows.now) }
-    ensures step { IfOk result (IsStep history.now (parcel_ids parcels.now) rows.now) }
+        → r.parcels ≡ parcels.now → last_year history.now < year → IfErr result
+        (IsRefused (candidate year r blocks rows.now) (holdings history.now kept)) }
+    ensures step { IfOk result (λ s. IsStep history.now (parcel_ids parcels.now) rows.now s.live
+        s.change s.fresh.items) }
     ensures no_store { IfErr result (λ fault. (fault ≢ Store) × (fault ≢ StoreMemory)) }
 {
     let live = ids_of(alloc, parcels)?;
-    let change = accept(alloc, history, live.as_slice(), rows)?;
-    let fresh = fresh_ids(alloc, history, live.as_slice())?;
-    changes_are_what_is_written();
-    Ok(Step {
-        live,
-        change,
-        fresh,
-    })
+    let step = accept(alloc, history, live.as_slice(), rows)?;
+    Ok(step)
 }
 
-/// The shapes of parcels, ascending by identifier.
+/// The shapes of parcels, ascending by identifier. They are copies: a register keeps them when the
+/// release is let go.
 fn kept_of(alloc: Global, parcels: &[Parcel]) -> Result<Vec<(Id, Polygon)>, AllocError>
     requires distinct { IsDistinct same_id (parcel_ids parcels.now) }
     ensures { IfOk result (λ shapes. AreKept parcels.now shapes.items) }
@@ -126,7 +123,8 @@ fn check_groups(
         → AreShapesOf r.parcels new.now → last_year h < year
         → faults h (parcel_ids r.parcels) rows ≡ []
         → IsChange (last_live h) (parcel_ids r.parcels) rows change.now
-        → IfErr result (IsRefused h kept.now year r cert.now.exact rows) }
+        → IfErr result
+        (IsRefused (candidate year r cert.now.exact rows) (holdings h kept.now)) }
     ensures no_store { IfErr result (λ fault. (fault ≢ Store) × (fault ≢ StoreMemory)) }
 {
     let parts = wanted_parts(alloc, change, kept, new)?;
@@ -150,14 +148,26 @@ fn accept_later(
     requires sound { AreOfSoundMap parcels.now }
     requires later { last_year history.now < year }
     ensures { (r : Contents) → r.parcels ≡ parcels.now
-        → AnswersRelease history.now kept.now year r cert.now.exact rows.now result }
+        → AnswersRelease (candidate year r cert.now.exact rows.now)
+        (holdings history.now kept.now) result }
 {
     sound_maps_have_such_shapes();
     what_is_shown_has_exact_lineage();
     let step = step_of(alloc, history, parcels, rows)?;
     let shapes = kept_of(alloc, parcels)?;
     check_groups(alloc, &step.change, kept, shapes.as_slice(), cert)?;
-    Ok(Accepted { year, step, shapes })
+    let Step {
+        live,
+        change,
+        fresh,
+    } = step;
+    let writing = Writing {
+        year,
+        change,
+        fresh,
+        shapes,
+    };
+    Ok(Accepted { live, writing })
 }
 
 /// Refuses the parcels of a sound map that may not follow, or makes all that publishing them needs.
@@ -174,7 +184,8 @@ pub(crate) fn accept_parcels(
     requires distinct { IsDistinct same_id (parcel_ids parcels.now) }
     requires sound { AreOfSoundMap parcels.now }
     ensures { (r : Contents) → r.parcels ≡ parcels.now
-        → AnswersRelease history.now kept.now year r cert.now.exact rows.now result }
+        → AnswersRelease (candidate year r cert.now.exact rows.now)
+        (holdings history.now kept.now) result }
 {
     let last = history.last_year();
     if year <= last {

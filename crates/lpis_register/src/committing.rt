@@ -1,28 +1,28 @@
 //! Writing a release that was accepted.
 
-ghost use Rattle.std.specs.Prelude.{◌≡◌, false, true, IfErr, IsTrue, List, OnErr, ℕ};
+ghost use Rattle.std.specs.Prelude.{◌≡◌, false, true, IfErr, IsTrue, List, OnErr, OnOk};
 ghost use Rattle.sqlite.specs.Held.{state};
 ghost use Rattle.sqlite.specs.State.{HasCleanDisk};
 ghost use Rattle.sqlite.specs.declared.error.Error.TheVariants.{SqliteFailure};
 ghost use Rattle.sqlite.specs.declared.error.ErrorCode.TheVariants.{OutOfMemory};
 ghost use Rattle.lpis_lineage.specs.declared.row.Entry.{Entry};
-ghost use Rattle.lpis_lineage.specs.declared.row.Row.{Row};
-ghost use Rattle.lpis_lineage.specs.Lineage.{last_year};
-ghost use Rattle.lpis_parcels.specs.declared.parcel.Parcel.{Parcel};
 ghost use Rattle.lpis_register_sql.specs.Stopping.{StopsWithin};
 ghost use Rattle.lpis_register.specs.Accepting.{IsPrepared};
-ghost use Rattle.lpis_register.specs.Failing.{HasStoreCause, accepted_statements};
+ghost use Rattle.lpis_register.specs.Failing.{FailsToRun, writing_statements};
 ghost use Rattle.lpis_register.specs.Faults.{IsStoreFault};
-ghost use Rattle.lpis_register.specs.private.Writes.{Commits, EndsWithRelease, FailsToCommit};
-ghost use Rattle.lpis_register.specs.private.Writes.{IsToWrite, WritesRelease};
+ghost use Rattle.lpis_register.specs.Histories.{LeavesRegister};
+ghost use Rattle.lpis_register.specs.Holdings.{Candidate, holdings};
+ghost use Rattle.lpis_register.specs.Publishing.{FollowsHistory};
+ghost use Rattle.lpis_register.specs.private.Writes.{Commits, FailsToCommit};
+ghost use Rattle.lpis_register.specs.private.Writes.{IsToWrite, WritesRelease, written};
 ghost use Rattle.lpis_register.specs.declared.fault.PublishFault.TheVariants.{Memory, Store};
 ghost use Rattle.lpis_register.specs.declared.fault.PublishFault.TheVariants.{StoreMemory};
 
-use crate::accepting::Accepted;
+use crate::accepting::Writing;
 use crate::fault::PublishFault;
 use lpis_covers::Id;
-use lpis_lineage::History;
-use lpis_register_rows::{ShapeChange, publishing_adds_the_release};
+use lpis_lineage::{History, IdSet};
+use lpis_register_rows::{ShapeChange, publishing_adds_the_release, steps_are_what_is_written};
 use lpis_register_sql::write_release;
 use lpis_rings::Polygon;
 use sqlite::{Alter, Connection, Error, ErrorCode};
@@ -37,44 +37,47 @@ fn write_at_end<S: Alter>(
     history: &History,
     last: u16,
     kept: &[(Id, Polygon)],
-    accepted: &Accepted,
+    writing: &Writing,
 ) -> Result<(), Error>
     requires autocommit { conn.old.in_transaction ≡ false }
     ensures autocommit { conn.new.in_transaction ≡ false }
-    ensures writes { WritesRelease history.now last accepted.now kept.now
+    ensures writes { (h : List Entry) → IsToWrite writing.now last h history.now
+        → WritesRelease (holdings h kept.now) (written writing.now history.now)
+        (λ o. LeavesRegister o history.now writing.now.shapes.items)
         (state S.Store conn.old) (state S.Store conn.new) result }
-    ensures stops { IsTrue (state S.Store conn.old).is_open → HasCleanDisk (state S.Store conn.new)
-        → IfErr result (StopsWithin S.Store (accepted_statements last kept.now accepted.now)
+    ensures stops { (h : List Entry) → IsToWrite writing.now last h history.now
+        → IsTrue (state S.Store conn.old).is_open → HasCleanDisk (state S.Store conn.new)
+        → IfErr result (StopsWithin S.Store (writing_statements writing.now (holdings h kept.now))
         (record conn.old { in_transaction = true }) conn.new) }
 {
     let _ = history.releases();
     publishing_adds_the_release();
-    let step = &accepted.step;
-    let shapes = accepted.shapes.as_slice();
+    steps_are_what_is_written();
+    let shapes = writing.shapes.as_slice();
     write_release(
         alloc,
         conn,
-        u32::from(accepted.year),
+        u32::from(writing.year),
         u32::from(last),
-        step.change.dropped(),
-        step.fresh.as_slice(),
-        step.change.rows(),
+        writing.change.dropped(),
+        writing.fresh.as_slice(),
+        writing.change.rows(),
         ShapeChange { kept, shapes },
     )
 }
 
 /// Puts an accepted release at the history's end.
-fn grow(history: &mut History, accepted: &Accepted) -> Result<(), PublishFault>
-    requires made { (year : ℕ) × (parcels : List Parcel) × (rows : List Row)
-        × IsPrepared history.old year parcels rows accepted.now }
-    ensures grows { (year : ℕ) (parcels : List Parcel) (rows : List Row)
-        → IsPrepared history.old year parcels rows accepted.now
-        → EndsWithRelease history.old history.new year parcels rows accepted.now result }
+fn grow(history: &mut History, live: IdSet, writing: &Writing) -> Result<(), PublishFault>
+    requires made { (c : Candidate)
+        × IsPrepared c history.old (record { live = live; writing = writing.now }) }
+    ensures grows { (c : Candidate)
+        → IsPrepared c history.old (record { live = live; writing = writing.now })
+        → OnOk result (FollowsHistory c history.old (written writing.now history.new)) }
     ensures refused { OnErr result (history.new ≡ history.old) }
     ensures memory { IfErr result (λ e. e ≡ Memory) }
 {
-    let step = &accepted.step;
-    let added = history.extend(accepted.year, step.live.as_slice(), step.change.rows());
+    let fresh = writing.fresh.as_slice();
+    let added = history.extend(writing.year, live, &writing.change, fresh);
     let _ = history.releases();
     match added {
         Ok(()) => Ok(()),
@@ -101,18 +104,20 @@ fn write_or_take_back<S: Alter>(
     history: &mut History,
     last: u16,
     kept: &[(Id, Polygon)],
-    accepted: &Accepted,
+    writing: &Writing,
 ) -> Result<(), PublishFault>
     requires autocommit { conn.old.in_transaction ≡ false }
     ensures autocommit { conn.new.in_transaction ≡ false }
-    ensures commits { (h : List Entry) (due : IsToWrite history.old last accepted.now h)
-        → Commits h history.new due.year due.parcels due.rows accepted.now kept.now
+    ensures commits { (h : List Entry) (due : IsToWrite writing.now last h history.old)
+        → Commits due.candidate (holdings h kept.now) (written writing.now history.new)
         (state S.Store conn.old) (state S.Store conn.new) result }
     ensures failure { IfErr result IsStoreFault }
-    ensures cause { IfErr result (λ fault. HasStoreCause S.Store last kept.now accepted.now
-        conn.old conn.new (fault ≡ Store)) }
+    ensures cause { (h : List Entry) → IsToWrite writing.now last h history.old
+        → HasCleanDisk (state S.Store conn.new) → IfErr result (λ fault. fault ≡ Store
+        → FailsToRun S.Store (writing_statements writing.now (holdings h kept.now))
+        conn.old conn.new) }
 {
-    match write_at_end(alloc, conn, history, last, kept, accepted) {
+    match write_at_end(alloc, conn, history, last, kept, writing) {
         Ok(()) => Ok(()),
         Err(error) => {
             history.take_back();
@@ -128,23 +133,24 @@ pub(crate) fn commit_release<S: Alter>(
     conn: &mut Connection<S>,
     history: &mut History,
     kept: &[(Id, Polygon)],
-    accepted: &Accepted,
+    live: IdSet,
+    writing: &Writing,
 ) -> Result<(), PublishFault>
     requires autocommit { conn.old.in_transaction ≡ false }
-    requires made { (year : ℕ) × (parcels : List Parcel) × (rows : List Row)
-        × IsPrepared history.old year parcels rows accepted.now }
+    requires made { (c : Candidate)
+        × IsPrepared c history.old (record { live = live; writing = writing.now }) }
     ensures autocommit { conn.new.in_transaction ≡ false }
-    ensures commits { (year : ℕ) (parcels : List Parcel) (rows : List Row)
-        → IsPrepared history.old year parcels rows accepted.now
-        → Commits history.old history.new year parcels rows accepted.now kept.now
+    ensures commits { (c : Candidate)
+        → IsPrepared c history.old (record { live = live; writing = writing.now })
+        → Commits c (holdings history.old kept.now) (written writing.now history.new)
         (state S.Store conn.old) (state S.Store conn.new) result }
-    ensures failure { IfErr result (FailsToCommit S.Store (last_year history.old) kept.now
-        accepted.now conn.old conn.new) }
+    ensures failure { IfErr result (FailsToCommit S.Store
+        (writing_statements writing.now (holdings history.old kept.now)) conn.old conn.new) }
 {
     let last = history.last_year();
-    match grow(history, accepted) {
+    match grow(history, live, writing) {
         // The tables don't have the release yet.
-        Ok(()) => write_or_take_back(alloc, conn, history, last, kept, accepted),
+        Ok(()) => write_or_take_back(alloc, conn, history, last, kept, writing),
         Err(fault) => Err(fault),
     }
 }

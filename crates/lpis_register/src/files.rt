@@ -10,10 +10,13 @@ ghost use Rattle.sqlite.specs.Held.{state};
 ghost use Rattle.sqlite.specs.Steps.{over_memory};
 ghost use Rattle.lpis_register_sql.specs.Beside.{nothing};
 ghost use Rattle.lpis_register_sql.specs.Layouts.{New};
+ghost use Rattle.lpis_register.specs.FailingToOpen.{HasOpeningCause};
 ghost use Rattle.lpis_register.specs.Faults.{IsFailure, IsOpeningFault};
 ghost use Rattle.lpis_register.specs.FileOpening.{IsFileOpened, IsFileUnopened};
 ghost use Rattle.lpis_register.specs.Histories.{HoldsRegister};
+ghost use Rattle.lpis_register.specs.Holdings.{holdings};
 ghost use Rattle.lpis_register.specs.Opening.{LeavesOpened};
+ghost use Rattle.lpis_register.specs.declared.fault.PublishFault.TheVariants.{Store};
 
 use crate::fault::PublishFault;
 use crate::laws::a_crash_leaves_what_is_held;
@@ -37,18 +40,19 @@ impl<S: Alter + Drop> Register<S> {
         requires autocommit { conn.in_transaction ≡ false }
         ensures opened { (image : Image) → (HasCleanDisk (state S.Store conn) → FindsIn image
             (state S.Store conn)) → IfOk result (λ it. IsFileOpened image (state S.Store it.conn)
-            it.history it.shapes.items) }
+            it.held.history it.held.shapes) }
         ensures unopened { (image : Image) → (HasCleanDisk (state S.Store conn) → FindsIn image
             (state S.Store conn)) → IfErr result (λ e. IsFileUnopened image (state S.Store e.0)
             e.1) }
         ensures survives { IfErr result (λ e. Survives (state S.Store conn) (state S.Store e.0)
             (LeavesOpened (state S.Store conn))) }
+        ensures cause { IfErr result (λ e. HasOpeningCause S.Store conn e.0 (e.1 ≡ Store)) }
         ensures autocommit { IfErr result (λ e. e.0.in_transaction ≡ false) }
     {
         what_is_left_is_found(&conn);
         match Register::adopt(alloc, conn) {
             Ok(opened) => {
-                a_crash_leaves_what_is_held(&opened.conn);
+                a_crash_leaves_what_is_held(opened.database());
                 Ok(opened)
             }
             Err((conn, fault)) => Err((conn, fault)),
@@ -69,7 +73,7 @@ impl<S: Start> Register<FileStore<FileFrom<S>>> {
         start: S,
     ) -> Result<Register<FileStore<FileFrom<S>>>, PublishFault>
         ensures opened { IfOk result (λ it. IsFileOpened (image_at S.Start) (file_state it.conn)
-            it.history it.shapes.items) }
+            it.held.history it.held.shapes) }
         ensures kinds { IfErr result IsOpeningFault }
     {
         match Connection::open_from(rt, path, false, start) {
@@ -85,7 +89,7 @@ impl<S: Start> Register<FileStore<FileFrom<S>>> {
 impl Register<MemStore> {
     /// A register in memory, with no release.
     pub fn open_in_memory(alloc: Global) -> Result<Register<MemStore>, PublishFault>
-        ensures empty { IfOk result (λ it. (it.history ≡ []) × (it.shapes.items ≡ [])) }
+        ensures empty { IfOk result (λ it. it.held ≡ holdings [] []) }
         ensures holds { IfOk result (λ it. HoldsRegister (New nothing) (state over_memory it.conn)
             [] []) }
         ensures failure { IfErr result IsFailure }

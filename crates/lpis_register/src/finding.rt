@@ -11,7 +11,7 @@ ghost use Rattle.lpis_register_rows.specs.Histories.{TablesHave};
 ghost use Rattle.lpis_register_sql.specs.Unread.{IsUnread};
 ghost use Rattle.lpis_register.specs.Faults.{IsOpeningFault};
 ghost use Rattle.lpis_register.specs.Opening.{HasNoRegister, HasRegister, texts_at};
-ghost use Rattle.lpis_register.specs.private.Finding.{ReadsFound};
+ghost use Rattle.lpis_register.specs.private.Finding.{ReadsFound, TellsFound};
 ghost use Rattle.lpis_register.specs.declared.fault.PublishFault.TheVariants.{Store, Unlawful};
 
 use crate::fault::PublishFault;
@@ -66,6 +66,7 @@ pub(crate) fn find_rows<S: Alter>(
     ensures cause { IfErr result (λ fault. fault ≡ Store → HasCleanDisk (state S.Store conn.new)
         → IsTrue (state S.Store conn.old).is_open
         → IsUnread found.now (state S.Store conn.old) (state S.Store conn.new)) }
+    ensures tells { TellsFound found.now (state S.Store conn.old) (state S.Store conn.new) result }
 {
     order_of_rows_is_free();
     match load_found(alloc, conn, found) {
@@ -84,6 +85,7 @@ fn shapes_at(
         × AreLive (last_live history.now) shapes.items) }
     ensures unlawful { IfErr result (λ e. e ≡ Unlawful
         → TextsStand texts.items (last_live history.now) → ⊥) }
+    ensures no_store { IfErr result (λ e. e ≢ Store) }
     ensures kinds { IfErr result IsOpeningFault }
 {
     match shapes_of(alloc, texts, history) {
@@ -107,6 +109,7 @@ fn find_texts<S: Alter>(
         (λ c. TextsStand c.texts (last_live history.now) → ⊥)
         (state S.Store conn.old) (state S.Store conn.new) result }
     ensures ascend { IfOk result (λ shapes. IsAscending (shape_ids shapes.items)) }
+    ensures tells { TellsFound found.now (state S.Store conn.old) (state S.Store conn.new) result }
 {
     texts_keep_one_list_of_shapes();
     match load_texts(alloc, conn, found) {
@@ -131,6 +134,7 @@ fn find_shapes<S: Alter>(
         (λ c. TextsStand (texts_at version c) (last_live history.now) → ⊥)
         (state S.Store conn.old) (state S.Store conn.new) result }
     ensures ascend { IfOk result (λ shapes. IsAscending (shape_ids shapes.items)) }
+    ensures tells { TellsFound found.now (state S.Store conn.old) (state S.Store conn.new) result }
 {
     texts_keep_one_list_of_shapes();
     match version {
@@ -150,6 +154,7 @@ pub(crate) fn find_loaded<S: Alter>(
     ensures finds { ReadsFound found.now
         (λ c it. HasRegister it.1 c it.0.history it.0.shapes.items) HasNoRegister
         (state S.Store conn.old) (state S.Store conn.new) result }
+    ensures tells { TellsFound found.now (state S.Store conn.old) (state S.Store conn.new) result }
 {
     tables_have_one_history();
     let (history, version) = find_rows(alloc, conn, found)?;

@@ -11,6 +11,7 @@ ghost use Rattle.lpis_register_rows.specs.Histories.{IsSameHistory, TablesHave};
 ghost use Rattle.lpis_register_sql.specs.Layouts.{Origin};
 ghost use Rattle.lpis_register.specs.Calls.{AllLead, AreReleasesOf, Call, accepted};
 ghost use Rattle.lpis_register.specs.Histories.{HoldsRegister, LeavesRegister};
+ghost use Rattle.lpis_register.specs.Holdings.{Holdings, holdings};
 ghost use Rattle.lpis_register_rows.specs.Shapes.{Shape};
 ghost use Rattle.lpis_register_rows.specs.declared.version.Version.{Version};
 
@@ -24,8 +25,8 @@ use sqlite::{Alter, Connection};
 /// releases at its end, in their order. It is lawful, as every history, so years rise and none
 /// stands there twice.
 pub fn accepted_releases_stand_in_order()
-    ensures { (h k : List Entry) (kept shapes : List Shape) (calls : List Call)
-        → AllLead h kept calls k shapes → (es : List Entry) × (k ≡ h ++ es)
+    ensures { (before after : Holdings) (calls : List Call) → AllLead calls before after
+        → (es : List Entry) × (after.history ≡ before.history ++ es)
         × AreReleasesOf (accepted calls) es }
 {}
 
@@ -33,11 +34,11 @@ pub fn accepted_releases_stand_in_order()
 /// as on a register that was opened in memory, which keeps none. The merges of the next release
 /// rest on that.
 pub fn kept_shapes_turn_once()
-    ensures after { (h k : List Entry) (kept shapes : List Shape) (calls : List Call)
-        → AllLead h kept calls k shapes → ShapesTurnOnce (shape_named kept)
-        → ShapesTurnOnce (shape_named shapes) }
-    ensures in_memory { (k : List Entry) (shapes : List Shape) (calls : List Call)
-        → AllLead [] [] calls k shapes → ShapesTurnOnce (shape_named shapes) }
+    ensures after { (before after : Holdings) (calls : List Call) → AllLead calls before after
+        → ShapesTurnOnce (shape_named before.shapes)
+        → ShapesTurnOnce (shape_named after.shapes) }
+    ensures in_memory { (after : Holdings) (calls : List Call)
+        → AllLead calls (holdings [] []) after → ShapesTurnOnce (shape_named after.shapes) }
 {}
 
 /// Rows say one history, whichever version they are of.

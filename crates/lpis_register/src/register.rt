@@ -1,23 +1,20 @@
 //! The register.
 
-ghost use Rattle.std.specs.Prelude.{◌≡◌, ◌≢◌, ◌⊎◌, false, IfOk, IfErr, List, ℕ};
-ghost use Rattle.std.proofs.Props.{props};
+ghost use Rattle.std.specs.Prelude.{◌≡◌, ◌≢◌, ◌⊎◌, false, IfOk, IfErr};
 ghost use Rattle.sqlite.specs.Held.{state};
-ghost use Rattle.lpis_cert.specs.declared.part.ExactBlock.{ExactBlock};
-ghost use Rattle.lpis_lineage.specs.Lineage.{last_year};
 ghost use Rattle.lpis_lineage.specs.Order.{IsAscending};
-ghost use Rattle.lpis_lineage.specs.declared.row.Row.{Row};
 ghost use Rattle.lpis_parcels.specs.Release.{Contents};
 ghost use Rattle.lpis_register_rows.specs.Shapes.{shape_ids};
 ghost use Rattle.lpis_register.specs.Accepting.{IsAccepted, WasMadeFor};
 ghost use Rattle.lpis_register.specs.Failing.{FailsToStore, HasReadCause, HasStoreCause};
 ghost use Rattle.lpis_register.specs.Faults.{IsStoreFault, PublishRefuses};
 ghost use Rattle.lpis_register.specs.Histories.{IsTrace, IsUnknown, ReadsHistory};
+ghost use Rattle.lpis_register.specs.Holdings.{Candidate, candidate, holdings};
 ghost use Rattle.lpis_register.specs.Publishing.{Publishes, Stores};
 ghost use Rattle.lpis_register.specs.declared.fault.PublishFault.TheVariants.{Memory, Store};
 ghost use Rattle.lpis_register.specs.declared.fault.PublishFault.TheVariants.{StoreMemory, Unknown};
 
-use crate::accepting::{Accepted, accept_parcels};
+use crate::accepting::{Accepted, Writing, accept_parcels};
 use crate::committing::commit_release;
 use crate::fault::PublishFault;
 use crate::opening::Loaded;
@@ -31,21 +28,41 @@ use lpis_lineage::{Change, History, Row};
 use lpis_rings::Polygon;
 use sqlite::{Alter, Connection};
 use std::alloc::Global;
+use std::marker::Model;
 
 /// Releases with their spans and rows, and the shapes of the last one's parcels, over any store of
-/// `sqlite`. Contracts see its database in `conn`, the history that the tables say in `history`, and
-/// the shapes that they keep in `shapes`. The calls of this crate alone change them.
+/// `sqlite`. Contracts see its database in `conn`, and in `held` the history that the tables say
+/// with the shapes that they keep. The calls of this crate alone change them.
 #[derive(Drop)]
 pub struct Register<S: Alter> {
     /// The database, in which no transaction is open.
-    pub(crate) conn: Connection<S>,
+    conn: Connection<S>,
     /// The history that its tables say.
     history: History,
     /// The shapes that they keep: those of the last release's parcels, ascending by identifier.
     shapes: Vec<(Id, Polygon)>,
     alloc: Global,
-    ghost autocommit: { conn.in_transaction ≡ false },
-    ghost ascending: { IsAscending (shape_ids shapes.items) } by { Prim.hlevel props },
+}
+
+impl<S: Alter> Model for Register<S> {
+    ghost use Rattle.std.specs.Prelude.{◌≡◌, false};
+    ghost use Rattle.std.specs.Coded.{codes};
+    ghost use Rattle.sqlite.specs.Held.{held_code};
+    ghost use Rattle.lpis_lineage.specs.Order.{IsAscending};
+    ghost use Rattle.lpis_register_rows.specs.Shapes.{shape_ids};
+    ghost use Rattle.lpis_register.specs.Holdings.{RegisterState};
+
+    ghost Value = { RegisterState S };
+
+    ghost coded = { Prim.hlevel (codes, held_code S.code) };
+
+    ghost view = { λ r. record {
+      conn = r.conn;
+      held = record { history = r.history; shapes = r.shapes.items };
+    } };
+
+    ghost invariant = { λ r. (r.conn.in_transaction ≡ false)
+        × IsAscending (shape_ids r.shapes.items) };
 }
 
 impl<S: Alter> Register<S> {
@@ -53,8 +70,7 @@ impl<S: Alter> Register<S> {
     pub(crate) fn of(alloc: Global, conn: Connection<S>, told: Loaded) -> Register<S>
         requires autocommit { conn.in_transaction ≡ false }
         ensures conn { result.conn ≡ conn }
-        ensures history { result.history ≡ told.history }
-        ensures shapes { result.shapes ≡ told.shapes }
+        ensures held { result.held ≡ holdings told.history told.shapes.items }
     {
         let Loaded { history, shapes } = told;
         Register {
@@ -65,9 +81,16 @@ impl<S: Alter> Register<S> {
         }
     }
 
+    /// The database, lent.
+    pub(crate) fn database(&self) -> &Connection<S>
+        ensures { result.now ≡ self.now.conn }
+    {
+        &self.conn
+    }
+
     /// The history, lent. Nothing is read, and it takes no memory.
     pub fn current(&self) -> &History
-        ensures { result.now ≡ self.now.history }
+        ensures { result.now ≡ self.now.held.history }
     {
         &self.history
     }
@@ -75,7 +98,8 @@ impl<S: Alter> Register<S> {
     /// The shapes of the last release's parcels, ascending by identifier, lent. Nothing is read,
     /// and it takes no memory.
     pub fn current_shapes(&self) -> &[(Id, Polygon)]
-        ensures { result.now ≡ self.now.shapes.items }
+        ensures kept { result.now ≡ self.now.held.shapes }
+        ensures ascending { IsAscending (shape_ids result.now) }
     {
         self.shapes.as_slice()
     }
@@ -83,7 +107,7 @@ impl<S: Alter> Register<S> {
     /// Copies of the shapes of the last release's parcels, ascending by identifier. Those of
     /// releases that were published in version 1 or 2 are not there.
     pub fn shapes(&mut self) -> Result<Vec<(Id, Polygon)>, PublishFault>
-        ensures kept { IfOk result (λ copies. copies.items ≡ self.old.shapes.items) }
+        ensures kept { IfOk result (λ copies. copies.items ≡ self.old.held.shapes) }
         ensures same { self.new ≡ self.old }
         ensures memory { IfErr result (λ fault. fault ≡ Memory) }
     {
@@ -105,10 +129,10 @@ impl<S: Alter> Register<S> {
         rows: &[Row],
         cert: &Cert,
     ) -> Result<Accepted, PublishFault>
-        ensures tells { PublishRefuses self.now.history self.now.shapes.items year yes.now
-            cert.now.exact rows.now result }
-        ensures made { IfOk result (IsAccepted self.now.history self.now.shapes.items year yes.now
-            cert.now.exact rows.now) }
+        ensures tells { PublishRefuses (candidate year yes.now cert.now.exact rows.now)
+            self.now.held result }
+        ensures made { IfOk result (IsAccepted (candidate year yes.now cert.now.exact rows.now)
+            self.now.held) }
         ensures no_store { IfErr result (λ fault. (fault ≢ Store) × (fault ≢ StoreMemory)) }
     {
         let kept = self.shapes.as_slice();
@@ -126,11 +150,9 @@ impl<S: Alter> Register<S> {
         cert: &Cert,
     ) -> Result<Accepted, PublishFault>
         ensures tells { (r : Contents) → r.parcels ≡ country.now
-            → PublishRefuses self.now.history self.now.shapes.items year r cert.now.exact rows.now
-            result }
+            → PublishRefuses (candidate year r cert.now.exact rows.now) self.now.held result }
         ensures made { (r : Contents) → r.parcels ≡ country.now
-            → IfOk result (IsAccepted self.now.history self.now.shapes.items year r cert.now.exact
-            rows.now) }
+            → IfOk result (IsAccepted (candidate year r cert.now.exact rows.now) self.now.held) }
         ensures no_store { IfErr result (λ fault. (fault ≢ Store) × (fault ≢ StoreMemory)) }
     {
         let kept = self.shapes.as_slice();
@@ -142,33 +164,30 @@ impl<S: Alter> Register<S> {
     /// after a crash the tables have it whole or not at all, and always where the answer was Ok.
     /// With an error the history and the shapes are as they were.
     pub fn commit(&mut self, accepted: Accepted) -> Result<Change, PublishFault>
-        requires made { WasMadeFor self.old.history self.old.shapes.items accepted }
-        ensures publishes { (year : ℕ) (r : Contents) (blocks : List ExactBlock) (rows : List Row)
-            → IsAccepted self.old.history self.old.shapes.items year r blocks rows accepted
-            → Publishes self.old.history self.old.shapes.items year r blocks rows
-            self.new.history self.new.shapes.items result }
-        ensures stores { (year : ℕ) (r : Contents) (blocks : List ExactBlock) (rows : List Row)
-            → IsAccepted self.old.history self.old.shapes.items year r blocks rows accepted
-            → Stores self.old.history year r.parcels rows self.old.shapes.items self.new.history
-            self.new.shapes.items (state S.Store self.old.conn) (state S.Store self.new.conn)
-            result }
+        requires made { WasMadeFor self.old.held accepted }
+        ensures publishes { (c : Candidate) → IsAccepted c self.old.held accepted
+            → Publishes c self.old.held self.new.held result }
+        ensures stores { (c : Candidate) → IsAccepted c self.old.held accepted
+            → Stores S.Store c self.old self.new result }
         ensures untouched { IfErr result (λ fault. IsStoreFault fault
             ⊎ ((fault ≡ Memory) × (self.new.conn ≡ self.old.conn))) }
-        ensures cause { IfErr result (λ fault. HasStoreCause S.Store (last_year self.old.history)
-            self.old.shapes.items accepted self.old.conn self.new.conn (fault ≡ Store)) }
+        ensures cause { IfErr result (λ fault. HasStoreCause S.Store accepted self.old self.new
+            (fault ≡ Store)) }
     {
+        let Accepted { live, writing } = accepted;
         let kept = self.shapes.as_slice();
         match commit_release(
             self.alloc,
             &mut self.conn,
             &mut self.history,
             kept,
-            &accepted,
+            live,
+            &writing,
         ) {
             Ok(()) => {
-                let Accepted { step, shapes, .. } = accepted;
+                let Writing { change, shapes, .. } = writing;
                 self.shapes = shapes;
-                Ok(step.change)
+                Ok(change)
             }
             Err(fault) => Err(fault),
         }
@@ -188,18 +207,16 @@ impl<S: Alter> Register<S> {
         rows: &[Row],
         cert: &Cert,
     ) -> Result<Change, PublishFault>
-        ensures publishes { Publishes self.old.history self.old.shapes.items year yes.now
-            cert.now.exact rows.now self.new.history self.new.shapes.items result }
-        ensures stores { Stores self.old.history year yes.now.parcels rows.now
-            self.old.shapes.items self.new.history self.new.shapes.items
-            (state S.Store self.old.conn) (state S.Store self.new.conn) result }
+        ensures publishes { Publishes (candidate year yes.now cert.now.exact rows.now)
+            self.old.held self.new.held result }
+        ensures stores { Stores S.Store (candidate year yes.now cert.now.exact rows.now)
+            self.old self.new result }
         ensures untouched { IfErr result (λ fault. IsStoreFault fault
             ⊎ (self.new.conn ≡ self.old.conn)) }
         // Such a fault comes where the release was accepted; `Store` where the database was shut,
         // its disk failed, or the engine refuses one of the release's statements.
         ensures cause { IfErr result (λ fault. IsStoreFault fault → FailsToStore S.Store
-            self.old.history self.old.shapes.items year yes.now cert.now.exact rows.now
-            self.old.conn self.new.conn (fault ≡ Store)) }
+            (candidate year yes.now cert.now.exact rows.now) self.old self.new (fault ≡ Store)) }
     {
         match self.accept(year, yes, rows, cert) {
             Ok(accepted) => self.commit(accepted),
@@ -211,9 +228,9 @@ impl<S: Alter> Register<S> {
     /// identifier, itself among them where it is live; ascending by bytes, each once. `Unknown`
     /// where it is in no release.
     pub fn trace(&self, id: &Id) -> Result<Vec<Id>, PublishFault>
-        ensures found { IfOk result (λ ids. IsTrace self.now.history id.now ids.items) }
+        ensures found { IfOk result (λ ids. IsTrace self.now.held.history id.now ids.items) }
         ensures unknown { IfErr result (λ fault. (fault ≡ Memory)
-            ⊎ ((fault ≡ Unknown) × IsUnknown self.now.history id.now)) }
+            ⊎ ((fault ≡ Unknown) × IsUnknown self.now.held.history id.now)) }
     {
         trace(self.alloc, &self.history, id)
     }
@@ -221,13 +238,12 @@ impl<S: Alter> Register<S> {
     /// The history that the tables say, read from them. Nothing is changed.
     pub fn history(&mut self) -> Result<History, PublishFault>
         ensures reads { ReadsHistory (state S.Store self.old.conn) (state S.Store self.new.conn)
-            self.old.history self.old.shapes.items result }
+            self.old.held.history self.old.held.shapes result }
         // `Store` where the database was shut, its disk failed, or the engine refuses the query of
         // one of its tables.
         ensures cause { IfErr result (λ fault. HasReadCause (state S.Store self.old.conn)
             (state S.Store self.new.conn) (fault ≡ Store)) }
-        ensures history { self.new.history ≡ self.old.history }
-        ensures shapes { self.new.shapes ≡ self.old.shapes }
+        ensures same { self.new.held ≡ self.old.held }
     {
         read_history(self.alloc, &mut self.conn)
     }

@@ -6,7 +6,7 @@ ghost use Rattle.sqlite.specs.declared.error.Error.TheVariants.{SqliteFailure};
 ghost use Rattle.sqlite.specs.declared.error.ErrorCode.TheVariants.{OutOfMemory};
 ghost use Rattle.lpis_register.specs.declared.fault.PublishFault.TheVariants.{Memory};
 ghost use Rattle.lpis_register_rows.specs.Histories.{AreSpansOf};
-ghost use Rattle.lpis_register.specs.private.Commits.{IsReported, Settles};
+ghost use Rattle.lpis_register.specs.private.Commits.{HasSettlingCause, IsReported, Settles};
 ghost use Rattle.lpis_register_rows.specs.declared.version.Version.TheVariants.{First, Second};
 ghost use Rattle.lpis_register_rows.specs.declared.version.Version.TheVariants.{Third};
 
@@ -42,6 +42,8 @@ fn move_with<S: Alter>(
     ensures autocommit { conn.new.in_transaction ≡ false }
     ensures settles { Settles found.now First history.now (state S.Store conn.old)
         (state S.Store conn.new) result }
+    ensures cause { HasSettlingCause S.Store found.now First history.now conn.old conn.new
+        result }
 {
     moving_keeps_the_history();
     reported(write_moved(conn, found, rows))
@@ -58,6 +60,8 @@ fn move_first<S: Alter>(
     ensures autocommit { conn.new.in_transaction ≡ false }
     ensures settles { Settles found.now First history.now (state S.Store conn.old)
         (state S.Store conn.new) result }
+    ensures cause { HasSettlingCause S.Store found.now First history.now conn.old conn.new
+        result }
 {
     match spans_of(alloc, history) {
         Ok(rows) => move_with(conn, found, history, rows.as_slice()),
@@ -75,6 +79,8 @@ fn move_second<S: Alter>(
     ensures autocommit { conn.new.in_transaction ≡ false }
     ensures settles { Settles found.now Second history.now (state S.Store conn.old)
         (state S.Store conn.new) result }
+    ensures cause { HasSettlingCause S.Store found.now Second history.now conn.old conn.new
+        result }
 {
     moving_keeps_the_history();
     reported(write_raised(conn, found))
@@ -90,6 +96,8 @@ fn complete_third<S: Alter>(
     ensures autocommit { conn.new.in_transaction ≡ false }
     ensures settles { Settles found.now Third history.now (state S.Store conn.old)
         (state S.Store conn.new) result }
+    ensures cause { HasSettlingCause S.Store found.now Third history.now conn.old conn.new
+        result }
 {
     if found.is_whole() {
         return Ok(());
@@ -109,6 +117,8 @@ pub(crate) fn settle<S: Alter>(
     ensures autocommit { conn.new.in_transaction ≡ false }
     ensures settles { Settles found.now version history.now (state S.Store conn.old)
         (state S.Store conn.new) result }
+    ensures cause { HasSettlingCause S.Store found.now version history.now conn.old conn.new
+        result }
 {
     match version {
         Version::First => move_first(alloc, conn, found, history),

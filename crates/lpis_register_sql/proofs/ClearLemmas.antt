@@ -15,7 +15,7 @@ use Rattle.sqlite.specs.Command.TheVariants.{Delete}
 use Rattle.sqlite.specs.Edit.{without_all}
 use Rattle.sqlite.specs.Effect.{IsDatabase}
 use Rattle.sqlite.specs.State.{Executes}
-use Rattle.lpis_register_sql.specs.private.Texts.{clear_span, clear_live, clear_mark, clear_text}
+use Rattle.lpis_register_sql.specs.Statements.{clear_span, clear_live, clear_mark, clear_text}
 use Rattle.lpis_register_sql.proofs.MeaningLemmas.{Says, whole, ids_query, clear_span_means, clear_live_means, clear_text_means, clear_mark_means}
 use Rattle.lpis_register_sql.proofs.UpdateLemmas.{without_is, filter_same, gone_are, key_of}
 use Rattle.lpis_register_sql.specs.Beside.{Beside}

@@ -15,7 +15,7 @@ use Rattle.sqlite.specs.Rows.{stamped}
 use Rattle.sqlite.specs.Effect.{value_rows}
 use Rattle.sqlite.specs.State.{Shows}
 use Rattle.lpis_register_rows.specs.Content.{with_year, with_span}
-use Rattle.lpis_register_sql.specs.private.Texts.{insert_whole_span}
+use Rattle.lpis_register_sql.specs.Statements.{insert_whole_span}
 use Rattle.lpis_register_sql.specs.Statements.{insert_release, insert_span, insert_line, insert_text, insert_mark}
 use Rattle.lpis_register_sql.proofs.MeaningLemmas.{in_each, format_terms, insert_release_means, release_terms, insert_span_means, span_terms, insert_whole_span_means, whole_span_terms}
 use Rattle.lpis_register_sql.proofs.MeaningLemmas.{insert_line_means}

@@ -22,9 +22,9 @@ use Rattle.sqlite.specs.Change.{created}
 use Rattle.sqlite.specs.Listing.{reads_listing}
 use Rattle.sqlite.proofs.Callers.{IsPlain, command_of}
 use Rattle.sqlite_tied.specs.Compute.{everything}
-use Rattle.lpis_register_sql.specs.private.Texts.{make_format, make_release, make_span, make_row, insert_format, clear_span, insert_whole_span}
+use Rattle.lpis_register_sql.specs.Statements.{make_format, make_release, make_span, make_row, insert_format, clear_span, insert_whole_span}
 use Rattle.lpis_register_sql.specs.Statements.{insert_release, insert_span, insert_line, end_span}
-use Rattle.lpis_register_sql.specs.private.Texts.{clear_live, set_version, make_text, make_mark, clear_mark, clear_text}
+use Rattle.lpis_register_sql.specs.Statements.{clear_live, set_version, make_text, make_mark, clear_mark, clear_text}
 use Rattle.lpis_register_sql.specs.Statements.{insert_text, replace_text, delete_text, insert_mark}
 
 -- a key of an ORDER BY: texts compared as bytes, the least first

@@ -8,7 +8,7 @@ use Rattle.lpis_register_sql.proofs.Common.{format_row, Inside}
 use Rattle.sqlite.specs.Cast.{cast_row}
 use Rattle.lpis_register_rows.specs.Content.{at_version, with_version}
 use Rattle.lpis_register_rows.specs.Histories.{only_format}
-use Rattle.lpis_register_sql.specs.private.Texts.{set_version}
+use Rattle.lpis_register_sql.specs.Statements.{set_version}
 use Rattle.lpis_register_sql.proofs.MeaningLemmas.{in_each, whole, version_query, set_version_means}
 use Rattle.lpis_register_sql.proofs.ClearLemmas.{all_kept, none_kept}
 use Rattle.lpis_register_sql.proofs.InsertLemmas.{inside_next}

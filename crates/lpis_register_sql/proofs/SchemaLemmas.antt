@@ -1,7 +1,8 @@
 -- Trees list one schema, whatever it is.
 use Rattle.std.proofs.Common.{◌≡◌, inl, inr, ℕ, ◌+◌, ◌<◌, pos, List, [], ◌∷◌, ◌++◌, Bool, true, false, slice_get, Some, None, Ok, Result, refl, sym, ap, ap₂, subst, ◌∙◌, arith, true≢false, Option}
 use Rattle.std.proofs.Common.{MatchBool, bytes_eq, codes, filter}
-use Rattle.lpis_register_sql.proofs.Common.{nat_tests, Row, column, Database, State, Table, Schema, Trees, Has, table_defined_by, Content, HoldsRows, IsStored, Leaves, Layout, no_schema, schema_of}
+use Rattle.lpis_register_sql.proofs.Common.{nat_tests, Row, column, Database, State, Table, Schema, Trees, Has, table_defined_by, Content, HoldsRows, IsStored, Layout, no_schema, schema_of}
+use Rattle.lpis_register_sql.specs.Holding.{Leaves}
 use Rattle.std.specs.List.{AllZip, AllByRecursion}
 use Rattle.std.specs.Fmt.{decimal}
 use Rattle.std.proofs.lemmas.Fmt.{decimal_injective}

@@ -12,7 +12,7 @@ use Rattle.std.specs.List.{AllByRecursion}
 use Rattle.sqlite.specs.Change.{created, next_tree, KeepsRows}
 use Rattle.sqlite.specs.Does.{lacks_sequence, MakesTable, sequence_text}
 use Rattle.lpis_register_sql.specs.Holding.{Means}
-use Rattle.lpis_register_sql.specs.private.Texts.{insert_format, make_span, make_text, make_mark}
+use Rattle.lpis_register_sql.specs.Statements.{insert_format, make_span, make_text, make_mark}
 use Rattle.lpis_register_sql.specs.private.Stages.{Stage}
 use Rattle.lpis_register_sql.specs.Beside.{nothing}
 use Rattle.lpis_register_sql.specs.Standing.{Stands}

@@ -1,7 +1,8 @@
 -- How the steps of a publication join.
 use Rattle.std.proofs.Common.{◌≡◌, ◌+◌, ℕ, List, [], arith, length, take, refl, sym, ap, subst, ◌∙◌, false, true, Ok, Err, Result, OnOk, inl, inr, IsTrue, ◌⊎◌, IfErr, OnErr}
-use Rattle.lpis_register_sql.proofs.Common.{Trees, Database, State, HasCleanDisk, Survives, state, Error, Content, Layout, Origin, Whole, has_marks, no_schema}
-use Rattle.lpis_register_sql.proofs.Common.{Inside, IsQuiet, Turns, IsStored, Leaves, HoldsRows}
+use Rattle.lpis_register_sql.proofs.Common.{Trees, Database, State, HasCleanDisk, Survives, state, Error, Content, Layout, Origin, Whole, New, has_marks, no_schema}
+use Rattle.lpis_register_sql.proofs.Common.{Inside, IsQuiet, Turns, IsStored, HoldsRows}
+use Rattle.lpis_register_sql.specs.Holding.{Leaves}
 use Rattle.sqlite.proofs.Callers.{survives_begin}
 use Rattle.lpis_register_sql.specs.Layouts.{made_whole}
 use Rattle.std.proofs.Math.Seq.{take-length}
@@ -9,8 +10,11 @@ use Rattle.sqlite.specs.State.{Shows, KeepsCounts, IsRolledBack}
 use Rattle.sqlite.specs.Steps.{FailsToCommit}
 use Rattle.sqlite.specs.Held.{Held}
 use Rattle.sqlite.proofs.StateLemmas.{survives_then}
+use Rattle.lpis_register_rows.specs.Content.{no_content}
 use Rattle.lpis_register_sql.specs.Bare.{IsBare}
-use Rattle.lpis_register_sql.specs.Commits.{Rewrites}
+use Rattle.lpis_register_sql.specs.Beside.{nothing}
+use Rattle.lpis_register_sql.specs.Commits.{Creates, Rewrites}
+use Rattle.lpis_register_sql.specs.declared.found.Found.{Found}
 use Rattle.lpis_register_sql.specs.private.Stages.{Stage}
 use Rattle.sqlite_trees.specs.declared.store.Store as store
 
@@ -115,6 +119,21 @@ pub bare_err : (t : Layout) (base : Database) (old last new : State) (d : Conten
 bare_err t base old last new d r inside is up (Ok _) h = tt
 bare_err t base old last new d r inside is up (Err e) (inl failed) = rolled_bare old last new r (λ _. inside.base_is ∙ is ∙ r.settled) failed.3 up
 bare_err t base old last new d r inside is up (Err e) (inr late) = absurd (let t = inside.in_transaction in let f = late.1 in cc)
+
+-- tables that were made, and are committed
+pub created_at_commit : {S : Type 0} (g : store.Ghosts S) (held first : Held S) (last new : State) (found : Found) → first ≡ record held { in_transaction = true } → IsQuiet (state g first) last
+    → (r : Result (Unit {0}) Error)
+    → (found.format ≡ false → HasCleanDisk last → (base : Database) → Stage no_schema base (state g first) → Inside (Whole (New nothing)) base last no_content)
+    → (HasCleanDisk new → OnOk r (IsTrue last.in_transaction × Shows last new last.now last.now false × KeepsCounts last new × (new.marks ≡ [])))
+    → (HasCleanDisk new → IfErr r (FailsToCommit last new)) → Survives last new (λ db. db ≡ last.now.trees) → Creates found (state g held) new r
+created_at_commit g held first last new found begun quiet r made ok err ends = record {
+  ok = λ fresh clean bare. commit_ok (Whole (New nothing)) _ last new _ (inside fresh (omega (arith, ends.clean)) bare) r (ok clean);
+  err = λ fresh clean up bare. bare_err (Whole (New nothing)) _ (state g held) last new _ bare (inside fresh (omega (arith, ends.clean)) bare) refl up r (err clean);
+  crash = crash_since_quiet (state g held) last new _ _ (survives_begin g held last _ (rw begun at quiet.survives)) ends (λ clean db is fresh bare.
+      subst (Leaves (Whole (New nothing)) no_content) (sym is) (held_is_left (Whole (New nothing)) last.now _ (inside fresh (omega (arith, ends.clean)) bare).holds));
+} where
+  inside : found.format ≡ false → HasCleanDisk last → IsBare (state g held) → Inside (Whole (New nothing)) (state g held).now last no_content
+  inside fresh clean bare = made fresh clean _ (begun_bare g held first begun bare)
 
 -- ---- a call that writes in one transaction
 

@@ -17,6 +17,15 @@ abbrev pub LeavesMade : Found → State → Trees → Type 0
 LeavesMade found old trees =
     found.format ≡ false → IsBare old → Leaves (Whole (New nothing)) no_content trees
 
+-- making the tables of a new register, where there was none; with an error there is none
+-- afterwards, unless the database is shut
+pub record Creates (found : Found) (old new : State) (r : Result (Unit {0}) Error) : Type 0 where
+  pub ok : found.format ≡ false → HasCleanDisk new → IsBare old
+      → OnOk r (IsStored (Whole (New nothing)) new no_content)
+  pub err : found.format ≡ false → HasCleanDisk new → IsTrue new.is_open → IsBare old
+      → OnErr r (IsBare new)
+  pub crash : Survives old new (LeavesMade found old)
+
 -- rows of a version, in the tables that were found
 abbrev pub IsFoundOf : Found → ℕ → Layout → Content → Type 0
 IsFoundOf found version layout c = IsFound found layout × (c.formats ≡ only_format version)

@@ -1,11 +1,11 @@
--- The statements that write a release, and why writing one stops.
-use Rattle.std.specs.Prelude.{◌≡◌, ◌⊎◌, ℕ, ℤ, List, [], ◌∷◌, ◌++◌, map, Ok, Err, None}
+-- The statements that write a release, and why statements stop.
+use Rattle.std.specs.Prelude.{◌≡◌, ◌⊎◌, true, ℕ, ℤ, List, [], ◌∷◌, ◌++◌, map, Ok, Err, None}
 use Rattle.sqlite.specs.Does.{Does}
 use Rattle.sqlite.specs.Clock.{timed}
 use Rattle.sqlite_resolve.specs.declared.compiled.Compiled.{Compiled}
 use Rattle.sqlite.specs.Held.{Held, state}
 use Rattle.sqlite.specs.Order.{Row as Values}
-use Rattle.sqlite.specs.State.{ExecutesInside, IsStatement, State, mode_of, text_of}
+use Rattle.sqlite.specs.State.{Commits, ExecutesInside, IsStatement, State, mode_of, text_of}
 use Rattle.sqlite.specs.declared.error.Error.{Error}
 use Rattle.sqlite.specs.declared.error.Error.TheVariants.{SqliteFailure}
 use Rattle.sqlite.specs.declared.error.ErrorCode.TheVariants.{OutOfMemory}
@@ -88,6 +88,11 @@ module _ {S : Type 0} (store : Ghosts S) where
   Ran (x ∷ xs) old new = (mid : Held S) × (count : ℕ)
       × ExecutesInside 0 x.sql x.values (state store old) (state store mid) (Ok count)
       × (mid.step_limit ≡ old.step_limit) × Ran xs mid new
+
+  -- it ran them in a transaction of their own, and committed that
+  abbrev pub RanAlone : List BoundStatement → Held S → Held S → Type 0
+  RanAlone xs old new = (last : Held S) × Ran xs (record old { in_transaction = true }) last
+      × Commits (state store last) (state store new)
 
   -- it ran those before one of them, and refuses that one
   pub record IsStuck (xs : List BoundStatement) (old : Held S) : Type 0 where

@@ -19,6 +19,8 @@ use Rattle.sqlite.specs.declared.types.Value.TheVariants.{Text}
 use Rattle.sqlite_disk.specs.Disk.{MoreFaults}
 use Rattle.sqlite_resolve.specs.declared.compiled.Compiled.{Compiled}
 use Rattle.sqlite_schema.specs.Names.{same_name}
+use Rattle.lpis_register_sql.specs.Statements.{read_format, read_line_text, read_live, read_mark}
+use Rattle.lpis_register_sql.specs.Statements.{read_release, read_span, read_text}
 use Rattle.lpis_register_sql.specs.declared.found.Found.{Found}
 
 -- a table of the register, of any version
@@ -33,13 +35,13 @@ pub data StoredTable : Type 0 where
 
 -- its query
 abbrev pub query_of : StoredTable → List ℕ
-query_of Formats = codes "SELECT one, version FROM lpis_format"
-query_of Years = codes "SELECT year FROM lpis_release ORDER BY year"
-query_of Spans = codes "SELECT id, since, until FROM lpis_span ORDER BY id"
-query_of Lines = codes "SELECT year, pos, old, new FROM lpis_row ORDER BY year, pos"
-query_of Lives = codes "SELECT year, id FROM lpis_live ORDER BY year, id"
-query_of Texts = codes "SELECT id, wkt FROM lpis_text ORDER BY id"
-query_of Marks = codes "SELECT year, pos FROM lpis_mark ORDER BY year, pos"
+query_of Formats = read_format
+query_of Years = read_release
+query_of Spans = read_span
+query_of Lines = read_line_text
+query_of Lives = read_live
+query_of Texts = read_text
+query_of Marks = read_mark
 
 -- what a column is read as
 pub data ColumnKind : Type 0 where

@@ -5,8 +5,10 @@ ghost use Rattle.sqlite.specs.Held.{state};
 ghost use Rattle.sqlite.specs.State.{HasCleanDisk};
 ghost use Rattle.lpis_register_sql.specs.Quiet.{IsFound};
 ghost use Rattle.lpis_register_sql.specs.Layouts.{has_marks, has_spans, has_texts, made_whole};
+ghost use Rattle.lpis_register_sql.specs.Making.{completing_statements, missing_marks};
+ghost use Rattle.lpis_register_sql.specs.Making.{missing_spans, missing_texts};
 ghost use Rattle.lpis_register_sql.specs.private.Completing.{with_span_table, with_text_table};
-ghost use Rattle.lpis_register_sql.specs.private.Inside.{Inside, IsQuiet};
+ghost use Rattle.lpis_register_sql.specs.private.Inside.{Inside, IsQuiet, Makes};
 
 use crate::found::Found;
 use crate::tables::{make_mark, make_span, make_text};
@@ -19,6 +21,8 @@ fn complete_spans<S: Alter>(tx: &mut Transaction<'_, S>, found: &Found) -> Resul
         → found.now.spans ≡ has_spans layout → (base : _) (c : _)
         → Inside layout base (state S.Store tx.old.conn.now) c
         → OnOk result (Inside (with_span_table layout) base (state S.Store tx.new.conn.now) c) }
+    ensures makes { Makes S.Store (missing_spans found.now)
+        tx.old.conn.now tx.new.conn.now result }
     ensures quiet { IsQuiet (state S.Store tx.old.conn.now) (state S.Store tx.new.conn.now) }
 {
     if found.spans { Ok(()) } else { make_span(tx) }
@@ -31,6 +35,8 @@ fn complete_texts<S: Alter>(tx: &mut Transaction<'_, S>, found: &Found) -> Resul
         → has_spans layout ≡ true → found.now.texts ≡ has_texts layout → (base : _) (c : _)
         → Inside layout base (state S.Store tx.old.conn.now) c
         → OnOk result (Inside (with_text_table layout) base (state S.Store tx.new.conn.now) c) }
+    ensures makes { Makes S.Store (missing_texts found.now)
+        tx.old.conn.now tx.new.conn.now result }
     ensures quiet { IsQuiet (state S.Store tx.old.conn.now) (state S.Store tx.new.conn.now) }
 {
     if found.texts { Ok(()) } else { make_text(tx) }
@@ -43,6 +49,8 @@ fn complete_marks<S: Alter>(tx: &mut Transaction<'_, S>, found: &Found) -> Resul
         → has_texts layout ≡ true → found.now.marks ≡ has_marks layout → (base : _) (c : _)
         → Inside layout base (state S.Store tx.old.conn.now) c
         → OnOk result (Inside (made_whole layout) base (state S.Store tx.new.conn.now) c) }
+    ensures makes { Makes S.Store (missing_marks found.now)
+        tx.old.conn.now tx.new.conn.now result }
     ensures quiet { IsQuiet (state S.Store tx.old.conn.now) (state S.Store tx.new.conn.now) }
 {
     if found.marks { Ok(()) } else { make_mark(tx) }
@@ -55,6 +63,8 @@ pub(crate) fn complete<S: Alter>(tx: &mut Transaction<'_, S>, found: &Found) -> 
         → IsFound found.now layout → (base : _) (c : _)
         → Inside layout base (state S.Store tx.old.conn.now) c
         → OnOk result (Inside (made_whole layout) base (state S.Store tx.new.conn.now) c) }
+    ensures makes { Makes S.Store (completing_statements found.now)
+        tx.old.conn.now tx.new.conn.now result }
     ensures quiet { IsQuiet (state S.Store tx.old.conn.now) (state S.Store tx.new.conn.now) }
 {
     complete_spans(tx, found)?;

@@ -4,6 +4,7 @@ ghost use Rattle.std.specs.Prelude.{◌≡◌, true, false};
 ghost use Rattle.std.specs.List.{list_any};
 ghost use Rattle.sqlite_schema.specs.Names.{same_name};
 ghost use Rattle.lpis_register_sql.specs.Hiding.{hides_table, is_table_name};
+ghost use Rattle.lpis_register_sql.specs.Making.{completed};
 ghost use Rattle.lpis_register_sql.specs.Quiet.{IsFound};
 ghost use Rattle.lpis_register_sql.specs.Layouts.{has_marks, no_schema, schema_of};
 ghost use Rattle.lpis_register_sql.specs.Standing.{Stands};
@@ -42,6 +43,7 @@ impl Found {
     /// The tables once those that are not there are made.
     pub fn completed(self) -> Found
         ensures made { (result.spans ≡ true) × (result.texts ≡ true) × (result.marks ≡ true) }
+        ensures completed { result ≡ completed self }
         ensures same { (result.format ≡ self.format) × (result.common ≡ self.common)
             × (result.lives ≡ self.lives) × (result.hidden ≡ self.hidden) }
     {

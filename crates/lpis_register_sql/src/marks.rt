@@ -4,6 +4,8 @@ ghost use Rattle.std.specs.Prelude.{◌≡◌, ◌<◌, ◌^◌, ◌∷◌, [], 
 ghost use Rattle.sqlite.specs.Held.{state};
 ghost use Rattle.lpis_register_rows.specs.Content.{marks_from, with_mark};
 ghost use Rattle.lpis_register_rows.specs.Content.{without_marks};
+ghost use Rattle.lpis_register_sql.specs.Making.{plain_statement};
+ghost use Rattle.lpis_register_sql.specs.Statements.{clear_mark};
 ghost use Rattle.lpis_register_sql.specs.Stopping.{mark_statement};
 ghost use Rattle.lpis_register_sql.specs.private.Inside.{IsQuiet, Makes, Turns};
 ghost use Rattle.lpis_register_sql.specs.private.Lines.{mark_at};
@@ -18,6 +20,8 @@ pub(crate) fn clear_marks<S: Alter>(tx: &mut Transaction<'_, S>) -> Result<(), E
     ensures same_reference { tx.new.conn.ghost_name ≡ tx.old.conn.ghost_name }
     ensures cleared { Turns without_marks (state S.Store tx.old.conn.now)
         (state S.Store tx.new.conn.now) result }
+    ensures makes { Makes S.Store (plain_statement clear_mark ∷ [])
+        tx.old.conn.now tx.new.conn.now result }
     ensures quiet { IsQuiet (state S.Store tx.old.conn.now) (state S.Store tx.new.conn.now) }
 {
     run(tx, "DELETE FROM lpis_mark", &[])

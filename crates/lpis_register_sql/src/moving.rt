@@ -1,6 +1,7 @@
 //! Moving a database of version 1 or 2 to version 3, in one transaction.
 
-ghost use Rattle.std.specs.Prelude.{◌≡◌, pos, false, OnOk};
+ghost use Rattle.std.specs.Prelude.{◌≡◌, ◌∷◌, [], pos, false, true, IfErr, IsTrue};
+ghost use Rattle.std.specs.Prelude.{OnOk, map};
 ghost use Rattle.sqlite.specs.Held.{state};
 ghost use Rattle.sqlite.specs.State.{HasCleanDisk};
 ghost use Rattle.lpis_register_rows.specs.Content.{in_spans, moved, raised, with_version};
@@ -8,14 +9,21 @@ ghost use Rattle.lpis_register_rows.specs.Content.{with_whole_span, with_whole_s
 ghost use Rattle.lpis_register_rows.specs.Content.{without_live, without_spans};
 ghost use Rattle.lpis_register_rows.specs.Histories.{only_format};
 ghost use Rattle.lpis_register_sql.specs.Layouts.{Moved, Whole, is_moved, made_whole};
+ghost use Rattle.lpis_register_sql.specs.Making.{completing_statements, lives_emptied};
+ghost use Rattle.lpis_register_sql.specs.Making.{moving_statements, plain_statement};
+ghost use Rattle.lpis_register_sql.specs.Making.{raising_statements, spans_in_place};
+ghost use Rattle.lpis_register_sql.specs.Making.{version_in_place, whole_span_statement};
 ghost use Rattle.lpis_register_sql.specs.Quiet.{IsFound};
-ghost use Rattle.lpis_register_sql.specs.private.Inside.{Inside, IsQuiet, Turns};
+ghost use Rattle.lpis_register_sql.specs.Statements.{clear_live, clear_span, set_version};
+ghost use Rattle.lpis_register_sql.specs.Stopping.{StopsWithin};
+ghost use Rattle.lpis_register_sql.specs.private.Inside.{Inside, IsQuiet, Makes, Turns};
 ghost use Rattle.lpis_register_sql.specs.private.Lines.{span_at};
 ghost use Rattle.lpis_register_sql.specs.Commits.{IsFoundOf, Rewrites};
 
 use crate::completing::complete;
 use crate::found::Found;
 use crate::marks::clear_marks;
+use crate::statements::run;
 use crate::texts::clear_texts;
 use lpis_register_rows::SpanRow;
 use sqlite::{Alter, Connection, Error, Transaction, params};
@@ -25,10 +33,11 @@ fn clear_spans<S: Alter>(tx: &mut Transaction<'_, S>) -> Result<(), Error>
     ensures same_reference { tx.new.conn.ghost_name ≡ tx.old.conn.ghost_name }
     ensures cleared { Turns without_spans
         (state S.Store tx.old.conn.now) (state S.Store tx.new.conn.now) result }
+    ensures makes { Makes S.Store (plain_statement clear_span ∷ [])
+        tx.old.conn.now tx.new.conn.now result }
     ensures quiet { IsQuiet (state S.Store tx.old.conn.now) (state S.Store tx.new.conn.now) }
 {
-    tx.execute("DELETE FROM lpis_span", &[])?;
-    Ok(())
+    run(tx, "DELETE FROM lpis_span", &[])
 }
 
 /// Nothing is left of what version 1 has in place of spans.
@@ -38,10 +47,11 @@ fn clear_lives<S: Alter>(tx: &mut Transaction<'_, S>) -> Result<(), Error>
         → Inside (Whole (Moved beside)) base (state S.Store tx.old.conn.now) c
         → OnOk result (Inside (Whole (Moved beside)) base (state S.Store tx.new.conn.now)
         (without_live c)) }
+    ensures makes { Makes S.Store (plain_statement clear_live ∷ [])
+        tx.old.conn.now tx.new.conn.now result }
     ensures quiet { IsQuiet (state S.Store tx.old.conn.now) (state S.Store tx.new.conn.now) }
 {
-    tx.execute("DELETE FROM lpis_live", &[])?;
-    Ok(())
+    run(tx, "DELETE FROM lpis_live", &[])
 }
 
 /// The version is 3.
@@ -52,10 +62,11 @@ fn set_version<S: Alter>(tx: &mut Transaction<'_, S>) -> Result<(), Error>
         → Inside (Whole origin) base (state S.Store tx.old.conn.now) c
         → OnOk result (Inside (Whole origin) base (state S.Store tx.new.conn.now)
         (with_version (pos 3) c)) }
+    ensures makes { Makes S.Store (plain_statement set_version ∷ [])
+        tx.old.conn.now tx.new.conn.now result }
     ensures quiet { IsQuiet (state S.Store tx.old.conn.now) (state S.Store tx.new.conn.now) }
 {
-    tx.execute("UPDATE lpis_format SET version = 3", &[])?;
-    Ok(())
+    run(tx, "UPDATE lpis_format SET version = 3", &[])
 }
 
 /// One more span, its columns apart.
@@ -69,13 +80,15 @@ fn insert_span_at<S: Alter>(
     ensures adds { Turns (λ c. with_whole_span c
         (span_at id.now since until)) (state S.Store tx.old.conn.now)
         (state S.Store tx.new.conn.now) result }
+    ensures makes { Makes S.Store (whole_span_statement (span_at id.now since until) ∷ [])
+        tx.old.conn.now tx.new.conn.now result }
     ensures quiet { IsQuiet (state S.Store tx.old.conn.now) (state S.Store tx.new.conn.now) }
 {
-    tx.execute(
+    run(
+        tx,
         "INSERT INTO lpis_span (id, since, until) VALUES (?1, ?2, ?3)",
         params![id, since, until],
-    )?;
-    Ok(())
+    )
 }
 
 /// One more span.
@@ -83,6 +96,8 @@ fn insert_whole_span<S: Alter>(tx: &mut Transaction<'_, S>, span: &SpanRow) -> R
     ensures same_reference { tx.new.conn.ghost_name ≡ tx.old.conn.ghost_name }
     ensures adds { Turns (λ c. with_whole_span c span.now)
         (state S.Store tx.old.conn.now) (state S.Store tx.new.conn.now) result }
+    ensures makes { Makes S.Store (whole_span_statement span.now ∷ [])
+        tx.old.conn.now tx.new.conn.now result }
     ensures quiet { IsQuiet (state S.Store tx.old.conn.now) (state S.Store tx.new.conn.now) }
 {
     insert_span_at(tx, span.id.as_str(), span.since, span.until)
@@ -93,6 +108,8 @@ fn insert_whole_spans<S: Alter>(tx: &mut Transaction<'_, S>, spans: &[SpanRow]) 
     ensures same_reference { tx.new.conn.ghost_name ≡ tx.old.conn.ghost_name }
     ensures adds { Turns (with_whole_spans spans.now)
         (state S.Store tx.old.conn.now) (state S.Store tx.new.conn.now) result }
+    ensures makes { Makes S.Store (map whole_span_statement spans.now)
+        tx.old.conn.now tx.new.conn.now result }
     ensures quiet { IsQuiet (state S.Store tx.old.conn.now) (state S.Store tx.new.conn.now) }
 {
     for span in spans {
@@ -109,6 +126,8 @@ fn empty_lives<S: Alter>(tx: &mut Transaction<'_, S>, found: &Found) -> Result<(
         → Inside (Whole origin) base (state S.Store tx.old.conn.now) c
         → OnOk result (Inside (Whole origin) base (state S.Store tx.new.conn.now)
         (without_live c)) }
+    ensures makes { Makes S.Store (lives_emptied found.now)
+        tx.old.conn.now tx.new.conn.now result }
     ensures quiet { IsQuiet (state S.Store tx.old.conn.now) (state S.Store tx.new.conn.now) }
 {
     if found.lives { clear_lives(tx) } else { Ok(()) }
@@ -126,6 +145,8 @@ fn put_in_spans<S: Alter>(
         → Inside (Whole origin) base (state S.Store tx.old.conn.now) c
         → OnOk result (Inside (Whole origin) base (state S.Store tx.new.conn.now)
         (in_spans spans.now c)) }
+    ensures makes { Makes S.Store (spans_in_place found.now spans.now)
+        tx.old.conn.now tx.new.conn.now result }
     ensures quiet { IsQuiet (state S.Store tx.old.conn.now) (state S.Store tx.new.conn.now) }
 {
     clear_spans(tx)?;
@@ -140,6 +161,7 @@ fn raise<S: Alter>(tx: &mut Transaction<'_, S>) -> Result<(), Error>
         → (version : _) → c.formats ≡ only_format version
         → Inside (Whole origin) base (state S.Store tx.old.conn.now) c
         → OnOk result (Inside (Whole origin) base (state S.Store tx.new.conn.now) (raised c)) }
+    ensures makes { Makes S.Store version_in_place tx.old.conn.now tx.new.conn.now result }
     ensures quiet { IsQuiet (state S.Store tx.old.conn.now) (state S.Store tx.new.conn.now) }
 {
     clear_texts(tx)?;
@@ -159,6 +181,8 @@ fn fill_moved<S: Alter>(
         → Inside layout base (state S.Store tx.old.conn.now) c
         → OnOk result (Inside (made_whole layout) base (state S.Store tx.new.conn.now)
         (moved spans.now c)) }
+    ensures makes { Makes S.Store (moving_statements found.now spans.now)
+        tx.old.conn.now tx.new.conn.now result }
     ensures quiet { IsQuiet (state S.Store tx.old.conn.now) (state S.Store tx.new.conn.now) }
 {
     complete(tx, found)?;
@@ -174,6 +198,8 @@ fn fill_raised<S: Alter>(tx: &mut Transaction<'_, S>, found: &Found) -> Result<(
         → Inside layout base (state S.Store tx.old.conn.now) c
         → OnOk result (Inside (made_whole layout) base (state S.Store tx.new.conn.now)
         (raised c)) }
+    ensures makes { Makes S.Store (raising_statements found.now)
+        tx.old.conn.now tx.new.conn.now result }
     ensures quiet { IsQuiet (state S.Store tx.old.conn.now) (state S.Store tx.new.conn.now) }
 {
     complete(tx, found)?;
@@ -190,6 +216,9 @@ pub fn write_moved<S: Alter>(
     ensures autocommit { conn.new.in_transaction ≡ false }
     ensures writes { Rewrites (IsFoundOf found.now 1) (moved spans.now)
         (state S.Store conn.old) (state S.Store conn.new) result }
+    ensures stops { IsTrue (state S.Store conn.old).is_open → HasCleanDisk (state S.Store conn.new)
+        → IfErr result (StopsWithin S.Store (moving_statements found.now spans.now)
+        (record conn.old { in_transaction = true }) conn.new) }
 {
     let mut tx = conn.transaction();
     fill_moved(&mut tx, found, spans)?;
@@ -202,6 +231,9 @@ pub fn write_raised<S: Alter>(conn: &mut Connection<S>, found: &Found) -> Result
     ensures autocommit { conn.new.in_transaction ≡ false }
     ensures writes { Rewrites (IsFoundOf found.now 2) raised
         (state S.Store conn.old) (state S.Store conn.new) result }
+    ensures stops { IsTrue (state S.Store conn.old).is_open → HasCleanDisk (state S.Store conn.new)
+        → IfErr result (StopsWithin S.Store (raising_statements found.now)
+        (record conn.old { in_transaction = true }) conn.new) }
 {
     let mut tx = conn.transaction();
     fill_raised(&mut tx, found)?;
@@ -214,6 +246,9 @@ pub fn write_missing<S: Alter>(conn: &mut Connection<S>, found: &Found) -> Resul
     ensures autocommit { conn.new.in_transaction ≡ false }
     ensures writes { Rewrites (λ layout c. IsFound found.now layout) (λ c. c)
         (state S.Store conn.old) (state S.Store conn.new) result }
+    ensures stops { IsTrue (state S.Store conn.old).is_open → HasCleanDisk (state S.Store conn.new)
+        → IfErr result (StopsWithin S.Store (completing_statements found.now)
+        (record conn.old { in_transaction = true }) conn.new) }
 {
     let mut tx = conn.transaction();
     complete(&mut tx, found)?;

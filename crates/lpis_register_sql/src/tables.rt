@@ -1,20 +1,24 @@
 //! The tables of a new register.
 
-ghost use Rattle.std.specs.Prelude.{◌≡◌, false, true, IsTrue, OnOk, OnErr};
+ghost use Rattle.std.specs.Prelude.{◌≡◌, ◌∷◌, [], false, true, IfErr, IsTrue, OnOk};
 ghost use Rattle.sqlite.specs.Held.{state};
-ghost use Rattle.sqlite.specs.State.{HasCleanDisk, Survives};
+ghost use Rattle.sqlite.specs.State.{HasCleanDisk};
 ghost use Rattle.lpis_register_rows.specs.Content.{no_content};
 ghost use Rattle.lpis_register_sql.specs.Beside.{nothing};
 ghost use Rattle.lpis_register_sql.specs.Layouts.{New, First, Moved, LessTexts, LessMarks};
 ghost use Rattle.lpis_register_sql.specs.Layouts.{Whole, schema_of, no_schema};
+ghost use Rattle.lpis_register_sql.specs.Making.{first_tables, making_statements, other_tables};
+ghost use Rattle.lpis_register_sql.specs.Making.{plain_statement, version_statements};
+ghost use Rattle.lpis_register_sql.specs.Statements.{insert_format, make_format, make_mark};
+ghost use Rattle.lpis_register_sql.specs.Statements.{make_release, make_row, make_span, make_text};
+ghost use Rattle.lpis_register_sql.specs.Stopping.{RanAlone, StopsWithin};
 ghost use Rattle.lpis_register_sql.specs.private.Stages.{one_table, two_tables, three_tables};
 ghost use Rattle.lpis_register_sql.specs.private.Stages.{Stage};
-ghost use Rattle.lpis_register_sql.specs.Bare.{IsBare};
-ghost use Rattle.lpis_register_sql.specs.private.Inside.{Inside, IsQuiet};
-ghost use Rattle.lpis_register_sql.specs.Holding.{IsStored};
-ghost use Rattle.lpis_register_sql.specs.Commits.{LeavesMade};
+ghost use Rattle.lpis_register_sql.specs.private.Inside.{Inside, IsQuiet, Makes};
+ghost use Rattle.lpis_register_sql.specs.Commits.{Creates};
 
 use crate::found::Found;
+use crate::statements::run;
 use sqlite::{Alter, Connection, Error, Transaction};
 
 /// The table of the version.
@@ -23,13 +27,15 @@ fn make_format<S: Alter>(tx: &mut Transaction<'_, S>) -> Result<(), Error>
     ensures made { HasCleanDisk (state S.Store tx.new.conn.now) → (base : _)
         → Stage no_schema base (state S.Store tx.old.conn.now)
         → OnOk result (Stage one_table base (state S.Store tx.new.conn.now)) }
+    ensures makes { Makes S.Store (plain_statement make_format ∷ [])
+        tx.old.conn.now tx.new.conn.now result }
     ensures quiet { IsQuiet (state S.Store tx.old.conn.now) (state S.Store tx.new.conn.now) }
 {
-    tx.execute(
+    run(
+        tx,
         "CREATE TABLE IF NOT EXISTS lpis_format (one INTEGER NOT NULL PRIMARY KEY, version INTEGER NOT NULL) STRICT",
         &[],
-    )?;
-    Ok(())
+    )
 }
 
 /// The table of releases.
@@ -38,13 +44,15 @@ fn make_release<S: Alter>(tx: &mut Transaction<'_, S>) -> Result<(), Error>
     ensures made { HasCleanDisk (state S.Store tx.new.conn.now) → (base : _)
         → Stage one_table base (state S.Store tx.old.conn.now)
         → OnOk result (Stage two_tables base (state S.Store tx.new.conn.now)) }
+    ensures makes { Makes S.Store (plain_statement make_release ∷ [])
+        tx.old.conn.now tx.new.conn.now result }
     ensures quiet { IsQuiet (state S.Store tx.old.conn.now) (state S.Store tx.new.conn.now) }
 {
-    tx.execute(
+    run(
+        tx,
         "CREATE TABLE IF NOT EXISTS lpis_release (year INTEGER NOT NULL PRIMARY KEY) STRICT",
         &[],
-    )?;
-    Ok(())
+    )
 }
 
 /// The table of spans.
@@ -56,13 +64,15 @@ pub(crate) fn make_span<S: Alter>(tx: &mut Transaction<'_, S>) -> Result<(), Err
     ensures beside { HasCleanDisk (state S.Store tx.new.conn.now) → (base : _) (c : _)
         → Inside First base (state S.Store tx.old.conn.now) c
         → OnOk result (Inside (LessTexts (Moved nothing)) base (state S.Store tx.new.conn.now) c) }
+    ensures makes { Makes S.Store (plain_statement make_span ∷ [])
+        tx.old.conn.now tx.new.conn.now result }
     ensures quiet { IsQuiet (state S.Store tx.old.conn.now) (state S.Store tx.new.conn.now) }
 {
-    tx.execute(
+    run(
+        tx,
         "CREATE TABLE IF NOT EXISTS lpis_span (id TEXT NOT NULL PRIMARY KEY, since INTEGER NOT NULL REFERENCES lpis_release (year), until INTEGER NOT NULL) STRICT",
         &[],
-    )?;
-    Ok(())
+    )
 }
 
 /// The table of rows of lineage.
@@ -72,13 +82,15 @@ fn make_row<S: Alter>(tx: &mut Transaction<'_, S>) -> Result<(), Error>
         → Stage three_tables base (state S.Store tx.old.conn.now)
         → OnOk result (Stage (schema_of (LessTexts (New nothing))) base
         (state S.Store tx.new.conn.now)) }
+    ensures makes { Makes S.Store (plain_statement make_row ∷ [])
+        tx.old.conn.now tx.new.conn.now result }
     ensures quiet { IsQuiet (state S.Store tx.old.conn.now) (state S.Store tx.new.conn.now) }
 {
-    tx.execute(
+    run(
+        tx,
         "CREATE TABLE IF NOT EXISTS lpis_row (year INTEGER NOT NULL REFERENCES lpis_release (year), pos INTEGER NOT NULL, old TEXT NOT NULL, new TEXT NOT NULL, PRIMARY KEY (year, pos)) STRICT",
         &[],
-    )?;
-    Ok(())
+    )
 }
 
 /// The table of the texts of shapes.
@@ -91,13 +103,15 @@ pub(crate) fn make_text<S: Alter>(tx: &mut Transaction<'_, S>) -> Result<(), Err
     ensures beside { HasCleanDisk (state S.Store tx.new.conn.now) → (origin : _) (base : _) (c : _)
         → Inside (LessTexts origin) base (state S.Store tx.old.conn.now) c
         → OnOk result (Inside (LessMarks origin) base (state S.Store tx.new.conn.now) c) }
+    ensures makes { Makes S.Store (plain_statement make_text ∷ [])
+        tx.old.conn.now tx.new.conn.now result }
     ensures quiet { IsQuiet (state S.Store tx.old.conn.now) (state S.Store tx.new.conn.now) }
 {
-    tx.execute(
+    run(
+        tx,
         "CREATE TABLE IF NOT EXISTS lpis_text (id TEXT NOT NULL PRIMARY KEY, wkt TEXT NOT NULL) STRICT",
         &[],
-    )?;
-    Ok(())
+    )
 }
 
 /// The table of the rows of lineage that are marked exact.
@@ -110,13 +124,15 @@ pub(crate) fn make_mark<S: Alter>(tx: &mut Transaction<'_, S>) -> Result<(), Err
     ensures beside { HasCleanDisk (state S.Store tx.new.conn.now) → (origin : _) (base : _) (c : _)
         → Inside (LessMarks origin) base (state S.Store tx.old.conn.now) c
         → OnOk result (Inside (Whole origin) base (state S.Store tx.new.conn.now) c) }
+    ensures makes { Makes S.Store (plain_statement make_mark ∷ [])
+        tx.old.conn.now tx.new.conn.now result }
     ensures quiet { IsQuiet (state S.Store tx.old.conn.now) (state S.Store tx.new.conn.now) }
 {
-    tx.execute(
+    run(
+        tx,
         "CREATE TABLE IF NOT EXISTS lpis_mark (year INTEGER NOT NULL, pos INTEGER NOT NULL, PRIMARY KEY (year, pos), FOREIGN KEY (year, pos) REFERENCES lpis_row (year, pos)) STRICT",
         &[],
-    )?;
-    Ok(())
+    )
 }
 
 /// The row that tells the version.
@@ -126,10 +142,15 @@ fn insert_format<S: Alter>(tx: &mut Transaction<'_, S>) -> Result<(), Error>
         → Stage (schema_of (Whole (New nothing))) base (state S.Store tx.old.conn.now)
         → OnOk result (Inside (Whole (New nothing)) base (state S.Store tx.new.conn.now)
         no_content) }
+    ensures makes { Makes S.Store (plain_statement insert_format ∷ [])
+        tx.old.conn.now tx.new.conn.now result }
     ensures quiet { IsQuiet (state S.Store tx.old.conn.now) (state S.Store tx.new.conn.now) }
 {
-    tx.execute("INSERT INTO lpis_format (one, version) VALUES (1, 3)", &[])?;
-    Ok(())
+    run(
+        tx,
+        "INSERT INTO lpis_format (one, version) VALUES (1, 3)",
+        &[],
+    )
 }
 
 /// The row that tells the version, where its table was not found.
@@ -141,6 +162,8 @@ fn begin_format<S: Alter>(tx: &mut Transaction<'_, S>, found: &Found) -> Result<
         → OnOk result (Inside (Whole (New nothing)) base (state S.Store tx.new.conn.now)
         no_content) }
     ensures stays { found.now.format ≡ true → tx.new ≡ tx.old }
+    ensures makes { Makes S.Store (version_statements found.now)
+        tx.old.conn.now tx.new.conn.now result }
     ensures quiet { IsQuiet (state S.Store tx.old.conn.now) (state S.Store tx.new.conn.now) }
 {
     if found.format {
@@ -148,6 +171,35 @@ fn begin_format<S: Alter>(tx: &mut Transaction<'_, S>, found: &Found) -> Result<
     } else {
         insert_format(tx)
     }
+}
+
+/// The first three tables.
+fn make_begin<S: Alter>(tx: &mut Transaction<'_, S>) -> Result<(), Error>
+    ensures same_reference { tx.new.conn.ghost_name ≡ tx.old.conn.ghost_name }
+    ensures made { HasCleanDisk (state S.Store tx.new.conn.now) → (base : _)
+        → Stage no_schema base (state S.Store tx.old.conn.now)
+        → OnOk result (Stage three_tables base (state S.Store tx.new.conn.now)) }
+    ensures makes { Makes S.Store first_tables tx.old.conn.now tx.new.conn.now result }
+    ensures quiet { IsQuiet (state S.Store tx.old.conn.now) (state S.Store tx.new.conn.now) }
+{
+    make_format(tx)?;
+    make_release(tx)?;
+    make_span(tx)
+}
+
+/// The other three.
+fn make_rest<S: Alter>(tx: &mut Transaction<'_, S>) -> Result<(), Error>
+    ensures same_reference { tx.new.conn.ghost_name ≡ tx.old.conn.ghost_name }
+    ensures made { HasCleanDisk (state S.Store tx.new.conn.now) → (base : _)
+        → Stage three_tables base (state S.Store tx.old.conn.now)
+        → OnOk result (Stage (schema_of (Whole (New nothing))) base
+        (state S.Store tx.new.conn.now)) }
+    ensures makes { Makes S.Store other_tables tx.old.conn.now tx.new.conn.now result }
+    ensures quiet { IsQuiet (state S.Store tx.old.conn.now) (state S.Store tx.new.conn.now) }
+{
+    make_row(tx)?;
+    make_text(tx)?;
+    make_mark(tx)
 }
 
 /// The tables that were not found, empty but for the version.
@@ -158,14 +210,12 @@ fn make_all<S: Alter>(tx: &mut Transaction<'_, S>, found: &Found) -> Result<(), 
         → Stage no_schema base (state S.Store tx.old.conn.now)
         → OnOk result (Inside (Whole (New nothing)) base (state S.Store tx.new.conn.now)
         no_content) }
+    ensures makes { Makes S.Store (making_statements found.now)
+        tx.old.conn.now tx.new.conn.now result }
     ensures quiet { IsQuiet (state S.Store tx.old.conn.now) (state S.Store tx.new.conn.now) }
 {
-    make_format(tx)?;
-    make_release(tx)?;
-    make_span(tx)?;
-    make_row(tx)?;
-    make_text(tx)?;
-    make_mark(tx)?;
+    make_begin(tx)?;
+    make_rest(tx)?;
     begin_format(tx, found)
 }
 
@@ -173,14 +223,12 @@ fn make_all<S: Alter>(tx: &mut Transaction<'_, S>, found: &Found) -> Result<(), 
 pub fn create<S: Alter>(conn: &mut Connection<S>, found: &Found) -> Result<(), Error>
     requires autocommit { conn.old.in_transaction ≡ false }
     ensures autocommit { conn.new.in_transaction ≡ false }
-    ensures made { found.now.format ≡ false → HasCleanDisk (state S.Store conn.new)
-        → IsBare (state S.Store conn.old)
-        → OnOk result (IsStored (Whole (New nothing)) (state S.Store conn.new) no_content) }
-    ensures err { found.now.format ≡ false → HasCleanDisk (state S.Store conn.new)
-        → IsTrue (state S.Store conn.new).is_open → IsBare (state S.Store conn.old)
-        → OnErr result (IsBare (state S.Store conn.new)) }
-    ensures crash { Survives (state S.Store conn.old) (state S.Store conn.new)
-        (LeavesMade found.now (state S.Store conn.old)) }
+    ensures creates { Creates found.now (state S.Store conn.old) (state S.Store conn.new) result }
+    ensures ran { IsTrue (state S.Store conn.old).is_open → HasCleanDisk (state S.Store conn.new)
+        → OnOk result (RanAlone S.Store (making_statements found.now) conn.old conn.new) }
+    ensures stops { IsTrue (state S.Store conn.old).is_open → HasCleanDisk (state S.Store conn.new)
+        → IfErr result (StopsWithin S.Store (making_statements found.now)
+        (record conn.old { in_transaction = true }) conn.new) }
 {
     let mut tx = conn.transaction();
     make_all(&mut tx, found)?;

@@ -6,6 +6,8 @@ ghost use Rattle.lpis_register_rows.specs.Content.{TextEdit, Deletes, Replaces, 
 ghost use Rattle.lpis_register_rows.specs.Content.{with_edit, without_texts};
 ghost use Rattle.lpis_register_rows.specs.Shapes.{written_text};
 ghost use Rattle.lpis_register_rows.specs.Editing.{edit_in, edits_in};
+ghost use Rattle.lpis_register_sql.specs.Making.{plain_statement};
+ghost use Rattle.lpis_register_sql.specs.Statements.{clear_text};
 ghost use Rattle.lpis_register_sql.specs.Stopping.{edit_statement};
 ghost use Rattle.lpis_register_sql.specs.private.Inside.{IsQuiet, Makes, Turns};
 ghost use Rattle.lpis_register_sql.specs.private.Lines.{text_at};
@@ -24,6 +26,8 @@ pub(crate) fn clear_texts<S: Alter>(tx: &mut Transaction<'_, S>) -> Result<(), E
     ensures same_reference { tx.new.conn.ghost_name ≡ tx.old.conn.ghost_name }
     ensures cleared { Turns without_texts (state S.Store tx.old.conn.now)
         (state S.Store tx.new.conn.now) result }
+    ensures makes { Makes S.Store (plain_statement clear_text ∷ [])
+        tx.old.conn.now tx.new.conn.now result }
     ensures quiet { IsQuiet (state S.Store tx.old.conn.now) (state S.Store tx.new.conn.now) }
 {
     run(tx, "DELETE FROM lpis_text", &[])

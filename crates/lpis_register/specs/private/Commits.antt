@@ -1,8 +1,10 @@
 -- What the steps of an opening commit, if anything.
 use Rattle.std.specs.Prelude.{◌≡◌, List, Result, Ok, Err, IfErr, IfOk, IsTrue, OnErr, OnOk}
+use Rattle.sqlite.specs.Held.{Held, state}
 use Rattle.sqlite.specs.Tree.{Trees}
 use Rattle.sqlite.specs.State.{HasCleanDisk, State, Survives}
 use Rattle.sqlite.specs.declared.error.Error.{Error}
+use Rattle.sqlite_trees.specs.declared.store.Store.{Ghosts}
 use Rattle.lpis_lineage.specs.declared.row.Entry.{Entry}
 use Rattle.lpis_register_rows.specs.Content.{Content}
 use Rattle.lpis_register_rows.specs.Shapes.{Shape}
@@ -11,11 +13,12 @@ use Rattle.lpis_register_sql.specs.declared.found.Found.{Found}
 use Rattle.lpis_register_sql.specs.Layouts.{Layout, origin_of}
 use Rattle.lpis_register_sql.specs.Holding.{IsStored}
 use Rattle.lpis_register_sql.specs.Quiet.{IsFound}
+use Rattle.lpis_register.specs.FailingToOpen.{FailsToSettle}
 use Rattle.lpis_register.specs.Faults.{IsFailure, IsOpeningFault}
 use Rattle.lpis_register.specs.Histories.{HoldsRegister, LeavesRegister}
 use Rattle.lpis_register.specs.Opening.{IsOpenedAs, LeavesKept, HasNoRegister, HasRegister}
 use Rattle.lpis_register.specs.declared.fault.PublishFault.{PublishFault}
-use Rattle.lpis_register.specs.declared.fault.PublishFault.TheVariants.{Unlawful}
+use Rattle.lpis_register.specs.declared.fault.PublishFault.TheVariants.{Store, Unlawful}
 use Rattle.lpis_register.specs.declared.opening.Loaded.{Loaded}
 
 -- tables of version 3 that say this history and keep the shapes, where the tables said so
@@ -43,6 +46,13 @@ pub record Settles (found : Found) (version : Version) (h : List Entry) (old new
   pub clean : HasCleanDisk new → HasCleanDisk old
   pub crash : Survives old new (LeavesSettled found version h old)
   pub failure : IfErr r IsFailure
+
+-- where the database failed there is a cause
+abbrev pub HasSettlingCause : {S : Type 0} → Ghosts S → Found → Version → List Entry → Held S
+    → Held S → Result (Unit {0}) PublishFault → Type 0
+HasSettlingCause store found version h old new r =
+    IfErr r (λ fault. fault ≡ Store → HasCleanDisk (state store new)
+    → IsTrue (state store old).is_open → FailsToSettle store version found h old new)
 
 -- what the tables that were found say is opened
 pub record OpensFound (found : Found) (old new : State) (r : Result Loaded PublishFault) : Type 0

@@ -1,14 +1,15 @@
 -- What a call answers that reads the tables which were found.
-use Rattle.std.specs.Prelude.{◌≡◌, Result, IfErr}
-use Rattle.sqlite.specs.State.{HasCleanDisk, State}
+use Rattle.std.specs.Prelude.{◌≡◌, ◌⊎◌, IsTrue, MatchResult, Result, IfErr}
+use Rattle.sqlite.specs.State.{HasCleanDisk, IsUnchanged, State}
 use Rattle.lpis_register_rows.specs.Content.{Content}
 use Rattle.lpis_register_sql.specs.declared.found.Found.{Found}
 use Rattle.lpis_register_sql.specs.Layouts.{Layout}
 use Rattle.lpis_register_sql.specs.Holding.{IsStored}
 use Rattle.lpis_register_sql.specs.Quiet.{IsFound, ReadsRows}
+use Rattle.lpis_register_sql.specs.Unread.{IsUnread}
 use Rattle.lpis_register.specs.Faults.{IsOpeningFault}
 use Rattle.lpis_register.specs.declared.fault.PublishFault.{PublishFault}
-use Rattle.lpis_register.specs.declared.fault.PublishFault.TheVariants.{Unlawful}
+use Rattle.lpis_register.specs.declared.fault.PublishFault.TheVariants.{Store, Unlawful}
 
 -- what their rows say is answered, and only rows that say none of it are refused
 pub record ReadsFound {X : Type 0} (found : Found) (Says : Content → X → Type 0)
@@ -17,3 +18,10 @@ pub record ReadsFound {X : Type 0} (found : Found) (Says : Content → X → Typ
   pub unlawful : HasCleanDisk new → (layout : Layout) → IsFound found layout → (c : Content)
       → IsStored layout old c → IfErr r (λ e. e ≡ Unlawful → SaysNo c)
   pub kinds : IfErr r IsOpeningFault
+
+-- with an answer nothing is changed, or a table that was found is not read; where the database
+-- failed, one is not
+abbrev pub TellsFound : {X : Type 0} → Found → State → State → Result X PublishFault → Type 0
+TellsFound found old new r = HasCleanDisk new → IsTrue old.is_open
+    → MatchResult r (λ _. IsUnchanged old new ⊎ IsUnread found old new)
+    (λ fault. fault ≡ Store → IsUnread found old new)

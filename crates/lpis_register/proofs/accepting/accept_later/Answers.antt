@@ -6,6 +6,7 @@ use Rattle.lpis_parcels.specs.Release.{parcel_ids}
 use Rattle.lpis_register_rows.specs.Shapes.{AreShapesOf}
 use Rattle.lpis_register.proofs.Common.{last_live}
 use Rattle.lpis_register.proofs.AcceptingLemmas.{accepted_made}
+use Rattle.lpis_register.specs.Holdings.{holdings}
 use Rattle.lpis_register.proofs.accepting.accept_later.Goals as goal
 
 pub returns-in_err-step : goal.returns-in_err-step
@@ -34,9 +35,9 @@ pub returns : goal.returns
 returns c =
     let h = c.args.history.now in
     let rows = c.args.rows.now in
-    let step = c.in_ok-step.ensures.step in
-    let made = accepted_made c.what_is_shown_has_exact_lineage.ensures c.sound_maps_have_such_shapes.ensures.once h c.args.kept.now c.args.year c.args.parcels.now c.args.cert.now.exact rows
-    (record { year = c.args.year; step = c.in_ok-step.step; shapes = c.in_ok-shapes.shapes }) c.requires.sound
-    (record { later = c.requires.later; year_is = refl; step_is = step; kept_are = c.in_ok-shapes.ensures })
+    let step = c.in_ok-step.step in
+    let made = accepted_made (holdings h c.args.kept.now) c.args.parcels.now c.args.cert.now.exact rows
+    (record { live = step.live; writing = record { year = c.args.year; change = step.change; fresh = step.fresh; shapes = c.in_ok-shapes.shapes } })
+    c.requires.later c.in_ok-step.ensures.step c.in_ok-shapes.ensures c.what_is_shown_has_exact_lineage.ensures c.sound_maps_have_such_shapes.ensures.once c.requires.sound
     (λ r. (rw c.as_slice.ensures.value at c.in_ok-check_groups.ensures.shown) r h rows) in
     λ r are. record { tells = (c.requires.later, (made r are).shown); made = made r are; no_store = tt }

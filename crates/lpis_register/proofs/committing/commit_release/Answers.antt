@@ -2,22 +2,26 @@ use Rattle.std.proofs.Common.{◌∙◌, inr, refl, sym}
 use Rattle.lpis_register.proofs.Common.{state}
 use Rattle.lpis_register.proofs.CommittingLemmas.{not_begun}
 use Rattle.lpis_register.proofs.FailingLemmas.{fails_to_commit}
-use Rattle.lpis_lineage.specs.Lineage.{last_year}
+use Rattle.lpis_register.specs.Failing.{writing_statements}
+use Rattle.lpis_register.specs.Holdings.{holdings}
+use Rattle.lpis_register.specs.private.Writes.{written}
 use Rattle.lpis_register.proofs.committing.commit_release.Goals as goal
 
 pub returns-in-Ok-clause-commits : goal.returns-in-Ok-clause-commits
-returns-in-Ok-clause-commits g c year parcels rows made =
+returns-in-Ok-clause-commits g c x made =
     c.write_or_take_back.ensures.commits c.args.history.now
-    (record { year = year; parcels = parcels; rows = rows; made = made; follows = c.in-Ok.ensures.grows year parcels rows made; last_is = c.last_year-last.ensures })
+    (record { candidate = x; live = c.args.live; made = made; follows = c.in-Ok.ensures.grows x made; last_is = c.last_year-last.ensures })
 
 pub returns-in-Err-clause-commits : goal.returns-in-Err-clause-commits
-returns-in-Err-clause-commits g c year parcels rows made =
-    not_begun c.args.history.now _ year parcels rows c.args.accepted.now c.args.kept.now (state g.S.Store c.args.conn.now) c.in-Err.ensures.refused _
+returns-in-Err-clause-commits g c x made =
+    not_begun x (holdings c.args.history.now c.args.kept.now) (written c.args.writing.now _) (state g.S.Store c.args.conn.now) c.in-Err.ensures.refused _
 
 pub returns-in-Ok-clause-failure : goal.returns-in-Ok-clause-failure
 returns-in-Ok-clause-failure g c =
-    fails_to_commit g.S.Store c.last_year-last.result (last_year c.args.history.now) c.args.kept.now c.args.accepted.now c.args.conn.now c.write_or_take_back.new.conn c.write_or_take_back.result
-    c.last_year-last.ensures c.write_or_take_back.ensures.failure c.write_or_take_back.ensures.cause
+    let made = c.requires.made in
+    fails_to_commit g.S.Store (writing_statements c.args.writing.now (holdings c.args.history.now c.args.kept.now)) c.args.conn.now c.write_or_take_back.new.conn c.write_or_take_back.result
+    c.write_or_take_back.ensures.failure (c.write_or_take_back.ensures.cause c.args.history.now
+    (record { candidate = made.0; live = c.args.live; made = made.1; follows = c.in-Ok.ensures.grows made.0 made.1; last_is = c.last_year-last.ensures }))
 
 pub returns-in-Err-clause-failure : goal.returns-in-Err-clause-failure
 returns-in-Err-clause-failure g c = record {

@@ -2,6 +2,7 @@ use Rattle.std.proofs.Common.{arith}
 use Rattle.std.proofs.lemmas.Result.{err_from_is_err_and}
 use Rattle.lpis_register_sql.proofs.Shared.{answered, nothing_yet, then, then_fails}
 use Rattle.lpis_register.proofs.Common.{HasCleanDisk, state}
+use Rattle.lpis_register.proofs.FindingLemmas.{told_then, told_then_not}
 use Rattle.lpis_register.proofs.OneHistoryLemmas.{none_kept}
 use Rattle.lpis_register.proofs.finding.find_loaded.Goals as goal
 
@@ -25,3 +26,14 @@ returns-clause-finds g c =
     let rows = then (λ s p. p) nothing_yet c.in_ok-history.ensures.finds.reads in
     let texts = then (λ s p. p) rows c.in_ok-shapes.ensures.finds.reads in
     record { reads = answered texts (λ content all. record { says = all.0.1; are = all.1.0; live = all.1.1 }); unlawful = λ clean layout found content r. tt; kinds = tt }
+
+pub returns-in_err-shapes-clause-tells : goal.returns-in_err-shapes-clause-tells
+returns-in_err-shapes-clause-tells g c =
+    let p = err_from_is_err_and c.from_residual-in_err-shapes.result c.from_residual-in_err-shapes.ensures.1 in
+    rw (p.1, p.2) (told_then_not c.args.found.now (state g.S.Store c.args.conn.now) (state g.S.Store c.find_rows.new.conn) (state g.S.Store c.find_shapes.new.conn)
+    c.in_ok-history.ensures.finds.reads.survives c.in_err-shapes.ensures.finds.reads.survives c.in_ok-history.ensures.tells _ c.in_err-shapes.ensures.tells)
+
+pub returns-clause-tells : goal.returns-clause-tells
+returns-clause-tells g c =
+    told_then c.args.found.now (state g.S.Store c.args.conn.now) (state g.S.Store c.find_rows.new.conn) (state g.S.Store c.find_shapes.new.conn)
+    c.in_ok-history.ensures.finds.reads.survives c.in_ok-shapes.ensures.finds.reads.survives c.in_ok-history.ensures.tells c.in_ok-shapes.ensures.tells

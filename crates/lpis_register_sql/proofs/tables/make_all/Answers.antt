@@ -1,17 +1,28 @@
-use Rattle.std.proofs.Common.{arith}
+use Rattle.std.proofs.Common.{arith, ◌++◌}
 use Rattle.lpis_register_sql.proofs.Common.{state, HasCleanDisk}
+use Rattle.lpis_register_sql.proofs.MakingLemmas.{first_fails, makes_three, second_fails}
+use Rattle.lpis_register_sql.specs.Making.{first_tables, other_tables, version_statements}
 use Rattle.lpis_register_sql.proofs.tables.make_all.Goals as goal
 
 pub returns-clause-begun : goal.returns-clause-begun
 returns-clause-begun g c bare clean base before =
-    let at_mark : HasCleanDisk (state g.S.Store c.make_mark.new.tx.conn.now) = omega (arith, c.begin_format.ensures.quiet.survives.clean) in
-    let at_text : HasCleanDisk (state g.S.Store c.make_text.new.tx.conn.now) = omega (arith, c.make_mark.ensures.quiet.survives.clean) in
-    let at_row : HasCleanDisk (state g.S.Store c.make_row.new.tx.conn.now) = omega (arith, c.make_text.ensures.quiet.survives.clean) in
-    let at_span : HasCleanDisk (state g.S.Store c.make_span.new.tx.conn.now) = omega (arith, c.make_row.ensures.quiet.survives.clean) in
-    let at_release : HasCleanDisk (state g.S.Store c.make_release.new.tx.conn.now) = omega (arith, c.make_span.ensures.quiet.survives.clean) in
-    let at_format : HasCleanDisk (state g.S.Store c.make_format.new.tx.conn.now) = omega (arith, c.make_release.ensures.quiet.survives.clean) in
-    c.begin_format.ensures.begun bare clean base
-    (c.in_ok-make_mark.ensures.made at_mark base (c.in_ok-make_text.ensures.made at_text base
-    (c.in_ok-make_row.ensures.made at_row base
-    (c.in_ok-make_span.ensures.made at_span base (c.in_ok-make_release.ensures.made at_release base
-    (c.in_ok-make_format.ensures.made at_format base before))))))
+    let second : HasCleanDisk (state g.S.Store c.make_rest.new.tx.conn.now) = omega (arith, c.begin_format.ensures.quiet.survives.clean) in
+    let first : HasCleanDisk (state g.S.Store c.make_begin.new.tx.conn.now) = omega (arith, c.make_rest.ensures.quiet.survives.clean) in
+    c.begin_format.ensures.begun bare clean base (c.in_ok-make_rest.ensures.made second base (c.in_ok-make_begin.ensures.made first base before))
+
+pub returns-clause-makes : goal.returns-clause-makes
+returns-clause-makes g c =
+    makes_three g.S.Store first_tables other_tables (version_statements c.args.found.now) c.args.tx.now.conn.now c.make_begin.new.tx.conn.now c.make_rest.new.tx.conn.now
+    c.begin_format.new.tx.conn.now c.begin_format.result c.make_begin.ensures.quiet c.make_rest.ensures.quiet
+    c.begin_format.ensures.quiet c.in_ok-make_begin.ensures.makes c.in_ok-make_rest.ensures.makes c.begin_format.ensures.makes
+
+pub returns-in_err-make_begin-clause-makes : goal.returns-in_err-make_begin-clause-makes
+returns-in_err-make_begin-clause-makes g c =
+    first_fails g.S.Store first_tables (other_tables ++ (version_statements c.args.found.now)) c.args.tx.now.conn.now c.make_begin.new.tx.conn.now c.in_err-make_begin.field-0.0
+    c.from_residual.result c.from_residual.ensures.1 c.in_err-make_begin.ensures.makes
+
+pub returns-in_err-make_rest-clause-makes : goal.returns-in_err-make_rest-clause-makes
+returns-in_err-make_rest-clause-makes g c =
+    second_fails g.S.Store first_tables other_tables (version_statements c.args.found.now) c.args.tx.now.conn.now c.make_begin.new.tx.conn.now c.make_rest.new.tx.conn.now
+    c.in_err-make_rest.field-0.0 c.from_residual-in_err-make_rest.result
+    c.from_residual-in_err-make_rest.ensures.1 c.make_begin.ensures.quiet c.make_rest.ensures.quiet c.in_ok-make_begin.ensures.makes c.in_err-make_rest.ensures.makes

@@ -1,12 +1,13 @@
 use Rattle.std.proofs.Common.{refl}
 use Rattle.lpis_register_sql.proofs.Common.{state, one_table, two_tables, release_table}
-use Rattle.lpis_register_sql.specs.private.Texts.{make_release as text}
+use Rattle.lpis_register_sql.specs.Statements.{make_release as text}
 use Rattle.lpis_register_sql.proofs.MeaningLemmas.{release_is}
 use Rattle.lpis_register_sql.proofs.StageLemmas.{stage_next}
+use Rattle.lpis_register_sql.proofs.StopLemmas.{on_ok}
 use Rattle.lpis_register_sql.proofs.tables.make_release.Goals as goal
 
 pub returns-clause-made : goal.returns-clause-made
 returns-clause-made g c clean base before =
-    stage_next text one_table two_tables (release_table 0) release_is refl base (state g.S.Store c.args.tx.now.conn.now)
-    (state g.S.Store c.execute.new.self.conn.now) _ before
-    (c.in_ok-execute.ensures.runs clean before.in_transaction)
+    on_ok c.run.result (λ ran. stage_next text one_table two_tables (release_table 0) release_is refl base (state g.S.Store c.args.tx.now.conn.now)
+    (state g.S.Store c.run.new.tx.conn.now) ran.0 before ran.1)
+    (c.run.ensures.runs clean before.in_transaction)

@@ -1,13 +1,14 @@
 use Rattle.std.proofs.Common.{refl}
 use Rattle.lpis_register_sql.proofs.Common.{state, three_tables, New, LessTexts, schema_of, row_table}
 use Rattle.lpis_register_sql.specs.Beside.{nothing}
-use Rattle.lpis_register_sql.specs.private.Texts.{make_row as text}
+use Rattle.lpis_register_sql.specs.Statements.{make_row as text}
 use Rattle.lpis_register_sql.proofs.MeaningLemmas.{row_is}
 use Rattle.lpis_register_sql.proofs.StageLemmas.{stage_next}
+use Rattle.lpis_register_sql.proofs.StopLemmas.{on_ok}
 use Rattle.lpis_register_sql.proofs.tables.make_row.Goals as goal
 
 pub returns-clause-made : goal.returns-clause-made
 returns-clause-made g c clean base before =
-    stage_next text three_tables (schema_of (LessTexts (New nothing))) (row_table 0) row_is refl base (state g.S.Store c.args.tx.now.conn.now)
-    (state g.S.Store c.execute.new.self.conn.now) _ before
-    (c.in_ok-execute.ensures.runs clean before.in_transaction)
+    on_ok c.run.result (λ ran. stage_next text three_tables (schema_of (LessTexts (New nothing))) (row_table 0) row_is refl base (state g.S.Store c.args.tx.now.conn.now)
+    (state g.S.Store c.run.new.tx.conn.now) ran.0 before ran.1)
+    (c.run.ensures.runs clean before.in_transaction)

@@ -1,17 +1,20 @@
 use Rattle.std.proofs.Common.{refl}
 use Rattle.lpis_register_sql.proofs.Common.{state, New, LessTexts, LessMarks, schema_of, text_table}
 use Rattle.lpis_register_sql.specs.Beside.{nothing}
-use Rattle.lpis_register_sql.specs.private.Texts.{make_text as text}
+use Rattle.lpis_register_sql.specs.Statements.{make_text as text}
 use Rattle.lpis_register_sql.proofs.MeaningLemmas.{text_is}
 use Rattle.lpis_register_sql.proofs.StageLemmas.{stage_next, text_beside}
+use Rattle.lpis_register_sql.proofs.StopLemmas.{on_ok}
 use Rattle.lpis_register_sql.proofs.tables.make_text.Goals as goal
 
 pub returns-clause-made : goal.returns-clause-made
 returns-clause-made g c clean base before =
-    stage_next text (schema_of (LessTexts (New nothing))) (schema_of (LessMarks (New nothing))) (text_table 0) (text_is (New nothing)) refl base (state g.S.Store c.args.tx.now.conn.now)
-    (state g.S.Store c.execute.new.self.conn.now) _ before
-    (c.in_ok-execute.ensures.runs clean before.in_transaction)
+    on_ok c.run.result (λ ran. stage_next text (schema_of (LessTexts (New nothing))) (schema_of (LessMarks (New nothing))) (text_table 0) (text_is (New nothing)) refl base
+    (state g.S.Store c.args.tx.now.conn.now)
+    (state g.S.Store c.run.new.tx.conn.now) ran.0 before ran.1)
+    (c.run.ensures.runs clean before.in_transaction)
 
 pub returns-clause-beside : goal.returns-clause-beside
 returns-clause-beside g c clean origin base content before =
-    text_beside origin base (state g.S.Store c.args.tx.now.conn.now) (state g.S.Store c.execute.new.self.conn.now) content _ before (c.in_ok-execute.ensures.runs clean before.in_transaction)
+    on_ok c.run.result (λ ran. text_beside origin base (state g.S.Store c.args.tx.now.conn.now) (state g.S.Store c.run.new.tx.conn.now) content ran.0 before ran.1)
+    (c.run.ensures.runs clean before.in_transaction)

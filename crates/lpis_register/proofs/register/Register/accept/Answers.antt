@@ -5,7 +5,7 @@ use Rattle.lpis_register.proofs.register.Register.accept.Goals as goal
 pub returns-clause-tells : goal.returns-clause-tells
 returns-clause-tells g c =
     let are = sym (c.parcels-parcels.ensures.parcels ∙ ap (λ (r : Contents). r.parcels) c.release.ensures.is) in
-    (rw c.as_slice-kept.ensures.value at (c.accept_parcels.ensures c.args.yes.now are)).tells
+    rw (← c.self.view_is) ((rw c.as_slice-kept.ensures.value at (c.accept_parcels.ensures c.args.yes.now are)).tells)
 
 pub returns-clause-no_store : goal.returns-clause-no_store
 returns-clause-no_store g c =

@@ -4,8 +4,9 @@ use Rattle.lpis_register.proofs.register.Register.adopt_found.Goals as goal
 
 pub returns-in-Ok-clause-opened : goal.returns-in-Ok-clause-opened
 returns-in-Ok-clause-opened g c image finds =
-    opened_file image (state g.S.Store c.args.conn) c.requires.opened finds c.what_is_left_is_found.ensures.stored c.what_is_left_is_found.ensures.bare _ _ _
-    (λ o. c.a_crash_leaves_what_is_held.ensures o _ _) c.in-Ok.ensures.opened
+    let held = c.in-Ok.opened.held in
+    opened_file image (state g.S.Store c.args.conn) c.requires.opened finds c.what_is_left_is_found.ensures.stored c.what_is_left_is_found.ensures.bare
+    (state g.S.Store c.in-Ok.opened.conn) held.history held.shapes (λ o. (rw c.database.ensures at c.a_crash_leaves_what_is_held.ensures) o held.history held.shapes) c.in-Ok.ensures.opened
 
 pub returns-in-Err-clause-unopened : goal.returns-in-Err-clause-unopened
 returns-in-Err-clause-unopened g c image finds =

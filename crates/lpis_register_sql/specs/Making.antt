@@ -1,0 +1,81 @@
+-- The statements that make the register's tables, and that move them to version 3.
+use Rattle.std.specs.Prelude.{true, List, [], ◌∷◌, ◌++◌, ℕ, if◌then◌else◌, map}
+use Rattle.lpis_register_rows.specs.Content.{StoredSpan}
+use Rattle.lpis_register_sql.specs.Holding.{span_row}
+use Rattle.lpis_register_sql.specs.Statements.{clear_live, clear_mark, clear_span, clear_text}
+use Rattle.lpis_register_sql.specs.Statements.{insert_format, insert_whole_span, make_format}
+use Rattle.lpis_register_sql.specs.Statements.{make_mark, make_release, make_row, make_span}
+use Rattle.lpis_register_sql.specs.Statements.{make_text, set_version}
+use Rattle.lpis_register_sql.specs.Stopping.{BoundStatement}
+use Rattle.lpis_register_sql.specs.declared.found.Found.{Found}
+
+-- a statement without parameters
+abbrev pub plain_statement : List ℕ → BoundStatement
+plain_statement sql = record { sql = sql; values = [] }
+
+-- ---- where one of the tables is not there that each version has
+
+-- the version, where its table was not found
+abbrev pub version_statements : Found → List BoundStatement
+version_statements found = if found.format then [] else plain_statement insert_format ∷ []
+
+abbrev pub first_tables : List BoundStatement
+first_tables = plain_statement make_format ∷ plain_statement make_release
+    ∷ plain_statement make_span ∷ []
+
+abbrev pub other_tables : List BoundStatement
+other_tables = plain_statement make_row ∷ plain_statement make_text
+    ∷ plain_statement make_mark ∷ []
+
+-- the tables of version 3, each where it is not there, and the version
+abbrev pub making_statements : Found → List BoundStatement
+making_statements found = first_tables ++ (other_tables ++ version_statements found)
+
+-- what is there once they are made
+abbrev pub completed : Found → Found
+completed found = record found { spans = true; texts = true; marks = true }
+
+-- ---- where those are there
+
+-- a table of version 3, where it was not found
+
+abbrev pub missing_spans : Found → List BoundStatement
+missing_spans found = if found.spans then [] else plain_statement make_span ∷ []
+
+abbrev pub missing_texts : Found → List BoundStatement
+missing_texts found = if found.texts then [] else plain_statement make_text ∷ []
+
+abbrev pub missing_marks : Found → List BoundStatement
+missing_marks found = if found.marks then [] else plain_statement make_mark ∷ []
+
+-- all three
+abbrev pub completing_statements : Found → List BoundStatement
+completing_statements found =
+    missing_spans found ++ (missing_texts found ++ missing_marks found)
+
+-- a span, when it began and when it ended
+abbrev pub whole_span_statement : StoredSpan → BoundStatement
+whole_span_statement s = record { sql = insert_whole_span; values = span_row s }
+
+-- no live row is left, where their table was found
+abbrev pub lives_emptied : Found → List BoundStatement
+lives_emptied found = if found.lives then plain_statement clear_live ∷ [] else []
+
+-- these spans in place of any, and no live rows
+abbrev pub spans_in_place : Found → List StoredSpan → List BoundStatement
+spans_in_place found spans = (plain_statement clear_span ∷ [])
+    ++ (map whole_span_statement spans ++ lives_emptied found)
+
+-- version 3, with no text and no mark
+abbrev pub version_in_place : List BoundStatement
+version_in_place = plain_statement clear_text ∷ plain_statement clear_mark
+    ∷ plain_statement set_version ∷ []
+
+-- from version 2 to version 3
+abbrev pub raising_statements : Found → List BoundStatement
+raising_statements found = completing_statements found ++ version_in_place
+
+-- from version 1, whose rows are of these spans, to version 3
+abbrev pub moving_statements : Found → List StoredSpan → List BoundStatement
+moving_statements found spans =
+    completing_statements found ++ (spans_in_place found spans ++ version_in_place)
