@@ -18,7 +18,7 @@ use Rattle.lpis_lineage.specs.declared.row.Row.{Row}
 use Rattle.lpis_lineage.specs.Changes.{Changes, IsChange}
 use Rattle.lpis_lineage.specs.Faults.{faults, first}
 use Rattle.lpis_lineage.specs.Lineage.{last_live}
-use Rattle.lpis_register_rows.specs.Shapes.{Shape}
+use Rattle.lpis_register.specs.Holdings.{Holdings, holdings}
 use Rattle.lpis_register.specs.declared.fault.PublishFault.TheVariants.{Lineage}
 use Rattle.lpis_commands.specs.CheckAnswer.{Answer}
 use Rattle.lpis_commands.specs.Outputs.{BreaksOff, Held, Outputs, Writes, held, outputs_of}
@@ -31,20 +31,21 @@ use Rattle.lpis_commands.specs.declared.failure.Failure.TheVariants.{Memory, Wri
 use Rattle.lpis_commands.specs.declared.failure.Name.TheVariants.{Out}
 use Rattle.lpis_commands.specs.declared.outcome.Outcome.{Outcome}
 use Rattle.lpis_country_run.proofs.Shared.{setting_begun}
-use Rattle.lpis_country_run.specs.CountryAnswer.{IsEnd, IsReachedBy, IsRegionsAnswer, Setting, setting_of}
+use Rattle.lpis_country_run.specs.CountryAnswer.{IsEnd, IsReachedBy, IsRegionsAnswer, Setting}
 use Rattle.lpis_country_run.specs.CountryFailures.{IsOfNone, IsUnreadTop}
 use Rattle.lpis_country_run.specs.Regions.{Texts}
 use Rattle.lpis_country_run.specs.RegionsOutcome.{IsSettingOf, JoinsAll, RegionsEnd, RegionsStop}
 use Rattle.lpis_country_run.specs.declared.failure.CountryFailure.{CountryFailure}
 use Rattle.lpis_publishing.specs.ExactAnswer.{IsBlocksAnswer, IsBlocksOutcome}
+use Rattle.lpis_publishing.specs.Submission.{submitted}
 use Rattle.lpis_publish_country.specs.CountryLineage.{country_refusal_text, rows_in}
 use Rattle.lpis_publish_country.specs.ExactCountryAnswer.{FillHalts, FillsCountry, FillsRegions, HasNoParts, IsFillAnswer, IsFillEnd, IsFillOutcome}
 use Rattle.lpis_publish_country.specs.ExactCountryAnswer.{RunsExactCountry}
-use Rattle.lpis_publish_country.specs.PublishCountryAnswer.{AreBlocksOf, AreSaid, AreTopRead, CountryFiles, IsExactRead, IsRefusedBefore, PublishCountryInputs}
+use Rattle.lpis_publish_country.specs.PublishCountryAnswer.{AreTopRead, CountryFiles, CountrySaid, IsRefusedBefore, PublishCountryInputs, setting_said}
 use Rattle.lpis_publish_country.specs.PublishCountryRuns.{IsPublishPart, IsUnreadLineage}
 use Rattle.lpis_publish_country.specs.declared.inputs.Prepared.{Prepared}
 use Rattle.lpis_publish_country.specs.private.Filling.{FillsPrepared}
-use Rattle.lpis_publish_country.specs.private.Preparing.{IsPrepared}
+use Rattle.lpis_publish_country.specs.private.Preparing.{IsPrepared, said_of}
 
 -- ---- the union
 -- without faults there is no first one
@@ -54,10 +55,10 @@ no-first fs fault none is = nothing (sym (ap first none) ∙ is)
     nothing : None ≡ Some fault → ⊥
     nothing e = cc
 
-module _ (tables : List (List Row)) (h : List Entry) (s : List Shape) (g : Setting) (regions : List Contents) where
+module _ (g : Setting) (tables : List (List Row)) (regions : List Contents) (before : Holdings) where
   -- the answer to a union that may follow
-  fill-answer : (c : Cert) (text : Option (List ℕ)) (a : Answer) → HasNoParts c → faults h (parcel_ids (country_of g.classes regions).parcels) (rows_in tables) ≡ []
-      → IsBlocksAnswer h s (country_of g.classes regions) c (rows_in tables) text a → IsFillAnswer tables h s g regions text a
+  fill-answer : (c : Cert) (text : Option (List ℕ)) (a : Answer) → HasNoParts c → faults before.history (parcel_ids (country_of g.classes regions).parcels) (rows_in tables) ≡ []
+      → IsBlocksAnswer (submitted (country_of g.classes regions) c (rows_in tables)) before text a → IsFillAnswer g tables regions before text a
   fill-answer c text a none clean (inl (fault, is, told)) = absurd (no-first _ fault clean is)
   fill-answer c text a none clean (inr (inl unkept)) = inr (inl unkept)
   fill-answer c text a none clean (inr (inr filled)) = inr (inr (c, none, filled))
@@ -65,36 +66,41 @@ module _ (tables : List (List Row)) (h : List Entry) (s : List Shape) (g : Setti
   -- with what was found of a change
   pub fill_change_ends : {E : Type 0} (c : Cert) (rows : List Row) (parcels : List Parcel) (change : Changes) (r : Result Outcome E)
       → parcels ≡ (country_of g.classes regions).parcels → rows ≡ rows_in tables
-      → HasNoParts c → faults h (parcel_ids parcels) rows ≡ [] → IsChange (last_live h) (parcel_ids parcels) rows change
-      → ((u : Contents) (k : List Entry) (ls : List Row) → u.parcels ≡ parcels → faults k (parcel_ids u.parcels) ls ≡ [] → IsChange (last_live k) (parcel_ids u.parcels) ls change
-      → IfOk r (λ o. IsBlocksOutcome k s u c ls (outputs_of o)))
-      → IfOk r (λ o. IsFillOutcome tables h s g regions (outputs_of o))
+      → HasNoParts c → faults before.history (parcel_ids parcels) rows ≡ [] → IsChange (last_live before.history) (parcel_ids parcels) rows change
+      → ((u : Contents) (h : List Entry) (ls : List Row) → u.parcels ≡ parcels → faults h (parcel_ids u.parcels) ls ≡ [] → IsChange (last_live h) (parcel_ids u.parcels) ls change
+      → IfOk r (λ o. IsBlocksOutcome (submitted u c ls) (holdings h before.shapes) (outputs_of o)))
+      → IfOk r (λ o. IsFillOutcome g tables regions before (outputs_of o))
   fill_change_ends c rows parcels change r are of_rows none clean changed fills =
-      let u = country_of g.classes regions in
+      let h = before.history in
       let is_clean = subst (λ (xs : List Parcel). faults h (parcel_ids xs) (rows_in tables) ≡ []) are (subst (λ (ls : List Row). faults h (parcel_ids parcels) ls ≡ []) of_rows clean) in
       let is_change = subst (λ (xs : List Parcel). IsChange (last_live h) (parcel_ids xs) (rows_in tables) change) are
       (subst (λ (ls : List Row). IsChange (last_live h) (parcel_ids parcels) ls change) of_rows changed) in
-      IfOk-weaker r _ _ (λ o out. record { answer = fill-answer c _ _ none is_clean out.answer; no_text = out.no_text }) (fills u h (rows_in tables) (sym are) is_clean is_change)
+      IfOk-weaker r _ _ (λ o out. record { answer = fill-answer c _ _ none is_clean out.answer; no_text = out.no_text })
+      (fills (country_of g.classes regions) h (rows_in tables) (sym are) is_clean is_change)
 
   -- the line of the first fault of its lineage
   pub fill_refused : (rows : List Row) (parcels : List Parcel) (fault : LineageFault) (names : List (List ℕ)) (o : Outputs) (a : Printed) → parcels ≡ (country_of g.classes regions).parcels
-      → rows ≡ rows_in tables → names ≡ g.names → (fault ≡ NoMemory) ⊎ (first (faults h (parcel_ids parcels) rows) ≡ Some fault) → (fault ≡ NoMemory → ⊥)
+      → rows ≡ rows_in tables → names ≡ g.names → (fault ≡ NoMemory) ⊎ (first (faults before.history (parcel_ids parcels) rows) ≡ Some fault) → (fault ≡ NoMemory → ⊥)
       → o ≡ record { cert = None; line = a.text.items; status = a.status } → a.text.items ≡ country_refusal_text names tables (Lineage fault) → a.status ≡ refused
-      → IsFillOutcome tables h s g regions o
+      → IsFillOutcome g tables regions before o
   fill_refused rows parcels fault names o a are of_rows of_names (inl memory) other is line status = absurd (other memory)
   fill_refused rows parcels fault names o a are of_rows of_names (inr is_first) other is line status =
-      let of_union = subst (λ (xs : List Parcel). first (faults h (parcel_ids xs) (rows_in tables)) ≡ Some fault) are
-      (subst (λ (ls : List Row). first (faults h (parcel_ids parcels) ls) ≡ Some fault) of_rows is_first) in
+      let of_union = subst (λ (xs : List Parcel). first (faults before.history (parcel_ids xs) (rows_in tables)) ≡ Some fault) are
+      (subst (λ (ls : List Row). first (faults before.history (parcel_ids parcels) ls) ≡ Some fault) of_rows is_first) in
       let text = line ∙ ap (λ (ks : List (List ℕ)). country_refusal_text ks tables (Lineage fault)) of_names in
-      subst (IsFillOutcome tables h s g regions) (sym is) (record {
+      subst (IsFillOutcome g tables regions before) (sym is) (record {
         answer = inl (fault, of_union, ap₂ (λ (t : List ℕ) (n : ℕ). (t, n)) text status);
         no_text = λ _. refl;
       })
 
 -- ---- what was begun
--- the setting of what the files before the regions say
+-- what the files before the regions say
+abbrev fill-said : (given : CountryFiles) (x : PublishCountryInputs) (p : Prepared) → IsPrepared given x p → CountrySaid
+fill-said given x p h = said_of h.begun.plan p h.tables
+
+-- and the setting of the regions
 abbrev pub fill_setting : (given : CountryFiles) (x : PublishCountryInputs) (p : Prepared) → IsPrepared given x p → Setting
-fill_setting given x p h = setting_of given.texts Regions h.begun.plan p.begun.classes.items
+fill_setting given x p h = setting_said given Regions (fill-said given x p h)
 
 -- it is that of a run over the regions
 pub is_fill_setting : (given : CountryFiles) (x : PublishCountryInputs) (p : Prepared) (h : IsPrepared given x p) (texts : List ℕ → Texts) → given.texts ≡ texts
@@ -102,24 +108,11 @@ pub is_fill_setting : (given : CountryFiles) (x : PublishCountryInputs) (p : Pre
 is_fill_setting given x p h texts told =
     subst (λ (t : List ℕ → Texts). IsSettingOf (fill_setting given x p h) t Regions p.begun) told (setting_begun given.texts Regions x.country p.begun h.begun)
 
--- no certificate is named
-pub said_without : (given : CountryFiles) (x : PublishCountryInputs) (p : Prepared) (h : IsPrepared given x p) → x.exact ≡ None → AreSaid given x h.begun.plan p.begun.classes.items [] h.tables
-said_without given x p h none =
-    subst (λ blocks. AreSaid given x h.begun.plan p.begun.classes.items blocks h.tables) (subst (λ e. AreBlocksOf e p.cert.exact) none h.said.of_exact) h.said
-
 -- ---- the regions
 -- the lines of the regions that passed
 fill-part : (given : CountryFiles) (x : PublishCountryInputs) (p : Prepared) (h : IsPrepared given x p) (regions : List Contents) (text : List ℕ) (left : List (List ℕ))
     → IsReachedBy (fill_setting given x p h) regions text left → IsPublishPart given Regions x text left
-fill-part given x p h regions text left reached = record {
-  plan = h.begun.plan;
-  classes = p.begun.classes.items;
-  blocks = p.cert.exact;
-  tables = h.tables;
-  said = h.said;
-  regions = regions;
-  reached = reached;
-}
+fill-part given x p h regions text left reached = record { said = fill-said given x p h; are_said = h.said; regions = regions; reached = reached }
 
 -- all of them
 all-reached : (s : Setting) (regions : List Contents) (lines : List ℕ) → JoinsAll s regions lines → IsReachedBy s regions lines []
@@ -148,10 +141,10 @@ begins-split old new a b text is (n, got) = elim (cases_lt (length a) n) [
     rest (Some xs) (Some ys) e = e ∙ sym (append_assoc xs a (take (n - length a) b))
 
 -- ---- a region is refused
-module _ (given : CountryFiles) (x : PublishCountryInputs) (p : Prepared) (h : IsPrepared given x p) (none : x.exact ≡ None) (k : List Entry) (s : List Shape) where
+module _ (given : CountryFiles) (x : PublishCountryInputs) (p : Prepared) (h : IsPrepared given x p) (before : Holdings) where
   -- its line ends the run
   refused-end : (g : Setting) (regions : List Contents) (left : List (List ℕ)) (end : Answer) → IsEnd g regions left end → end.1 ≢ done
-      → IsFillEnd h.tables k s g regions left (record { cert = None; line = end.0; status = end.1 })
+      → IsFillEnd g h.tables regions left before (record { cert = None; line = end.0; status = end.1 })
   refused-end g regions [] end is other = absurd (other (ap (λ (a : Answer). a.1) is))
   refused-end g regions (name ∷ left) end is other = (is, refl)
 
@@ -159,12 +152,10 @@ module _ (given : CountryFiles) (x : PublishCountryInputs) (p : Prepared) (h : I
   abbrev refusal_of : {a : Answer} → IsRegionsAnswer (fill_setting given x p h) a → Outputs
   refusal_of answer = record { cert = None; line = answer.end.0; status = answer.end.1 }
 
-  fills-refusal : (text : List ℕ) (status : ℕ) (answer : IsRegionsAnswer (fill_setting given x p h) (text, status)) → status ≢ done → FillsRegions given x k s answer.text (refusal_of answer)
+  fills-refusal : (text : List ℕ) (status : ℕ) (answer : IsRegionsAnswer (fill_setting given x p h) (text, status)) → status ≢ done → FillsRegions given x before answer.text (refusal_of answer)
   fills-refusal text status answer other = record {
-    plan = h.begun.plan;
-    classes = p.begun.classes.items;
-    tables = h.tables;
-    said = said_without given x p h none;
+    said = fill-said given x p h;
+    are_said = h.said;
     regions = answer.regions;
     left = answer.left;
     reached = answer.reached;
@@ -173,7 +164,7 @@ module _ (given : CountryFiles) (x : PublishCountryInputs) (p : Prepared) (h : I
 
   -- where it was written
   pub fill_refuses : (file old new : Option (List ℕ)) (status : ℕ) → RegionsEnd (fill_setting given x p h) old new status → status ≢ done
-      → FillsCountry given k s (held file old) (held file new) x status
+      → FillsCountry given x before (held file old) (held file new) status
   fill_refuses file old new status (text, answer, written) other = record {
     lines = answer.text;
     end = refusal_of answer;
@@ -188,7 +179,7 @@ module _ (given : CountryFiles) (x : PublishCountryInputs) (p : Prepared) (h : I
   -- where a beginning of it was
   refusal-broken : (file old new : Option (List ℕ)) (f : CountryFailure) (text : List ℕ) (status : ℕ) (answer : IsRegionsAnswer (fill_setting given x p h) (text, status)) → status ≢ done
       → IsOfNone f (Write Out) → Begins old new answer.text ⊎ ((mid : Option (List ℕ)) × Appends old mid answer.text × Begins mid new answer.end.0)
-      → FillHalts given k s (held file old) (held file new) x f
+      → FillHalts given x before (held file old) (held file new) f
   refusal-broken file old new f text status answer other write (inl begins) = inl (record {
     failure_is = write;
     text = answer.text;
@@ -207,15 +198,11 @@ module _ (given : CountryFiles) (x : PublishCountryInputs) (p : Prepared) (h : I
   }))
 
   -- ---- no end of the regions
-  pub fill_stops : (file old new : Option (List ℕ)) (f : CountryFailure) → RegionsStop (fill_setting given x p h) old new f → FillHalts given k s (held file old) (held file new) x f
-  fill_stops file old new f (inl (regions, text, left, reached, stopped, written)) = inr (inr (inl (record {
-    lines = text;
-    left = left;
-    part = fill-part given x p h regions text left reached;
-    stopped = stopped;
-    written = written;
-    file = Keeps-refl file;
-  })))
+  pub fill_stops : (file old new : Option (List ℕ)) (f : CountryFailure) → RegionsStop (fill_setting given x p h) old new f → FillHalts given x before (held file old) (held file new) f
+  fill_stops file old new f (inl (regions, text, left, reached, stopped, written)) = inr (inr (
+    Keeps-refl file,
+    inr (record { lines = text; left = left; part = fill-part given x p h regions text left reached; stopped = stopped; written = written }),
+  ))
   fill_stops file old new f (inr (write, (text, inl (regions, left, reached), begins))) = inl (record {
     failure_is = write;
     text = text;
@@ -228,12 +215,10 @@ module _ (given : CountryFiles) (x : PublishCountryInputs) (p : Prepared) (h : I
 
   -- ---- behind the regions, which all passed
   module _ (regions : List Contents) (lines : List ℕ) (joins : JoinsAll (fill_setting given x p h) regions lines) (file old now : Option (List ℕ)) (written : Appends old now lines) where
-    fills-all : (o : Outputs) → IsFillOutcome h.tables k s (fill_setting given x p h) regions o → FillsRegions given x k s lines o
+    fills-all : (o : Outputs) → IsFillOutcome (fill_setting given x p h) h.tables regions before o → FillsRegions given x before lines o
     fills-all o out = record {
-      plan = h.begun.plan;
-      classes = p.begun.classes.items;
-      tables = h.tables;
-      said = said_without given x p h none;
+      said = fill-said given x p h;
+      are_said = h.said;
       regions = regions;
       left = [];
       reached = all-reached (fill_setting given x p h) regions lines joins;
@@ -241,8 +226,8 @@ module _ (given : CountryFiles) (x : PublishCountryInputs) (p : Prepared) (h : I
     }
 
     -- the outcome was written
-    pub fill_writes : (o : Outputs) (status : ℕ) (cert out : Option (List ℕ)) → IsFillOutcome h.tables k s (fill_setting given x p h) regions o → Writes o status (held file now) (held cert out)
-        → FillsCountry given k s (held file old) (held cert out) x status
+    pub fill_writes : (o : Outputs) (status : ℕ) (cert out : Option (List ℕ)) → IsFillOutcome (fill_setting given x p h) h.tables regions before o → Writes o status (held file now) (held cert out)
+        → FillsCountry given x before (held file old) (held cert out) status
     fill_writes o status cert out decided w = record {
       lines = lines;
       end = o;
@@ -251,8 +236,8 @@ module _ (given : CountryFiles) (x : PublishCountryInputs) (p : Prepared) (h : I
     }
 
     -- it was not
-    pub fill_breaks : (o : Outputs) (f : CountryFailure) (failure : Failure) (cert out : Option (List ℕ)) → IsFillOutcome h.tables k s (fill_setting given x p h) regions o → IsOfNone f failure
-        → BreaksOff o failure (held file now) (held cert out) → FillHalts given k s (held file old) (held cert out) x f
+    pub fill_breaks : (o : Outputs) (f : CountryFailure) (failure : Failure) (cert out : Option (List ℕ)) → IsFillOutcome (fill_setting given x p h) h.tables regions before o → IsOfNone f failure
+        → BreaksOff o failure (held file now) (held cert out) → FillHalts given x before (held file old) (held cert out) f
     fill_breaks o f failure cert out decided of broken = inr (inl (record {
       no_region = of.1;
       lines = lines;
@@ -264,56 +249,43 @@ module _ (given : CountryFiles) (x : PublishCountryInputs) (p : Prepared) (h : I
     }))
 
     -- memory ran out before
-    pub fill_spent : (f : CountryFailure) → IsOfNone f Memory → FillHalts given k s (held file old) (held file now) x f
-    fill_spent f of = inr (inr (inl (record {
-      lines = lines;
-      left = [];
-      part = fill-part given x p h regions lines [] (all-reached (fill_setting given x p h) regions lines joins);
-      stopped = of;
-      written = written;
-      file = Keeps-refl file;
-    })))
+    pub fill_spent : (f : CountryFailure) → IsOfNone f Memory → FillHalts given x before (held file old) (held file now) f
+    fill_spent f of =
+        let part = fill-part given x p h regions lines [] (all-reached (fill_setting given x p h) regions lines joins) in
+        inr (inr (Keeps-refl file, inr (record { lines = lines; left = []; part = part; stopped = of; written = written })))
 
 -- ---- what a run of what was prepared came to
-module _ (given : CountryFiles) (x : PublishCountryInputs) (k : List Entry) (s : List Shape) (before after : Held) where
-  pub prepared_ends : (status : ℕ) → FillsCountry given k s before after x status → FillsPrepared given x k s before after (Ok status)
+module _ (given : CountryFiles) (x : PublishCountryInputs) (holdings : Holdings) (before after : Held) where
+  pub prepared_ends : (status : ℕ) → FillsCountry given x holdings before after status → FillsPrepared given x holdings before after (Ok status)
   prepared_ends status h = record { answer = h; failure = tt }
 
-  pub prepared_halts : (r : Result ℕ CountryFailure) (f : CountryFailure) → r ≡ Err f → FillHalts given k s before after x f → FillsPrepared given x k s before after r
-  prepared_halts r f is h = subst (FillsPrepared given x k s before after) (sym is) (record { answer = tt; failure = h })
+  pub prepared_halts : (r : Result ℕ CountryFailure) (f : CountryFailure) → r ≡ Err f → FillHalts given x holdings before after f → FillsPrepared given x holdings before after r
+  prepared_halts r f is h = subst (FillsPrepared given x holdings before after) (sym is) (record { answer = tt; failure = h })
 
 -- ---- the run
 -- the files of a run that names no certificate
 abbrev pub files_without : (plan classes : Option (List ℕ)) → (List ℕ → Texts) → (List ℕ → Option (List ℕ)) → CountryFiles
 files_without plan classes texts lineages = record { plan = plan; classes = classes; exact = None; texts = texts; lineages = lineages }
 
--- no certificate is named
-pub no_exact : (given : CountryFiles) (x : PublishCountryInputs) → given.exact ≡ None → AreTopRead given x → x.exact ≡ None
-no_exact given x none read = unnamed x.exact (subst (IsExactRead x.exact) none read.of_exact)
-  where
-    unnamed : (e : Option (List ℕ)) → IsExactRead e None → e ≡ None
-    unnamed None h = refl
-    unnamed (Some bytes) h = absurd h
-
-module _ (given : CountryFiles) (k : List Entry) (s : List Shape) (file out : Option (List ℕ)) where
+module _ (given : CountryFiles) (before : Holdings) (file out : Option (List ℕ)) where
   -- a file was not read
-  pub runs_unread : (r : Result ℕ CountryFailure) (f : CountryFailure) → r ≡ Err f → IsUnreadTop given.plan f → RunsExactCountry given k s (held file out) (held file out) r
-  runs_unread r f is unread = subst (RunsExactCountry given k s (held file out) (held file out)) (sym is) (record {
+  pub runs_unread : (r : Result ℕ CountryFailure) (f : CountryFailure) → r ≡ Err f → IsUnreadTop given.plan f → RunsExactCountry given before (held file out) (held file out) r
+  runs_unread r f is unread = subst (RunsExactCountry given before (held file out) (held file out)) (sym is) (record {
     answer = tt;
     failure = inl (record { unread = unread; written = Keeps-refl out; file = Keeps-refl file });
   })
 
   module _ (x : PublishCountryInputs) (read : AreTopRead given x) where
     -- nor a lineage table
-    pub runs_earlier : (r : Result ℕ CountryFailure) (f : CountryFailure) → r ≡ Err f → IsOfNone f Memory ⊎ IsUnreadLineage given x f → RunsExactCountry given k s (held file out) (held file out) r
-    runs_earlier r f is stopped = subst (RunsExactCountry given k s (held file out) (held file out)) (sym is) (record {
+    pub runs_earlier : (r : Result ℕ CountryFailure) (f : CountryFailure) → r ≡ Err f → IsOfNone f Memory ⊎ IsUnreadLineage given x f → RunsExactCountry given before (held file out) (held file out) r
+    runs_earlier r f is stopped = subst (RunsExactCountry given before (held file out) (held file out)) (sym is) (record {
       answer = tt;
-      failure = inr (x, read, inr (inr (inr (record { stopped = stopped; written = Keeps-refl out; file = Keeps-refl file }))));
+      failure = inr (x, read, inr (inr (Keeps-refl file, inl (record { stopped = stopped; written = Keeps-refl out }))));
     })
 
     -- what was read has a fault, whose line was written
     pub runs_refused : (new : Option (List ℕ)) (a : Printed) (status : ℕ) → IsRefusedBefore given x (a.text.items, a.status) → status ≡ a.status → Appends out new a.text.items
-        → RunsExactCountry given k s (held file out) (held file new) (Ok status)
+        → RunsExactCountry given before (held file out) (held file new) (Ok status)
     runs_refused new a status refusal same written = record {
       answer = (
         x,
@@ -330,14 +302,14 @@ module _ (given : CountryFiles) (k : List Entry) (s : List Shape) (file out : Op
 
     -- or a beginning of it
     pub runs_broken : (new : Option (List ℕ)) (a : Printed) (r : Result ℕ CountryFailure) (f : CountryFailure) → r ≡ Err f → IsRefusedBefore given x (a.text.items, a.status) → IsOfNone f (Write Out)
-        → Begins out new a.text.items → RunsExactCountry given k s (held file out) (held file new) r
-    runs_broken new a r f is refusal write begins = subst (RunsExactCountry given k s (held file out) (held file new)) (sym is) (record {
+        → Begins out new a.text.items → RunsExactCountry given before (held file out) (held file new) r
+    runs_broken new a r f is refusal write begins = subst (RunsExactCountry given before (held file out) (held file new)) (sym is) (record {
       answer = tt;
       failure = inr (x, read, inl (record { failure_is = write; text = a.text.items; is = inl (a.status, refusal); written = begins; file = Keeps-refl file }));
     })
 
     -- it has none
-    pub runs_prepared : (cert new : Option (List ℕ)) (r : Result ℕ CountryFailure) → FillsPrepared given x k s (held file out) (held cert new) r
-        → RunsExactCountry given k s (held file out) (held cert new) r
+    pub runs_prepared : (cert new : Option (List ℕ)) (r : Result ℕ CountryFailure) → FillsPrepared given x before (held file out) (held cert new) r
+        → RunsExactCountry given before (held file out) (held cert new) r
     runs_prepared cert new (Ok status) h = record { answer = (x, read, inr h.answer); failure = tt }
     runs_prepared cert new (Err f) h = record { answer = tt; failure = inr (x, read, h.failure) }

@@ -1,25 +1,26 @@
 -- How a run over a country begins, and how it ends before its regions.
-use Rattle.std.proofs.Common.{◌≡◌, ◌≤◌, ◌<◌, ◌⊎◌, inl, inr, sym, subst, ℕ, List, Option, Result, Ok, Err, IsErrAnd}
+use Rattle.std.proofs.Common.{◌≡◌, ◌≤◌, ◌<◌, ◌⊎◌, inl, inr, refl, sym, subst, ℕ, List, Option, Result, Ok, Err, IsErrAnd}
 use Rattle.std.proofs.KnownBytes.{Keeps-refl}
 use Rattle.std.specs.Io.KnownBytes.{Appends}
 use Rattle.sqlite_trees.specs.declared.store.Store.{Ghosts}
 use Rattle.lpis_lineage.specs.Lineage.{last_year}
+use Rattle.lpis_register.specs.Holdings.{RegisterState}
 use Rattle.lpis_register.specs.declared.fault.PublishFault.TheVariants.{Year}
 use Rattle.lpis_commands.specs.Streams.{Begins}
 use Rattle.lpis_commands.specs.declared.answer.Answer.{Answer as Printed}
-use Rattle.lpis_commands.specs.declared.command.Detail.{Detail}
 use Rattle.lpis_commands.specs.declared.failure.Failure.{Failure}
 use Rattle.lpis_commands.specs.declared.failure.Failure.TheVariants.{Memory, Write}
 use Rattle.lpis_commands.specs.declared.failure.Name.TheVariants.{Cert, Classes, Country, Lineage, Out}
 use Rattle.lpis_country_run.specs.CountryFailures.{IsOfNone}
 use Rattle.lpis_country_run.specs.declared.failure.CountryFailure.{CountryFailure}
 use Rattle.lpis_publishing.specs.LineageLines.{publish_refusal_text}
-use Rattle.lpis_publishing.specs.Stored.{IsStoreFailure, RegisterState}
+use Rattle.lpis_publishing.specs.Output.{output}
+use Rattle.lpis_publishing.specs.Stored.{IsStoreFailure}
 use Rattle.lpis_publish_country.specs.CountryLineage.{IsUnreadTable}
-use Rattle.lpis_publish_country.specs.PublishCountryAnswer.{AreTopRead, CountryFiles, IsRefusedBefore, PublishCountryInputs}
+use Rattle.lpis_publish_country.specs.PublishCountryAnswer.{AreTopRead, CountryFiles, CountryRequest, IsRefusedBefore, PublishCountryInputs}
 use Rattle.lpis_publish_country.specs.PublishCountryRuns.{IsUnreadInput, IsUnreadLineage, RunsPublishCountry}
 use Rattle.lpis_publish_country.specs.private.Deciding.{RunsEarly, RunsPrepared}
-use Rattle.lpis_publish_country.proofs.EndLemmas.{is_same, none_of_store, stays_same}
+use Rattle.lpis_publish_country.proofs.EndLemmas.{none_of_store, stays_same}
 
 -- ---- failures
 -- the database did not fail where a lineage table was not read
@@ -38,30 +39,30 @@ input-no-store given f (inl (inr (inl read))) = none_of_store f.failure (inr (in
 input-no-store given f (inl (inr (inr read))) = none_of_store f.failure (inr (inl (Classes, read.1.0)))
 input-no-store given f (inr read) = none_of_store f.failure (inr (inl (Cert, read.3.0)))
 
-module _ {S : Type 0} (store : Ghosts S) (year : ℕ) (given : CountryFiles) (detail : Detail) where
+module _ {S : Type 0} (store : Ghosts S) (asked : CountryRequest) where
   -- ---- before the regions
   module _ (old : RegisterState S) (x : PublishCountryInputs) where
     -- a lineage table is not read, or memory runs out
-    pub runs_unprepared : (out : Option (List ℕ)) (r : Result ℕ CountryFailure) (f : CountryFailure) → IsErrAnd r (λ e. e ≡ f) → IsOfNone f Memory ⊎ IsUnreadLineage given x f
-        → RunsPrepared store year given detail old old out out x r
+    pub runs_unprepared : (out : Option (List ℕ)) (r : Result ℕ CountryFailure) (f : CountryFailure) → IsErrAnd r (λ e. e ≡ f) → IsOfNone f Memory ⊎ IsUnreadLineage asked.given x f
+        → RunsPrepared store asked x old old (output out out) r
     runs_unprepared out (Ok status) f h why = absurd h
     runs_unprepared out (Err e) f h why =
-        subst (λ (y : CountryFailure). RunsPrepared store year given detail old old out out x (Err y)) (sym h) (record {
+        subst (λ (y : CountryFailure). RunsPrepared store asked x old old (output out out) (Err y)) (sym h) (record {
           answer = tt;
-          failure = inr (inl (record { stopped = why; written = Keeps-refl out; same = is_same old }));
+          failure = inr (refl, inr (inl (record { stopped = why; written = Keeps-refl out })));
           stored = stays_same store old (Err f.failure);
-          cause = λ of. absurd (lineage-no-store given x f why of);
+          cause = λ of. absurd (lineage-no-store asked.given x f why of);
         })
 
     -- a file has a fault, whose line is written
-    pub runs_faulty : (before after : Option (List ℕ)) (a : Printed) (status : ℕ) → IsRefusedBefore given x (a.text.items, a.status) → status ≡ a.status → Appends before after a.text.items
-        → RunsPrepared store year given detail old old before after x (Ok status)
+    pub runs_faulty : (before after : Option (List ℕ)) (a : Printed) (status : ℕ) → IsRefusedBefore asked.given x (a.text.items, a.status) → status ≡ a.status
+        → Appends before after a.text.items → RunsPrepared store asked x old old (output before after) (Ok status)
     runs_faulty before after a status refusal is written = record {
       answer = record {
         text = a.text.items;
-        answer = inl (subst (λ (n : ℕ). IsRefusedBefore given x (a.text.items, n)) (sym is) refusal);
+        answer = inl (subst (λ (n : ℕ). IsRefusedBefore asked.given x (a.text.items, n)) (sym is) refusal);
         written = written;
-        same = λ other. is_same old;
+        same = λ other. refl;
       };
       failure = tt;
       stored = stays_same store old (Ok status);
@@ -69,28 +70,28 @@ module _ {S : Type 0} (store : Ghosts S) (year : ℕ) (given : CountryFiles) (de
     }
 
     -- or is not
-    pub runs_faulty_not : (before after : Option (List ℕ)) (a : Printed) (r : Result ℕ CountryFailure) (failure : Failure) → IsRefusedBefore given x (a.text.items, a.status)
-        → IsErrAnd r (λ f. IsOfNone f failure) → (failure ≡ Write Out) × Begins before after a.text.items → RunsPrepared store year given detail old old before after x r
+    pub runs_faulty_not : (before after : Option (List ℕ)) (a : Printed) (r : Result ℕ CountryFailure) (failure : Failure) → IsRefusedBefore asked.given x (a.text.items, a.status)
+        → IsErrAnd r (λ f. IsOfNone f failure) → (failure ≡ Write Out) × Begins before after a.text.items → RunsPrepared store asked x old old (output before after) r
     runs_faulty_not before after a (Ok n) failure refusal h begun = absurd h
     runs_faulty_not before after a (Err f) failure refusal h begun =
         let out = subst (IsOfNone f) begun.0 h in
         record {
           answer = tt;
-          failure = inl (out, inr (record { whole = (a.text.items, a.status); answer = inl refusal; written = begun.1; same = λ other. is_same old }));
+          failure = inl (out, record { whole = (a.text.items, a.status); answer = inl refusal; written = begun.1; same = λ other. refl });
           stored = stays_same store old (Err f.failure);
           cause = λ of. absurd (none_of_store f.failure (inr (inr out.0)) of);
         }
 
   -- ---- the whole run
   -- in a year that is not above the last one
-  pub runs_early : (old : RegisterState S) (before after : Option (List ℕ)) (last : ℕ) (r : Result ℕ CountryFailure) → last ≡ last_year old.history → year ≤ last → RunsEarly last before after r
-      → RunsPublishCountry store year given detail old old before after r
+  pub runs_early : (old : RegisterState S) (before after : Option (List ℕ)) (last : ℕ) (r : Result ℕ CountryFailure) → last ≡ last_year old.held.history → asked.year ≤ last
+      → RunsEarly last (output before after) r → RunsPublishCountry store asked old old (output before after) r
   runs_early old before after last (Ok status) is early ran = record {
     answer = inl (record {
-      early = subst (λ (n : ℕ). year ≤ n) is early;
+      early = subst (λ (n : ℕ). asked.year ≤ n) is early;
       status_is = ran.answer.0;
       written = subst (λ (n : ℕ). Appends before after (publish_refusal_text (Year n))) is ran.answer.1;
-      same = is_same old;
+      same = refl;
     });
     failure = tt;
     stored = stays_same store old (Ok status);
@@ -99,41 +100,41 @@ module _ {S : Type 0} (store : Ghosts S) (year : ℕ) (given : CountryFiles) (de
   runs_early old before after last (Err f) is early ran = record {
     answer = tt;
     failure = inl (record {
-      early = subst (λ (n : ℕ). year ≤ n) is early;
+      early = subst (λ (n : ℕ). asked.year ≤ n) is early;
       written = elim ran.failure [
         | inl m ↦ inl m
         | inr w ↦ inr (w.0, subst (λ (n : ℕ). Begins before after (publish_refusal_text (Year n))) is w.1)
       ];
-      same = is_same old;
+      same = refl;
     });
     stored = stays_same store old (Err f.failure);
     cause = λ of. absurd (elim ran.failure [ inl m ↦ none_of_store f.failure (inl m.0.0) of | inr w ↦ none_of_store f.failure (inr (inr w.0.0)) of ]);
   }
 
   -- where a file that is no region's is not read
-  pub runs_unread : (old : RegisterState S) (out : Option (List ℕ)) (r : Result ℕ CountryFailure) (f : CountryFailure) → IsErrAnd r (λ e. e ≡ f) → last_year old.history < year → IsUnreadInput given f
-      → RunsPublishCountry store year given detail old old out out r
+  pub runs_unread : (old : RegisterState S) (out : Option (List ℕ)) (r : Result ℕ CountryFailure) (f : CountryFailure) → IsErrAnd r (λ e. e ≡ f) → last_year old.held.history < asked.year
+      → IsUnreadInput asked.given f → RunsPublishCountry store asked old old (output out out) r
   runs_unread old out (Ok status) f h later unread = absurd h
   runs_unread old out (Err e) f h later unread =
-      subst (λ (y : CountryFailure). RunsPublishCountry store year given detail old old out out (Err y)) (sym h) (record {
+      subst (λ (y : CountryFailure). RunsPublishCountry store asked old old (output out out) (Err y)) (sym h) (record {
         answer = tt;
-        failure = inr (inl (record { later = later; unread = unread; written = Keeps-refl out; same = is_same old }));
+        failure = inr (inl (record { later = later; unread = unread; written = Keeps-refl out; same = refl }));
         stored = stays_same store old (Err f.failure);
-        cause = λ of. absurd (input-no-store given f unread of);
+        cause = λ of. absurd (input-no-store asked.given f unread of);
       })
 
   -- what was read is that of the whole run
-  pub runs_later : (old new : RegisterState S) (before after : Option (List ℕ)) (x : PublishCountryInputs) (r : Result ℕ CountryFailure) → last_year old.history < year → AreTopRead given x
-      → RunsPrepared store year given detail old new before after x r → RunsPublishCountry store year given detail old new before after r
+  pub runs_later : (old new : RegisterState S) (before after : Option (List ℕ)) (x : PublishCountryInputs) (r : Result ℕ CountryFailure) → last_year old.held.history < asked.year
+      → AreTopRead asked.given x → RunsPrepared store asked x old new (output before after) r → RunsPublishCountry store asked old new (output before after) r
   runs_later old new before after x (Ok status) later read ran = record {
-    answer = inr (x, record { later = later; read = read }, ran.answer);
+    answer = inr (x, (later, read), ran.answer);
     failure = tt;
     stored = ran.stored;
     cause = tt;
   }
   runs_later old new before after x (Err f) later read ran = record {
     answer = tt;
-    failure = inr (inr (x, record { later = later; read = read }, ran.failure));
+    failure = inr (inr (x, (later, read), ran.failure));
     stored = ran.stored;
-    cause = λ of. (x, record { later = later; read = read }, ran.cause);
+    cause = λ of. (x, (later, read), ran.cause of);
   }

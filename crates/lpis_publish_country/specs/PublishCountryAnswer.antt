@@ -1,5 +1,5 @@
 -- The answer to a country that is to be published: text and status, of the bytes of its files, the
--- year, and the history and the kept shapes before; and both after.
+-- year, and what the register holds before; and what it holds after.
 use Rattle.std.specs.Prelude.{◌≡◌, ◌⊎◌, ◌++◌, ◌∷◌, [], ℕ, List, Option, None, Some, Ok, All}
 use Rattle.std.specs.Prelude.{length}
 use Rattle.lpis_covers.specs.declared.class.Class.{Class}
@@ -15,11 +15,10 @@ use Rattle.lpis_country.specs.Country.{country_of}
 use Rattle.lpis_country.specs.Union.{IsUnion}
 use Rattle.lpis_country_plan.specs.CountryText.{IsCountryText}
 use Rattle.lpis_country_plan.specs.Tree.{Tree, folders}
-use Rattle.lpis_lineage.specs.declared.row.Entry.{Entry}
 use Rattle.lpis_lineage.specs.declared.row.Row.{Row}
-use Rattle.lpis_register_rows.specs.Shapes.{Shape}
 use Rattle.lpis_exact_lineage.specs.Asking.{IsShown}
 use Rattle.lpis_register.specs.Faults.{IsRefused, IsSetAside}
+use Rattle.lpis_register.specs.Holdings.{Candidate, Holdings, candidate}
 use Rattle.lpis_register.specs.declared.fault.PublishFault.{PublishFault}
 use Rattle.lpis_commands.specs.CheckAnswer.{Answer, IsCertAnswer, IsTableAnswer}
 use Rattle.lpis_commands.specs.Status.{done, refused}
@@ -83,68 +82,106 @@ IsRefusedBefore given x =
     (rows_of classes_table x.country.classes))
     x.country.plan
 
--- they have no fault, and say this plan, these classes, blocks and tables of lineage
-pub record AreSaid (given : CountryFiles) (x : PublishCountryInputs) (plan : Tree)
-    (classes : List Class) (blocks : List ExactBlock) (tables : List (List Row)) : Type 0 where
-  pub planned : IsCountryText x.country.plan plan
-  pub table : rows_of classes_table x.country.classes ≡ Ok classes
-  pub of_exact : AreBlocksOf x.exact blocks
-  pub of_lineages : AreTablesOf given.lineages (folders plan) tables
+-- a plan, classes, the blocks of a certificate, and tables of lineage
+pub record CountrySaid : Type 0 where
+  pub plan : Tree
+  pub classes : List Class
+  pub blocks : List ExactBlock
+  pub tables : List (List Row)
 
--- ---- the union, over a register with this history and these shapes before, and those after
--- in a year, with these blocks and these tables of lineage
-module _ (year : ℕ) (blocks : List ExactBlock) (tables : List (List Row)) (h : List Entry)
-    (s : List Shape) (k : List Entry) (t : List Shape) where
-  -- the regions, one of each folder, have the same classes; their union is a sound map, of which
-  -- the blocks show what its marked rows ask for; and it was published with the rows of all tables
-  pub record IsCountryPublished (g : Setting) (regions : List Contents) : Type 0 where
-    pub of_folders : AreRegionsOf g.texts g.names regions
-    pub same : All (λ (r : Contents). r.classes ≡ g.classes) regions
-    pub union : IsUnion regions (country_of g.classes regions)
-    pub sound : IsSoundMap (country_of g.classes regions)
-    pub shown : IsShown h s (country_of g.classes regions) blocks (rows_in tables)
-    pub published : IsReleasePublished (country_of g.classes regions) (rows_in tables) year h s k t
+-- the files before the regions have no fault, and say these
+pub record AreSaid (given : CountryFiles) (x : PublishCountryInputs) (said : CountrySaid) : Type 0
+  where
+    pub planned : IsCountryText x.country.plan said.plan
+    pub table : rows_of classes_table x.country.classes ≡ Ok said.classes
+    pub of_exact : AreBlocksOf x.exact said.blocks
+    pub of_lineages : AreTablesOf given.lineages (folders said.plan) said.tables
 
-  -- what is printed of it behind the lines of its regions: as of a release, behind the line of the
-  -- country and the yes
-  abbrev pub country_publication_text : Setting → List Contents → List ℕ
-  country_publication_text g regions =
-      let union = country_of g.classes regions in
-      publication_text (country_lines (length regions) union) h year union (rows_in tables)
+-- the setting in which the regions are read then
+abbrev pub setting_said : CountryFiles → Detail → CountrySaid → Setting
+setting_said given detail said = setting_of given.texts detail said.plan said.classes
 
-  -- of the regions of all folders: the line of what the register refuses, in its order; or what is
-  -- printed of their union, which was published
-  abbrev pub IsUnionAnswer : Setting → List Contents → Answer → Type 0
-  IsUnionAnswer g regions a =
-      let union = country_of g.classes regions in
-      ((fault : PublishFault) × IsRefused h s year union blocks (rows_in tables) fault
-      × (IsSetAside fault → ⊥) × (a ≡ (country_refusal_text g.names tables fault, refused)))
-      ⊎ (IsCountryPublished g regions × (a ≡ (country_publication_text g regions, done)))
+-- ---- the union
+-- a country that is to be published: its year, the setting of its regions, the blocks of its
+-- certificate, and its tables of lineage
+pub record CountryCandidate : Type 0 where
+  pub year : ℕ
+  pub setting : Setting
+  pub blocks : List ExactBlock
+  pub tables : List (List Row)
 
-  -- what follows the regions that passed: where no folder is left the answer to their union, else
-  -- the line of the next region, which is refused
-  abbrev pub IsPublishEnd : Setting → List Contents → List (List ℕ) → Answer → Type 0
-  IsPublishEnd g regions [] a = IsUnionAnswer g regions a
-  IsPublishEnd g regions (name ∷ left) a = IsRefusedRegion g regions name a
+abbrev pub country_candidate : ℕ → Setting → List ExactBlock → List (List Row) → CountryCandidate
+country_candidate year setting blocks tables =
+    record { year = year; setting = setting; blocks = blocks; tables = tables }
 
-  -- the lines of the regions up to the first that is refused, and what follows them
-  pub record IsRegionsPublishAnswer (g : Setting) (a : Answer) : Type 0 where
-    pub regions : List Contents
-    pub lines : List ℕ
-    pub left : List (List ℕ)
-    pub reached : IsReachedBy g regions lines left
-    pub end : Answer
-    pub follows : IsPublishEnd g regions left end
-    pub is : a ≡ (lines ++ end.0, end.1)
+-- as a release that is to be published, the union of these regions with the rows of all tables
+abbrev pub union_of : CountryCandidate → List Contents → Candidate
+union_of c regions =
+    candidate c.year (country_of c.setting.classes regions) c.blocks (rows_in c.tables)
+
+-- the regions, one of each folder, have the same classes; their union is a sound map, of which the
+-- blocks show what its marked rows ask for; and it was published
+pub record IsCountryPublished (c : CountryCandidate) (regions : List Contents)
+    (before after : Holdings) : Type 0 where
+  pub of_folders : AreRegionsOf c.setting.texts c.setting.names regions
+  pub same : All (λ (r : Contents). r.classes ≡ c.setting.classes) regions
+  pub union : IsUnion regions (union_of c regions).release
+  pub sound : IsSoundMap (union_of c regions).release
+  pub shown : IsShown before.history before.shapes (union_of c regions).release c.blocks
+      (rows_in c.tables)
+  pub published : IsReleasePublished (union_of c regions) before after
+
+-- what is printed of it behind the lines of its regions: as of a release, behind the line of the
+-- country and the yes
+abbrev pub country_publication_text : CountryCandidate → List Contents → Holdings → List ℕ
+country_publication_text c regions before =
+    publication_text (country_lines (length regions) (union_of c regions).release)
+    (union_of c regions) before
+
+-- of the regions of all folders: the line of what the register refuses, in its order; or what is
+-- printed of their union, which was published
+abbrev pub IsUnionAnswer : CountryCandidate → List Contents → Holdings → Holdings → Answer → Type 0
+IsUnionAnswer c regions before after a =
+    ((fault : PublishFault) × IsRefused (union_of c regions) before fault
+    × (IsSetAside fault → ⊥)
+    × (a ≡ (country_refusal_text c.setting.names c.tables fault, refused)))
+    ⊎ (IsCountryPublished c regions before after
+    × (a ≡ (country_publication_text c regions before, done)))
+
+-- what follows the regions that passed: where no folder is left the answer to their union, else the
+-- line of the next region, which is refused
+abbrev pub IsPublishEnd : CountryCandidate → List Contents → List (List ℕ) → Holdings → Holdings
+    → Answer → Type 0
+IsPublishEnd c regions [] before after a = IsUnionAnswer c regions before after a
+IsPublishEnd c regions (name ∷ left) before after a = IsRefusedRegion c.setting regions name a
+
+-- the lines of the regions up to the first that is refused, and what follows them
+pub record IsRegionsPublishAnswer (c : CountryCandidate) (before after : Holdings) (a : Answer)
+    : Type 0 where
+  pub regions : List Contents
+  pub lines : List ℕ
+  pub left : List (List ℕ)
+  pub reached : IsReachedBy c.setting regions lines left
+  pub end : Answer
+  pub follows : IsPublishEnd c regions left before after end
+  pub is : a ≡ (lines ++ end.0, end.1)
 
 -- ---- the answer
--- the answer in a year above the last one, when this is printed of regions: faults of the files
--- before the regions come first
-abbrev pub IsPublishCountryAnswer : CountryFiles → Detail → PublishCountryInputs → (year : ℕ)
-    → (h : List Entry) → (s : List Shape) → (k : List Entry) → (t : List Shape) → Answer → Type 0
-IsPublishCountryAnswer given detail x year h s k t a =
-    IsRefusedBefore given x a
-    ⊎ ((plan : Tree) × (classes : List Class) × (blocks : List ExactBlock)
-    × (tables : List (List Row)) × AreSaid given x plan classes blocks tables
-    × IsRegionsPublishAnswer year blocks tables h s k t (setting_of given.texts detail plan classes)
-    a)
+-- what is asked for: a year, the files of a country, and what is to be printed of its regions
+pub record CountryRequest : Type 0 where
+  pub year : ℕ
+  pub given : CountryFiles
+  pub detail : Detail
+
+-- the country that is to be published where the files before the regions say this
+abbrev pub country_asked : CountryRequest → CountrySaid → CountryCandidate
+country_asked asked said = country_candidate asked.year (setting_said asked.given asked.detail said)
+    said.blocks said.tables
+
+-- the answer in a year above the last one: faults of the files before the regions come first
+abbrev pub IsPublishCountryAnswer : CountryRequest → PublishCountryInputs → Holdings → Holdings
+    → Answer → Type 0
+IsPublishCountryAnswer asked x before after a =
+    IsRefusedBefore asked.given x a
+    ⊎ ((said : CountrySaid) × AreSaid asked.given x said
+    × IsRegionsPublishAnswer (country_asked asked said) before after a)

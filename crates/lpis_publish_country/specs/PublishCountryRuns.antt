@@ -2,19 +2,17 @@
 use Rattle.std.specs.Prelude.{◌≡◌, ◌≢◌, ◌<◌, ◌≤◌, ◌⊎◌, ◌∷◌, [], ℕ, List, Option, None}
 use Rattle.std.specs.Prelude.{IfErr, IfOk, Ok, Err, Result}
 use Rattle.std.specs.Io.KnownBytes.{Appends, Keeps}
-use Rattle.sqlite.specs.Held.{state}
 use Rattle.sqlite_trees.specs.declared.store.Store.{Ghosts}
 use Rattle.lpis_covers.specs.declared.class.Class.{Class}
 use Rattle.lpis_covers.specs.Classes.{classes_table}
 use Rattle.lpis_covers.specs.Faults.{rows_of}
 use Rattle.lpis_parcels.specs.Release.{Contents}
 use Rattle.lpis_cert.specs.declared.part.ExactBlock.{ExactBlock}
-use Rattle.lpis_country.specs.Country.{country_of}
 use Rattle.lpis_country_plan.specs.CountryText.{IsCountryText}
 use Rattle.lpis_country_plan.specs.Tree.{Tree, folders}
-use Rattle.lpis_lineage.specs.declared.row.Row.{Row}
 use Rattle.lpis_lineage.specs.Lineage.{last_year}
 use Rattle.lpis_register.specs.Failing.{FailsToStore}
+use Rattle.lpis_register.specs.Holdings.{Holdings, RegisterState}
 use Rattle.lpis_register.specs.declared.fault.PublishFault.TheVariants.{Year}
 use Rattle.lpis_commands.specs.Status.{done, refused}
 use Rattle.lpis_commands.specs.Streams.{Begins, IsWithin}
@@ -23,15 +21,18 @@ use Rattle.lpis_commands.specs.declared.command.Detail.{Detail}
 use Rattle.lpis_commands.specs.declared.failure.Failure.{Failure}
 use Rattle.lpis_commands.specs.declared.failure.Failure.TheVariants.{Memory, Read, Store, Write}
 use Rattle.lpis_commands.specs.declared.failure.Name.TheVariants.{Cert, Out}
-use Rattle.lpis_country_run.specs.CountryAnswer.{HavePassed, IsReachedBy, setting_of}
+use Rattle.lpis_country_run.specs.CountryAnswer.{HavePassed, IsReachedBy}
 use Rattle.lpis_country_run.specs.CountryFailures.{IsOfNone, IsStoppedBefore, IsUnreadTop}
 use Rattle.lpis_country_run.specs.declared.failure.CountryFailure.{CountryFailure}
 use Rattle.lpis_publishing.specs.LineageLines.{publish_refusal_text}
-use Rattle.lpis_publishing.specs.Stored.{RegisterState, IsStoreFailure, Stays}
-use Rattle.lpis_publish_country.specs.CountryLineage.{AreTablesUnread, rows_in}
+use Rattle.lpis_publishing.specs.Output.{Output}
+use Rattle.lpis_publishing.specs.Stored.{IsStoreFailure, Stays}
+use Rattle.lpis_publish_country.specs.CountryLineage.{AreTablesUnread}
 use Rattle.lpis_publish_country.specs.PublishCountryAnswer.{AreBlocksOf, AreSaid, AreTopRead}
-use Rattle.lpis_publish_country.specs.PublishCountryAnswer.{CountryFiles, IsPublishCountryAnswer}
-use Rattle.lpis_publish_country.specs.PublishCountryAnswer.{PublishCountryInputs}
+use Rattle.lpis_publish_country.specs.PublishCountryAnswer.{CountryFiles, CountryRequest}
+use Rattle.lpis_publish_country.specs.PublishCountryAnswer.{CountrySaid, IsPublishCountryAnswer}
+use Rattle.lpis_publish_country.specs.PublishCountryAnswer.{PublishCountryInputs, country_asked}
+use Rattle.lpis_publish_country.specs.PublishCountryAnswer.{setting_said, union_of}
 
 -- ---- files that are not read
 -- a file that is no region's was not read, the certificate where one is named, while those before
@@ -57,35 +58,41 @@ pub record IsUnreadLineage (given : CountryFiles) (x : PublishCountryInputs) (f 
 -- lines were printed of them
 pub record IsPublishPart (given : CountryFiles) (detail : Detail) (x : PublishCountryInputs)
     (lines : List ℕ) (left : List (List ℕ)) : Type 0 where
-  pub plan : Tree
-  pub classes : List Class
-  pub blocks : List ExactBlock
-  pub tables : List (List Row)
-  pub said : AreSaid given x plan classes blocks tables
+  pub said : CountrySaid
+  pub are_said : AreSaid given x said
   pub regions : List Contents
-  pub reached : IsReachedBy (setting_of given.texts detail plan classes) regions lines left
+  pub reached : IsReachedBy (setting_said given detail said) regions lines left
 
--- the next of these folders was not read, or memory ran out; behind the last one memory ran out, or
--- the database failed
-abbrev pub IsPublishStopped : CountryFiles → List (List ℕ) → CountryFailure → Type 0
-IsPublishStopped given [] f = (f.region ≡ None) × ((f.failure ≡ Memory) ⊎ IsStoreFailure f.failure)
-IsPublishStopped given (name ∷ left) f = IsStoppedBefore given.texts (name ∷ left) f
+-- ---- what stops a run
+-- a lineage table was not read, or memory ran out, before anything was written
+pub record StopsBefore (given : CountryFiles) (x : PublishCountryInputs) (out : Output)
+    (f : CountryFailure) : Type 0 where
+  pub stopped : IsOfNone f Memory ⊎ IsUnreadLineage given x f
+  pub written : Keeps out.before out.after
 
--- the union of the regions, which all passed, was accepted, and the database failed to store it
-pub record FailsToPublishCountry {S : Type 0} (store : Ghosts S) (given : CountryFiles)
-    (detail : Detail) (x : PublishCountryInputs) (year : ℕ) (old new : RegisterState S)
-    (Failed : Type 0) : Type 0 where
-  pub plan : Tree
-  pub classes : List Class
-  pub blocks : List ExactBlock
-  pub tables : List (List Row)
-  pub said : AreSaid given x plan classes blocks tables
-  pub regions : List Contents
-  pub lines : List ℕ
-  pub have_passed : HavePassed (setting_of given.texts detail plan classes) (folders plan) regions
-      lines
-  pub fails : FailsToStore store old.history old.shapes year (country_of classes regions) blocks
-      (rows_in tables) old.conn new.conn Failed
+module _ (given : CountryFiles) (detail : Detail) (x : PublishCountryInputs) (out : Output) where
+  -- behind the lines of the regions that passed a file was not read, or memory ran out
+  pub record StopsBehind (f : CountryFailure) : Type 0 where
+    pub lines : List ℕ
+    pub left : List (List ℕ)
+    pub part : IsPublishPart given detail x lines left
+    pub stopped : IsStoppedBefore given.texts left f
+    pub written : Appends out.before out.after lines
+
+  -- behind the lines of all regions the database failed
+  pub record StopsAtStore (f : CountryFailure) : Type 0 where
+    pub lines : List ℕ
+    pub part : IsPublishPart given detail x lines []
+    pub no_region : f.region ≡ None
+    pub stopped : IsStoreFailure f.failure
+    pub written : Appends out.before out.after lines
+
+  -- the output failed after a beginning of the lines of regions that passed
+  pub record BreaksOffInLines : Type 0 where
+    pub lines : List ℕ
+    pub left : List (List ℕ)
+    pub part : IsPublishPart given detail x lines left
+    pub written : Begins out.before out.after lines
 
 -- ---- the run
 -- a result with its failure alone
@@ -93,109 +100,88 @@ abbrev pub without_region : Result ℕ CountryFailure → Result ℕ Failure
 without_region (Ok status) = Ok status
 without_region (Err f) = Err f.failure
 
--- the history and the shapes are those before; of the database `stored` tells
-pub record IsSame {S : Type 0} (old new : RegisterState S) : Type 0 where
-  pub history : new.history ≡ old.history
-  pub shapes : new.shapes ≡ old.shapes
+-- the line that refuses a year that is not above the last one
+abbrev pub early_text : Holdings → List ℕ
+early_text before = publish_refusal_text (Year (last_year before.history))
 
--- a run over these files, this register before it and after it, and this output
-module _ {S : Type 0} (store : Ghosts S) (year : ℕ) (given : CountryFiles) (detail : Detail)
-    (old new : RegisterState S) (before after : Option (List ℕ)) where
-  -- ---- a year that is not above the last one, whatever the files have, or that one is not read
-  -- the line that refuses it
-  abbrev pub early_text : List ℕ
-  early_text = publish_refusal_text (Year (last_year old.history))
+-- the year is above the last one, and these are the bytes of the files that are no region's
+abbrev pub IsLater : CountryRequest → PublishCountryInputs → Holdings → Type 0
+IsLater asked x before = (last_year before.history < asked.year) × AreTopRead asked.given x
 
-  -- it was written
+-- a run of a request, over what a register holds before and after it, and an output
+module _ (asked : CountryRequest) (before after : Holdings) (out : Output) where
+  -- a year that is not above the last one is refused, whatever the files have, or that one is not
+  -- read: the line was written
   pub record AnswersEarly (status : ℕ) : Type 0 where
-    pub early : year ≤ last_year old.history
+    pub early : asked.year ≤ last_year before.history
     pub status_is : status ≡ refused
-    pub written : Appends before after early_text
-    pub same : IsSame old new
+    pub written : Appends out.before out.after (early_text before)
+    pub same : after ≡ before
 
   -- memory ran out before it was, or the output failed after a beginning of it
   pub record HaltsEarly (f : CountryFailure) : Type 0 where
-    pub early : year ≤ last_year old.history
-    pub written : (IsOfNone f Memory × Keeps before after)
-        ⊎ (IsOfNone f (Write Out) × Begins before after early_text)
-    pub same : IsSame old new
+    pub early : asked.year ≤ last_year before.history
+    pub written : (IsOfNone f Memory × Keeps out.before out.after)
+        ⊎ (IsOfNone f (Write Out) × Begins out.before out.after (early_text before))
+    pub same : after ≡ before
 
-  -- ---- of these bytes of the files that are no region's
-  module _ (x : PublishCountryInputs) where
-    -- this is the answer, in a country and a register
-    abbrev pub IsAnswer : Answer → Type 0
-    IsAnswer = IsPublishCountryAnswer given detail x year old.history old.shapes new.history
-        new.shapes
-
-    -- the run answered with this status, and wrote the text
-    pub record AnswersWith (status : ℕ) : Type 0 where
-      pub text : List ℕ
-      pub answer : IsAnswer (text, status)
-      pub written : Appends before after text
-      pub same : status ≢ done → IsSame old new
-
-    -- the output failed after a beginning of the lines of regions that passed
-    pub record BreaksOffInLines : Type 0 where
-      pub lines : List ℕ
-      pub left : List (List ℕ)
-      pub part : IsPublishPart given detail x lines left
-      pub written : Begins before after lines
-      pub same : IsSame old new
-
-    -- the output failed after a beginning of the answer; the country may be published
-    pub record BreaksOffInAnswer : Type 0 where
-      pub whole : Answer
-      pub answer : IsAnswer whole
-      pub written : Begins before after whole.0
-      pub same : whole.1 ≢ done → IsSame old new
-
-    -- a lineage table was not read, or memory ran out, before anything was written
-    pub record StopsBefore (f : CountryFailure) : Type 0 where
-      pub stopped : IsOfNone f Memory ⊎ IsUnreadLineage given x f
-      pub written : Keeps before after
-      pub same : IsSame old new
-
-    -- behind the lines of the regions that passed a file was not read, or memory ran out, or the
-    -- database failed
-    pub record StopsBehind (f : CountryFailure) : Type 0 where
-      pub lines : List ℕ
-      pub left : List (List ℕ)
-      pub part : IsPublishPart given detail x lines left
-      pub stopped : IsPublishStopped given left f
-      pub written : Appends before after lines
-      pub same : IsSame old new
-
-    -- the run gave no answer
-    abbrev pub HaltsWith : CountryFailure → Type 0
-    HaltsWith f = (IsOfNone f (Write Out) × (BreaksOffInLines ⊎ BreaksOffInAnswer))
-        ⊎ StopsBefore f ⊎ StopsBehind f
-
-    -- where the database failed there was a country to be stored, and a cause, unless it itself ran
-    -- out of memory or its disk lost what was written
-    abbrev pub HasCause : CountryFailure → Type 0
-    HasCause f = IsStoreFailure f.failure
-        → FailsToPublishCountry store given detail x year old new (f.failure ≡ Store)
-
-  -- ---- the run
-  -- the year is above the last one, and these are the bytes of the files that are no region's
-  pub record IsLater (x : PublishCountryInputs) : Type 0 where
-    pub later : last_year old.history < year
-    pub read : AreTopRead given x
-
-  -- they were not read, or memory ran out, before anything was written
+  -- the files that are no region's were not read, or memory ran out, before anything was written
   pub record HaltsUnread (f : CountryFailure) : Type 0 where
-    pub later : last_year old.history < year
-    pub unread : IsUnreadInput given f
-    pub written : Keeps before after
-    pub same : IsSame old new
+    pub later : last_year before.history < asked.year
+    pub unread : IsUnreadInput asked.given f
+    pub written : Keeps out.before out.after
+    pub same : after ≡ before
 
-  -- what it ends with, and what it leaves in the database
-  pub record RunsPublishCountry (result : Result ℕ CountryFailure) : Type 0 where
-    pub answer : IfOk result (λ status. AnswersEarly status
-        ⊎ ((x : PublishCountryInputs) × IsLater x × AnswersWith x status))
-    pub failure : IfErr result (λ f. HaltsEarly f ⊎ HaltsUnread f
-        ⊎ ((x : PublishCountryInputs) × IsLater x × HaltsWith x f))
-    pub stored : Stays (without_region result) (state store old.conn) old.history old.shapes
-        (state store new.conn) new.history new.shapes
+-- the same, of these bytes of the files that are no region's
+module _ (asked : CountryRequest) (x : PublishCountryInputs) (before after : Holdings)
+    (out : Output) where
+  -- the run answered with this status, and wrote the text
+  pub record AnswersWith (status : ℕ) : Type 0 where
+    pub text : List ℕ
+    pub answer : IsPublishCountryAnswer asked x before after (text, status)
+    pub written : Appends out.before out.after text
+    pub same : status ≢ done → after ≡ before
+
+  -- the output failed after a beginning of the answer; the country may be published
+  pub record BreaksOffInAnswer : Type 0 where
+    pub whole : Answer
+    pub answer : IsPublishCountryAnswer asked x before after whole
+    pub written : Begins out.before out.after whole.0
+    pub same : whole.1 ≢ done → after ≡ before
+
+  -- the run gave no answer
+  abbrev pub HaltsWith : CountryFailure → Type 0
+  HaltsWith f = (IsOfNone f (Write Out) × BreaksOffInAnswer)
+      ⊎ ((after ≡ before)
+      × ((IsOfNone f (Write Out) × BreaksOffInLines asked.given asked.detail x out)
+      ⊎ StopsBefore asked.given x out f ⊎ StopsBehind asked.given asked.detail x out f
+      ⊎ StopsAtStore asked.given asked.detail x out f))
+
+module _ {S : Type 0} (store : Ghosts S) (asked : CountryRequest) where
+  -- the union of the regions, which all passed, was accepted, and the database failed to store it
+  pub record FailsToPublishCountry (x : PublishCountryInputs) (old new : RegisterState S)
+      (Failed : Type 0) : Type 0 where
+    pub said : CountrySaid
+    pub are_said : AreSaid asked.given x said
+    pub regions : List Contents
+    pub lines : List ℕ
+    pub have_passed : HavePassed (setting_said asked.given asked.detail said) (folders said.plan)
+        regions lines
+    pub fails : FailsToStore store (union_of (country_asked asked said) regions) old new Failed
+
+  -- what a run ends with, and what it leaves in the database. Where the database failed there was a
+  -- country to be stored, and a cause, unless it itself ran out of memory or its disk lost what was
+  -- written
+  pub record RunsPublishCountry (old new : RegisterState S) (out : Output)
+      (result : Result ℕ CountryFailure) : Type 0 where
+    pub answer : IfOk result (λ status. AnswersEarly asked old.held new.held out status
+        ⊎ ((x : PublishCountryInputs) × IsLater asked x old.held
+        × AnswersWith asked x old.held new.held out status))
+    pub failure : IfErr result (λ f. HaltsEarly asked old.held new.held out f
+        ⊎ HaltsUnread asked old.held new.held out f
+        ⊎ ((x : PublishCountryInputs) × IsLater asked x old.held
+        × HaltsWith asked x old.held new.held out f))
+    pub stored : Stays store old new (without_region result)
     pub cause : IfErr result (λ f. IsStoreFailure f.failure
-        → (x : PublishCountryInputs) × IsLater x × HasCause x f)
+        → (x : PublishCountryInputs) × IsLater asked x old.held
+        × FailsToPublishCountry x old new (f.failure ≡ Store))

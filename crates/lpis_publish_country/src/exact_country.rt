@@ -34,8 +34,8 @@ fn fill_union<S: Alter>(
 ) -> Result<Outcome, AllocError>
     ensures { (g : Setting) (regions : List Contents) (lines : List ℕ) (tables : List (List Row))
         → JoinsAll g regions lines → IsCountryJoined g regions country.now
-        → HasTables lineage.now tables → IfOk result (λ o. IsFillOutcome tables
-        register.now.history register.now.shapes.items g regions (outputs_of o)) }
+        → HasTables lineage.now tables → IfOk result (λ o. IsFillOutcome g tables regions
+        register.now.held (outputs_of o)) }
 {
     let parcels = country.parcels.parcels();
     let rows = lineage.rows.as_slice();
@@ -65,8 +65,8 @@ fn fill_prepared<S: Alter, G: Regions, V: Write, W: Write>(
 ) -> Result<u8, CountryFailure>
     requires { (given : CountryFiles) × (x : PublishCountryInputs) × IsPrepared given x prepared }
     ensures { (given : CountryFiles) (x : PublishCountryInputs)
-        → given.texts ≡ G.texts regions.now → x.exact ≡ None → IsPrepared given x prepared
-        → FillsPrepared given x register.now.history register.now.shapes.items
+        → given.texts ≡ G.texts regions.now → IsPrepared given x prepared
+        → FillsPrepared given x register.now.held
         (held (V.contents file.old) (W.contents out.old))
         (held (V.contents file.new) (W.contents out.new)) result }
 {
@@ -114,8 +114,7 @@ pub fn run_exact_country<
       exact = None;
       texts = G.texts regions.now;
       lineages = L.lineages lineages.now;
-    }) register.now.history register.now.shapes.items
-        (held (V.contents file.old) (W.contents out.old))
+    }) register.now.held (held (V.contents file.old) (W.contents out.old))
         (held (V.contents file.new) (W.contents out.new)) result }
 {
     let inputs = read_country(alloc, country, classes)?;

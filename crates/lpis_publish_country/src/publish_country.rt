@@ -1,20 +1,19 @@
 //! The run of `publish-country`, over any register, readers, folders and writer.
 
-ghost use Rattle.std.specs.Prelude.{◌≡◌, ◌<◌, ℕ, IfErr, IfOk, List};
+ghost use Rattle.std.specs.Prelude.{◌≡◌, ℕ, IfErr, IfOk, List};
 ghost use Rattle.std.specs.Option.{option_map};
-ghost use Rattle.sqlite.specs.Held.{state};
-ghost use Rattle.lpis_country.specs.Country.{country_of};
 ghost use Rattle.lpis_country_run.specs.CountryAnswer.{Setting};
 ghost use Rattle.lpis_country_run.specs.RegionsOutcome.{IsCountryJoined, JoinsAll};
-ghost use Rattle.lpis_lineage.specs.Lineage.{last_year};
 ghost use Rattle.lpis_lineage.specs.declared.row.Row.{Row};
 ghost use Rattle.lpis_parcels.specs.Release.{Contents};
 ghost use Rattle.lpis_register.specs.Failing.{FailsToStore};
 ghost use Rattle.lpis_commands.specs.declared.failure.Failure.TheVariants.{Store};
 ghost use Rattle.lpis_publishing.specs.Publication.{PublishLeaves};
-ghost use Rattle.lpis_publishing.specs.Stored.{IsStoreFailure, register_of};
+ghost use Rattle.lpis_publishing.specs.Output.{output};
+ghost use Rattle.lpis_publishing.specs.Stored.{IsStoreFailure};
 ghost use Rattle.lpis_publish_country.specs.PublishCountryAnswer.{CountryFiles, IsUnionAnswer};
 ghost use Rattle.lpis_publish_country.specs.PublishCountryAnswer.{PublishCountryInputs};
+ghost use Rattle.lpis_publish_country.specs.PublishCountryAnswer.{country_candidate, union_of};
 ghost use Rattle.lpis_publish_country.specs.PublishCountryRuns.{RunsPublishCountry};
 ghost use Rattle.lpis_publish_country.specs.private.Deciding.{EndsUnion, RunsEarly, RunsPrepared};
 ghost use Rattle.lpis_publish_country.specs.private.Preparing.{HasTables, IsPrepared, inputs_of};
@@ -43,17 +42,15 @@ fn publish_union<S: Alter>(
 ) -> Result<Answer, Failure>
     ensures answer { (g : Setting) (regions : List Contents) (lines : List ℕ)
         (tables : List (List Row)) → JoinsAll g regions lines → IsCountryJoined g regions country
-        → HasTables lineage.now tables → IfOk result (λ a. IsUnionAnswer year cert.now.exact tables
-        register.old.history register.old.shapes.items register.new.history
-        register.new.shapes.items g regions (a.text.items, a.status)) }
-    ensures leaves { PublishLeaves result (state S.Store register.old.conn) register.old.history
-        register.old.shapes.items (state S.Store register.new.conn) register.new.history
-        register.new.shapes.items }
-    ensures cause { (g : Setting) (regions : List Contents) → IsCountryJoined g regions country
+        → HasTables lineage.now tables → IfOk result (λ a. IsUnionAnswer
+        (country_candidate year g cert.now.exact tables) regions register.old.held
+        register.new.held (a.text.items, a.status)) }
+    ensures leaves { PublishLeaves S.Store register.old register.new result }
+    ensures cause { (g : Setting) (regions : List Contents) (tables : List (List Row))
+        → IsCountryJoined g regions country → HasTables lineage.now tables
         → IfErr result (λ failure. IsStoreFailure failure → FailsToStore S.Store
-        register.old.history register.old.shapes.items year (country_of g.classes regions)
-        cert.now.exact lineage.now.rows.items register.old.conn register.new.conn
-        (failure ≡ Store)) }
+        (union_of (country_candidate year g cert.now.exact tables) regions) register.old
+        register.new (failure ≡ Store)) }
 {
     let JoinedCountry {
         names,
@@ -83,10 +80,9 @@ fn end_union<S: Alter, W: Write>(
 ) -> Result<u8, CountryFailure>
     ensures { (g : Setting) (regions : List Contents) (lines : List ℕ) (tables : List (List Row))
         → JoinsAll g regions lines → IsCountryJoined g regions country
-        → HasTables lineage.now tables → EndsUnion S.Store year g regions cert.now.exact tables
-        (register_of register.old.conn register.old.history register.old.shapes.items)
-        (register_of register.new.conn register.new.history register.new.shapes.items)
-        (W.contents out.old) (W.contents out.new) result }
+        → HasTables lineage.now tables → EndsUnion S.Store
+        (country_candidate year g cert.now.exact tables) regions register.old register.new
+        (output (W.contents out.old) (W.contents out.new)) result }
 {
     let answer = publish_union(alloc, register, year, country, cert, lineage)?;
     Ok(answer.write_to(out)?)
@@ -105,10 +101,8 @@ fn publish_prepared<S: Alter, G: Regions, W: Write>(
     requires { (given : CountryFiles) × (x : PublishCountryInputs) × IsPrepared given x prepared }
     ensures { (given : CountryFiles) (x : PublishCountryInputs)
         → given.texts ≡ G.texts regions.now → IsPrepared given x prepared
-        → RunsPrepared S.Store year given detail (register_of register.old.conn
-        register.old.history register.old.shapes.items) (register_of register.new.conn
-        register.new.history register.new.shapes.items) (W.contents out.old)
-        (W.contents out.new) x result }
+        → RunsPrepared S.Store (record { year = year; given = given; detail = detail }) x
+        register.old register.new (output (W.contents out.old) (W.contents out.new)) result }
 {
     let Prepared {
         begun,
@@ -123,7 +117,7 @@ fn publish_prepared<S: Alter, G: Regions, W: Write>(
 
 /// Refuses a year that is not above this last one.
 fn refuse_early<W: Write>(alloc: Global, last: u16, out: &mut W) -> Result<u8, CountryFailure>
-    ensures { RunsEarly last (W.contents out.old) (W.contents out.new) result }
+    ensures { RunsEarly last (output (W.contents out.old) (W.contents out.new)) result }
 {
     let answer = refuse(alloc, &PublishFault::Year { last }, REFUSED)?;
     Ok(answer.write_to(out)?)
@@ -142,10 +136,9 @@ fn publish_inputs<S: Alter, G: Regions, L: Lineages, W: Write>(
 ) -> Result<u8, CountryFailure>
     ensures { (given : CountryFiles) → given.texts ≡ G.texts regions.now
         → given.lineages ≡ L.lineages lineages.now
-        → RunsPrepared S.Store year given detail (register_of register.old.conn
-        register.old.history register.old.shapes.items) (register_of register.new.conn
-        register.new.history register.new.shapes.items) (W.contents out.old)
-        (W.contents out.new) (inputs_of inputs) result }
+        → RunsPrepared S.Store (record { year = year; given = given; detail = detail })
+        (inputs_of inputs) register.old register.new
+        (output (W.contents out.old) (W.contents out.new)) result }
 {
     match prepare(alloc, lineages, inputs)? {
         Ok(prepared) => publish_prepared(alloc, register, year, regions, prepared, detail, out),
@@ -189,15 +182,17 @@ pub fn run_publish_country<
     detail: Detail,
     out: &mut W,
 ) -> Result<u8, CountryFailure>
-    ensures { RunsPublishCountry S.Store year (record {
-      plan = P.remaining country;
-      classes = K.remaining classes;
-      exact = option_map E.remaining exact;
-      texts = G.texts regions.now;
-      lineages = L.lineages lineages.now;
-    }) detail (register_of register.old.conn register.old.history register.old.shapes.items)
-        (register_of register.new.conn register.new.history register.new.shapes.items)
-        (W.contents out.old) (W.contents out.new) result }
+    ensures { RunsPublishCountry S.Store (record {
+      year = year;
+      given = record {
+        plan = P.remaining country;
+        classes = K.remaining classes;
+        exact = option_map E.remaining exact;
+        texts = G.texts regions.now;
+        lineages = L.lineages lineages.now;
+      };
+      detail = detail;
+    }) register.old register.new (output (W.contents out.old) (W.contents out.new)) result }
 {
     let last = register.current().last_year();
     if year <= last {

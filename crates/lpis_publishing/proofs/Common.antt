@@ -3,6 +3,5 @@ pub use Rattle.lpis_cert.specs.declared.cert.Cert.{Cert}
 pub use Rattle.lpis_commands.specs.CheckAnswer.{Answer}
 pub use Rattle.lpis_publishing.specs.LineageLines.{lineage_line}
 pub use Rattle.lpis_lineage.specs.Changes.{kind_at}
-pub use Rattle.lpis_parcels.specs.Release.{Contents}
 pub use Rattle.std.proofs.lemmas.Result.{IfOk-weaker}
 pub use Rattle.std.specs.Io.KnownBytes.{Appends}

@@ -1,24 +1,21 @@
 -- What a run that asks for blocks has decided.
 use Rattle.std.proofs.Common.{◌≡◌, ◌∙◌, ◌∷◌, [], inl, inr, refl, sym, ap, ap₂, suc, true, Bool, ℕ, List, Option, None, length, map}
 use Rattle.std.specs.List.{AllZip}
-use Rattle.lpis_publishing.proofs.Common.{Answer, Cert, Contents}
+use Rattle.lpis_publishing.proofs.Common.{Answer, Cert}
 use Rattle.lpis_covers.specs.Ids.{has_id}
 use Rattle.lpis_checker.specs.declared.exact.ExactPart.{ExactPart}
 use Rattle.lpis_checker.specs.ExactBlocks.{block_name, part_name}
 use Rattle.lpis_exact_lineage.specs.Asking.{AsksFor, IsWanted}
 use Rattle.lpis_exact_lineage.specs.Shapes.{shape_named, shapes_in}
 use Rattle.lpis_lineage.specs.declared.exact.Group.{Group}
-use Rattle.lpis_lineage.specs.declared.row.Entry.{Entry}
-use Rattle.lpis_lineage.specs.declared.row.Row.{Row}
 use Rattle.lpis_lineage.specs.ExactGroups.{group_name}
-use Rattle.lpis_register_rows.specs.Shapes.{Shape}
 use Rattle.lpis_rings.specs.declared.polygon.Member.{Member}
 use Rattle.lpis_commands.specs.Outputs.{Outputs}
 use Rattle.lpis_commands.specs.Status.{done}
-use Rattle.lpis_publishing.specs.ExactAnswer.{HasBlocks, IsBlocksOutcome, IsExactAnswer, blocks_line, unfilled_line}
-use Rattle.lpis_publishing.specs.Submission.{Submission}
+use Rattle.lpis_publishing.specs.ExactAnswer.{HasBlocks, IsBlocksAnswer, IsBlocksOutcome, IsExactAnswer, blocks_line, unfilled_line}
+use Rattle.lpis_register.specs.Holdings.{Holdings}
+use Rattle.lpis_publishing.specs.Submission.{IsSubmitted, Submission, Submitted}
 use Rattle.lpis_publishing.specs.private.ExactRuns.{filled_with, refused_with}
-use Rattle.lpis_publishing.specs.Submission.{IsSubmitted}
 use Rattle.lpis_publishing.specs.private.Submitting.{IsFaultAnswer}
 use Rattle.lpis_publishing.proofs.SubmissionLemmas.{answer-said, answer-unread}
 
@@ -43,10 +40,11 @@ ids-of gs xs e = sym (parts xs) ∙ ap (map (λ (n : Bool × List ℕ). n.1)) e 
     groups (g ∷ hs) = ap (λ (l : List (List ℕ)). g.id ∷ l) (groups hs)
 
 -- ---- outcomes
-pub outcome-unfilled : (h : List Entry) (s : List Shape) (r : Contents) (c : Cert) (rows : List Row) (gs : List Group) (xs : List ExactPart) (id : List ℕ) (o : Outputs) → AsksFor h s r rows gs xs
-    → has_id (map (λ (x : ExactPart). x.id) xs) id ≡ true → o ≡ refused_with (unfilled_line id) → IsBlocksOutcome h s r c rows o
-outcome-unfilled h s r c rows gs xs id o asks one e =
-    let names = names-of (shape_named s) (shape_named (shapes_in r)) gs xs asks.parts in
+pub outcome-unfilled : (before : Holdings) (said : Submitted) (gs : List Group) (xs : List ExactPart) (id : List ℕ) (o : Outputs)
+    → AsksFor before.history before.shapes said.release said.rows gs xs → has_id (map (λ (x : ExactPart). x.id) xs) id ≡ true → o ≡ refused_with (unfilled_line id)
+    → IsBlocksOutcome said before o
+outcome-unfilled before said gs xs id o asks one e =
+    let names = names-of (shape_named before.shapes) (shape_named (shapes_in said.release)) gs xs asks.parts in
     let is_one : has_id (map (λ (g : Group). g.id) gs) id ≡ true = rw (sym (ids-of gs xs names)) one in
     rw e (record { answer = inr (inr (inl (record { gs = gs; xs = xs; asks = asks; id = id; is_one = is_one; line = refl }))); no_text = λ _. refl })
 
@@ -58,10 +56,10 @@ length-map f [] = refl
 length-map f (x ∷ xs) = ap suc (length-map f xs)
 
 -- the certificate with blocks of the parts asked for in place of its own is an outcome of the run for blocks
-pub outcome-filled : (h : List Entry) (s : List Shape) (r : Contents) (c made : Cert) (rows : List Row) (gs : List Group) (xs : List ExactPart) (o : Outputs) → AsksFor h s r rows gs xs
-    → HasBlocks (map part_name xs) c made → o ≡ filled_with made → IsBlocksOutcome h s r c rows o
-outcome-filled h s r c made rows gs xs o asks has e =
-    let names = names-of (shape_named s) (shape_named (shapes_in r)) gs xs asks.parts in
+pub outcome-filled : (before : Holdings) (said : Submitted) (made : Cert) (gs : List Group) (xs : List ExactPart) (o : Outputs)
+    → AsksFor before.history before.shapes said.release said.rows gs xs → HasBlocks (map part_name xs) said.cert made → o ≡ filled_with made → IsBlocksOutcome said before o
+outcome-filled before said made gs xs o asks has e =
+    let names = names-of (shape_named before.shapes) (shape_named (shapes_in said.release)) gs xs asks.parts in
     let blocks : map block_name made.exact ≡ map group_name gs = has.blocks ∙ names in
     let many : length made.exact ≡ length gs = sym (length-map block_name made.exact) ∙ ap (λ (ns : List (Bool × List ℕ)). length ns) blocks ∙ length-map group_name gs in
     rw e (record {
@@ -78,10 +76,9 @@ outcome-filled h s r c made rows gs xs o asks has e =
     })
 
 -- ---- answers
-pub answered-said : (x : Submission) (r : Contents) (c : Cert) (rows : List Row) (h : List Entry) (s : List Shape) (o : Outputs) → IsSubmitted x r c rows → IsBlocksOutcome h s r c rows o
-    → IsExactAnswer x h s o
-answered-said x r c rows h s o said is = record { answer = answer-said _ x r c rows (o.line, o.status) said is.answer; no_text = is.no_text }
+pub answered-said : (x : Submission) (said : Submitted) (before : Holdings) (o : Outputs) → IsSubmitted x said → IsBlocksOutcome said before o → IsExactAnswer x before o
+answered-said x said before o submitted is = record { answer = answer-said (λ s. IsBlocksAnswer s before o.cert) x said (o.line, o.status) submitted is.answer; no_text = is.no_text }
 
 -- the line of the first fault, without a certificate, answers a submission that asks for blocks
-pub answered-unread : (x : Submission) (h : List Entry) (s : List Shape) (o : Outputs) → IsFaultAnswer x (o.line, o.status) → o.cert ≡ None → IsExactAnswer x h s o
-answered-unread x h s o is none = record { answer = answer-unread _ x (o.line, o.status) is; no_text = λ _. none }
+pub answered-unread : (x : Submission) (before : Holdings) (o : Outputs) → IsFaultAnswer x (o.line, o.status) → o.cert ≡ None → IsExactAnswer x before o
+answered-unread x before o is none = record { answer = answer-unread (λ s. IsBlocksAnswer s before o.cert) x (o.line, o.status) is; no_text = λ _. none }

@@ -1,16 +1,14 @@
 -- What a history answers to a release, and what is known of a release that was added to it.
-use Rattle.std.proofs.Common.{◌≡◌, ◌∙◌, ◌++◌, ◌∷◌, [], append_assoc, inl, inr, refl, sym, ap, ap₂, subst, subst₂, ℕ, List, Bool, Option, Result, Ok, Err, IfErr, IfOk, flat_map, true}
-use Rattle.lpis_publishing.proofs.Common.{Answer, Cert, Contents, kind_at, lineage_line}
-use Rattle.sqlite.specs.Held.{Held}
-use Rattle.sqlite.specs.State.{HasCleanDisk, State}
+use Rattle.std.proofs.Common.{◌≡◌, ◌∙◌, ◌++◌, ◌∷◌, [], append_assoc, inl, inr, refl, sym, ap, ap₂, subst, ℕ, List, Bool, Option, Result, Ok, Err, IfErr, IfOk, flat_map, true}
+use Rattle.lpis_publishing.proofs.Common.{Answer, Cert, kind_at, lineage_line}
+use Rattle.sqlite.specs.Held.{state}
+use Rattle.sqlite.specs.State.{HasCleanDisk}
 use Rattle.sqlite_trees.specs.declared.store.Store.{Ghosts}
-use Rattle.lpis_cert.specs.declared.part.ExactBlock.{ExactBlock}
 use Rattle.std.specs.List.{list_any}
 use Rattle.std.specs.Prelude.{IsTrue}
 use Rattle.std.proofs.lemmas.Bool.{and_parts}
 use Rattle.std.proofs.lemmas.List.Concat.{flat_map-cons}
 use Rattle.lpis_covers.specs.Ids.{has_id}
-use Rattle.lpis_parcels.specs.Release.{parcel_ids}
 use Rattle.lpis_exact_lineage.specs.ExactLineage.{ShapesTurnOnce}
 use Rattle.lpis_exact_lineage.specs.Shapes.{shape_named}
 use Rattle.lpis_lineage.specs.declared.kind.Kind.{Kind}
@@ -21,29 +19,27 @@ use Rattle.lpis_lineage.specs.Descendants.{leads}
 use Rattle.lpis_lineage.specs.Faults.{faults}
 use Rattle.lpis_lineage.specs.Kinds.{kind}
 use Rattle.lpis_lineage.specs.Lawful.{IsAnswered}
-use Rattle.lpis_lineage.specs.Lineage.{is_row_of, last_live, last_year, names_successor}
+use Rattle.lpis_lineage.specs.Lineage.{is_row_of, last_live, names_successor}
 use Rattle.lpis_lineage.specs.Order.{IsAscending}
 use Rattle.lpis_lineage.proofs.Shared.{follows-from-clean, mono, counted-ended}
 use Rattle.lpis_checker.specs.GoodCertificate.{IsGood}
 use Rattle.lpis_checker.specs.SoundMap.{IsSoundMap}
-use Rattle.lpis_commands.specs.Report.{report_text}
 use Rattle.lpis_publishing.specs.LineageLines.{is_left_exactly, dropped_lines, published_line}
 use Rattle.lpis_commands.specs.declared.answer.Answer.{Answer as Answered}
 use Rattle.lpis_commands.specs.declared.failure.Failure.{Failure}
 use Rattle.lpis_commands.specs.declared.failure.Failure.TheVariants.{Store, StoreMemory}
 use Rattle.lpis_publishing.specs.Publication.{IsContinued, IsMemoryOrStore, IsPublicationAnswer, IsReleasePublished, PublishLeaves}
-use Rattle.lpis_publishing.specs.PublishAnswer.{FailsToPublish, IsHistoryAnswer, IsPublished}
-use Rattle.lpis_publishing.specs.Stored.{IsStoreFailure, RegisterState}
-use Rattle.lpis_publishing.specs.Submission.{IsSubmitted, Submission}
+use Rattle.lpis_publishing.specs.PublishAnswer.{IsSoundSubmission, candidate_of}
+use Rattle.lpis_publishing.specs.Stored.{IsStoreFailure}
+use Rattle.lpis_publishing.specs.Submission.{IsSubmitted, Submission, Submitted}
 use Rattle.lpis_commands.specs.Status.{done}
 use Rattle.lpis_publishing.specs.private.Marked.{is_marked}
 use Rattle.lpis_publishing.proofs.MarkedLemmas.{left-exactly}
 use Rattle.lpis_register.specs.Accepting.{IsAccepted}
 use Rattle.lpis_register.specs.Failing.{FailsToStore, HasStoreCause}
-use Rattle.lpis_register.specs.Histories.{HoldsRegister}
-use Rattle.lpis_register.specs.Publishing.{FollowsHistory}
+use Rattle.lpis_register.specs.Holdings.{Candidate, Holdings, RegisterState, candidate_ids}
+use Rattle.lpis_register.specs.Publishing.{FollowsHistory, TablesHold}
 use Rattle.lpis_register.specs.declared.accepting.Accepted.{Accepted}
-use Rattle.lpis_register_rows.specs.Shapes.{Shape}
 
 -- ---- the lines of a change
 same-lines : {A : Type 0} (f g : A → List ℕ) (xs : List A) → ((x : A) → f x ≡ g x) → flat_map f xs ≡ flat_map g xs
@@ -80,19 +76,16 @@ answer-parts : {t u : List ℕ} {n m : ℕ} → t ≡ u → n ≡ m → ◌≡�
 answer-parts a b = cc (a, b)
 
 -- what is printed, behind a text, of the change of a release that was accepted is the answer
-pub publication-accepted : (head : List ℕ) (h : List Entry) (s : List Shape) (year : ℕ) (r : Contents) (blocks : List ExactBlock) (rows : List Row) (a : Accepted) (change : Changes)
-    (text : List ℕ) (status : ℕ) → IsAccepted h s year r blocks rows a → change ≡ a.step.change
+pub publication-accepted : (head : List ℕ) (c : Candidate) (before : Holdings) (a : Accepted) (change : Changes) (year : ℕ) (text : List ℕ) (status : ℕ) → c.year ≡ year
+    → IsAccepted c before a → change ≡ a.writing.change
     → text ≡ head ++ flat_map (lineage_line (kind_at change) (is_marked change.rows)) change.dropped_ids ++ published_line year → status ≡ done
-    → IsPublicationAnswer head h s year r blocks rows (text, status)
-publication-accepted head h s year r blocks rows a change text status made is line is_done =
+    → IsPublicationAnswer head c before (text, status)
+publication-accepted head c before a change year text status of_year made is line is_done =
+    let live = candidate_ids c in
     let step = made.prepared.step_is in
-    let lines = change-lines h (parcel_ids r.parcels) rows change step.faultless (subst (IsChange (last_live h) (parcel_ids r.parcels) rows) (sym is) step.change_is) in
-    record { later = made.prepared.later; shown = made.shown; told = answer-parts (line ∙ ap (λ (t : List ℕ). head ++ t ++ published_line year) lines) is_done }
-
--- behind the report of the check it is that of the history
-pub answer-published : (h : List Entry) (s : List Shape) (year : ℕ) (r : Contents) (c : Cert) (rows : List Row) (a : Answer) → IsPublicationAnswer (report_text r) h s year r c.exact rows a
-    → IsHistoryAnswer h s year r c rows a
-answer-published h s year r c rows a is = inr (is.later, is.shown, is.told)
+    let lines = change-lines before.history live c.rows change step.faultless (subst (IsChange (last_live before.history) live c.rows) (sym is) step.change_is) in
+    let said = line ∙ ap₂ (λ (t : List ℕ) (n : ℕ). head ++ t ++ published_line n) lines (sym of_year) in
+    record { later = made.prepared.later; shown = made.shown; told = answer-parts said is_done }
 
 -- ---- answers of calls
 pub both-ok : {A E : Type 0} (r : Result A E) (P Q : A → Type 0) → IfOk r P → IfOk r Q → IfOk r (λ a. P a × Q a)
@@ -105,54 +98,40 @@ continued-of live rows id named (inl ending) = inl (counted-ended rows id ending
 continued-of live rows id named (inr other) = inr (other.1, λ s is. named s (mono (leads id s) (names_successor s) rows (λ row h. (and_parts (is_row_of id row) (names_successor s row) h).1) is))
 
 -- a release that was accepted is published where it stands at the end of the history and its shapes turn once at most
-pub published-accepted : (h k : List Entry) (year : ℕ) (r : Contents) (blocks : List ExactBlock) (rows : List Row) (s t : List Shape) (a : Accepted) (change : Changes)
-    → IsAccepted h s year r blocks rows a → change ≡ a.step.change → IsAscending change.dropped_ids → FollowsHistory h year r.parcels rows k t → ShapesTurnOnce (shape_named t)
-    → IsReleasePublished r rows year h s k t
-published-accepted h k year r blocks rows s t a change made is ascend follows once =
-    let live = parcel_ids r.parcels in
+pub published-accepted : (c : Candidate) (before after : Holdings) (a : Accepted) (change : Changes) → IsAccepted c before a → change ≡ a.writing.change → IsAscending change.dropped_ids
+    → FollowsHistory c before.history after → ShapesTurnOnce (shape_named after.shapes) → IsReleasePublished c before after
+published-accepted c before after a change made is ascend follows once =
+    let live = candidate_ids c in
     let step = made.prepared.step_is in
-    let was = subst (IsChange (last_live h) live rows) (sym is) step.change_is in
-    let known = follows-from-clean h live rows step.faultless in
+    let was = subst (IsChange (last_live before.history) live c.rows) (sym is) step.change_is in
+    let known = follows-from-clean before.history live c.rows step.faultless in
     record {
       later = made.prepared.later;
       follows = follows;
       once = once;
       exact = made.exact;
-      continued = λ id held gone. continued-of live rows id known.named (known.answered id held gone);
+      continued = λ id held gone. continued-of live c.rows id known.named (known.answered id held gone);
       unused = λ id i now held. known.not_used id i held now;
       ascend = subst IsAscending was.dropped_are ascend;
     }
 
--- a submission is, where it is a sound map with a good certificate
-pub published-of : (x : Submission) (year : ℕ) (r : Contents) (c : Cert) (rows : List Row) (h : List Entry) (s : List Shape) (k : List Entry) (t : List Shape) → IsSubmitted x r c rows
-    → IsSoundMap r → IsGood r c → IsReleasePublished r rows year h s k t → IsPublished x year h s k t
-published-of x year r c rows h s k t said sound good published =
-    record {
-      release = r;
-      proved = record { tables = said.tables; sound = sound; certificate = c; text = said.text; good = good };
-      rows = rows;
-      lineage = said.lineage;
-      published = published;
-    }
-
 -- ---- what a call leaves
--- the database holds what was made of the register
-pub leaves-committed : (a : Answered) (old new : State) (h k : List Entry) (s t : List Shape) → a.status ≡ done
-    → (HasCleanDisk new → (o : _) → HoldsRegister o old h s → HoldsRegister o new k t)
-    → PublishLeaves (Ok a) old h s new k t
-leaves-committed a old new h k s t is held =
-    record { same = λ other. absurd (other is); failure = tt; stored = record { holds = λ clean opened. held clean; served = λ other. held } }
+module _ {S : Type 0} (g : Ghosts S) (old new : RegisterState S) where
+  -- the database holds what was made of the register
+  pub leaves-committed : (a : Answered) → a.status ≡ done → (HasCleanDisk (state g new.conn) → (o : _) → TablesHold g o old → TablesHold g o new) → PublishLeaves g old new (Ok a)
+  leaves-committed a is held =
+      record { same = λ other. absurd (other is); failure = tt; stored = record { holds = λ clean opened. held clean; served = λ other. held } }
 
--- or what it held
-pub leaves-kept : (failure : Failure) (old new : State) (h k : List Entry) (s t : List Shape) → IsMemoryOrStore failure → (k ≡ h) × (t ≡ s)
-    → (HasCleanDisk new → IsTrue new.is_open → (o : _) → HoldsRegister o old h s → HoldsRegister o new k t)
-    → ((IsStoreFailure failure → ⊥) → (o : _) → HoldsRegister o old h s → HoldsRegister o new k t) → PublishLeaves (Err failure) old h s new k t
-leaves-kept failure old new h k s t stopped kept opened served =
-    record { same = tt; failure = (stopped, kept.0, kept.1); stored = record { holds = opened; served = λ other clean. served other } }
+  -- or what it held
+  pub leaves-kept : (failure : Failure) → IsMemoryOrStore failure → new.held ≡ old.held
+      → (HasCleanDisk (state g new.conn) → IsTrue (state g new.conn).is_open → (o : _) → TablesHold g o old → TablesHold g o new)
+      → ((IsStoreFailure failure → ⊥) → (o : _) → TablesHold g o old → TablesHold g o new) → PublishLeaves g old new (Err failure)
+  leaves-kept failure stopped kept opened served =
+      record { same = tt; failure = (stopped, kept); stored = record { holds = opened; served = λ other clean. served other } }
 
--- a database left as it was holds the history and the shapes, where they are left too
-pub still-held : (o : _) (old new : State) (h k : List Entry) (s t : List Shape) → new ≡ old → (k ≡ h) × (t ≡ s) → HoldsRegister o old h s → HoldsRegister o new k t
-still-held o old new h k s t same kept held = rw (same, kept.0, kept.1) held
+  -- a database left as it was holds what the register does, where that is left too
+  pub still-held : new.conn ≡ old.conn → new.held ≡ old.held → (o : _) → TablesHold g o old → TablesHold g o new
+  still-held same kept o held = rw (same, kept) held
 
 -- ---- why the database failed
 -- that the database ran out of memory is not that it failed
@@ -160,27 +139,24 @@ pub memory-no-store : {X : Type 0} → ◌≡◌ {A = Failure} StoreMemory Store
 memory-no-store is = absurd cc
 
 -- a release that was accepted could not be stored
-pub fails-accepted : {S A : Type 0} (g : Ghosts S) (h : List Entry) (kept : List Shape) (year : ℕ) (r : Contents) (blocks : List ExactBlock) (rows : List Row) (a : Accepted) (old new : Held S)
-    (answer : Result A Failure) → IsAccepted h kept year r blocks rows a → IfErr answer (λ failure. HasStoreCause g (last_year h) kept a old new (failure ≡ Store))
-    → IfErr answer (λ failure. IsStoreFailure failure → FailsToStore g h kept year r blocks rows old new (failure ≡ Store))
-fails-accepted g h kept year r blocks rows a old new (Ok x) made fails = tt
-fails-accepted g h kept year r blocks rows a old new (Err e) made fails = λ is. (a, made, fails)
+pub fails-accepted : {S A : Type 0} (g : Ghosts S) (c : Candidate) (a : Accepted) (old new : RegisterState S) (answer : Result A Failure) → IsAccepted c old.held a
+    → IfErr answer (λ failure. HasStoreCause g a old new (failure ≡ Store))
+    → IfErr answer (λ failure. IsStoreFailure failure → FailsToStore g c old new (failure ≡ Store))
+fails-accepted g c a old new (Ok x) made fails = tt
+fails-accepted g c a old new (Err e) made fails = λ is. (a, made, fails)
 
 -- it is a sound map with a good certificate, which was handed in
-pub fails-said : {S A : Type 0} (g : Ghosts S) (h : List Entry) (kept : List Shape) (year : ℕ) (r v : Contents) (c : Cert) (rows more : List Row) (old new : Held S)
-    (answer : Result A Failure) → r ≡ v → rows ≡ more → IsSoundMap v → IsGood v c
-    → IfErr answer (λ failure. IsStoreFailure failure → FailsToStore g h kept year r c.exact rows old new (failure ≡ Store))
-    → IfErr answer (λ failure. IsStoreFailure failure → IsSoundMap v × IsGood v c × FailsToStore g h kept year v c.exact more old new (failure ≡ Store))
-fails-said g h kept year r v c rows more old new (Ok x) same also sound good fails = tt
-fails-said g h kept year r v c rows more old new (Err e) same also sound good fails =
-    λ is. (sound, good, subst₂ (λ v more. FailsToStore g h kept year v c.exact more old new (e ≡ Store)) same also (fails is))
+pub fails-said : {S A : Type 0} (g : Ghosts S) (c d : Candidate) (cert : Cert) (old new : RegisterState S) (answer : Result A Failure) → c ≡ d → IsSoundMap d.release → IsGood d.release cert
+    → IfErr answer (λ failure. IsStoreFailure failure → FailsToStore g c old new (failure ≡ Store))
+    → IfErr answer (λ failure. IsStoreFailure failure → IsSoundMap d.release × IsGood d.release cert × FailsToStore g d old new (failure ≡ Store))
+fails-said g c d cert old new (Ok x) same sound good fails = tt
+fails-said g c d cert old new (Err e) same sound good fails = λ is. (sound, good, subst (λ c. FailsToStore g c old new (e ≡ Store)) same (fails is))
 
 -- and what was submitted
-pub fails-submitted : {S A : Type 0} (g : Ghosts S) (x : Submission) (year : ℕ) (r : Contents) (c : Cert) (rows : List Row) (old new : RegisterState S) (answer : Result A Failure)
-    → IsSubmitted x r c rows
-    → IfErr answer (λ failure. IsStoreFailure failure → IsSoundMap r × IsGood r c × FailsToStore g old.history old.shapes year r c.exact rows old.conn new.conn (failure ≡ Store))
-    → IfErr answer (λ failure. IsStoreFailure failure → FailsToPublish g x year old new (failure ≡ Store))
-fails-submitted g x year r c rows old new (Ok a) said fails = tt
-fails-submitted g x year r c rows old new (Err e) said fails = λ is.
-    let failed = fails is in
-    record { release = r; cert = c; rows = rows; submitted = said; sound = failed.0; good = failed.1; fails = failed.2 }
+pub fails-submitted : {S A : Type 0} (g : Ghosts S) (x : Submission) (year : ℕ) (said : Submitted) (old new : RegisterState S) (answer : Result A Failure) → IsSubmitted x said
+    → IfErr answer (λ failure. IsStoreFailure failure → IsSoundMap said.release × IsGood said.release said.cert × FailsToStore g (candidate_of year said) old new (failure ≡ Store))
+    → IfErr answer (λ failure. IsStoreFailure failure → (s : Submitted) × IsSoundSubmission x s × FailsToStore g (candidate_of year s) old new (failure ≡ Store))
+fails-submitted g x year said old new (Ok a) is fails = tt
+fails-submitted g x year said old new (Err e) is fails = λ of.
+    let failed = fails of in
+    (said, record { submitted = is; sound = failed.0; good = failed.1 }, failed.2)

@@ -2,34 +2,36 @@
 use Rattle.std.proofs.Common.{◌≡◌, ◌⊎◌, inl, inr, refl, sym, subst, ℕ, List, Option, Result, Ok, Err, IfErr, IfOk, OnOk}
 use Rattle.std.proofs.KnownBytes.{Keeps-refl}
 use Rattle.std.proofs.lemmas.Result.{IfErr-weaker}
-use Rattle.sqlite.specs.Held.{state}
 use Rattle.sqlite_trees.specs.declared.store.Store.{Ghosts}
-use Rattle.lpis_lineage.specs.declared.row.Entry.{Entry}
-use Rattle.lpis_register_rows.specs.Shapes.{Shape}
+use Rattle.lpis_register.specs.Failing.{FailsToStore}
+use Rattle.lpis_register.specs.Holdings.{Holdings, RegisterState}
 use Rattle.lpis_commands.specs.Streams.{Begins}
 use Rattle.lpis_commands.specs.declared.answer.Answer.{Answer as Answered}
 use Rattle.lpis_commands.specs.declared.failure.Failure.{Failure}
 use Rattle.lpis_commands.specs.declared.failure.Failure.TheVariants.{Memory, Read, Store, Write}
 use Rattle.lpis_commands.specs.declared.failure.Name.{Name}
 use Rattle.lpis_commands.specs.declared.failure.Name.TheVariants.{Cert, Classes, Covers, Lineage, Out, Parcels}
-use Rattle.lpis_publishing.proofs.Common.{Appends, Answer, IfOk-weaker}
+use Rattle.lpis_publishing.proofs.Common.{Appends, Answer}
+use Rattle.lpis_publishing.specs.Output.{output}
 use Rattle.lpis_publishing.specs.Publication.{IsMemoryOrStore}
-use Rattle.lpis_publishing.specs.PublishAnswer.{FailsToPublish, IsPublishAnswer, MovesRegister, PublishEnds, RunsPublish}
-use Rattle.lpis_publishing.specs.Stored.{IsStoreFailure, RegisterState, Stays}
-use Rattle.lpis_publishing.specs.Submission.{AreAllRead, Readers, IsUnreadSubmission, Submission}
+use Rattle.lpis_publishing.specs.PublishAnswer.{IsPublishAnswer, IsSoundSubmission, MovesRegister, PublishAnswers, PublishRequest, RunsPublish, candidate_of}
+use Rattle.lpis_publishing.specs.Stored.{IsStoreFailure, Stays}
+use Rattle.lpis_publishing.specs.Submission.{AreAllRead, Readers, IsUnreadSubmission, Submission, Submitted}
 
 -- what was written is the answer, and the status is reported
-ends-of : (x : Submission) (year : ℕ) (a : Answer) (h : List Entry) (s : List Shape) (k : List Entry) (t : List Shape) (old new : Option (List ℕ)) (r : Result ℕ Failure)
-    → IsPublishAnswer x year h s a → MovesRegister x year a.1 h s k t
-    → IfOk r (λ status. status ≡ a.1) → OnOk r (Appends old new a.0) → IfOk r (λ status. PublishEnds x year status h s k t old new)
-ends-of x year a h s k t old new (Ok status) answer moves is written =
+answers-of : (asked : PublishRequest) (x : Submission) (a : Answer) (before after : Holdings) (old new : Option (List ℕ)) (r : Result ℕ Failure) → AreAllRead asked.given x
+    → IsPublishAnswer asked.year x before a → MovesRegister asked.year x before after a.1
+    → IfOk r (λ status. status ≡ a.1) → OnOk r (Appends old new a.0) → IfOk r (PublishAnswers asked before after (output old new))
+answers-of asked x a before after old new (Ok status) read answer moves is written =
     record {
+      submission = x;
+      read = read;
       text = a.0;
-      answer = subst (λ (n : ℕ). IsPublishAnswer x year h s (a.0, n)) (sym is) answer;
+      answer = subst (λ (n : ℕ). IsPublishAnswer asked.year x before (a.0, n)) (sym is) answer;
       written = written;
-      moves = subst (λ (n : ℕ). MovesRegister x year n h s k t) (sym is) moves;
+      moves = subst (λ (n : ℕ). MovesRegister asked.year x before after n) (sym is) moves;
     }
-ends-of x year a h s k t old new (Err failure) answer moves is written = tt
+answers-of asked x a before after old new (Err failure) read answer moves is written = tt
 
 -- where an input is not read that is the failure, or memory ran out
 unread-is : (given : Readers) (failure : Failure) → IsUnreadSubmission given failure → (failure ≡ Memory) ⊎ ((name : Name) × (failure ≡ Read name))
@@ -54,37 +56,36 @@ no-answer-of : (given : Readers) (failure : Failure) → IsMemoryOrStore failure
 no-answer-of given failure (inl is) = inl (inl (inl (inl is)))
 no-answer-of given failure (inr of) = inr of
 
-module _ {S : Type 0} (g : Ghosts S) (year : ℕ) (given : Readers) where
+module _ {S : Type 0} (g : Ghosts S) (asked : PublishRequest) where
   -- where an input is not read all is as it was
-  pub runs-unread : (old : RegisterState S) (out : Option (List ℕ)) (failure : Failure) → IsUnreadSubmission given failure → RunsPublish g year given old old out out (Err failure)
+  pub runs-unread : (old : RegisterState S) (out : Option (List ℕ)) (failure : Failure) → IsUnreadSubmission asked.given failure → RunsPublish g asked old old (output out out) (Err failure)
   runs-unread old out failure unread = record {
     answer = tt;
-    failure = inr (inl unread, refl, refl, Keeps-refl out);
+    failure = inr (inl unread, refl, Keeps-refl out);
     stored = record { holds = λ clean opened o held. held; served = λ other clean o held. held };
-    cause = λ is. absurd (unread-no-store given failure unread is);
+    cause = λ is. absurd (unread-no-store asked.given failure unread is);
   }
 
   -- where memory ran out or the database failed nothing is written
-  pub runs-failed : (old new : RegisterState S) (out : Option (List ℕ)) (x : Submission) (failure : Failure) → AreAllRead given x
-      → IsMemoryOrStore failure × (new.history ≡ old.history) × (new.shapes ≡ old.shapes)
-      → Stays {A = Answered} (Err failure) (state g old.conn) old.history old.shapes (state g new.conn) new.history new.shapes
-      → (IsStoreFailure failure → FailsToPublish g x year old new (failure ≡ Store)) → RunsPublish g year given old new out out (Err failure)
+  pub runs-failed : (old new : RegisterState S) (out : Option (List ℕ)) (x : Submission) (failure : Failure) → AreAllRead asked.given x
+      → IsMemoryOrStore failure × (new.held ≡ old.held) → Stays {A = Answered} g old new (Err failure)
+      → (IsStoreFailure failure → (said : Submitted) × IsSoundSubmission x said × FailsToStore g (candidate_of asked.year said) old new (failure ≡ Store))
+      → RunsPublish g asked old new (output out out) (Err failure)
   runs-failed old new out x failure read why stays fails = record {
     answer = tt;
-    failure = inr (no-answer-of given failure why.0, why.1, why.2, Keeps-refl out);
+    failure = inr (no-answer-of asked.given failure why.0, why.1, Keeps-refl out);
     stored = record { holds = stays.holds; served = stays.served };
-    cause = λ is. (x, read, fails is);
+    cause = λ is. let failed = fails is in record { submission = x; read = read; said = failed.0; proved = failed.1; fails = failed.2 };
   }
 
   -- where there is an answer it is written, or a beginning of it
-  pub runs-written : (old new : RegisterState S) (before after : Option (List ℕ)) (x : Submission) (a : Answer) (answered : Answered) (r : Result ℕ Failure) → AreAllRead given x
-      → IsPublishAnswer x year old.history old.shapes a → MovesRegister x year a.1 old.history old.shapes new.history new.shapes
-      → Stays {A = Answered} (Ok answered) (state g old.conn) old.history old.shapes (state g new.conn) new.history new.shapes
+  pub runs-written : (old new : RegisterState S) (before after : Option (List ℕ)) (x : Submission) (a : Answer) (answered : Answered) (r : Result ℕ Failure) → AreAllRead asked.given x
+      → IsPublishAnswer asked.year x old.held a → MovesRegister asked.year x old.held new.held a.1 → Stays g old new (Ok answered)
       → IfOk r (λ status. status ≡ a.1) → OnOk r (Appends before after a.0) → IfErr r (λ failure. (failure ≡ Write Out) × Begins before after a.0)
-      → RunsPublish g year given old new before after r
+      → RunsPublish g asked old new (output before after) r
   runs-written old new before after x a answered r read answer moves stays is written begun = record {
-    answer = IfOk-weaker r _ _ (λ status ends. (x, read, ends)) (ends-of x year a old.history old.shapes new.history new.shapes before after r answer moves is written);
-    failure = IfErr-weaker r _ _ (λ failure part. inl (x, read, part.0, record { whole = a; answer = answer; written = part.1; moves = moves })) begun;
+    answer = answers-of asked x a old.held new.held before after r read answer moves is written;
+    failure = IfErr-weaker r _ _ (λ failure part. inl (part.0, record { submission = x; read = read; whole = a; answer = answer; written = part.1; moves = moves })) begun;
     stored = record { holds = stays.holds; served = λ other. stays.served tt };
     cause = IfErr-weaker r _ _ (λ failure part of. write-no-store failure part.0 of) begun;
   }

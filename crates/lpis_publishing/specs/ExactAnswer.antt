@@ -5,19 +5,17 @@ use Rattle.std.specs.Prelude.{Option, None, Some, IfErr, IfOk, Result}
 use Rattle.std.specs.Fmt.{decimal}
 use Rattle.std.specs.Io.KnownBytes.{Keeps}
 use Rattle.lpis_covers.specs.Ids.{has_id}
-use Rattle.lpis_parcels.specs.Release.{Contents, parcel_ids}
+use Rattle.lpis_parcels.specs.Release.{parcel_ids}
 use Rattle.lpis_cert.specs.declared.cert.Cert.{Cert}
 use Rattle.lpis_cert.specs.Contents.{cert_text}
 use Rattle.lpis_checker.specs.declared.exact.ExactPart.{ExactPart}
 use Rattle.lpis_checker.specs.ExactBlocks.{block_name}
 use Rattle.lpis_lineage.specs.declared.exact.Group.{Group}
 use Rattle.lpis_lineage.specs.declared.fault.LineageFault.{LineageFault}
-use Rattle.lpis_lineage.specs.declared.row.Entry.{Entry}
-use Rattle.lpis_lineage.specs.declared.row.Row.{Row}
 use Rattle.lpis_lineage.specs.ExactGroups.{group_name}
 use Rattle.lpis_lineage.specs.Faults.{faults, first}
-use Rattle.lpis_register_rows.specs.Shapes.{Shape}
 use Rattle.lpis_exact_lineage.specs.Asking.{AsksFor, IsUnkept}
+use Rattle.lpis_register.specs.Holdings.{Holdings}
 use Rattle.lpis_register.specs.declared.fault.PublishFault.TheVariants.{Lineage, NotKept}
 use Rattle.lpis_commands.specs.CheckAnswer.{Answer}
 use Rattle.lpis_commands.specs.Outputs.{BreaksOff, Held, Outputs, Writes}
@@ -25,7 +23,7 @@ use Rattle.lpis_commands.specs.Status.{done, refused}
 use Rattle.lpis_commands.specs.declared.failure.Failure.{Failure}
 use Rattle.lpis_publishing.specs.LineageLines.{publish_refusal_text}
 use Rattle.lpis_publishing.specs.Submission.{AreAllRead, Readers, IsSubmissionAnswer, Submission}
-use Rattle.lpis_publishing.specs.Submission.{IsUnreadSubmission}
+use Rattle.lpis_publishing.specs.Submission.{IsUnreadSubmission, Submitted}
 
 -- ---- text and status
 -- the line of a group for which no flats are found, or more than a certificate may have
@@ -43,13 +41,13 @@ pub record HasBlocks (names : List (Bool × List ℕ)) (c made : Cert) : Type 0 
   pub pairs : made.pairs ≡ c.pairs
   pub blocks : map block_name made.exact ≡ names
 
--- after a history with kept shapes, of a release, a certificate and rows of lineage
-module _ (h : List Entry) (s : List Shape) (r : Contents) (c : Cert) (rows : List Row) where
+-- of a release, its certificate and its rows of lineage, and what a register holds
+module _ (said : Submitted) (before : Holdings) where
   -- some group of those that the marks ask for gets no block
   pub record IsUnfilled (a : Answer) : Type 0 where
     pub gs : List Group
     pub xs : List ExactPart
-    pub asks : AsksFor h s r rows gs xs
+    pub asks : AsksFor before.history before.shapes said.release said.rows gs xs
     pub id : List ℕ
     pub is_one : has_id (map (λ (g : Group). g.id) gs) id ≡ true
     pub line : a ≡ (unfilled_line id, refused)
@@ -58,9 +56,9 @@ module _ (h : List Entry) (s : List Shape) (r : Contents) (c : Cert) (rows : Lis
   pub record IsFilled (text : Option (List ℕ)) (a : Answer) : Type 0 where
     pub gs : List Group
     pub xs : List ExactPart
-    pub asks : AsksFor h s r rows gs xs
+    pub asks : AsksFor before.history before.shapes said.release said.rows gs xs
     pub made : Cert
-    pub has : HasBlocks (map group_name gs) c made
+    pub has : HasBlocks (map group_name gs) said.cert made
     pub written : text ≡ Some (cert_text made)
     pub line : a ≡ (blocks_line (length gs), done)
 
@@ -68,48 +66,46 @@ module _ (h : List Entry) (s : List Shape) (r : Contents) (c : Cert) (rows : Lis
   -- these
   abbrev pub IsBlocksAnswer : Option (List ℕ) → Answer → Type 0
   IsBlocksAnswer text a =
-      ((fault : LineageFault) × (first (faults h (parcel_ids r.parcels) rows) ≡ Some fault)
+      ((fault : LineageFault)
+      × (first (faults before.history (parcel_ids said.release.parcels) said.rows) ≡ Some fault)
       × (a ≡ (publish_refusal_text (Lineage fault), refused)))
-      ⊎ ((id : List ℕ) × IsUnkept h s r rows id
+      ⊎ ((id : List ℕ) × IsUnkept before.history before.shapes said.release said.rows id
       × (a ≡ (publish_refusal_text (NotKept id), refused)))
       ⊎ IsUnfilled a
       ⊎ IsFilled text a
 
--- the answer to a release, a certificate and rows of lineage, with its text
-pub record IsBlocksOutcome (h : List Entry) (s : List Shape) (r : Contents) (c : Cert)
-    (rows : List Row) (a : Outputs) : Type 0 where
-  pub answer : IsBlocksAnswer h s r c rows a.cert (a.line, a.status)
-  -- with every other status there is no text
-  pub no_text : a.status ≢ done → a.cert ≡ None
-
--- the answer to what is handed in, after a history with kept shapes: faults of the tables and texts
--- come first. There is no year, and the certificate is not checked
-pub record IsExactAnswer (x : Submission) (h : List Entry) (s : List Shape) (a : Outputs) : Type 0
-  where
-    pub answer : IsSubmissionAnswer (λ r c rows. IsBlocksAnswer h s r c rows a.cert) x
-        (a.line, a.status)
+  -- the answer with its text
+  pub record IsBlocksOutcome (a : Outputs) : Type 0 where
+    pub answer : IsBlocksAnswer a.cert (a.line, a.status)
     -- with every other status there is no text
     pub no_text : a.status ≢ done → a.cert ≡ None
 
+-- the answer to what is handed in, where a register holds this: faults of the tables and texts come
+-- first. There is no year, and the certificate is not checked
+pub record IsExactAnswer (x : Submission) (before : Holdings) (a : Outputs) : Type 0 where
+  pub answer : IsSubmissionAnswer (λ said. IsBlocksAnswer said before a.cert) x (a.line, a.status)
+  -- with every other status there is no text
+  pub no_text : a.status ≢ done → a.cert ≡ None
+
 -- ---- the run
 -- what is handed in is what five readers gave, as far as it is known, and this is an answer to it
-pub record Fills (given : Readers) (h : List Entry) (s : List Shape) (a : Outputs) : Type 0 where
+pub record Fills (given : Readers) (before : Holdings) (a : Outputs) : Type 0 where
   pub submission : Submission
   pub read : AreAllRead given submission
-  pub answer : IsExactAnswer submission h s a
+  pub answer : IsExactAnswer submission before a
 
--- a run of what five readers gave, after a history with kept shapes, and over these outputs
-module _ (given : Readers) (h : List Entry) (s : List Shape) (before after : Held) where
+-- a run of what five readers gave, over what a register holds, and over these outputs
+module _ (given : Readers) (holdings : Holdings) (before after : Held) where
   -- it gave no answer: an input was not read, or memory ran out, and nothing was written; or the
   -- certificate's file failed after a beginning of the text, or the output after it
   abbrev pub ExactHalts : Failure → Type 0
   ExactHalts failure =
       (IsUnreadSubmission given failure × Keeps before.cert after.cert
       × Keeps before.out after.out)
-      ⊎ ((a : Outputs) × Fills given h s a × BreaksOff a failure before after)
+      ⊎ ((a : Outputs) × Fills given holdings a × BreaksOff a failure before after)
 
   -- what it ends with
   pub record RunsExact (result : Result ℕ Failure) : Type 0 where
-    pub answer : IfOk result (λ status. (a : Outputs) × Fills given h s a
+    pub answer : IfOk result (λ status. (a : Outputs) × Fills given holdings a
         × Writes a status before after)
     pub failure : IfErr result ExactHalts

@@ -1,5 +1,6 @@
 pub mod ExactAnswer
 pub mod LineageLines
+pub mod Output
 pub mod Publication
 pub mod PublishAnswer
 pub mod Stored

@@ -2,20 +2,18 @@
 -- and what a run leaves of a register.
 use Rattle.std.specs.Prelude.{◌≡◌, ◌≢◌, ◌<◌, ◌⊎◌, ◌++◌, true, false, ℕ, List, IfErr, IfOk, Result}
 use Rattle.std.specs.List.{list_any}
-use Rattle.sqlite.specs.State.{State}
+use Rattle.sqlite_trees.specs.declared.store.Store.{Ghosts}
 use Rattle.lpis_covers.specs.Ids.{has_id}
-use Rattle.lpis_parcels.specs.Release.{Contents, parcel_ids}
-use Rattle.lpis_cert.specs.declared.part.ExactBlock.{ExactBlock}
-use Rattle.lpis_lineage.specs.declared.row.Entry.{Entry}
 use Rattle.lpis_lineage.specs.declared.row.Row.{Row}
 use Rattle.lpis_lineage.specs.Changes.{dropped}
 use Rattle.lpis_lineage.specs.Descendants.{leads}
 use Rattle.lpis_lineage.specs.Lineage.{is_ended, holds, last_live, last_year, succeeded}
 use Rattle.lpis_lineage.specs.Order.{IsAscending}
-use Rattle.lpis_register_rows.specs.Shapes.{Shape}
-use Rattle.lpis_exact_lineage.specs.Asking.{IsShown, kinds_from}
-use Rattle.lpis_exact_lineage.specs.ExactLineage.{IsExactLineage, ShapesTurnOnce}
-use Rattle.lpis_exact_lineage.specs.Shapes.{shape_named, shapes_in}
+use Rattle.lpis_exact_lineage.specs.Asking.{IsShown}
+use Rattle.lpis_exact_lineage.specs.ExactLineage.{ShapesTurnOnce}
+use Rattle.lpis_exact_lineage.specs.Shapes.{shape_named}
+use Rattle.lpis_register.specs.Accepting.{HasExactLineage}
+use Rattle.lpis_register.specs.Holdings.{Candidate, Holdings, RegisterState, candidate_ids}
 use Rattle.lpis_register.specs.Publishing.{FollowsHistory}
 use Rattle.lpis_commands.specs.CheckAnswer.{Answer}
 use Rattle.lpis_commands.specs.declared.answer.Answer.{Answer as Printed}
@@ -28,17 +26,17 @@ use Rattle.lpis_publishing.specs.Stored.{IsStoreFailure, Stays}
 -- ---- text and status
 -- what is printed of a release that was published after a history: this text before it, the line of
 -- each identifier that it drops, and its year
-abbrev pub publication_text : List ℕ → List Entry → ℕ → Contents → List Row → List ℕ
-publication_text head h year r rows =
-    head ++ dropped_lines (last_live h) (parcel_ids r.parcels) rows ++ published_line year
+abbrev pub publication_text : List ℕ → Candidate → Holdings → List ℕ
+publication_text head c before =
+    head ++ dropped_lines (last_live before.history) (candidate_ids c) c.rows
+    ++ published_line c.year
 
--- of a history with kept shapes, a year, a release with these blocks of its certificate, and rows
--- of lineage: it may follow, and that is printed of it
-pub record IsPublicationAnswer (head : List ℕ) (h : List Entry) (s : List Shape) (year : ℕ)
-    (r : Contents) (blocks : List ExactBlock) (rows : List Row) (a : Answer) : Type 0 where
-  pub later : last_year h < year
-  pub shown : IsShown h s r blocks rows
-  pub told : a ≡ (publication_text head h year r rows, done)
+-- a release may follow what a register holds, and that is printed of it
+pub record IsPublicationAnswer (head : List ℕ) (c : Candidate) (before : Holdings) (a : Answer)
+    : Type 0 where
+  pub later : last_year before.history < c.year
+  pub shown : IsShown before.history before.shapes c.release c.blocks c.rows
+  pub told : a ≡ (publication_text head c before, done)
 
 -- ---- the register after
 -- the rows give an identifier a written ending, or successors, each of which is in the release
@@ -48,36 +46,34 @@ IsContinued live rows id =
     ⊎ ((succeeded rows id ≡ true) × ((s : List ℕ) → list_any (leads id s) rows ≡ true
     → has_id live s ≡ true))
 
--- this release was published with these rows in a year after the history `h` with the kept shapes
--- `s`, and with it the history is `k` and the shapes that are kept are `t`
-pub record IsReleasePublished (r : Contents) (rows : List Row) (year : ℕ) (h : List Entry)
-    (s : List Shape) (k : List Entry) (t : List Shape) : Type 0 where
+-- this release was published: a register holds what it held before, and the release
+pub record IsReleasePublished (c : Candidate) (before after : Holdings) : Type 0 where
   -- the history is the one before with the release at its end; it is lawful and its rows fit, and
   -- the shapes are those of the release's parcels
-  pub later : last_year h < year
-  pub follows : FollowsHistory h year r.parcels rows k t
+  pub later : last_year before.history < c.year
+  pub follows : FollowsHistory c before.history after
   -- each of these turns once at most: what the next merges rest on
-  pub once : ShapesTurnOnce (shape_named t)
+  pub once : ShapesTurnOnce (shape_named after.shapes)
   -- exact splits and merges are exact, by the shapes that were kept before
-  pub exact : IsExactLineage (kinds_from h r rows) rows (shape_named s) (shape_named (shapes_in r))
+  pub exact : HasExactLineage c before
   -- each identifier of the last release that is dropped has successors of this release or a written
   -- ending
-  pub continued : (id : List ℕ) → has_id (last_live h) id ≡ true
-      → has_id (parcel_ids r.parcels) id ≡ false → IsContinued (parcel_ids r.parcels) rows id
+  pub continued : (id : List ℕ) → has_id (last_live before.history) id ≡ true
+      → has_id (candidate_ids c) id ≡ false → IsContinued (candidate_ids c) c.rows id
   -- no parcel bears an identifier that an earlier release had and the last one had not
-  pub unused : (id : List ℕ) (i : ℕ) → has_id (parcel_ids r.parcels) id ≡ true
-      → holds h i id ≡ true → has_id (last_live h) id ≡ true
+  pub unused : (id : List ℕ) (i : ℕ) → has_id (candidate_ids c) id ≡ true
+      → holds before.history i id ≡ true → has_id (last_live before.history) id ≡ true
   -- dropped identifiers are reported ascending by bytes
-  pub ascend : IsAscending (dropped (last_live h) (parcel_ids r.parcels))
+  pub ascend : IsAscending (dropped (last_live before.history) (candidate_ids c))
 
 -- memory ran out, or the database failed
 abbrev pub IsMemoryOrStore : Failure → Type 0
 IsMemoryOrStore failure = (failure ≡ Memory) ⊎ IsStoreFailure failure
 
--- what a run that ended so leaves of a register: the history `h` and the shapes `s` became others
--- only where the release was published, and the database holds them
-pub record PublishLeaves (result : Result Printed Failure) (old : State) (h : List Entry)
-    (s : List Shape) (new : State) (k : List Entry) (t : List Shape) : Type 0 where
-  pub same : IfOk result (λ a. a.status ≢ done → (k ≡ h) × (t ≡ s))
-  pub failure : IfErr result (λ failure. IsMemoryOrStore failure × (k ≡ h) × (t ≡ s))
-  pub stored : Stays result old h s new k t
+-- what a run that ended so leaves of a register: what it holds became another only where the
+-- release was published, and its database holds that
+pub record PublishLeaves {S : Type 0} (store : Ghosts S) (old new : RegisterState S)
+    (result : Result Printed Failure) : Type 0 where
+  pub same : IfOk result (λ a. a.status ≢ done → new.held ≡ old.held)
+  pub failure : IfErr result (λ failure. IsMemoryOrStore failure × (new.held ≡ old.held))
+  pub stored : Stays store old new result

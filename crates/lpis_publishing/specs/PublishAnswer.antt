@@ -1,25 +1,15 @@
 -- The answer to a release that is to be published: text and status, of the year, the bytes of the
--- five inputs, and the history and the kept shapes before; and both after.
-use Rattle.std.specs.Prelude.{◌≡◌, ◌≢◌, ◌<◌, ◌⊎◌, ◌++◌, ℕ, List, Option, Ok}
-use Rattle.std.specs.Prelude.{IfErr, IfOk, Result}
+-- five inputs, and what the register holds before; and what it holds after.
+use Rattle.std.specs.Prelude.{◌≡◌, ◌≢◌, ◌⊎◌, ℕ, List, IfErr, IfOk, Result}
 use Rattle.std.specs.Io.KnownBytes.{Appends, Keeps}
-use Rattle.sqlite.specs.Held.{state}
 use Rattle.sqlite_trees.specs.declared.store.Store.{Ghosts}
-use Rattle.lpis_covers.specs.Faults.{rows_of}
-use Rattle.lpis_parcels.specs.Release.{Contents}
-use Rattle.lpis_cert.specs.declared.cert.Cert.{Cert}
 use Rattle.lpis_checker.specs.GoodCertificate.{IsGood}
 use Rattle.lpis_checker.specs.SoundMap.{IsSoundMap}
-use Rattle.lpis_lineage.specs.declared.row.Entry.{Entry}
-use Rattle.lpis_lineage.specs.declared.row.Row.{Row}
-use Rattle.lpis_lineage.specs.Lineage.{last_year}
-use Rattle.lpis_lineage.specs.LineageTable.{lineage_table}
-use Rattle.lpis_register_rows.specs.Shapes.{Shape}
-use Rattle.lpis_exact_lineage.specs.Asking.{IsShown}
 use Rattle.lpis_register.specs.Failing.{FailsToStore}
 use Rattle.lpis_register.specs.Faults.{IsRefused, IsSetAside}
+use Rattle.lpis_register.specs.Holdings.{Candidate, Holdings, RegisterState, candidate}
 use Rattle.lpis_register.specs.declared.fault.PublishFault.{PublishFault}
-use Rattle.lpis_commands.specs.CheckAnswer.{Answer, IsCheckAnswer, IsProvedOf}
+use Rattle.lpis_commands.specs.CheckAnswer.{Answer, IsCheckAnswer}
 use Rattle.lpis_commands.specs.declared.failure.Failure.{Failure}
 use Rattle.lpis_commands.specs.declared.failure.Failure.TheVariants.{Store, Write}
 use Rattle.lpis_commands.specs.declared.failure.Name.TheVariants.{Out}
@@ -27,105 +17,102 @@ use Rattle.lpis_commands.specs.Report.{report_text}
 use Rattle.lpis_commands.specs.Status.{done, refused}
 use Rattle.lpis_commands.specs.Streams.{Begins}
 use Rattle.lpis_publishing.specs.LineageLines.{publish_refusal_text}
-use Rattle.lpis_publishing.specs.Publication.{IsReleasePublished, publication_text}
-use Rattle.lpis_publishing.specs.Stored.{RegisterState, IsStoreFailure, Stays}
+use Rattle.lpis_publishing.specs.Output.{Output}
+use Rattle.lpis_publishing.specs.Publication.{IsPublicationAnswer, IsReleasePublished}
+use Rattle.lpis_publishing.specs.Stored.{IsStoreFailure, Stays}
 use Rattle.lpis_publishing.specs.Submission.{AreAllRead, Readers, IsSubmissionAnswer, IsSubmitted}
-use Rattle.lpis_publishing.specs.Submission.{IsUnreadSubmission, Submission}
+use Rattle.lpis_publishing.specs.Submission.{IsUnreadSubmission, Submission, Submitted}
 
 -- ---- text and status
--- of a history with kept shapes, a year, a release with a good certificate and rows of lineage: the
--- line of what the register refuses, in its order, or what is printed of a release that was
--- published
-abbrev pub IsHistoryAnswer : List Entry → List Shape → ℕ → Contents → Cert → List Row → Answer
-    → Type 0
-IsHistoryAnswer h s year r c rows a =
-    ((fault : PublishFault) × IsRefused h s year r c.exact rows fault × (IsSetAside fault → ⊥)
+-- of a release with a good certificate, and what a register holds: the line of what the register
+-- refuses, in its order, or what is printed of a release that was published
+abbrev pub IsHistoryAnswer : Candidate → Holdings → Answer → Type 0
+IsHistoryAnswer c before a =
+    ((fault : PublishFault) × IsRefused c before fault × (IsSetAside fault → ⊥)
     × (a ≡ (publish_refusal_text fault, refused)))
-    ⊎ ((last_year h < year) × IsShown h s r c.exact rows
-    × (a ≡ (publication_text (report_text r) h year r rows, done)))
+    ⊎ IsPublicationAnswer (report_text c.release) c before a
 
--- the answer to what is to be published in a year after a history with kept shapes: faults of the
--- tables and texts come first, then those of the certificate
-abbrev pub IsPublishAnswer : Submission → ℕ → List Entry → List Shape → Answer → Type 0
-IsPublishAnswer x year h s =
-    IsSubmissionAnswer (λ r c rows. IsCheckAnswer r c (IsHistoryAnswer h s year r c rows)) x
+-- what is to be published in a year, of what was handed in
+abbrev pub candidate_of : ℕ → Submitted → Candidate
+candidate_of year said = candidate year said.release said.cert.exact said.rows
+
+-- the answer to what is to be published in a year: faults of the tables and texts come first, then
+-- those of the certificate
+abbrev pub IsPublishAnswer : ℕ → Submission → Holdings → Answer → Type 0
+IsPublishAnswer year x before =
+    IsSubmissionAnswer (λ said. IsCheckAnswer said.release said.cert
+    (IsHistoryAnswer (candidate_of year said) before)) x
 
 -- ---- the register after
--- a submission was published in a year after the history `h` with the kept shapes `s`, and with it
--- the history is `k` and the shapes that are kept are `t`
-pub record IsPublished (x : Submission) (year : ℕ) (h : List Entry) (s : List Shape)
-    (k : List Entry) (t : List Shape) : Type 0 where
-  -- it is a sound map, and its certificate is good
-  pub release : Contents
-  pub proved : IsProvedOf x.checked release
-  pub rows : List Row
-  pub lineage : rows_of lineage_table x.lineage ≡ Ok rows
-  pub published : IsReleasePublished release rows year h s k t
+-- what was handed in says this, which is a sound map with a good certificate
+pub record IsSoundSubmission (x : Submission) (said : Submitted) : Type 0 where
+  pub submitted : IsSubmitted x said
+  pub sound : IsSoundMap said.release
+  pub good : IsGood said.release said.cert
 
--- with the status `done` the release was published, with every other one the history and the shapes
--- are those before
-abbrev pub MovesRegister : Submission → ℕ → ℕ → List Entry → List Shape → List Entry → List Shape
-    → Type 0
-MovesRegister x year status h s k t = (status ≡ done → IsPublished x year h s k t)
-    × (status ≢ done → (k ≡ h) × (t ≡ s))
+-- it was published in a year
+pub record IsPublished (year : ℕ) (x : Submission) (before after : Holdings) : Type 0 where
+  pub said : Submitted
+  pub proved : IsSoundSubmission x said
+  pub published : IsReleasePublished (candidate_of year said) before after
+
+-- with the status `done` the release was published, with every other one the register holds what it
+-- held before
+abbrev pub MovesRegister : ℕ → Submission → Holdings → Holdings → ℕ → Type 0
+MovesRegister year x before after status = (status ≡ done → IsPublished year x before after)
+    × (status ≢ done → after ≡ before)
 
 -- ---- the run
--- the run answered with this status, and wrote the text
-pub record PublishEnds (x : Submission) (year status : ℕ) (h : List Entry) (s : List Shape)
-    (k : List Entry) (t : List Shape) (before after : Option (List ℕ)) : Type 0 where
-  pub text : List ℕ
-  pub answer : IsPublishAnswer x year h s (text, status)
-  pub written : Appends before after text
-  pub moves : MovesRegister x year status h s k t
+-- what is asked for: a year, and what five readers will give
+pub record PublishRequest : Type 0 where
+  pub year : ℕ
+  pub given : Readers
 
--- the output failed after a beginning of the answer; the release may be published
-pub record PublishIsBegun (x : Submission) (year : ℕ) (h : List Entry) (s : List Shape)
-    (k : List Entry) (t : List Shape) (before after : Option (List ℕ)) : Type 0 where
-  pub whole : Answer
-  pub answer : IsPublishAnswer x year h s whole
-  pub written : Begins before after whole.0
-  pub moves : MovesRegister x year whole.1 h s k t
+-- a run of a request, over what a register holds before and after it, and an output
+module _ (asked : PublishRequest) (before after : Holdings) (out : Output) where
+  -- it answered with this status, and wrote the text
+  pub record PublishAnswers (status : ℕ) : Type 0 where
+    pub submission : Submission
+    pub read : AreAllRead asked.given submission
+    pub text : List ℕ
+    pub answer : IsPublishAnswer asked.year submission before (text, status)
+    pub written : Appends out.before out.after text
+    pub moves : MovesRegister asked.year submission before after status
 
--- what was handed in is a sound map with a good certificate, which was accepted, and the database
--- failed to store it
-pub record FailsToPublish {S : Type 0} (store : Ghosts S) (x : Submission) (year : ℕ)
-    (old new : RegisterState S) (Failed : Type 0) : Type 0 where
-  pub release : Contents
-  pub cert : Cert
-  pub rows : List Row
-  pub submitted : IsSubmitted x release cert rows
-  pub sound : IsSoundMap release
-  pub good : IsGood release cert
-  pub fails : FailsToStore store old.history old.shapes year release cert.exact rows old.conn
-      new.conn Failed
-
--- a run of what five readers gave, over this register before it and after it, and this output
-module _ {S : Type 0} (store : Ghosts S) (year : ℕ) (given : Readers) (old new : RegisterState S)
-    (before after : Option (List ℕ)) where
-  -- it answered with this status
-  abbrev pub PublishAnswers : ℕ → Type 0
-  PublishAnswers status = (x : Submission) × AreAllRead given x
-      × PublishEnds x year status old.history old.shapes new.history new.shapes before after
+  -- the output failed after a beginning of the answer; the release may be published
+  pub record PublishBreaksOff : Type 0 where
+    pub submission : Submission
+    pub read : AreAllRead asked.given submission
+    pub whole : Answer
+    pub answer : IsPublishAnswer asked.year submission before whole
+    pub written : Begins out.before out.after whole.0
+    pub moves : MovesRegister asked.year submission before after whole.1
 
   -- it gave no answer: the output failed; or an input was not read, or memory ran out, or the
-  -- database failed, and then the history and the shapes are those before and nothing was written
+  -- database failed, and then the register holds what it held and nothing was written
   abbrev pub PublishHalts : Failure → Type 0
   PublishHalts failure =
-      ((x : Submission) × AreAllRead given x × (failure ≡ Write Out)
-      × PublishIsBegun x year old.history old.shapes new.history new.shapes before after)
-      ⊎ ((IsUnreadSubmission given failure ⊎ IsStoreFailure failure) × (new.history ≡ old.history)
-      × (new.shapes ≡ old.shapes) × Keeps before after)
+      ((failure ≡ Write Out) × PublishBreaksOff)
+      ⊎ ((IsUnreadSubmission asked.given failure ⊎ IsStoreFailure failure) × (after ≡ before)
+      × Keeps out.before out.after)
 
-  -- where the database failed there was a release to be stored, and where it did not itself run
-  -- out of memory, and its disk kept what was written, there is a cause
-  abbrev pub StoreHasCause : Failure → Type 0
-  StoreHasCause failure = IsStoreFailure failure → (x : Submission) × AreAllRead given x
-      × FailsToPublish store x year old new (failure ≡ Store)
+module _ {S : Type 0} (store : Ghosts S) (asked : PublishRequest) where
+  -- what was handed in is a sound map with a good certificate, which was accepted, and the
+  -- database failed to store it
+  pub record FailsToPublish (old new : RegisterState S) (Failed : Type 0) : Type 0 where
+    pub submission : Submission
+    pub read : AreAllRead asked.given submission
+    pub said : Submitted
+    pub proved : IsSoundSubmission submission said
+    pub fails : FailsToStore store (candidate_of asked.year said) old new Failed
 
-  -- what it ends with, and what it leaves in the database
-  pub record RunsPublish (result : Result ℕ Failure) : Type 0 where
-    pub answer : IfOk result PublishAnswers
-    pub failure : IfErr result PublishHalts
-    pub stored : Stays result (state store old.conn) old.history old.shapes
-        (state store new.conn) new.history new.shapes
-    pub cause : IfErr result StoreHasCause
+  -- what a run ends with, and what it leaves in the database. Where the database failed there was
+  -- a release to be stored, and where it did not itself run out of memory, and its disk kept what
+  -- was written, there is a cause
+  pub record RunsPublish (old new : RegisterState S) (out : Output) (result : Result ℕ Failure)
+      : Type 0 where
+    pub answer : IfOk result (PublishAnswers asked old.held new.held out)
+    pub failure : IfErr result (PublishHalts asked old.held new.held out)
+    pub stored : Stays store old new result
+    pub cause : IfErr result (λ failure. IsStoreFailure failure
+        → FailsToPublish old new (failure ≡ Store))

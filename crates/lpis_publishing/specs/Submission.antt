@@ -36,11 +36,20 @@ pub record AreAllRead (given : Readers) (x : Submission) : Type 0 where
   pub of_checked : AreRead x.checked given.parcels given.covers given.classes given.cert
   pub of_lineage : IsRead x.lineage given.lineage
 
--- these are the release, the certificate and the rows of a submission
-pub record IsSubmitted (x : Submission) (r : Contents) (c : Cert) (rows : List Row) : Type 0 where
-  pub tables : release_of x.checked.parcels x.checked.covers x.checked.classes ≡ Ok r
-  pub text : IsCertText x.checked.cert c
-  pub lineage : rows_of lineage_table x.lineage ≡ Ok rows
+-- a release, its certificate and its rows of lineage
+pub record Submitted : Type 0 where
+  pub release : Contents
+  pub cert : Cert
+  pub rows : List Row
+
+abbrev pub submitted : Contents → Cert → List Row → Submitted
+submitted release cert rows = record { release = release; cert = cert; rows = rows }
+
+-- the submission says these
+pub record IsSubmitted (x : Submission) (said : Submitted) : Type 0 where
+  pub tables : release_of x.checked.parcels x.checked.covers x.checked.classes ≡ Ok said.release
+  pub text : IsCertText x.checked.cert said.cert
+  pub lineage : rows_of lineage_table x.lineage ≡ Ok said.rows
 
 -- some input was not read, while those before it were; or memory ran out
 abbrev pub IsUnreadSubmission : Readers → Failure → Type 0
@@ -68,10 +77,9 @@ IsUntouched (name ∷ names) old new failure =
 
 -- the line of the first fault: of the release's tables, else of the certificate's text, else of the
 -- lineage table; or the answer to what these say
-abbrev pub IsSubmissionAnswer : (Contents → Cert → List Row → Answer → Type 0) → Submission
-    → Answer → Type 0
+abbrev pub IsSubmissionAnswer : (Submitted → Answer → Type 0) → Submission → Answer → Type 0
 IsSubmissionAnswer IsNext x =
-    IsTableAnswer (λ r. IsCertAnswer (λ c. IsTableAnswer (IsNext r c)
+    IsTableAnswer (λ r. IsCertAnswer (λ c. IsTableAnswer (λ rows. IsNext (submitted r c rows))
     (rows_of lineage_table x.lineage)) x.checked.cert (verdict x.checked.cert))
     (release_of x.checked.parcels x.checked.covers x.checked.classes)
 

@@ -12,17 +12,18 @@ ghost use Rattle.lpis_lineage.specs.Changes.{IsChange};
 ghost use Rattle.lpis_lineage.specs.Faults.{ReportsFirstOf, faults};
 ghost use Rattle.lpis_lineage.specs.Lineage.{last_live};
 ghost use Rattle.lpis_lineage.specs.Order.{IsAscending};
-ghost use Rattle.lpis_register_rows.specs.Shapes.{AreShapesOf, Shape, shape_ids};
+ghost use Rattle.lpis_register_rows.specs.Shapes.{AreShapesOf, shape_ids};
 ghost use Rattle.lpis_exact_lineage.specs.Asking.{AsksFor};
+ghost use Rattle.lpis_register.specs.Holdings.{Holdings, holdings};
 ghost use Rattle.lpis_commands.specs.Outputs.{held, outputs_of};
 ghost use Rattle.lpis_commands.specs.Status.{done, refused};
 ghost use Rattle.lpis_publishing.specs.ExactAnswer.{IsBlocksOutcome, IsExactAnswer, RunsExact};
 ghost use Rattle.lpis_publishing.specs.ExactAnswer.{blocks_line, unfilled_line};
 ghost use Rattle.lpis_publishing.specs.LineageLines.{publish_refusal_text};
 ghost use Rattle.lpis_publishing.specs.Submission.{IsUntouched, before_cert, before_classes};
-ghost use Rattle.lpis_publishing.specs.Submission.{before_covers, before_lineage};
+ghost use Rattle.lpis_publishing.specs.Submission.{before_covers, before_lineage, submitted};
 ghost use Rattle.lpis_publishing.specs.private.ExactRuns.{filled_with, refused_with};
-ghost use Rattle.lpis_publishing.specs.private.Submitting.{submission_of};
+ghost use Rattle.lpis_publishing.specs.private.Submitting.{submission_of, submitted_of};
 
 use crate::blocks::{BlockFault, with_blocks};
 use crate::lineage_lines::refuse;
@@ -102,9 +103,9 @@ fn refuse_part(alloc: Global, id: &Id) -> Result<Outcome, AllocError>
 
 /// The answer to a certificate and the parts that are asked for.
 fn answer_to_parts(alloc: Global, cert: Cert, parts: &[ExactPart]) -> Result<Outcome, AllocError>
-    ensures { (h : List Entry) (s : List Shape) (r : Contents) (rows : List Row)
-        (gs : List Group) → AsksFor h s r rows gs parts.now → IfOk result
-        (λ o. IsBlocksOutcome h s r cert rows (outputs_of o)) }
+    ensures { (before : Holdings) (r : Contents) (rows : List Row) (gs : List Group)
+        → AsksFor before.history before.shapes r rows gs parts.now
+        → IfOk result (λ o. IsBlocksOutcome (submitted r cert rows) before (outputs_of o)) }
 {
     match with_blocks(alloc, cert, parts) {
         Ok(made) => write_blocks(alloc, &made),
@@ -126,7 +127,8 @@ fn answer_to_change(
     ensures { (r : Contents) (h : List Entry) (rows : List Row) → AreShapesOf r.parcels new.now
         → faults h (parcel_ids r.parcels) rows ≡ []
         → IsChange (last_live h) (parcel_ids r.parcels) rows change.now
-        → IfOk result (λ o. IsBlocksOutcome h kept.now r cert rows (outputs_of o)) }
+        → IfOk result (λ o. IsBlocksOutcome (submitted r cert rows)
+        (holdings h kept.now) (outputs_of o)) }
 {
     match wanted_parts(alloc, change, kept, new) {
         Ok(parts) => answer_to_parts(alloc, cert, parts.as_slice()),
@@ -148,7 +150,10 @@ pub fn change_of(
         (IsChange (last_live history.now) (parcel_ids parcels.now) rows.now) }
 {
     let live = ids_of(alloc, parcels)?;
-    accept(alloc, history, live.as_slice(), rows)
+    match accept(alloc, history, live.as_slice(), rows) {
+        Ok(step) => Ok(step.change),
+        Err(fault) => Err(fault),
+    }
 }
 
 /// Gives a certificate the blocks that the marked rows of a change ask for, in place of its own,
@@ -167,7 +172,8 @@ pub fn fill_change(
     ensures { (r : Contents) (h : List Entry) (rows : List Row) → r.parcels ≡ parcels.now
         → faults h (parcel_ids r.parcels) rows ≡ []
         → IsChange (last_live h) (parcel_ids r.parcels) rows change.now
-        → IfOk result (λ o. IsBlocksOutcome h kept.now r cert rows (outputs_of o)) }
+        → IfOk result (λ o. IsBlocksOutcome (submitted r cert rows)
+        (holdings h kept.now) (outputs_of o)) }
 {
     let new = shapes_in(alloc, parcels)?;
     answer_to_change(alloc, kept, change, new.as_slice(), cert)
@@ -183,8 +189,8 @@ fn answer_to_rows(
     cert: Cert,
 ) -> Result<Outcome, AllocError>
     requires ascending { IsAscending (shape_ids kept.now) }
-    ensures { IfOk result (λ o. IsBlocksOutcome history.now kept.now release.now cert rows.now
-        (outputs_of o)) }
+    ensures { IfOk result (λ o. IsBlocksOutcome (submitted release.now cert rows.now)
+        (holdings history.now kept.now) (outputs_of o)) }
 {
     let parcels = release.parcels();
     match change_of(alloc, history, parcels, rows) {
@@ -202,8 +208,8 @@ fn answer_to_submission(
     said: ReadSubmission,
 ) -> Result<Outcome, AllocError>
     requires ascending { IsAscending (shape_ids kept.now) }
-    ensures { IfOk result (λ o. IsBlocksOutcome history.now kept.now said.release said.cert
-        said.rows.items (outputs_of o)) }
+    ensures { IfOk result (λ o. IsBlocksOutcome (submitted_of said)
+        (holdings history.now kept.now) (outputs_of o)) }
 {
     let ReadSubmission {
         release,
@@ -219,8 +225,8 @@ fn answer_to<S: Alter>(
     register: &Register<S>,
     submission: SubmissionBytes,
 ) -> Result<Outcome, AllocError>
-    ensures { IfOk result (λ o. IsExactAnswer (submission_of submission) register.now.history
-        register.now.shapes.items (outputs_of o)) }
+    ensures { IfOk result (λ o. IsExactAnswer (submission_of submission) register.now.held
+        (outputs_of o)) }
 {
     match understand(alloc, submission) {
         Ok(said) => answer_to_submission(
@@ -263,9 +269,7 @@ pub fn run_exact<S: Alter, P: Read, C: Read, K: Read, E: Read, L: Read, V: Write
       classes = K.remaining classes.old;
       cert = E.remaining cert.old;
       lineage = L.remaining lineage.old;
-    })
-        register.now.history register.now.shapes.items
-        (held (V.contents cert_out.old) (W.contents out.old))
+    }) register.now.held (held (V.contents cert_out.old) (W.contents out.old))
         (held (V.contents cert_out.new) (W.contents out.new)) result }
     ensures covers_untouched { IfErr result (IsUntouched before_covers covers.old covers.new) }
     ensures classes_untouched { IfErr result (IsUntouched before_classes classes.old classes.new) }

@@ -1,34 +1,33 @@
 //! The run of `publish`, over any register, readers and writer.
 
-ghost use Rattle.std.specs.Prelude.{◌≡◌, ◌++◌, IfErr, IfOk, List, OnOk};
+ghost use Rattle.std.specs.Prelude.{◌≡◌, ◌++◌, IfErr, IfOk, OnOk};
 ghost use Rattle.std.specs.Io.KnownBytes.{Appends};
 ghost use Rattle.std.specs.List.{flat_map};
-ghost use Rattle.sqlite.specs.Held.{state};
 ghost use Rattle.lpis_covers.specs.Ids.{has_id};
-ghost use Rattle.lpis_cert.specs.declared.part.ExactBlock.{ExactBlock};
 ghost use Rattle.lpis_checker.specs.GoodCertificate.{IsGood};
 ghost use Rattle.lpis_checker.specs.SoundMap.{IsSoundMap};
 ghost use Rattle.lpis_lineage.specs.Changes.{kind_at};
-ghost use Rattle.lpis_lineage.specs.Lineage.{last_year};
 ghost use Rattle.lpis_lineage.specs.Order.{IsAscending};
-ghost use Rattle.lpis_lineage.specs.declared.row.Row.{Row};
-ghost use Rattle.lpis_parcels.specs.Release.{Contents};
 ghost use Rattle.lpis_register.specs.Accepting.{IsAccepted, WasMadeFor};
 ghost use Rattle.lpis_register.specs.Failing.{FailsToStore, HasStoreCause};
+ghost use Rattle.lpis_register.specs.Holdings.{Candidate};
 ghost use Rattle.lpis_commands.specs.declared.failure.Failure.TheVariants.{Store};
 ghost use Rattle.lpis_commands.specs.CheckAnswer.{IsCheckAnswer};
 ghost use Rattle.lpis_commands.specs.Report.{report_text};
 ghost use Rattle.lpis_commands.specs.Status.{done};
 ghost use Rattle.lpis_publishing.specs.LineageLines.{lineage_line, published_line};
+ghost use Rattle.lpis_publishing.specs.Output.{output};
 ghost use Rattle.lpis_publishing.specs.Publication.{IsPublicationAnswer, IsReleasePublished};
 ghost use Rattle.lpis_publishing.specs.Publication.{PublishLeaves};
-ghost use Rattle.lpis_publishing.specs.PublishAnswer.{FailsToPublish, IsHistoryAnswer};
-ghost use Rattle.lpis_publishing.specs.PublishAnswer.{IsPublishAnswer, MovesRegister, RunsPublish};
-ghost use Rattle.lpis_publishing.specs.Stored.{IsStoreFailure, register_of};
-ghost use Rattle.lpis_publishing.specs.Submission.{IsUntouched, before_cert, before_classes};
-ghost use Rattle.lpis_publishing.specs.Submission.{before_covers, before_lineage};
+ghost use Rattle.lpis_publishing.specs.PublishAnswer.{IsHistoryAnswer, IsPublishAnswer};
+ghost use Rattle.lpis_publishing.specs.PublishAnswer.{IsSoundSubmission, MovesRegister};
+ghost use Rattle.lpis_publishing.specs.PublishAnswer.{RunsPublish, candidate_of};
+ghost use Rattle.lpis_publishing.specs.Stored.{IsStoreFailure};
+ghost use Rattle.lpis_publishing.specs.Submission.{IsUntouched, Submitted, before_cert};
+ghost use Rattle.lpis_publishing.specs.Submission.{before_classes, before_covers};
+ghost use Rattle.lpis_publishing.specs.Submission.{before_lineage, submitted};
 ghost use Rattle.lpis_publishing.specs.private.Marked.{is_marked};
-ghost use Rattle.lpis_publishing.specs.private.Submitting.{submission_of};
+ghost use Rattle.lpis_publishing.specs.private.Submitting.{submission_of, submitted_of};
 
 use crate::lineage_lines::{marked_ids, print_lineage, print_published, refuse};
 use crate::submission::{ReadSubmission, SubmissionBytes, Unread, read_submission, understand};
@@ -91,21 +90,15 @@ pub fn publish_accepted<S: Alter>(
     head: Vec<u8>,
     accepted: Accepted,
 ) -> Result<Answer, Failure>
-    requires made { WasMadeFor register.old.history register.old.shapes.items accepted }
-    ensures answer { (r : Contents) (blocks : List ExactBlock) (rows : List Row)
-        → IsAccepted register.old.history register.old.shapes.items year r blocks rows accepted
-        → IfOk result (λ a. IsPublicationAnswer head.items register.old.history
-        register.old.shapes.items year r blocks rows (a.text.items, a.status)) }
-    ensures published { (r : Contents) (blocks : List ExactBlock) (rows : List Row)
-        → IsAccepted register.old.history register.old.shapes.items year r blocks rows accepted
-        → IfOk result (λ _. IsReleasePublished r rows year register.old.history
-        register.old.shapes.items register.new.history register.new.shapes.items) }
-    ensures leaves { PublishLeaves result (state S.Store register.old.conn) register.old.history
-        register.old.shapes.items (state S.Store register.new.conn) register.new.history
-        register.new.shapes.items }
-    ensures cause { IfErr result (λ failure. HasStoreCause S.Store (last_year register.old.history)
-        register.old.shapes.items accepted register.old.conn register.new.conn
-        (failure ≡ Store)) }
+    requires made { WasMadeFor register.old.held accepted }
+    ensures answer { (c : Candidate) → c.year ≡ year → IsAccepted c register.old.held accepted
+        → IfOk result (λ a. IsPublicationAnswer head.items c register.old.held
+        (a.text.items, a.status)) }
+    ensures published { (c : Candidate) → IsAccepted c register.old.held accepted
+        → IfOk result (λ _. IsReleasePublished c register.old.held register.new.held) }
+    ensures leaves { PublishLeaves S.Store register.old register.new result }
+    ensures cause { IfErr result (λ failure. HasStoreCause S.Store accepted register.old
+        register.new (failure ≡ Store)) }
 {
     let answer = tell_change(alloc, head, year, accepted.change())?;
     match register.commit(accepted) {
@@ -136,22 +129,15 @@ fn publish_reported<S: Alter>(
     yes: &Yes<'_>,
     accepted: Accepted,
 ) -> Result<Answer, Failure>
-    requires made { WasMadeFor register.old.history register.old.shapes.items accepted }
-    ensures answer { (blocks : List ExactBlock) (rows : List Row)
-        → IsAccepted register.old.history register.old.shapes.items year yes.now blocks rows
-        accepted → IfOk result (λ a. IsPublicationAnswer (report_text yes.now)
-        register.old.history register.old.shapes.items year yes.now blocks rows
+    requires made { WasMadeFor register.old.held accepted }
+    ensures answer { (c : Candidate) → c.year ≡ year → IsAccepted c register.old.held accepted
+        → IfOk result (λ a. IsPublicationAnswer (report_text yes.now) c register.old.held
         (a.text.items, a.status)) }
-    ensures published { (blocks : List ExactBlock) (rows : List Row)
-        → IsAccepted register.old.history register.old.shapes.items year yes.now blocks rows
-        accepted → IfOk result (λ _. IsReleasePublished yes.now rows year register.old.history
-        register.old.shapes.items register.new.history register.new.shapes.items) }
-    ensures leaves { PublishLeaves result (state S.Store register.old.conn) register.old.history
-        register.old.shapes.items (state S.Store register.new.conn) register.new.history
-        register.new.shapes.items }
-    ensures cause { IfErr result (λ failure. HasStoreCause S.Store (last_year register.old.history)
-        register.old.shapes.items accepted register.old.conn register.new.conn
-        (failure ≡ Store)) }
+    ensures published { (c : Candidate) → IsAccepted c register.old.held accepted
+        → IfOk result (λ _. IsReleasePublished c register.old.held register.new.held) }
+    ensures leaves { PublishLeaves S.Store register.old register.new result }
+    ensures cause { IfErr result (λ failure. HasStoreCause S.Store accepted register.old
+        register.new (failure ≡ Store)) }
 {
     let report = report_of(alloc, yes)?;
     publish_accepted(alloc, register, year, report, accepted)
@@ -167,17 +153,14 @@ fn publish_checked<S: Alter>(
     cert: &Cert,
     rows: &[Row],
 ) -> Result<Answer, Failure>
-    ensures answer { IfOk result (λ a. IsHistoryAnswer register.old.history
-        register.old.shapes.items year yes.now cert.now rows.now (a.text.items, a.status)) }
-    ensures published { IfOk result (λ a. a.status ≡ done → IsReleasePublished yes.now rows.now
-        year register.old.history register.old.shapes.items register.new.history
-        register.new.shapes.items) }
-    ensures leaves { PublishLeaves result (state S.Store register.old.conn) register.old.history
-        register.old.shapes.items (state S.Store register.new.conn) register.new.history
-        register.new.shapes.items }
+    ensures answer { IfOk result (λ a. IsHistoryAnswer (candidate_of year
+        (submitted yes.now cert.now rows.now)) register.old.held (a.text.items, a.status)) }
+    ensures published { IfOk result (λ a. a.status ≡ done → IsReleasePublished (candidate_of year
+        (submitted yes.now cert.now rows.now)) register.old.held register.new.held) }
+    ensures leaves { PublishLeaves S.Store register.old register.new result }
     ensures cause { IfErr result (λ failure. IsStoreFailure failure → FailsToStore S.Store
-        register.old.history register.old.shapes.items year yes.now cert.now.exact rows.now
-        register.old.conn register.new.conn (failure ≡ Store)) }
+        (candidate_of year (submitted yes.now cert.now rows.now)) register.old register.new
+        (failure ≡ Store)) }
 {
     match register.accept(year, yes, rows, cert) {
         Ok(accepted) => publish_reported(alloc, register, year, yes, accepted),
@@ -194,19 +177,16 @@ fn answer_to_submission<S: Alter>(
     said: &ReadSubmission,
 ) -> Result<Answer, Failure>
     ensures answer { IfOk result (λ a. IsCheckAnswer said.now.release said.now.cert
-        (IsHistoryAnswer register.old.history register.old.shapes.items year said.now.release
-        said.now.cert said.now.rows.items) (a.text.items, a.status)) }
+        (IsHistoryAnswer (candidate_of year (submitted_of said.now)) register.old.held)
+        (a.text.items, a.status)) }
     ensures published { IfOk result (λ a. a.status ≡ done → IsSoundMap said.now.release
-        × IsGood said.now.release said.now.cert × IsReleasePublished said.now.release
-        said.now.rows.items year register.old.history register.old.shapes.items
-        register.new.history register.new.shapes.items) }
-    ensures leaves { PublishLeaves result (state S.Store register.old.conn) register.old.history
-        register.old.shapes.items (state S.Store register.new.conn) register.new.history
-        register.new.shapes.items }
+        × IsGood said.now.release said.now.cert × IsReleasePublished
+        (candidate_of year (submitted_of said.now)) register.old.held register.new.held) }
+    ensures leaves { PublishLeaves S.Store register.old register.new result }
     ensures cause { IfErr result (λ failure. IsStoreFailure failure → IsSoundMap said.now.release
-        × IsGood said.now.release said.now.cert × FailsToStore S.Store register.old.history
-        register.old.shapes.items year said.now.release said.now.cert.exact said.now.rows.items
-        register.old.conn register.new.conn (failure ≡ Store)) }
+        × IsGood said.now.release said.now.cert × FailsToStore S.Store
+        (candidate_of year (submitted_of said.now)) register.old register.new
+        (failure ≡ Store)) }
 {
     match check(alloc, &said.release, &said.cert, &Sweep) {
         Ok(yes) => {
@@ -233,18 +213,14 @@ fn answer_to<S: Alter>(
     year: u16,
     submission: SubmissionBytes,
 ) -> Result<Answer, Failure>
-    ensures answer { IfOk result (λ a. IsPublishAnswer (submission_of submission) year
-        register.old.history register.old.shapes.items (a.text.items, a.status)) }
-    ensures moves { IfOk result (λ a. MovesRegister (submission_of submission) year a.status
-        register.old.history register.old.shapes.items register.new.history
-        register.new.shapes.items) }
-    ensures leaves { PublishLeaves result (state S.Store register.old.conn) register.old.history
-        register.old.shapes.items (state S.Store register.new.conn) register.new.history
-        register.new.shapes.items }
-    ensures cause { IfErr result (λ failure. IsStoreFailure failure → FailsToPublish S.Store
-        (submission_of submission) year (register_of register.old.conn register.old.history
-        register.old.shapes.items) (register_of register.new.conn register.new.history
-        register.new.shapes.items) (failure ≡ Store)) }
+    ensures answer { IfOk result (λ a. IsPublishAnswer year (submission_of submission)
+        register.old.held (a.text.items, a.status)) }
+    ensures moves { IfOk result (λ a. MovesRegister year (submission_of submission)
+        register.old.held register.new.held a.status) }
+    ensures leaves { PublishLeaves S.Store register.old register.new result }
+    ensures cause { IfErr result (λ failure. IsStoreFailure failure → (said : Submitted)
+        × IsSoundSubmission (submission_of submission) said × FailsToStore S.Store
+        (candidate_of year said) register.old register.new (failure ≡ Store)) }
 {
     match understand(alloc, submission) {
         Ok(said) => answer_to_submission(alloc, register, year, &said),
@@ -277,15 +253,16 @@ pub fn run_publish<S: Alter, P: Read, C: Read, K: Read, E: Read, L: Read, W: Wri
     lineage: &mut L,
     out: &mut W,
 ) -> Result<u8, Failure>
-    ensures runs { RunsPublish S.Store year (record {
-      parcels = P.remaining parcels.old;
-      covers = C.remaining covers.old;
-      classes = K.remaining classes.old;
-      cert = E.remaining cert.old;
-      lineage = L.remaining lineage.old;
-    }) (register_of register.old.conn register.old.history
-        register.old.shapes.items) (register_of register.new.conn register.new.history
-        register.new.shapes.items) (W.contents out.old) (W.contents out.new) result }
+    ensures runs { RunsPublish S.Store (record {
+      year = year;
+      given = record {
+        parcels = P.remaining parcels.old;
+        covers = C.remaining covers.old;
+        classes = K.remaining classes.old;
+        cert = E.remaining cert.old;
+        lineage = L.remaining lineage.old;
+      };
+    }) register.old register.new (output (W.contents out.old) (W.contents out.new)) result }
     ensures covers_untouched { IfErr result (IsUntouched before_covers covers.old covers.new) }
     ensures classes_untouched { IfErr result (IsUntouched before_classes classes.old classes.new) }
     ensures cert_untouched { IfErr result (IsUntouched before_cert cert.old cert.new) }

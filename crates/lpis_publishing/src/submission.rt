@@ -12,7 +12,7 @@ ghost use Rattle.lpis_publishing.specs.Submission.{IsSubmitted, IsUnreadAnswer, 
 ghost use Rattle.lpis_publishing.specs.Submission.{before_cert};
 ghost use Rattle.lpis_publishing.specs.Submission.{before_classes, before_covers, before_lineage};
 ghost use Rattle.lpis_publishing.specs.private.Submitting.{IsFaultAnswer};
-ghost use Rattle.lpis_publishing.specs.private.Submitting.{IsReadAll, submission_of};
+ghost use Rattle.lpis_publishing.specs.private.Submitting.{IsReadAll, submission_of, submitted_of};
 ghost use Rattle.lpis_publishing.specs.declared.submission.Unread.{Unread};
 
 use crate::inputs::{read_checked, read_lent};
@@ -149,8 +149,7 @@ pub(crate) fn understand(
     alloc: Global,
     submission: SubmissionBytes,
 ) -> Result<ReadSubmission, Unread>
-    ensures said { IfOk result (λ s. IsSubmitted (submission_of submission) s.release s.cert
-        s.rows.items) }
+    ensures said { IfOk result (λ s. IsSubmitted (submission_of submission) (submitted_of s)) }
     ensures unread { IfErr result (IsUnreadAnswer (IsFaultAnswer (submission_of submission))) }
 {
     let SubmissionBytes { checked, lineage } = submission;

@@ -4,6 +4,7 @@ ghost use Rattle.std.specs.Prelude.{◌≡◌, ◌++◌, IfErr, IfOk, List, OnOk
 ghost use Rattle.std.specs.Io.KnownBytes.{Appends};
 ghost use Rattle.std.specs.List.{flat_map};
 ghost use Rattle.lpis_commands.specs.Status.{done};
+ghost use Rattle.lpis_publishing.specs.Output.{output};
 ghost use Rattle.lpis_publishing.specs.TraceAnswer.{AreTraceAnswers, IsTraceAnswer, IsWholeTrace};
 ghost use Rattle.lpis_publishing.specs.TraceAnswer.{TraceHalts, Traces, id_line, status_of_both};
 ghost use Rattle.lpis_publishing.specs.TraceAnswer.{trace_line};
@@ -43,7 +44,7 @@ fn answer_to_id<S: Alter>(
     id: &Id,
 ) -> Result<Answer, AllocError>
     ensures { IfOk result
-        (λ a. IsTraceAnswer register.now.history id.now (a.text.items, a.status)) }
+        (λ a. IsTraceAnswer id.now register.now.held.history (a.text.items, a.status)) }
 {
     match register.trace(id) {
         Ok(ids) => list_ids(alloc, ids.as_slice()),
@@ -60,7 +61,7 @@ fn answer_to<S: Alter>(
     word: &str,
 ) -> Result<Answer, AllocError>
     ensures { IfOk result
-        (λ a. IsTraceAnswer register.now.history word.now (a.text.items, a.status)) }
+        (λ a. IsTraceAnswer word.now register.now.held.history (a.text.items, a.status)) }
 {
     match Id::read(alloc, word.as_bytes())? {
         Some(id) => answer_to_id(alloc, register, &id),
@@ -76,7 +77,7 @@ fn add_answer<S: Alter>(
     text: &mut Vec<u8>,
 ) -> Result<u8, AllocError>
     ensures { IfOk result (λ status. (said : List ℕ)
-        × IsTraceAnswer register.now.history word.now (said, status)
+        × IsTraceAnswer word.now register.now.held.history (said, status)
         × (text.new.items ≡ text.old.items ++ trace_line word.now ++ said)) }
 {
     let answer = answer_to(alloc, register, word)?;
@@ -100,8 +101,8 @@ fn answer_to_each<S: Alter>(
     register: &Register<S>,
     words: &[&str],
 ) -> Result<Answer, AllocError>
-    ensures { IfOk result (λ a. AreTraceAnswers register.now.history
-        (map (λ w. w.now) words.now) (a.text.items, a.status)) }
+    ensures { IfOk result (λ a. AreTraceAnswers (map (λ w. w.now) words.now)
+        register.now.held.history (a.text.items, a.status)) }
 {
     let mut text = Vec::new(alloc);
     let mut status = DONE;
@@ -118,8 +119,8 @@ fn answer_to_words<S: Alter>(
     register: &Register<S>,
     words: &[&str],
 ) -> Result<Answer, AllocError>
-    ensures { IfOk result (λ a. IsWholeTrace register.now.history
-        (map (λ w. w.now) words.now) (a.text.items, a.status)) }
+    ensures { IfOk result (λ a. IsWholeTrace (map (λ w. w.now) words.now)
+        register.now.held.history (a.text.items, a.status)) }
 {
     match words {
         [word] => answer_to(alloc, register, word),
@@ -140,11 +141,11 @@ pub fn run_trace<S: Alter, W: Write>(
     words: &[&str],
     out: &mut W,
 ) -> Result<u8, Failure>
-    ensures answer { IfOk result (λ status. Traces register.now.history
-        (map (λ w. w.now) words.now) status (W.contents out.old) (W.contents out.new)) }
+    ensures answer { IfOk result (Traces (map (λ w. w.now) words.now) register.now.held.history
+        (output (W.contents out.old) (W.contents out.new))) }
     // A beginning of the answer was written, or nothing.
-    ensures failure { IfErr result (λ failure. TraceHalts failure register.now.history
-        (map (λ w. w.now) words.now) (W.contents out.old) (W.contents out.new)) }
+    ensures failure { IfErr result (TraceHalts (map (λ w. w.now) words.now)
+        register.now.held.history (output (W.contents out.old) (W.contents out.new))) }
 {
     let answer = answer_to_words(alloc, register, words)?;
     answer.write_to(out)

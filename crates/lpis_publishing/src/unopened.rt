@@ -1,6 +1,7 @@
 //! A register that is not opened.
 
 ghost use Rattle.std.specs.Prelude.{IfErr, IfOk};
+ghost use Rattle.lpis_publishing.specs.Output.{output};
 ghost use Rattle.lpis_publishing.specs.Unopened.{HaltsUnopened, RefusesRegister};
 
 use crate::lineage_lines::refuse;
@@ -17,11 +18,11 @@ pub fn refuse_register<W: Write>(
     fault: &PublishFault,
     out: &mut W,
 ) -> Result<u8, Failure>
-    ensures answer { IfOk result (λ status. RefusesRegister fault.now status (W.contents out.old)
-        (W.contents out.new)) }
+    ensures answer { IfOk result (RefusesRegister fault.now
+        (output (W.contents out.old) (W.contents out.new))) }
     // A beginning of the line was written, or nothing.
-    ensures failure { IfErr result (λ failure. HaltsUnopened failure fault.now (W.contents out.old)
-        (W.contents out.new)) }
+    ensures failure { IfErr result (HaltsUnopened fault.now
+        (output (W.contents out.old) (W.contents out.new))) }
 {
     match fault {
         PublishFault::Memory => Err(Failure::Memory),

@@ -1,14 +1,13 @@
 -- What a run that asks for blocks came to, of what was read.
-use Rattle.std.specs.Prelude.{ℕ, List, IfErr, IfOk, Result}
-use Rattle.lpis_lineage.specs.declared.row.Entry.{Entry}
-use Rattle.lpis_register_rows.specs.Shapes.{Shape}
+use Rattle.std.specs.Prelude.{ℕ, IfErr, IfOk, Result}
+use Rattle.lpis_register.specs.Holdings.{Holdings}
 use Rattle.lpis_commands.specs.Outputs.{Held}
 use Rattle.lpis_country_run.specs.declared.failure.CountryFailure.{CountryFailure}
 use Rattle.lpis_publish_country.specs.ExactCountryAnswer.{FillHalts, FillsCountry}
 use Rattle.lpis_publish_country.specs.PublishCountryAnswer.{CountryFiles, PublishCountryInputs}
 
-module _ (given : CountryFiles) (x : PublishCountryInputs) (h : List Entry) (s : List Shape)
+module _ (given : CountryFiles) (x : PublishCountryInputs) (holdings : Holdings)
     (before after : Held) where
   pub record FillsPrepared (result : Result ℕ CountryFailure) : Type 0 where
-    pub answer : IfOk result (FillsCountry given h s before after x)
-    pub failure : IfErr result (FillHalts given h s before after x)
+    pub answer : IfOk result (FillsCountry given x holdings before after)
+    pub failure : IfErr result (FillHalts given x holdings before after)

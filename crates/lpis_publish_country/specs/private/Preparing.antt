@@ -9,10 +9,11 @@ use Rattle.lpis_commands.specs.Refusals.{line_in_region, refusal_text}
 use Rattle.lpis_commands.specs.Status.{unreadable}
 use Rattle.lpis_commands.specs.Streams.{IsRead}
 use Rattle.lpis_commands.specs.declared.answer.Answer.{Answer}
+use Rattle.lpis_country_plan.specs.Tree.{Tree}
 use Rattle.lpis_country_run.specs.Beginning.{IsBegun, country_inputs_of}
 use Rattle.lpis_publish_country.specs.CountryLineage.{AreTablesOf, IsTableOf, rows_in}
 use Rattle.lpis_publish_country.specs.PublishCountryAnswer.{AreSaid, CountryFiles}
-use Rattle.lpis_publish_country.specs.PublishCountryAnswer.{PublishCountryInputs}
+use Rattle.lpis_publish_country.specs.PublishCountryAnswer.{CountrySaid, PublishCountryInputs}
 use Rattle.lpis_publish_country.specs.declared.inputs.Prepared.{Prepared}
 use Rattle.lpis_publish_country.specs.declared.inputs.PublishCountryBytes.{PublishCountryBytes}
 use Rattle.lpis_publish_country.specs.declared.lineage.CountryLineage.{CountryLineage}
@@ -57,10 +58,19 @@ inputs_of b = record {
   exact = option_map (λ v. v.items) b.exact;
 }
 
+-- what was prepared says this, with a plan and tables of lineage
+abbrev pub said_of : Tree → Prepared → List (List Row) → CountrySaid
+said_of plan p tables = record {
+  plan = plan;
+  classes = p.begun.classes.items;
+  blocks = p.cert.exact;
+  tables = tables;
+}
+
 -- what the files before the regions say
 pub record IsPrepared (given : CountryFiles) (x : PublishCountryInputs) (p : Prepared) : Type 0
   where
     pub begun : IsBegun x.country p.begun
     pub tables : List (List Row)
-    pub said : AreSaid given x begun.plan p.begun.classes.items p.cert.exact tables
+    pub said : AreSaid given x (said_of begun.plan p tables)
     pub has : HasTables p.lineage tables

@@ -5,11 +5,15 @@ use Rattle.lpis_commands.specs.Inputs.{inputs_of}
 use Rattle.lpis_commands.specs.declared.failure.Failure.{Failure}
 use Rattle.lpis_publishing.specs.Submission.{AreAllRead, Readers}
 use Rattle.lpis_publishing.specs.Submission.{IsSubmissionAnswer, IsUnreadSubmission}
-use Rattle.lpis_publishing.specs.Submission.{Submission}
+use Rattle.lpis_publishing.specs.Submission.{Submission, Submitted, submitted}
+use Rattle.lpis_publishing.specs.declared.submission.ReadSubmission.{ReadSubmission}
 use Rattle.lpis_publishing.specs.declared.submission.SubmissionBytes.{SubmissionBytes}
 
 abbrev pub submission_of : SubmissionBytes → Submission
 submission_of b = record { checked = inputs_of b.checked; lineage = b.lineage.items }
+
+abbrev pub submitted_of : ReadSubmission → Submitted
+submitted_of s = submitted s.release s.cert s.rows.items
 
 -- the bytes of what five readers gave, or why some is not read
 pub record IsReadAll (given : Readers) (result : Result SubmissionBytes Failure) : Type 0 where
@@ -18,4 +22,4 @@ pub record IsReadAll (given : Readers) (result : Result SubmissionBytes Failure)
 
 -- the answer to a submission that says nothing
 abbrev pub IsFaultAnswer : Submission → Answer → Type 0
-IsFaultAnswer = IsSubmissionAnswer (λ r c rows a. ⊥)
+IsFaultAnswer = IsSubmissionAnswer (λ said a. ⊥)

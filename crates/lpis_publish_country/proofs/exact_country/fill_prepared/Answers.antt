@@ -15,22 +15,22 @@ join_regions-requires g c =
     (setting_of texts Regions h.begun.plan c.args.prepared.begun.classes.items, setting_begun texts Regions x.country c.args.prepared.begun h.begun)
 
 pub returns-in_err-country : goal.returns-in_err-country
-returns-in_err-country g c = λ given x told none h.
+returns-in_err-country g c = λ given x told h.
     let p = c.args.prepared in
-    let now = c.args.register.now in
+    let now = c.args.register.now.held in
     let s = fill_setting given x p h in
     let stops = c.in_err-country.ensures.failure s (is_fill_setting given x p h (g.G.Regions.texts c.args.regions.now) told) in
     let f = err_from_is_err_and c.from_residual.result c.from_residual.ensures.1 in
     let file = g.V.Write.contents c.args.file.now in
     let old = g.W.Write.contents c.args.out.now in
     let new = g.W.Write.contents c.join_regions.new.out in
-    prepared_halts given x now.history now.shapes.items (held file old) (held file new) c.from_residual.result f.0 f.1
-    (fill_stops given x p h none now.history now.shapes.items file old new f.0 (rw f.2 stops))
+    prepared_halts given x now (held file old) (held file new) c.from_residual.result f.0 f.1
+    (fill_stops given x p h now file old new f.0 (rw f.2 stops))
 
 pub returns-in_err-outcome-in-Ok : goal.returns-in_err-outcome-in-Ok
-returns-in_err-outcome-in-Ok g c = λ given x told none h.
+returns-in_err-outcome-in-Ok g c = λ given x told h.
     let p = c.args.prepared in
-    let now = c.args.register.now in
+    let now = c.args.register.now.held in
     let s = fill_setting given x p h in
     let file = g.V.Write.contents c.args.file.now in
     let old = g.W.Write.contents c.args.out.now in
@@ -38,13 +38,13 @@ returns-in_err-outcome-in-Ok g c = λ given x told none h.
     let (regions, lines, joins, written, joined) = subst (RegionsJoin s old new) c.in-Ok.is
     (c.in_ok-country.ensures.joins s (is_fill_setting given x p h (g.G.Regions.texts c.args.regions.now) told)) in
     let f = err_from_is_err_and c.from_residual-in_err-outcome-in-Ok.result c.from_residual-in_err-outcome-in-Ok.ensures.1 in
-    prepared_halts given x now.history now.shapes.items (held file old) (held file new) c.from_residual-in_err-outcome-in-Ok.result f.0 f.1
-    (fill_spent given x p h none now.history now.shapes.items regions lines joins file old new written f.0 f.2)
+    prepared_halts given x now (held file old) (held file new) c.from_residual-in_err-outcome-in-Ok.result f.0 f.1
+    (fill_spent given x p h now regions lines joins file old new written f.0 f.2)
 
 pub returns-in_err-write_to-in-Ok : goal.returns-in_err-write_to-in-Ok
-returns-in_err-write_to-in-Ok g c = λ given x told none h.
+returns-in_err-write_to-in-Ok g c = λ given x told h.
     let p = c.args.prepared in
-    let now = c.args.register.now in
+    let now = c.args.register.now.held in
     let s = fill_setting given x p h in
     let file = g.V.Write.contents c.args.file.now in
     let old = g.W.Write.contents c.args.out.now in
@@ -56,13 +56,13 @@ returns-in_err-write_to-in-Ok g c = λ given x told none h.
     let o = outputs_of c.in_ok-outcome-in-Ok.outcome in
     let decided = c.in_ok-outcome-in-Ok.ensures s regions lines h.tables joins joined h.has in
     let f = err_from_is_err_and c.from_residual-in_err-write_to-in-Ok.result c.from_residual-in_err-write_to-in-Ok.ensures.1 in
-    prepared_halts given x now.history now.shapes.items (held file old) (held cert new) c.from_residual-in_err-write_to-in-Ok.result f.0 f.1
-    (fill_breaks given x p h none now.history now.shapes.items regions lines joins file old mid written o f.0 _ cert new decided f.2 c.in_err-write_to-in-Ok.ensures.failure)
+    prepared_halts given x now (held file old) (held cert new) c.from_residual-in_err-write_to-in-Ok.result f.0 f.1
+    (fill_breaks given x p h now regions lines joins file old mid written o f.0 _ cert new decided f.2 c.in_err-write_to-in-Ok.ensures.failure)
 
 pub returns-in-Ok : goal.returns-in-Ok
-returns-in-Ok g c = λ given x told none h.
+returns-in-Ok g c = λ given x told h.
     let p = c.args.prepared in
-    let now = c.args.register.now in
+    let now = c.args.register.now.held in
     let s = fill_setting given x p h in
     let file = g.V.Write.contents c.args.file.now in
     let old = g.W.Write.contents c.args.out.now in
@@ -73,17 +73,17 @@ returns-in-Ok g c = λ given x told none h.
     (c.in_ok-country.ensures.joins s (is_fill_setting given x p h (g.G.Regions.texts c.args.regions.now) told)) in
     let o = outputs_of c.in_ok-outcome-in-Ok.outcome in
     let decided = c.in_ok-outcome-in-Ok.ensures s regions lines h.tables joins joined h.has in
-    prepared_ends given x now.history now.shapes.items (held file old) (held cert new) _
-    (fill_writes given x p h none now.history now.shapes.items regions lines joins file old mid written o _ cert new decided c.in_ok-write_to-in-Ok.ensures.answer)
+    prepared_ends given x now (held file old) (held cert new) _
+    (fill_writes given x p h now regions lines joins file old mid written o _ cert new decided c.in_ok-write_to-in-Ok.ensures.answer)
 
 pub returns : goal.returns
-returns g c = λ given x told none h.
+returns g c = λ given x told h.
     let p = c.args.prepared in
-    let now = c.args.register.now in
+    let now = c.args.register.now.held in
     let s = fill_setting given x p h in
     let file = g.V.Write.contents c.args.file.now in
     let old = g.W.Write.contents c.args.out.now in
     let new = g.W.Write.contents c.join_regions.new.out in
     let refused = subst (RegionsJoin s old new) c.in-Err.is (c.in_ok-country.ensures.joins s (is_fill_setting given x p h (g.G.Regions.texts c.args.regions.now) told)) in
-    prepared_ends given x now.history now.shapes.items (held file old) (held file new) c.in-Err.status
-    (fill_refuses given x p h none now.history now.shapes.items file old new c.in-Err.status refused.0 refused.1)
+    prepared_ends given x now (held file old) (held file new) c.in-Err.status
+    (fill_refuses given x p h now file old new c.in-Err.status refused.0 refused.1)

@@ -1,9 +1,9 @@
-use Rattle.std.proofs.Common.{subst}
-use Rattle.lpis_country_run.specs.CountryAnswer.{setting_of}
+use Rattle.std.proofs.Common.{refl, subst}
 use Rattle.lpis_country_run.specs.RegionsOutcome.{IsSettingOf, RegionsJoin}
 use Rattle.lpis_country_run.proofs.Shared.{setting_begun}
-use Rattle.lpis_publishing.specs.Stored.{register_of}
-use Rattle.lpis_publish_country.proofs.EndLemmas.{is_same, runs_refused, runs_stopped, runs_union, stays_same}
+use Rattle.lpis_publish_country.specs.PublishCountryAnswer.{CountryRequest, setting_said}
+use Rattle.lpis_publish_country.specs.private.Preparing.{said_of}
+use Rattle.lpis_publish_country.proofs.EndLemmas.{runs_refused, runs_stopped, runs_union, stays_same}
 use Rattle.lpis_publish_country.proofs.publish_country.publish_prepared.Goals as goal
 
 pub join_regions-requires : goal.join_regions-requires
@@ -13,31 +13,34 @@ join_regions-requires g c =
 
 pub returns-in_err-country : goal.returns-in_err-country
 returns-in_err-country g c = λ given x texts p.
-    let old = register_of c.args.register.now.conn c.args.register.now.history c.args.register.now.shapes.items in
-    let s = setting_of given.texts c.args.detail p.begun.plan c.args.prepared.begun.classes.items in
+    let old = c.args.register.now in
+    let asked : CountryRequest = record { year = c.args.year; given = given; detail = c.args.detail } in
+    let said = said_of p.begun.plan c.args.prepared p.tables in
+    let s = setting_said given c.args.detail said in
     let is = subst (λ t. IsSettingOf s t c.args.detail c.args.prepared.begun) texts (setting_begun given.texts c.args.detail x.country c.args.prepared.begun p.begun) in
-    runs_stopped g.S.Store c.args.year given c.args.detail old old (g.W.Write.contents c.args.out.now) (g.W.Write.contents c.join_regions.new.out) x p.begun.plan c.args.prepared.begun.classes.items
-    c.args.prepared.cert.exact p.tables p.said c.from_residual.result _ c.from_residual.ensures.1 (is_same old) (λ failure. stays_same g.S.Store old _) (c.in_err-country.ensures.failure s is)
+    runs_stopped g.S.Store asked x old old (g.W.Write.contents c.args.out.now) (g.W.Write.contents c.join_regions.new.out) said p.said
+    c.from_residual.result _ c.from_residual.ensures.1 refl (λ failure. stays_same g.S.Store old _) (c.in_err-country.ensures.failure s is)
 
 pub returns-in-Ok : goal.returns-in-Ok
 returns-in-Ok g c = λ given x texts p.
-    let old = c.args.register.now in
-    let new = c.end_union.new.register in
-    let s = setting_of given.texts c.args.detail p.begun.plan c.args.prepared.begun.classes.items in
+    let asked : CountryRequest = record { year = c.args.year; given = given; detail = c.args.detail } in
+    let said = said_of p.begun.plan c.args.prepared p.tables in
+    let s = setting_said given c.args.detail said in
     let is = subst (λ t. IsSettingOf s t c.args.detail c.args.prepared.begun) texts (setting_begun given.texts c.args.detail x.country c.args.prepared.begun p.begun) in
     let start = g.W.Write.contents c.args.out.now in
     let now = g.W.Write.contents c.join_regions.new.out in
     let (regions, lines, all, written, joined) = subst (λ r. RegionsJoin s start now r) c.in-Ok.is (c.in_ok-country.ensures.joins s is) in
-    runs_union g.S.Store c.args.year given c.args.detail (register_of old.conn old.history old.shapes.items) (register_of new.conn new.history new.shapes.items) start
-    (g.W.Write.contents c.end_union.new.out) x p.begun.plan c.args.prepared.begun.classes.items c.args.prepared.cert.exact p.tables p.said regions lines now all.have_passed written
+    runs_union g.S.Store asked x c.args.register.now c.end_union.new.register start (g.W.Write.contents c.end_union.new.out) said p.said regions lines now all.have_passed written
     c.end_union.result (c.end_union.ensures s regions lines p.tables all joined p.has)
 
 pub returns : goal.returns
 returns g c = λ given x texts p.
-    let old = register_of c.args.register.now.conn c.args.register.now.history c.args.register.now.shapes.items in
-    let s = setting_of given.texts c.args.detail p.begun.plan c.args.prepared.begun.classes.items in
+    let old = c.args.register.now in
+    let asked : CountryRequest = record { year = c.args.year; given = given; detail = c.args.detail } in
+    let said = said_of p.begun.plan c.args.prepared p.tables in
+    let s = setting_said given c.args.detail said in
     let is = subst (λ t. IsSettingOf s t c.args.detail c.args.prepared.begun) texts (setting_begun given.texts c.args.detail x.country c.args.prepared.begun p.begun) in
     let start = g.W.Write.contents c.args.out.now in
     let now = g.W.Write.contents c.join_regions.new.out in
-    runs_refused g.S.Store c.args.year given c.args.detail old old start now x p.begun.plan c.args.prepared.begun.classes.items c.args.prepared.cert.exact p.tables p.said c.in-Err.status (is_same old)
+    runs_refused g.S.Store asked x old old start now said p.said c.in-Err.status refl
     (stays_same g.S.Store old _) (subst (λ r. RegionsJoin s start now r) c.in-Err.is (c.in_ok-country.ensures.joins s is))

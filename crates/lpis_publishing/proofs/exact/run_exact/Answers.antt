@@ -21,7 +21,7 @@ returns-in_err-outcome-clause-runs g c =
 pub returns-clause-runs : goal.returns-clause-runs
 returns-clause-runs g c =
     let a = outputs_of c.in_ok-outcome.outcome in
-    let fills : Fills _ c.args.register.now.history c.args.register.now.shapes.items a =
+    let fills : Fills _ c.args.register.now.held a =
     record { submission = submission_of c.in_ok-submission.submission; read = c.in_ok-submission.ensures.read.bytes; answer = c.in_ok-outcome.ensures } in
     record {
       answer = IfOk-weaker c.write_to.result _ _ (λ status written. (a, fills, written)) c.write_to.ensures.answer;

@@ -1,39 +1,48 @@
+use Rattle.std.proofs.Common.{◌≡◌, ◌∙◌, ℕ, refl, sym}
 use Rattle.lpis_publishing.proofs.Common.{IfOk-weaker}
-use Rattle.lpis_publishing.proofs.PublishLemmas.{both-ok, fails-submitted, published-of}
-use Rattle.lpis_publishing.proofs.SubmissionLemmas.{answer-said, answer-unread}
-use Rattle.lpis_publishing.specs.Stored.{register_of}
-use Rattle.lpis_publishing.specs.private.Submitting.{submission_of}
+use Rattle.lpis_publishing.proofs.PublishLemmas.{both-ok, fails-submitted}
+use Rattle.lpis_publishing.proofs.SubmissionLemmas.{answer-said, answer-unread, fault-status}
+use Rattle.lpis_publishing.specs.private.Submitting.{submission_of, submitted_of}
+use Rattle.lpis_commands.specs.CheckAnswer.{Answer, IsCheckAnswer}
+use Rattle.lpis_register.specs.Holdings.{Holdings}
+use Rattle.lpis_publishing.specs.PublishAnswer.{IsHistoryAnswer, candidate_of}
+use Rattle.lpis_publishing.specs.Submission.{Submitted}
 use Rattle.lpis_publishing.proofs.publish.answer_to.Goals as goal
+
+-- the answer to what a submission says
+abbrev next : ℕ → Holdings → Submitted → Answer → Type 0
+next year before said = IsCheckAnswer said.release said.cert (IsHistoryAnswer (candidate_of year said) before)
 
 pub returns-in-Ok-clause-answer : goal.returns-in-Ok-clause-answer
 returns-in-Ok-clause-answer g c =
     let x = submission_of c.args.submission in
-    let s = c.in-Ok.said in
-    IfOk-weaker c.answer_to_submission.result _ _ (λ a told. answer-said _ x s.release s.cert s.rows.items (a.text.items, a.status) c.in-Ok.ensures.said told) c.answer_to_submission.ensures.answer
+    let said = submitted_of c.in-Ok.said in
+    IfOk-weaker c.answer_to_submission.result _ _
+    (λ a told. answer-said (next c.args.year c.args.register.now.held) x said (a.text.items, a.status) c.in-Ok.ensures.said told) c.answer_to_submission.ensures.answer
 
 pub returns-in-Ok-clause-moves : goal.returns-in-Ok-clause-moves
 returns-in-Ok-clause-moves g c =
-    let x = submission_of c.args.submission in
-    let s = c.in-Ok.said in
-    let old = c.args.register.now in
-    let new = c.answer_to_submission.new.register in
+    let submitted = c.in-Ok.ensures.said in
     IfOk-weaker c.answer_to_submission.result _ _
     (λ a known. (
       (λ is_done.
           let was = known.0 is_done in
-          published-of x c.args.year s.release s.cert s.rows.items old.history old.shapes.items new.history new.shapes.items c.in-Ok.ensures.said was.0 was.1 was.2),
+          record { said = submitted_of c.in-Ok.said; proved = record { submitted = submitted; sound = was.0; good = was.1 }; published = was.2 }),
       known.1,
     ))
     (both-ok c.answer_to_submission.result _ _ c.answer_to_submission.ensures.published c.answer_to_submission.ensures.leaves.same)
 
 pub returns-in-Err-Refused-clause-answer : goal.returns-in-Err-Refused-clause-answer
 returns-in-Err-Refused-clause-answer g c =
-    rw c.in-Err-Refused.answer-is (answer-unread _ (submission_of c.args.submission) _ (rw c.in-Err-Refused.field-0-is at c.in-Err-Refused.ensures.unread))
+    rw c.in-Err-Refused.answer-is (answer-unread (next c.args.year c.args.register.now.held) (submission_of c.args.submission) _ (rw c.in-Err-Refused.field-0-is at c.in-Err-Refused.ensures.unread))
+
+-- a submission that is not understood changes nothing
+pub returns-in-Err-Refused-clause-moves : goal.returns-in-Err-Refused-clause-moves
+returns-in-Err-Refused-clause-moves g c =
+    let refused = fault-status (submission_of c.args.submission) _ (rw c.in-Err-Refused.field-0-is at c.in-Err-Refused.ensures.unread) in
+    rw c.in-Err-Refused.answer-is ((λ is_done. absurd (let no = sym refused ∙ is_done in cc)), λ _. refl)
 
 pub returns-in-Ok-clause-cause : goal.returns-in-Ok-clause-cause
 returns-in-Ok-clause-cause g c =
-    let s = c.in-Ok.said in
-    let old = c.args.register.now in
-    let new = c.answer_to_submission.new.register in
-    fails-submitted g.S.Store (submission_of c.args.submission) c.args.year s.release s.cert s.rows.items (register_of old.conn old.history old.shapes.items)
-    (register_of new.conn new.history new.shapes.items) c.answer_to_submission.result c.in-Ok.ensures.said c.answer_to_submission.ensures.cause
+    fails-submitted g.S.Store (submission_of c.args.submission) c.args.year (submitted_of c.in-Ok.said) c.args.register.now c.answer_to_submission.new.register
+    c.answer_to_submission.result c.in-Ok.ensures.said c.answer_to_submission.ensures.cause

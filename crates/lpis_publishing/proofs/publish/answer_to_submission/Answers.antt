@@ -1,7 +1,11 @@
-use Rattle.std.proofs.Common.{inl, subst}
+use Rattle.std.proofs.Common.{ap₂, inl, subst, List}
+use Rattle.lpis_parcels.specs.Release.{Contents}
+use Rattle.lpis_lineage.specs.declared.row.Row.{Row}
 use Rattle.lpis_checker.specs.SoundMap.{IsSoundMap}
 use Rattle.lpis_publishing.proofs.Common.{IfOk-weaker}
 use Rattle.lpis_publishing.proofs.PublishLemmas.{fails-said}
+use Rattle.lpis_publishing.specs.PublishAnswer.{candidate_of}
+use Rattle.lpis_publishing.specs.Submission.{submitted}
 use Rattle.lpis_publishing.proofs.publish.answer_to_submission.Goals as goal
 
 pub returns-in-Ok-clause-answer : goal.returns-in-Ok-clause-answer
@@ -10,7 +14,6 @@ returns-in-Ok-clause-answer g c =
 
 pub returns-in-Ok-clause-cause : goal.returns-in-Ok-clause-cause
 returns-in-Ok-clause-cause g c =
-    let register = c.args.register.now in
-    fails-said g.S.Store register.history register.shapes.items c.args.year _ c.args.said.now.release c.args.said.now.cert _ c.args.said.now.rows.items
-    register.conn c.publish_checked.new.register.conn c.publish_checked.result c.in-Ok.ensures.release c.as_slice.ensures.value
+    let same = ap₂ (λ (r : Contents) (rows : List Row). candidate_of c.args.year (submitted r c.args.said.now.cert rows)) c.in-Ok.ensures.release c.as_slice.ensures.value in
+    fails-said g.S.Store _ _ c.args.said.now.cert c.args.register.now c.publish_checked.new.register c.publish_checked.result same
     (subst IsSoundMap c.in-Ok.ensures.release c.release.ensures.sound) c.in-Ok.ensures.good c.publish_checked.ensures.cause

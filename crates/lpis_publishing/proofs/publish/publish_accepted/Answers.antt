@@ -1,55 +1,42 @@
-use Rattle.std.proofs.Common.{inl, inr, ap, refl}
-use Rattle.sqlite.specs.Held.{state}
+use Rattle.std.proofs.Common.{inl, inr, refl}
 use Rattle.lpis_publishing.proofs.PublishLemmas.{leaves-committed, leaves-kept, memory-no-store, publication-accepted, published-accepted, still-held}
 use Rattle.lpis_publishing.proofs.publish.publish_accepted.Goals as goal
 
 pub returns-in-Ok-clause-answer : goal.returns-in-Ok-clause-answer
-returns-in-Ok-clause-answer g c r blocks rows made =
+returns-in-Ok-clause-answer g c candidate of_year made =
     let told = c.in_ok-answer.ensures in
-    publication-accepted c.args.head.items c.args.register.now.history c.args.register.now.shapes.items c.args.year r blocks rows c.args.accepted c.change.result.now
-    c.in_ok-answer.answer.text.items c.in_ok-answer.answer.status made c.change.ensures told.text told.status
+    publication-accepted c.args.head.items candidate c.args.register.now.held c.args.accepted c.change.result.now c.args.year
+    c.in_ok-answer.answer.text.items c.in_ok-answer.answer.status of_year made c.change.ensures told.text told.status
 
 pub returns-in-Ok-clause-published : goal.returns-in-Ok-clause-published
-returns-in-Ok-clause-published g c r blocks rows made =
-    let published = c.in-Ok.ensures.publishes c.args.year r blocks rows made in
-    published-accepted c.args.register.now.history c.commit.new.self.history c.args.year r blocks rows c.args.register.now.shapes.items c.commit.new.self.shapes.items
-    c.args.accepted c.change.result.now made c.change.ensures c.in_ok-answer.ensures.ascend published.follows published.once
+returns-in-Ok-clause-published g c candidate made =
+    let published = c.in-Ok.ensures.publishes candidate made in
+    published-accepted candidate c.args.register.now.held c.commit.new.self.held c.args.accepted c.change.result.now made c.change.ensures c.in_ok-answer.ensures.ascend
+    published.follows published.once
 
 pub returns-in-Ok-clause-leaves : goal.returns-in-Ok-clause-leaves
 returns-in-Ok-clause-leaves g c =
     let made = c.requires.made in
-    let stored = c.in-Ok.ensures.stores made.0 made.1 made.2 made.3 made.4 in
-    leaves-committed c.in_ok-answer.answer (state g.S.Store c.args.register.now.conn) (state g.S.Store c.commit.new.self.conn)
-    c.args.register.now.history c.commit.new.self.history c.args.register.now.shapes.items c.commit.new.self.shapes.items
-    c.in_ok-answer.ensures.status stored.ok
+    leaves-committed g.S.Store c.args.register.now c.commit.new.self c.in_ok-answer.answer c.in_ok-answer.ensures.status (c.in-Ok.ensures.stores made.0 made.1).ok
 
 pub returns-in-Err-Memory-clause-leaves : goal.returns-in-Err-Memory-clause-leaves
 returns-in-Err-Memory-clause-leaves g c =
     let made = c.requires.made in
-    let old = state g.S.Store c.args.register.now.conn in
-    let new = state g.S.Store c.commit.new.self.conn in
-    let h = c.args.register.now.history in
-    let k = c.commit.new.self.history in
-    let s = c.args.register.now.shapes.items in
-    let t = c.commit.new.self.shapes.items in
-    let kept = (c.in-Err-Memory.ensures.publishes made.0 made.1 made.2 made.3 made.4).refused in
-    let stored = c.in-Err-Memory.ensures.stores made.0 made.1 made.2 made.3 made.4 in
-    leaves-kept _ old new h k s t (inl refl) kept stored.err
+    let old = c.args.register.now in
+    let new = c.commit.new.self in
+    let kept = (c.in-Err-Memory.ensures.publishes made.0 made.1).refused in
+    leaves-kept g.S.Store old new _ (inl refl) kept (c.in-Err-Memory.ensures.stores made.0 made.1).err
     (λ other o held. elim c.in-Err-Memory.ensures.untouched [
       | inl (inl e) ↦ cc e
       | inl (inr e) ↦ cc e
-      | inr p ↦ still-held o old new h k s t (ap (state g.S.Store) p.1) kept held
+      | inr p ↦ still-held g.S.Store old new p.1 kept o held
     ])
 
 pub returns-in-Err-Store-clause-leaves : goal.returns-in-Err-Store-clause-leaves
 returns-in-Err-Store-clause-leaves g c =
     let made = c.requires.made in
-    let old = state g.S.Store c.args.register.now.conn in
-    let new = state g.S.Store c.commit.new.self.conn in
-    let kept = (c.in-Err-Store.ensures.publishes made.0 made.1 made.2 made.3 made.4).refused in
-    let stored = c.in-Err-Store.ensures.stores made.0 made.1 made.2 made.3 made.4 in
-    leaves-kept _ old new c.args.register.now.history c.commit.new.self.history c.args.register.now.shapes.items c.commit.new.self.shapes.items
-    (inr (inl refl)) kept stored.err (λ other o held. absurd (other (inl refl)))
+    leaves-kept g.S.Store c.args.register.now c.commit.new.self _ (inr (inl refl)) (c.in-Err-Store.ensures.publishes made.0 made.1).refused
+    (c.in-Err-Store.ensures.stores made.0 made.1).err (λ other. absurd (other (inl refl)))
 
 pub returns-in-Err-Store-clause-cause : goal.returns-in-Err-Store-clause-cause
 returns-in-Err-Store-clause-cause g c clean is = c.in-Err-Store.ensures.cause clean c.in-Err-Store.field-0-is
@@ -57,14 +44,10 @@ returns-in-Err-Store-clause-cause g c clean is = c.in-Err-Store.ensures.cause cl
 pub returns : goal.returns
 returns g c =
     let made = c.requires.made in
-    let old = state g.S.Store c.args.register.now.conn in
-    let new = state g.S.Store c.commit.new.self.conn in
-    let kept = (c.in-Err.ensures.publishes made.0 made.1 made.2 made.3 made.4).refused in
-    let stored = c.in-Err.ensures.stores made.0 made.1 made.2 made.3 made.4 in
     record {
-      answer = λ r blocks rows it. tt;
-      published = λ r blocks rows it. tt;
-      leaves = leaves-kept _ old new c.args.register.now.history c.commit.new.self.history c.args.register.now.shapes.items c.commit.new.self.shapes.items
-          (inr (inr refl)) kept stored.err (λ other o held. absurd (other (inr refl)));
+      answer = λ candidate of_year it. tt;
+      published = λ candidate it. tt;
+      leaves = leaves-kept g.S.Store c.args.register.now c.commit.new.self _ (inr (inr refl)) (c.in-Err.ensures.publishes made.0 made.1).refused
+          (c.in-Err.ensures.stores made.0 made.1).err (λ other. absurd (other (inr refl)));
       cause = λ clean is. memory-no-store is;
     }

@@ -5,4 +5,4 @@ use Rattle.lpis_publishing.proofs.trace.answer_to_each.Given as goal
 -- the words so far are answered
 abbrev pub invariant-loop-word : goal.invariant-loop-word
 invariant-loop-word g l =
-    GoesOn l.register.history (map (λ w. w.now) l.words) (map (λ w. w.now) (drop l.word-index l.words)) (l.text.items, l.status)
+    GoesOn l.register.held.history (map (λ w. w.now) l.words) (map (λ w. w.now) (drop l.word-index l.words)) (l.text.items, l.status)
