@@ -4,8 +4,10 @@ ghost use Rattle.std.specs.Prelude.{IfErr, None, true};
 ghost use Rattle.lpis_country_run.specs.CountryFailures.{IsUnopened};
 
 use crate::open_at;
-use lpis_commands::{Failure, Name, RegionFiles, region_files, region_lineage};
-use lpis_country_run::{Folder, Regions};
+use lpis_commands::{
+    Failure, Folder, Name, RegionFiles, TableReaders, region_files, region_lineage,
+};
+use lpis_country_run::Regions;
 use lpis_publish_country::Lineages;
 use std::fs::File;
 
@@ -27,10 +29,10 @@ impl<'a> Folders<'a> {
 fn open_folder(rt: &HostRuntime, files: &RegionFiles) -> Result<Folder<File>, Failure>
     ensures { IfErr result (IsUnopened (record {
       may_be_missing = λ _. true;
-      parcels = None;
-      covers = None;
-      classes = None;
-      cert = None;
+      given = record {
+        tables = record { parcels = None; covers = None; classes = None };
+        cert = None;
+      };
     })) }
 {
     let parcels = open_at(rt, files.tables.parcels.path.as_str(), Name::Parcels)?;
@@ -38,9 +40,11 @@ fn open_folder(rt: &HostRuntime, files: &RegionFiles) -> Result<Folder<File>, Fa
     let classes = open_at(rt, files.tables.classes.path.as_str(), Name::Classes)?;
     let cert = open_at(rt, files.cert.path.as_str(), Name::Cert)?;
     Ok(Folder {
-        parcels,
-        covers,
-        classes,
+        tables: TableReaders {
+            parcels,
+            covers,
+            classes,
+        },
         cert,
     })
 }
@@ -53,10 +57,10 @@ impl Regions for Folders<'_> {
     // Each may be missing, and nothing is known of its bytes.
     ghost texts = { λ _ _. record {
       may_be_missing = λ _. true;
-      parcels = None;
-      covers = None;
-      classes = None;
-      cert = None;
+      given = record {
+        tables = record { parcels = None; covers = None; classes = None };
+        cert = None;
+      };
     } };
 
     fn open(&self, name: &str) -> Result<Folder<File>, Failure> {

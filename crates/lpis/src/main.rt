@@ -15,11 +15,12 @@ use clap::error::ErrorKind;
 use countries::{check_country, fill_country, locate_in_country, publish_country};
 use created::Created;
 use lpis_commands::{
-    Cmd, CommandFiles, Detail, Failure, Name, NamedFile, SubmissionFiles, TableFiles, command_of,
-    matches_of, named_files, print_failure, run_area, run_check, run_cut, status_of, usage_ends,
+    Cmd, CommandFiles, Detail, Failure, Folder, Name, NamedFile, SubmissionFiles, TableFiles,
+    TableReaders, command_of, matches_of, named_files, print_failure, run_area, run_check, run_cut,
+    status_of, usage_ends,
 };
 use lpis_locate::run_locate;
-use lpis_publishing::{refuse_register, run_exact, run_publish, run_trace};
+use lpis_publishing::{SubmissionReaders, refuse_register, run_exact, run_publish, run_trace};
 use lpis_register::Register;
 use sqlite::{Alter, Unknown};
 use std::alloc::Global;
@@ -183,18 +184,17 @@ fn measure(rt: &HostRuntime, table: &NamedFile) -> Result<u8, Failure> {
 
 /// Cuts the release of these tables, and writes its certificate to this file.
 fn cut(rt: &HostRuntime, tables: &TableFiles, cert: &NamedFile) -> Result<u8, Failure> {
-    let (parcels, covers, classes) = open_tables(rt, tables)?;
+    let mut tables = open_tables(rt, tables)?;
     // Where the release is refused, a file that stands at this path stays as it is.
     let mut cert = Created::new(rt, cert.path.as_str());
     let mut out = rt.stdout();
-    run_cut(rt.alloc(), parcels, covers, classes, &mut cert, &mut out)
+    run_cut(rt.alloc(), &mut tables, &mut cert, &mut out)
 }
 
 /// Checks the release of these tables against this certificate.
 fn check(rt: &HostRuntime, tables: &TableFiles, cert: &NamedFile) -> Result<u8, Failure> {
-    let (parcels, covers, classes) = open_tables(rt, tables)?;
-    let cert = open(rt, cert)?;
-    run_check(rt.alloc(), parcels, covers, classes, cert, &mut rt.stdout())
+    let mut folder = open_folder(rt, tables, cert)?;
+    run_check(rt.alloc(), &mut folder, &mut rt.stdout())
 }
 
 /// Finds the points of this table in the release of these tables, which is checked against this
@@ -205,11 +205,10 @@ fn locate(
     cert: &NamedFile,
     points: &NamedFile,
 ) -> Result<u8, Failure> {
-    let (parcels, covers, classes) = open_tables(rt, tables)?;
-    let cert = open(rt, cert)?;
-    let points = open(rt, points)?;
+    let mut folder = open_folder(rt, tables, cert)?;
+    let mut points = open(rt, points)?;
     let mut out = rt.stdout();
-    run_locate(rt.alloc(), parcels, covers, classes, cert, points, &mut out)
+    run_locate(rt.alloc(), &mut folder, &mut points, &mut out)
 }
 
 /// What is done with a register, and the files that it takes.
@@ -297,23 +296,11 @@ fn fill<S: Alter>(
     submission: &SubmissionFiles,
     filled: &NamedFile,
 ) -> Result<u8, Failure> {
-    let (mut parcels, mut covers, mut classes) = open_tables(rt, &submission.tables)?;
-    let mut cert = open(rt, &submission.cert)?;
-    let mut lineage = open(rt, &submission.lineage)?;
+    let mut submission = open_submission(rt, submission)?;
     // Where there are no such blocks, a file that stands at this path stays as it is.
     let mut filled = Created::new(rt, filled.path.as_str());
     let mut out = rt.stdout();
-    run_exact(
-        rt.alloc(),
-        register,
-        &mut parcels,
-        &mut covers,
-        &mut classes,
-        &mut cert,
-        &mut lineage,
-        &mut filled,
-        &mut out,
-    )
+    run_exact(rt.alloc(), register, &mut submission, &mut filled, &mut out)
 }
 
 /// Publishes the release of these files in a register.
@@ -323,21 +310,9 @@ fn publish<S: Alter>(
     year: u16,
     submission: &SubmissionFiles,
 ) -> Result<u8, Failure> {
-    let (mut parcels, mut covers, mut classes) = open_tables(rt, &submission.tables)?;
-    let mut cert = open(rt, &submission.cert)?;
-    let mut lineage = open(rt, &submission.lineage)?;
+    let mut submission = open_submission(rt, submission)?;
     let mut out = rt.stdout();
-    run_publish(
-        rt.alloc(),
-        register,
-        year,
-        &mut parcels,
-        &mut covers,
-        &mut classes,
-        &mut cert,
-        &mut lineage,
-        &mut out,
-    )
+    run_publish(rt.alloc(), register, year, &mut submission, &mut out)
 }
 
 /// Opens the file at a path, or reports by this name that it cannot be read.
@@ -356,9 +331,36 @@ pub(crate) fn open(rt: &HostRuntime, input: &NamedFile) -> Result<File, Failure>
 }
 
 /// Opens the tables of a release, or reports the first that cannot be read.
-fn open_tables(rt: &HostRuntime, tables: &TableFiles) -> Result<(File, File, File), Failure> {
+fn open_tables(rt: &HostRuntime, tables: &TableFiles) -> Result<TableReaders<File>, Failure> {
     let parcels = open(rt, &tables.parcels)?;
     let covers = open(rt, &tables.covers)?;
     let classes = open(rt, &tables.classes)?;
-    Ok((parcels, covers, classes))
+    Ok(TableReaders {
+        parcels,
+        covers,
+        classes,
+    })
+}
+
+/// Opens the tables of a release and then its certificate, or reports the first that cannot be
+/// read.
+fn open_folder(
+    rt: &HostRuntime,
+    tables: &TableFiles,
+    cert: &NamedFile,
+) -> Result<Folder<File>, Failure> {
+    let tables = open_tables(rt, tables)?;
+    let cert = open(rt, cert)?;
+    Ok(Folder { tables, cert })
+}
+
+/// Opens the files of a release that has a lineage, which comes last, or reports the first that
+/// cannot be read.
+fn open_submission(
+    rt: &HostRuntime,
+    files: &SubmissionFiles,
+) -> Result<SubmissionReaders<File>, Failure> {
+    let folder = open_folder(rt, &files.tables, &files.cert)?;
+    let lineage = open(rt, &files.lineage)?;
+    Ok(SubmissionReaders { folder, lineage })
 }

@@ -2,7 +2,7 @@
 use Rattle.std.specs.Prelude.{◌≡◌, ℕ, zero, suc, ◌+◌, Bool, cond, ◌&&◌, ◌==◌, List, [], ◌∷◌, length}
 use Rattle.std.specs.Prelude.{Option, Some, None, Result, Ok, Err, nat_le}
 use Rattle.std.specs.List.{slice_split}
-use Rattle.lpis_points.specs.Memory.{UnlessMemory}
+use Rattle.lpis_memory.specs.Memory.{UnlessMemory}
 use Rattle.lpis_cert.specs.declared.kind.Stage.{Stage}
 use Rattle.lpis_cert.specs.declared.kind.Stage.TheVariants as stage
 use Rattle.lpis_cert.specs.declared.fault.CertCode.{CertCode}

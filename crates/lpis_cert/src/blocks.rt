@@ -24,8 +24,8 @@ use crate::lines::{corner_lines, end_line, pair_lines};
 use crate::part::{ExactBlock, PairLine, ParcelPart, PiecePart};
 use crate::rest::Rest;
 use lpis_covers::Id;
+use lpis_memory::{Sequence, without_spare};
 use lpis_points::Triangle;
-use lpis_rings::{Sequence, without_spare};
 use std::alloc::Global;
 
 /// A piece of its lines' values.

@@ -5,7 +5,7 @@ ghost use Rattle.lpis_cert.specs.Limits.{most_flats, greatest_count};
 ghost use Rattle.lpis_points.specs.Triangles.{most_triangles};
 
 use crate::part::{ExactBlock, PairLine, ParcelPart, PiecePart};
-use lpis_rings::Sequence;
+use lpis_memory::Sequence;
 
 /// The most triangles of a certificate.
 pub const MOST_TRIANGLES: u64 = 2_000_000;

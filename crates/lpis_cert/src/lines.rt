@@ -21,8 +21,8 @@ use crate::part::PairLine;
 use crate::rest::{Rest, front_line};
 use crate::version::Version;
 use crate::words::Words;
+use lpis_memory::without_spare;
 use lpis_points::Triangle;
-use lpis_rings::without_spare;
 use std::alloc::Global;
 
 /// The first line's kind and further words.

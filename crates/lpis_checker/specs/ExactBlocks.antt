@@ -2,7 +2,7 @@
 -- block.
 use Rattle.std.specs.Prelude.{◌≡◌, ◌<◌, ℕ, Bool, List, All, codes, slice_get, Option, Some, None}
 use Rattle.std.specs.Option.{option_map}
-use Rattle.lpis_points.specs.Memory.{UnlessMemory}
+use Rattle.lpis_memory.specs.Memory.{UnlessMemory}
 use Rattle.lpis_points.specs.Triangles.{IsFlat}
 use Rattle.lpis_edge_sums.specs.Making.{EdgesCancel, FlatsHaveCorners}
 use Rattle.lpis_cert.specs.declared.part.ExactBlock.{ExactBlock}

@@ -10,7 +10,8 @@ ghost use Rattle.lpis_checker.specs.declared.exact.ExactFault.TheVariants.{Memor
 use crate::blocks::first_failing_block;
 use lpis_cert::{Cert, ExactBlock};
 use lpis_covers::Id;
-use lpis_rings::{Polygon, Sequence};
+use lpis_memory::Sequence;
+use lpis_rings::Polygon;
 use std::alloc::{AllocError, Global};
 use thiserror::Error;
 

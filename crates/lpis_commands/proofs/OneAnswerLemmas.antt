@@ -1,6 +1,6 @@
 -- The inputs of a check have one answer.
 use Rattle.std.proofs.Common.{◌≡◌, ◌∙◌, inl, inr, ap, sym, subst, ℕ, List, Result, Ok, Err}
-use Rattle.lpis_parcels.specs.Release.{Contents, release_of}
+use Rattle.lpis_parcels.specs.Release.{Contents}
 use Rattle.lpis_cert.specs.declared.cert.Cert.{Cert}
 use Rattle.lpis_checker.specs.GoodCertificate.{IsGood}
 use Rattle.lpis_covers.specs.declared.fault.TableFault.{TableFault}
@@ -10,7 +10,8 @@ use Rattle.lpis_cert.proofs.Shared.{one_cert}
 use Rattle.lpis_checker.specs.declared.condition.Site.{Site}
 use Rattle.lpis_checker.specs.FirstFault.{condition_of, IsFault, location_of}
 use Rattle.lpis_checker.proofs.Shared.{one_fault}
-use Rattle.lpis_commands.specs.CheckAnswer.{Answer, Inputs, IsAnswer, IsCertAnswer, IsCheckAnswer, IsReleaseAnswer, IsReport, IsTableAnswer}
+use Rattle.lpis_commands.specs.CheckAnswer.{Answer, Inputs, IsAnswer, IsCertAnswer, IsCheckAnswer, IsTableAnswer, release_in}
+use Rattle.lpis_commands.proofs.CheckLemmas.{IsReport}
 use Rattle.lpis_commands.specs.Refusals.{check_refusal_text}
 use Rattle.lpis_commands.specs.Status.{refused}
 use Rattle.lpis_checker.specs.declared.fault.CheckFault.TheVariants as check
@@ -46,11 +47,11 @@ unfolding Decides
 table_answer IsNext (Err fault) one a b x y = x ∙ sym y
 table_answer IsNext (Ok v) one a b x y = one v a b x y
 
-release_answer : (text : List ℕ) (r : Contents) → Decides (IsReleaseAnswer text r)
+release_answer : (text : List ℕ) (r : Contents) → Decides (IsCertAnswer (λ c. IsCheckAnswer r c (IsReport r)) text (verdict text))
 unfolding Decides
 release_answer text r = cert_answer (λ c. IsCheckAnswer r c (IsReport r)) text (verdict text) (λ c. check_answer r c (IsReport r) (λ a b x y. x ∙ sym y))
 
 -- the inputs of a check have one answer
 pub one_answer : (x : Inputs) (a b : Answer) → IsAnswer x a → IsAnswer x b → a ≡ b
 unfolding Decides
-one_answer x a b f g = table_answer (IsReleaseAnswer x.cert) (release_of x.parcels x.covers x.classes) (release_answer x.cert) a b f g
+one_answer x a b f g = table_answer (λ r. IsCertAnswer (λ c. IsCheckAnswer r c (IsReport r)) x.cert (verdict x.cert)) (release_in x.tables) (release_answer x.cert) a b f g

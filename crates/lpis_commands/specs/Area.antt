@@ -8,14 +8,6 @@ use Rattle.lpis_points.specs.Decimals.{last_digits, sign_text}
 abbrev pub most_printed : ℕ
 most_printed = 6 * 10 ^ 37
 
--- how many decimals a printed area has
-abbrev pub area_decimals : ℕ
-area_decimals = 7
-
--- how many decimals a printed eligible area has: two more, since its percentages are whole numbers
-abbrev pub eligible_decimals : ℕ
-eligible_decimals = 9
-
 -- n, divided by 10 to the power `width`, with `width` decimals
 abbrev pub fixed_point : ℕ → ℕ → List ℕ
 fixed_point width n = decimal (n / 10 ^ width) ++ codes "." ++ last_digits width n
@@ -26,12 +18,11 @@ fives_text width d = sign_text d ++ fixed_point width (5 * nat_abs d)
 
 -- d doubled square millimetres, in square metres: one of them is 5/10^7 of a square metre
 unfoldable pub area_text : ℤ → List ℕ
-area_text d = fives_text area_decimals d
+area_text d = fives_text 7 d
 
--- s doubled square millimetres at one percent each, in square metres: one of them is 5/10^9 of a
--- square metre
+-- s doubled square millimetres at one percent each, in square metres: one is 5/10^9 of these
 unfoldable pub eligible_text : ℤ → List ℕ
-eligible_text s = fives_text eligible_decimals s
+eligible_text s = fives_text 9 s
 
 -- an area on a line of its own
 abbrev pub area_line : ℤ → List ℕ

@@ -20,14 +20,22 @@ use Rattle.lpis_commands.specs.declared.failure.Name.TheVariants.{Out}
 use Rattle.lpis_commands.specs.Refusals.{cert_refusal_text, check_refusal_text, refusal_text}
 use Rattle.lpis_commands.specs.Report.{report_text}
 use Rattle.lpis_commands.specs.Status.{done, refused, unreadable}
-use Rattle.lpis_commands.specs.Streams.{Begins, IsRead}
+use Rattle.lpis_commands.specs.Streams.{Begins, FolderTexts, IsRead, TableTexts}
 
--- the bytes of three tables and a certificate
-pub record Inputs : Type 0 where
+-- the bytes of three tables
+pub record Tables : Type 0 where
   pub parcels : List ℕ
   pub covers : List ℕ
   pub classes : List ℕ
+
+-- the bytes of three tables and a certificate
+pub record Inputs : Type 0 where
+  pub tables : Tables
   pub cert : List ℕ
+
+-- the release that tables say, or their first fault
+abbrev pub release_in : Tables → Result Contents TableFault
+release_in t = release_of t.parcels t.covers t.classes
 
 -- a text with a status
 abbrev pub Answer : Type 0
@@ -43,8 +51,7 @@ IsCheckAnswer r c IsNext a =
 -- of a text: the line of its first fault, or the answer to the certificate whose text it is
 abbrev pub IsCertAnswer : (Cert → Answer → Type 0) → List ℕ → Result ℕ (CertCode × ℕ) → Answer
     → Type 0
-IsCertAnswer IsNext text (Err fault) a =
-    a ≡ (cert_refusal_text (cert.At fault.0 fault.1), unreadable)
+IsCertAnswer IsNext text (Err at) a = a ≡ (cert_refusal_text (cert.At at.0 at.1), unreadable)
 IsCertAnswer IsNext text (Ok lines) a = (c : Cert) × IsCertText text c × IsNext c a
 
 -- of what tables say: the line of their first fault, or the answer to what they say
@@ -53,21 +60,14 @@ abbrev pub IsTableAnswer : {A : Type 0} → (A → Answer → Type 0) → Result
 IsTableAnswer IsNext (Err fault) a = a ≡ (refusal_text fault, unreadable)
 IsTableAnswer IsNext (Ok said) a = IsNext said a
 
--- the report of a release, and the yes
-abbrev pub IsReport : Contents → Answer → Type 0
-IsReport r a = a ≡ (report_text r, done)
+-- of tables and a text: the line of their first fault, or the answer to what they say
+abbrev pub IsInputAnswer : (Contents → Cert → Answer → Type 0) → Inputs → Answer → Type 0
+IsInputAnswer IsNext x =
+    IsTableAnswer (λ r. IsCertAnswer (IsNext r) x.cert (verdict x.cert)) (release_in x.tables)
 
--- of a release and the text of a certificate: the report where the certificate is good
-abbrev pub IsReleaseAnswer : List ℕ → Contents → Answer → Type 0
-IsReleaseAnswer text r = IsCertAnswer (λ c. IsCheckAnswer r c (IsReport r)) text (verdict text)
-
--- the answer to all four: faults of the tables come first, then those of the certificate's text
+-- the answer to all four: of a release whose certificate is good, its report and the yes
 abbrev pub IsAnswer : Inputs → Answer → Type 0
-IsAnswer x = IsTableAnswer (IsReleaseAnswer x.cert) (release_of x.parcels x.covers x.classes)
-
--- the run answered with this status, and wrote the text
-abbrev pub Checks : Inputs → ℕ → Option (List ℕ) → Option (List ℕ) → Type 0
-Checks x status old new = (text : List ℕ) × IsAnswer x (text, status) × Appends old new text
+IsAnswer = IsInputAnswer (λ r c. IsCheckAnswer r c (λ a. a ≡ (report_text r, done)))
 
 -- the answer to these inputs, which is no yes
 abbrev pub IsRefusal : Inputs → Answer → Type 0
@@ -75,7 +75,7 @@ IsRefusal x a = IsAnswer x a × (a.1 ≢ done)
 
 -- this release is that of the tables, a sound map, and the text spells a certificate good for it
 pub record IsProvedOf (x : Inputs) (release : Contents) : Type 0 where
-  pub tables : release_of x.parcels x.covers x.classes ≡ Ok release
+  pub tables : release_in x.tables ≡ Ok release
   pub sound : IsSoundMap release
   pub certificate : Cert
   pub text : IsCertText x.cert certificate
@@ -85,17 +85,21 @@ pub record IsProvedOf (x : Inputs) (release : Contents) : Type 0 where
 abbrev pub IsProved : Inputs → Type 0
 IsProved x = (release : Contents) × IsProvedOf x release
 
+-- tables are what three readers reported, as far as it is known
+abbrev pub AreTablesRead : Tables → TableTexts → Type 0
+AreTablesRead x t =
+    IsRead x.parcels t.parcels × IsRead x.covers t.covers × IsRead x.classes t.classes
+
 -- the inputs are what four readers reported, as far as it is known
-pub record AreRead (x : Inputs) (parcels covers classes cert : Option (List ℕ)) : Type 0 where
-  pub of_parcels : IsRead x.parcels parcels
-  pub of_covers : IsRead x.covers covers
-  pub of_classes : IsRead x.classes classes
-  pub of_cert : IsRead x.cert cert
+abbrev pub AreRead : Inputs → FolderTexts → Type 0
+AreRead x f = AreTablesRead x.tables f.tables × IsRead x.cert f.cert
 
 -- the run of these inputs answered with this status, and wrote the text; a yes comes only for a
 -- release that is a sound map, and a certificate that is good for it
 abbrev pub CheckEnds : Inputs → ℕ → Option (List ℕ) → Option (List ℕ) → Type 0
-CheckEnds x status old new = Checks x status old new × (status ≡ done → IsProved x)
+CheckEnds x status old new =
+    ((text : List ℕ) × IsAnswer x (text, status) × Appends old new text)
+    × (status ≡ done → IsProved x)
 
 -- a beginning of the answer to these inputs was written
 abbrev pub CheckIsBegun : Inputs → Option (List ℕ) → Option (List ℕ) → Type 0
@@ -104,9 +108,7 @@ CheckIsBegun x old new =
 
 -- the run of what four readers reported gave no answer: a reader failed, or the writer did after a
 -- beginning of the answer
-abbrev pub CheckHalts : Failure → (parcels covers classes cert : Option (List ℕ)) → Option (List ℕ)
-    → Option (List ℕ) → Type 0
-CheckHalts failure parcels covers classes cert old new =
-    ((x : Inputs) × AreRead x parcels covers classes cert × (failure ≡ Write Out)
-    × CheckIsBegun x old new)
-    ⊎ (IsUnchecked parcels covers classes failure × Keeps old new)
+abbrev pub CheckHalts : Failure → FolderTexts → Option (List ℕ) → Option (List ℕ) → Type 0
+CheckHalts failure given old new =
+    ((x : Inputs) × AreRead x given × (failure ≡ Write Out) × CheckIsBegun x old new)
+    ⊎ (IsUnchecked given failure × Keeps old new)

@@ -5,25 +5,20 @@ use Rattle.std.specs.Prelude.{Result, Ok, Err, sum_by}
 use Rattle.std.specs.Fmt.{decimal}
 use Rattle.std.specs.Io.KnownBytes.{Keeps}
 use Rattle.lpis_covers.specs.declared.fault.TableFault.{TableFault}
-use Rattle.lpis_parcels.specs.Release.{Contents, release_of}
+use Rattle.lpis_parcels.specs.Release.{Contents}
 use Rattle.lpis_cert.specs.declared.cert.Cert.{Cert}
 use Rattle.lpis_cert.specs.declared.part.PiecePart.{PiecePart}
 use Rattle.lpis_cert.specs.Contents.{cert_text}
 use Rattle.lpis_cutter.specs.declared.fault.Refusal.{Refusal}
 use Rattle.lpis_cutter.specs.Refusals.{RefusalReports}
 use Rattle.lpis_commands.specs.declared.failure.Failure.{Failure}
+use Rattle.lpis_commands.specs.CheckAnswer.{AreTablesRead, Tables, release_in}
 use Rattle.lpis_commands.specs.CutRefusals.{cut_refusal_text}
 use Rattle.lpis_commands.specs.Failures.{IsUnreadRelease}
 use Rattle.lpis_commands.specs.Outputs.{BreaksOff, Held, Outputs}
 use Rattle.lpis_commands.specs.Refusals.{refusal_text}
 use Rattle.lpis_commands.specs.Status.{done, refused, unreadable}
-use Rattle.lpis_commands.specs.Streams.{IsRead}
-
--- the bytes of three tables
-pub record Tables : Type 0 where
-  pub parcels : List ℕ
-  pub covers : List ℕ
-  pub classes : List ℕ
+use Rattle.lpis_commands.specs.Streams.{TableTexts}
 
 -- the line of a certificate's counts
 abbrev pub counts_text : Cert → List ℕ
@@ -58,15 +53,13 @@ IsCutAnswer (Ok r) a = CertIsCut a ⊎ IsCutRefused r a
 IsCutAnswer (Err fault) a = IsUnreadable fault a
 
 -- the tables are what three readers reported, as far as it is known, and this is an answer to them
-pub record Cuts (parcels covers classes : Option (List ℕ)) (a : Outputs) : Type 0 where
+pub record Cuts (given : TableTexts) (a : Outputs) : Type 0 where
   pub tables : Tables
-  pub of_parcels : IsRead tables.parcels parcels
-  pub of_covers : IsRead tables.covers covers
-  pub of_classes : IsRead tables.classes classes
-  pub answer : IsCutAnswer (release_of tables.parcels tables.covers tables.classes) a
+  pub read : AreTablesRead tables given
+  pub answer : IsCutAnswer (release_in tables) a
 
 -- the run gave no answer: a table was not read, and nothing was written; or an output failed
-abbrev pub CutHalts : Failure → (parcels covers classes : Option (List ℕ)) → Held → Held → Type 0
-CutHalts failure parcels covers classes old new =
-    (IsUnreadRelease parcels covers failure × Keeps old.cert new.cert × Keeps old.out new.out)
-    ⊎ ((a : Outputs) × Cuts parcels covers classes a × BreaksOff a failure old new)
+abbrev pub CutHalts : Failure → TableTexts → Held → Held → Type 0
+CutHalts failure given old new =
+    (IsUnreadRelease given failure × Keeps old.cert new.cert × Keeps old.out new.out)
+    ⊎ ((a : Outputs) × Cuts given a × BreaksOff a failure old new)

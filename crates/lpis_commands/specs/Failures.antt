@@ -7,7 +7,7 @@ use Rattle.lpis_commands.specs.declared.failure.Name.TheVariants.{Out}
 use Rattle.lpis_commands.specs.declared.failure.Failure.{Failure}
 use Rattle.lpis_commands.specs.declared.failure.Failure.TheVariants.{Memory, Read, Write}
 use Rattle.lpis_commands.specs.declared.failure.Failure.TheVariants.{Store, StoreMemory}
-use Rattle.lpis_commands.specs.Streams.{IsWithin}
+use Rattle.lpis_commands.specs.Streams.{FolderTexts, IsWithin, TableTexts}
 
 -- an input or an output by its name
 abbrev pub name_text : Name → List ℕ
@@ -34,20 +34,22 @@ abbrev pub IsUnread : Name → Failure → Type 0
 IsUnread name failure = (failure ≡ Memory) ⊎ (failure ≡ Read name)
 
 -- a table of a release was not read, while those before it were; or memory ran out
-abbrev pub IsUnreadRelease : (parcels covers : Option (List ℕ)) → Failure → Type 0
-IsUnreadRelease parcels covers failure =
-    (failure ≡ Memory) ⊎ (failure ≡ Read Parcels) ⊎ (IsWithin parcels × (failure ≡ Read Covers))
-    ⊎ (IsWithin parcels × IsWithin covers × (failure ≡ Read Classes))
+abbrev pub IsUnreadRelease : TableTexts → Failure → Type 0
+IsUnreadRelease t failure =
+    (failure ≡ Memory) ⊎ (failure ≡ Read Parcels) ⊎ (IsWithin t.parcels × (failure ≡ Read Covers))
+    ⊎ (IsWithin t.parcels × IsWithin t.covers × (failure ≡ Read Classes))
+
+-- each table of a release is within the limit
+abbrev pub AreWithin : TableTexts → Type 0
+AreWithin t = IsWithin t.parcels × IsWithin t.covers × IsWithin t.classes
 
 -- so it is of the tables, or the certificate was not read, while the tables were
-abbrev pub IsUnchecked : (parcels covers classes : Option (List ℕ)) → Failure → Type 0
-IsUnchecked parcels covers classes failure =
-    IsUnreadRelease parcels covers failure ⊎ (IsWithin parcels × IsWithin covers × IsWithin classes
-    × (failure ≡ Read Cert))
+abbrev pub IsUnchecked : FolderTexts → Failure → Type 0
+IsUnchecked f failure =
+    IsUnreadRelease f.tables failure ⊎ (AreWithin f.tables × (failure ≡ Read Cert))
 
 -- so it is of these, or the lineage table was not read, while they were
-abbrev pub IsUnpublished : (parcels covers classes cert : Option (List ℕ)) → Failure → Type 0
-IsUnpublished parcels covers classes cert failure =
-    IsUnchecked parcels covers classes failure
-    ⊎ (IsWithin parcels × IsWithin covers × IsWithin classes × IsWithin cert
-    × (failure ≡ Read Lineage))
+abbrev pub IsUnpublished : FolderTexts → Failure → Type 0
+IsUnpublished f failure =
+    IsUnchecked f failure
+    ⊎ (AreWithin f.tables × IsWithin f.cert × (failure ≡ Read Lineage))

@@ -1,21 +1,22 @@
--- The bytes that a check has read, and what those of a certificate say.
-use Rattle.std.specs.Prelude.{ℕ, List, Result, Ok, Err}
+-- The bytes that a check has read, and what they say.
+use Rattle.std.specs.Prelude.{◌≡◌, Ok}
 use Rattle.lpis_cert.specs.Contents.{IsCertText}
-use Rattle.lpis_cert.specs.Faults.{IsFirstFault}
 use Rattle.lpis_cert.specs.declared.cert.Cert.{Cert}
-use Rattle.lpis_cert.specs.declared.fault.CertFault.{CertFault}
-use Rattle.lpis_commands.specs.CheckAnswer.{Inputs}
-use Rattle.lpis_commands.specs.declared.check.InputBytes.{InputBytes}
+use Rattle.lpis_parcels.specs.Release.{Contents}
+use Rattle.lpis_commands.specs.CheckAnswer.{Inputs, Tables, release_in}
+use Rattle.lpis_commands.specs.declared.folder.InputBytes.{InputBytes}
+use Rattle.lpis_commands.specs.declared.folder.TableBytes.{TableBytes}
 
-abbrev pub inputs_of : InputBytes → Inputs
-inputs_of i = record {
-  parcels = i.tables.parcels.items;
-  covers = i.tables.covers.items;
-  classes = i.tables.classes.items;
-  cert = i.cert.items;
+abbrev pub tables_of : TableBytes → Tables
+tables_of t = record {
+  parcels = t.parcels.items;
+  covers = t.covers.items;
+  classes = t.classes.items;
 }
 
--- what a text was read as: the certificate whose text it is, or its first fault
-abbrev pub IsReadAs : List ℕ → Result Cert CertFault → Type 0
-IsReadAs text (Ok c) = IsCertText text c
-IsReadAs text (Err fault) = IsFirstFault fault text
+abbrev pub inputs_of : InputBytes → Inputs
+inputs_of i = record { tables = tables_of i.tables; cert = i.cert.items }
+
+-- tables and a text say a release and a certificate
+abbrev pub Say : Inputs → Contents → Cert → Type 0
+Say x r c = (release_in x.tables ≡ Ok r) × IsCertText x.cert c

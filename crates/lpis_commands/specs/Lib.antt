@@ -7,10 +7,12 @@ pub mod CutAnswer
 pub mod CutRefusals
 pub mod Failures
 pub mod Files
+pub mod Folders
 pub mod Inputs
 pub mod Outputs
 pub mod Refusals
 pub mod Report
 pub mod Status
+pub mod Stops
 pub mod Streams
 pub mod private

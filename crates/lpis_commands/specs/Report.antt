@@ -28,7 +28,6 @@ abbrev pub total_line : Contents → List ℕ
 total_line r = codes "total" ++ areas_text (int_sum_by (λ k. area2 k.polygon) r.parcels)
     (int_sum_by (λ k. weighted2 r k.id) r.parcels)
 
--- the report: the counts, a line a parcel in the order of the table, the sums over all parcels, and
--- the yes
+-- the report: the counts, a line a parcel in the order of the table, the sums, and the yes
 abbrev pub report_text : Contents → List ℕ
 report_text r = counts_line r ++ flat_map (parcel_line r) r.parcels ++ total_line r ++ codes "yes\n"

@@ -11,7 +11,7 @@ ghost use Rattle.lpis_commands.specs.Areas.{AreasOf};
 ghost use Rattle.lpis_commands.specs.Report.{areas_text};
 
 use crate::printing::{PrintFault, print_area, print_eligible};
-use lpis_parcels::{Parcel, Release, weighted2, weighted2_at};
+use lpis_parcels::{Release, weighted2_at};
 use lpis_rings::area2;
 use std::io::Write;
 
@@ -50,20 +50,8 @@ impl Areas {
     }
 }
 
-/// The areas of a parcel.
-pub fn areas_of(release: &Release, parcel: &Parcel) -> Areas
-    requires areas { AreasAdd release.now }
-    requires among { Contains release.now.parcels parcel.now }
-    ensures { AreasOf release.now (parcel.now ∷ []) result }
-{
-    Areas {
-        area: area2(&parcel.polygon),
-        weighted: weighted2(release, &parcel.id),
-    }
-}
-
 /// The areas of the parcel at an index.
-pub(crate) fn areas_at(release: &Release, index: usize) -> Areas
+pub fn areas_at(release: &Release, index: usize) -> Areas
     requires areas { AreasAdd release.now }
     requires within { index < length release.now.parcels }
     ensures { (parcel : Parcel) → slice_get release.now.parcels index ≡ Some parcel

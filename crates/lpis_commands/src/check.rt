@@ -1,56 +1,35 @@
 //! The run of `check`, over any readers and writer.
 
-ghost use Rattle.std.specs.Prelude.{◌≡◌, ◌≢◌, IfErr, IfNone, IfOk, IfSome, List, Ok, ℕ};
-ghost use Rattle.lpis_cert.specs.Contents.{IsCertText};
+ghost use Rattle.std.specs.Prelude.{◌≡◌, ◌≢◌, IfErr, IfOk, OnOk};
 ghost use Rattle.lpis_cert.specs.declared.cert.Cert.{Cert};
 ghost use Rattle.lpis_checker.specs.GoodCertificate.{IsGood};
 ghost use Rattle.lpis_checker.specs.SoundMap.{IsSoundMap};
-ghost use Rattle.lpis_parcels.specs.Release.{release_of};
 ghost use Rattle.lpis_commands.specs.CheckAnswer.{AreRead, CheckEnds, CheckHalts, Inputs, IsAnswer};
 ghost use Rattle.lpis_commands.specs.CheckAnswer.{IsCheckAnswer, IsProved, IsProvedOf, IsRefusal};
-ghost use Rattle.lpis_commands.specs.CheckAnswer.{IsReleaseAnswer, IsReport};
-ghost use Rattle.lpis_commands.specs.Failures.{IsUnchecked};
-ghost use Rattle.lpis_commands.specs.Inputs.{IsReadAs, inputs_of};
-ghost use Rattle.lpis_commands.specs.Refusals.{cert_refusal_text, check_refusal_text};
+ghost use Rattle.lpis_commands.specs.Folders.{IsFolderUntouched, folder_texts};
+ghost use Rattle.lpis_commands.specs.Inputs.{inputs_of};
+ghost use Rattle.lpis_commands.specs.Refusals.{check_refusal_text};
 ghost use Rattle.lpis_commands.specs.Report.{report_text};
-ghost use Rattle.lpis_commands.specs.Status.{done, refused, unreadable};
+ghost use Rattle.lpis_commands.specs.Status.{done, refused};
+ghost use Rattle.lpis_commands.specs.Stops.{IsRefusedAs};
 
 use crate::answer::Answer;
-use crate::failure::{Failure, Name};
-use crate::reading::read_named;
-use crate::refusal::{print_cert_fault, print_check_fault};
-use crate::releases::{TableBytes, read_tables, release_in};
+use crate::failure::Failure;
+use crate::folder::{Folder, InputBytes, read_folder};
+use crate::refusal::print_check_fault;
 use crate::report::print_report;
-use crate::status::{DONE, REFUSED, UNREADABLE};
-use lpis_cert::{Cert, CertFault, read_cert};
-use lpis_checker::{CheckFault, check};
-use lpis_covers::TableFault;
+use crate::status::{DONE, REFUSED};
+use crate::stop::Stop;
+use crate::understanding::{ReadInputs, understand};
+use lpis_cert::Cert;
+use lpis_checker::{CheckFault, Yes, check};
 use lpis_pairs::Sweep;
 use lpis_parcels::Release;
 use std::alloc::{AllocError, Global};
 use std::io::{Read, Write};
 
-/// The bytes of three tables and a certificate.
-#[derive(Drop)]
-pub struct InputBytes {
-    /// The tables.
-    pub tables: TableBytes,
-    /// The certificate.
-    pub cert: Vec<u8>,
-}
-
-/// The line of a text that is no certificate.
-pub fn refuse_text(alloc: Global, fault: &CertFault) -> Result<Answer, AllocError>
-    ensures { IfOk result (λ a. (a.text.items ≡ cert_refusal_text fault.now)
-        × (a.status ≡ unreadable)) }
-{
-    let mut text = Vec::new(alloc);
-    let printed = print_cert_fault(fault, &mut text);
-    Answer::of(text, UNREADABLE, printed)
-}
-
 /// The line of a certificate that is not good.
-pub fn refuse_cert(alloc: Global, fault: &CheckFault) -> Result<Answer, AllocError>
+fn refuse_cert(alloc: Global, fault: &CheckFault) -> Result<Answer, AllocError>
     ensures { IfOk result (λ a. (a.text.items ≡ check_refusal_text fault.now)
         × (a.status ≡ refused)) }
 {
@@ -69,92 +48,44 @@ fn report(alloc: Global, release: &Release) -> Result<Answer, AllocError>
     Answer::of(text, DONE, printed)
 }
 
-/// The answer that refuses a release by a certificate. None is there for a good one.
-fn refusal_by_cert(
-    alloc: Global,
-    release: &Release,
-    cert: &Cert,
-) -> Result<Option<Answer>, AllocError>
-    ensures refusal { IfOk result (λ r. IfSome r (λ a. IsCheckAnswer release.now cert.now
-        (IsReport release.now) (a.text.items, a.status) × (a.status ≢ done))) }
-    ensures good { IfOk result (λ r. IfNone r (IsSoundMap release.now
-        × IsGood release.now cert.now)) }
+/// The yes to a release, whose certificate is good, or the line of the certificate's first fault.
+pub fn say_yes<'a>(alloc: Global, release: &'a Release, cert: &Cert) -> Result<Yes<'a>, Stop>
+    ensures yes { IfOk result (λ y. (y ≡ release.now) × IsSoundMap release.now
+        × IsGood release.now cert.now) }
+    ensures refused { IfErr result (IsRefusedAs (IsCheckAnswer release.now cert.now (λ a. ⊥))) }
 {
     match check(alloc, release, cert, &Sweep) {
         Ok(yes) => {
             // What is checked is a sound map.
             let _ = yes.release();
-            Ok(None)
+            Ok(yes)
         }
-        Err(CheckFault::Memory) => Err(AllocError),
-        Err(fault) => Ok(Some(refuse_cert(alloc, &fault)?)),
+        Err(CheckFault::Memory) => Err(Stop::Memory),
+        Err(fault) => Err(Stop::Refused(refuse_cert(alloc, &fault)?)),
     }
 }
 
-/// The certificate of a text, whose bytes are let go, or the text's first fault.
-pub fn cert_in(alloc: Global, text: Vec<u8>) -> Result<Cert, CertFault>
-    ensures { IsReadAs text.items result }
+/// The release of what was read, where its certificate is good.
+fn proved_release(alloc: Global, read: ReadInputs) -> Result<Release, Stop>
+    ensures release { IfOk result (λ r. (r ≡ read.release) × IsSoundMap r × IsGood r read.cert) }
+    ensures refused { IfErr result
+        (IsRefusedAs (IsCheckAnswer read.release read.cert (λ a. ⊥))) }
 {
-    read_cert(alloc, text.as_slice())
-}
-
-/// The answer that refuses a release by what a text was read as. None is there for that of a good
-/// certificate.
-fn refusal_by_text(
-    alloc: Global,
-    release: &Release,
-    read: Result<Cert, CertFault>,
-) -> Result<Option<Answer>, AllocError>
-    ensures refusal { (text : List ℕ) → IsReadAs text read → IfOk result (λ r. IfSome r
-        (λ a. IsReleaseAnswer text release.now (a.text.items, a.status) × (a.status ≢ done))) }
-    ensures good { (text : List ℕ) → IsReadAs text read → IfOk result (λ r. IfNone r
-        (IsSoundMap release.now × ((c : Cert) × IsCertText text c × IsGood release.now c))) }
-{
-    match read {
-        Ok(cert) => refusal_by_cert(alloc, release, &cert),
-        Err(CertFault::Memory) => Err(AllocError),
-        Err(fault) => Ok(Some(refuse_text(alloc, &fault)?)),
+    let ReadInputs { release, cert } = read;
+    match say_yes(alloc, &release, &cert) {
+        Ok(_) => Ok(release),
+        Err(stop) => Err(stop),
     }
 }
 
-/// The release, if it is a sound map by what a text was read as, or the answer that refuses it.
-fn release_by_text(
-    alloc: Global,
-    release: Release,
-    read: Result<Cert, CertFault>,
-) -> Result<Result<Release, Answer>, AllocError>
-    ensures release { (x : Inputs) → release_of x.parcels x.covers x.classes ≡ Ok release
-        → IsReadAs x.cert read → IfOk result (λ r. IfOk r (IsProvedOf x)) }
-    ensures refusal { (x : Inputs) → release_of x.parcels x.covers x.classes ≡ Ok release
-        → IsReadAs x.cert read → IfOk result (λ r. IfErr r (λ a. IsRefusal x
-        (a.text.items, a.status))) }
-{
-    match refusal_by_text(alloc, &release, read)? {
-        Some(refusal) => Ok(Err(refusal)),
-        None => Ok(Ok(release)),
-    }
-}
-
-/// The release of three tables, if it is a sound map by the certificate, or the answer that refuses
+/// The release of three tables, if it is a sound map by the certificate, or the line that refuses
 /// them.
-///
-/// The certificate is read first, since its text is the longest as a rule, and the bytes of each
-/// input are let go when it is read.
-pub fn checked_release(
-    alloc: Global,
-    inputs: InputBytes,
-) -> Result<Result<Release, Answer>, AllocError>
-    ensures release { IfOk result (λ r. IfOk r (IsProvedOf (inputs_of inputs))) }
-    ensures refusal { IfOk result (λ r. IfErr r (λ a. IsRefusal (inputs_of inputs)
-        (a.text.items, a.status))) }
+pub fn checked_release(alloc: Global, inputs: InputBytes) -> Result<Release, Stop>
+    ensures release { IfOk result (IsProvedOf (inputs_of inputs)) }
+    ensures refused { IfErr result (IsRefusedAs (IsRefusal (inputs_of inputs))) }
 {
-    let InputBytes { tables, cert } = inputs;
-    let read = cert_in(alloc, cert);
-    match release_in(alloc, tables) {
-        Ok(release) => release_by_text(alloc, release, read),
-        Err(TableFault::Memory) => Err(AllocError),
-        Err(fault) => Ok(Err(Answer::refuse_table(alloc, &fault)?)),
-    }
+    let read = understand(alloc, inputs)?;
+    proved_release(alloc, read)
 }
 
 /// The answer to three tables and a certificate.
@@ -162,55 +93,35 @@ fn answer_to(alloc: Global, inputs: InputBytes) -> Result<Answer, AllocError>
     ensures answer { IfOk result (λ a. IsAnswer (inputs_of inputs) (a.text.items, a.status)) }
     ensures proved { IfOk result (λ a. a.status ≡ done → IsProved (inputs_of inputs)) }
 {
-    match checked_release(alloc, inputs)? {
+    match checked_release(alloc, inputs) {
         Ok(release) => report(alloc, &release),
-        Err(refusal) => Ok(refusal),
+        Err(stop) => stop.into_answer(),
     }
-}
-
-/// All bytes of the inputs, which are read in this order.
-pub fn read_inputs<P: Read + Drop, C: Read + Drop, K: Read + Drop, E: Read + Drop>(
-    alloc: Global,
-    parcels: P,
-    covers: C,
-    classes: K,
-    cert: E,
-) -> Result<InputBytes, Failure>
-    ensures bytes { IfOk result
-        (λ i. AreRead (inputs_of i) (P.remaining parcels) (C.remaining covers)
-        (K.remaining classes) (E.remaining cert)) }
-    ensures failure { IfErr result (IsUnchecked (P.remaining parcels) (C.remaining covers)
-        (K.remaining classes)) }
-{
-    let tables = read_tables(alloc, parcels, covers, classes)?;
-    let cert = read_named(alloc, cert, Name::Cert)?;
-    Ok(InputBytes { tables, cert })
 }
 
 /// Checks the release of three tables against a certificate, and prints the report of a release
 /// that is a sound map, or the line of the first fault: of the tables, then of the certificate's
 /// text, then of the certificate.
 ///
-/// All inputs are read to their ends, in the order in which they stand here, before anything is
-/// decided, and everything is decided before anything is written. Ok is the status: `DONE`,
-/// `REFUSED` or `UNREADABLE`.
-pub fn run_check<P: Read + Drop, C: Read + Drop, K: Read + Drop, E: Read + Drop, W: Write>(
+/// All inputs are read to their ends, in the order in which they stand in the folder, before
+/// anything is decided, and everything is decided before anything is written. Ok is the status:
+/// `DONE`, `REFUSED` or `UNREADABLE`. A failed read names the input that failed; the readers behind
+/// it are as they were.
+pub fn run_check<R: Read + Drop, W: Write>(
     alloc: Global,
-    parcels: P,
-    covers: C,
-    classes: K,
-    cert: E,
+    folder: &mut Folder<R>,
     out: &mut W,
 ) -> Result<u8, Failure>
-    ensures answer { IfOk result (λ status. (x : Inputs) × AreRead x (P.remaining parcels)
-        (C.remaining covers) (K.remaining classes) (E.remaining cert)
+    ensures answer { IfOk result (λ status. (x : Inputs)
+        × AreRead x (folder_texts R.remaining folder.old)
         × CheckEnds x status (W.contents out.old) (W.contents out.new)) }
     // A beginning of the answer was written, or nothing.
     ensures failure { IfErr result
-        (λ failure. CheckHalts failure (P.remaining parcels) (C.remaining covers)
-        (K.remaining classes) (E.remaining cert) (W.contents out.old) (W.contents out.new)) }
+        (λ failure. CheckHalts failure (folder_texts R.remaining folder.old) (W.contents out.old)
+        (W.contents out.new)) }
+    ensures untouched { IfErr result (IsFolderUntouched folder.old folder.new) }
 {
-    let inputs = read_inputs(alloc, parcels, covers, classes, cert)?;
+    let inputs = read_folder(alloc, folder)?;
     let answer = answer_to(alloc, inputs)?;
     answer.write_to(out)
 }

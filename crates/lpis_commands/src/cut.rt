@@ -1,23 +1,24 @@
 //! The run of `cut`, over any readers and writers.
 
 ghost use Rattle.std.specs.Prelude.{◌≡◌, IfErr, IfOk, Ok};
-ghost use Rattle.lpis_parcels.specs.Release.{release_of};
+ghost use Rattle.lpis_commands.specs.CheckAnswer.{release_in};
 ghost use Rattle.lpis_commands.specs.CutAnswer.{Cuts, CutHalts, CertIsCut, IsCutAnswer};
-ghost use Rattle.lpis_commands.specs.CutAnswer.{IsUnreadable};
 ghost use Rattle.lpis_commands.specs.CutAnswer.{counts_text};
 ghost use Rattle.lpis_commands.specs.CutRefusals.{cut_refusal_text};
 ghost use Rattle.lpis_commands.specs.Failures.{IsUnreadRelease};
+ghost use Rattle.lpis_commands.specs.Folders.{AreTablesUntouched, table_texts};
+ghost use Rattle.lpis_commands.specs.Inputs.{tables_of};
 ghost use Rattle.lpis_commands.specs.Outputs.{Outputs, Writes, held, outputs_of};
 ghost use Rattle.lpis_commands.specs.Status.{done, refused};
 
 use crate::answer::Answer;
 use crate::cut_line::{print_counts, print_refusal};
 use crate::failure::Failure;
+use crate::folder::{TableBytes, TableReaders, read_tables};
 use crate::outcome::Outcome;
-use crate::releases::{TableBytes, read_tables, release_in};
 use crate::status::{DONE, REFUSED};
+use crate::understanding::release_in;
 use lpis_cert::Cert;
-use lpis_covers::TableFault;
 use lpis_cutter::{CutFault, Refusal, cut};
 use lpis_parcels::Release;
 use std::alloc::{AllocError, Global};
@@ -64,39 +65,23 @@ fn answer_to_release(alloc: Global, release: &Release) -> Result<Outcome, AllocE
     }
 }
 
-/// The line of a refused table.
-fn refuse_tables(alloc: Global, fault: &TableFault) -> Result<Outcome, AllocError>
-    ensures { IfOk result (λ o. IsUnreadable fault.now (outputs_of o)) }
-{
-    let printed = Answer::refuse_table(alloc, fault)?;
-    Ok(Outcome::without_cert(printed))
-}
-
 /// The answer to three tables.
 fn answer_to(alloc: Global, tables: TableBytes) -> Result<Outcome, AllocError>
-    ensures { IfOk result
-        (λ o. IsCutAnswer (release_of tables.parcels.items tables.covers.items tables.classes.items)
-        (outputs_of o)) }
+    ensures { IfOk result (λ o. IsCutAnswer (release_in (tables_of tables)) (outputs_of o)) }
 {
     match release_in(alloc, tables) {
         Ok(release) => answer_to_release(alloc, &release),
-        Err(TableFault::Memory) => Err(AllocError),
-        Err(fault) => refuse_tables(alloc, &fault),
+        Err(stop) => Ok(Outcome::without_cert(stop.into_answer()?)),
     }
 }
 
 /// The answer to what three readers give.
-fn decide<P: Read + Drop, C: Read + Drop, K: Read + Drop>(
-    alloc: Global,
-    parcels: P,
-    covers: C,
-    classes: K,
-) -> Result<Outcome, Failure>
-    ensures cuts { IfOk result (λ o. Cuts (P.remaining parcels) (C.remaining covers)
-        (K.remaining classes) (outputs_of o)) }
-    ensures unread { IfErr result (IsUnreadRelease (P.remaining parcels) (C.remaining covers)) }
+fn decide<R: Read + Drop>(alloc: Global, tables: &mut TableReaders<R>) -> Result<Outcome, Failure>
+    ensures cuts { IfOk result (λ o. Cuts (table_texts R.remaining tables.old) (outputs_of o)) }
+    ensures unread { IfErr result (IsUnreadRelease (table_texts R.remaining tables.old)) }
+    ensures untouched { IfErr result (AreTablesUntouched tables.old tables.new) }
 {
-    let tables = read_tables(alloc, parcels, covers, classes)?;
+    let tables = read_tables(alloc, tables)?;
     let outcome = answer_to(alloc, tables)?;
     Ok(outcome)
 }
@@ -107,27 +92,25 @@ fn decide<P: Read + Drop, C: Read + Drop, K: Read + Drop>(
 /// The tables are read to their ends, in the order in which they stand here, and everything is
 /// decided before anything is written. The certificate is written first, then the line; where there
 /// is no certificate, `cert_out` is not written to at all. Ok is the status: `DONE`, `REFUSED` or
-/// `UNREADABLE`.
-pub fn run_cut<P: Read + Drop, C: Read + Drop, K: Read + Drop, E: Write, W: Write>(
+/// `UNREADABLE`. A failed read names the table that failed; the readers behind it are as they were.
+pub fn run_cut<R: Read + Drop, E: Write, W: Write>(
     alloc: Global,
-    parcels: P,
-    covers: C,
-    classes: K,
+    tables: &mut TableReaders<R>,
     cert_out: &mut E,
     out: &mut W,
 ) -> Result<u8, Failure>
     ensures answer { IfOk result (λ status. (a : Outputs)
-        × Cuts (P.remaining parcels) (C.remaining covers)
-        (K.remaining classes) a
+        × Cuts (table_texts R.remaining tables.old) a
         × Writes a status (held (E.contents cert_out.old) (W.contents out.old))
         (held (E.contents cert_out.new) (W.contents out.new))) }
     // A beginning of the certificate was written, or the certificate and a beginning of the line,
     // or nothing.
     ensures failure { IfErr result
-        (λ failure. CutHalts failure (P.remaining parcels) (C.remaining covers)
-        (K.remaining classes) (held (E.contents cert_out.old) (W.contents out.old))
+        (λ failure. CutHalts failure (table_texts R.remaining tables.old)
+        (held (E.contents cert_out.old) (W.contents out.old))
         (held (E.contents cert_out.new) (W.contents out.new))) }
+    ensures untouched { IfErr result (AreTablesUntouched tables.old tables.new) }
 {
-    let outcome = decide(alloc, parcels, covers, classes)?;
+    let outcome = decide(alloc, tables)?;
     outcome.write_to(cert_out, out)
 }

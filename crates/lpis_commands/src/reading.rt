@@ -7,7 +7,7 @@ ghost use Rattle.lpis_commands.specs.Streams.{IsRead};
 ghost use Rattle.lpis_commands.specs.declared.reading.ReadFault.{ReadFault};
 
 use crate::failure::{Failure, Name};
-use lpis_rings::without_spare;
+use lpis_memory::without_spare;
 use std::alloc::Global;
 use std::io::{ErrorKind, Read};
 use thiserror::Error;
@@ -73,14 +73,22 @@ pub fn read_all<R: Read>(alloc: Global, reader: &mut R, limit: usize) -> Result<
 /// All bytes of the input of this name, or the failure that reports it. They lie in a block of
 /// their number: the larger a freed block, the larger are those that the C library keeps after they
 /// are freed.
+pub fn read_lent<R: Read>(alloc: Global, reader: &mut R, name: Name) -> Result<Vec<u8>, Failure>
+    ensures all { IfOk result (λ v. IsRead v.items (R.remaining reader.old)) }
+    ensures failure { IfErr result (IsUnread name) }
+{
+    match read_all(alloc, reader, GREATEST_LIMIT) {
+        Ok(bytes) => Ok(without_spare(bytes)?),
+        Err(ReadFault::Memory) => Err(Failure::Memory),
+        Err(_) => Err(Failure::Read(name)),
+    }
+}
+
+/// The same of a reader that is let go.
 pub fn read_named<R: Read + Drop>(alloc: Global, reader: R, name: Name) -> Result<Vec<u8>, Failure>
     ensures all { IfOk result (λ v. IsRead v.items (R.remaining reader)) }
     ensures failure { IfErr result (IsUnread name) }
 {
     let mut reader = reader;
-    match read_all(alloc, &mut reader, GREATEST_LIMIT) {
-        Ok(bytes) => Ok(without_spare(bytes)?),
-        Err(ReadFault::Memory) => Err(Failure::Memory),
-        Err(_) => Err(Failure::Read(name)),
-    }
+    read_lent(alloc, &mut reader, name)
 }

@@ -1,15 +1,17 @@
 //! The report of a release.
 
-ghost use Rattle.std.specs.Prelude.{◌≤◌, ◌++◌, ◌∷◌, [], Contains, IfOk, OnOk, codes, nat_abs};
+ghost use Rattle.std.specs.Prelude.{◌≡◌, ◌≤◌, ◌<◌, ◌++◌, ◌∷◌, [], IfOk, OnOk, Some, codes, length};
+ghost use Rattle.std.specs.Prelude.{nat_abs, slice_get};
 ghost use Rattle.std.specs.Io.KnownBytes.{Appends};
 ghost use Rattle.std.specs.List.{flat_map};
 ghost use Rattle.lpis_checker.specs.SoundMap.{AreasAdd, IsSoundMap};
 ghost use Rattle.lpis_parcels.specs.Release.{Contents};
+ghost use Rattle.lpis_parcels.specs.declared.parcel.Parcel.{Parcel};
 ghost use Rattle.lpis_commands.specs.Area.{most_printed};
 ghost use Rattle.lpis_commands.specs.Areas.{AreasOf};
 ghost use Rattle.lpis_commands.specs.Report.{areas_text, counts_line, parcel_line, report_text};
 
-use crate::areas::{Areas, areas_at, areas_of, print_areas};
+use crate::areas::{Areas, areas_at, print_areas};
 use crate::printing::PrintFault;
 use lpis_checker::Yes;
 use lpis_parcels::{Parcel, Release};
@@ -38,20 +40,22 @@ fn print_areas_of<W: Write>(parcel: &Parcel, areas: Areas, out: &mut W) -> Resul
     print_areas(areas, out)
 }
 
-/// Writes the line of a parcel, and answers its areas.
+/// Writes the line of the parcel at an index, and answers its areas.
 pub fn print_parcel<W: Write>(
     release: &Release,
-    parcel: &Parcel,
+    index: usize,
     out: &mut W,
 ) -> Result<Areas, PrintFault>
     requires areas { AreasAdd release.now }
-    requires among { Contains release.now.parcels parcel.now }
-    ensures areas { IfOk result (AreasOf release.now (parcel.now ∷ [])) }
-    ensures text { OnOk result (Appends (W.contents out.old) (W.contents out.new)
-        (parcel_line release.now parcel.now)) }
+    requires within { index < length release.now.parcels }
+    ensures areas { (parcel : Parcel) → slice_get release.now.parcels index ≡ Some parcel
+        → IfOk result (AreasOf release.now (parcel ∷ [])) }
+    ensures text { (parcel : Parcel) → slice_get release.now.parcels index ≡ Some parcel
+        → OnOk result (Appends (W.contents out.old) (W.contents out.new)
+        (parcel_line release.now parcel)) }
 {
-    let areas = areas_of(release, parcel);
-    print_areas_of(parcel, areas, out)?;
+    let areas = areas_at(release, index);
+    print_areas_of(&release.parcels()[index], areas, out)?;
     Ok(areas)
 }
 

@@ -1,12 +1,14 @@
 -- The run over the regions of a plan, as that over a country.
-use Rattle.std.proofs.Common.{◌≡◌, ◌≤◌, ◌∙◌, [], refl, sym, ap, ap₂, subst, arith, inl, inr, IfErr, IfOk, ℕ, List, Option, Result, Ok, Err, length, map}
+use Rattle.std.proofs.Common.{◌≡◌, ◌≤◌, ◌∙◌, [], refl, sym, ap, subst, arith, inl, inr, IfErr, IfOk, ℕ, List, Option, Result, Ok, Err, length, map}
 use Rattle.std.proofs.lemmas.List.{length-map}
 use Rattle.std.specs.String.{string_bytes}
+use Rattle.lpis_covers.specs.Classes.{classes_table}
+use Rattle.lpis_covers.specs.Faults.{rows_of}
 use Rattle.lpis_covers.specs.declared.class.Class.{Class}
 use Rattle.lpis_covers.specs.declared.fault.TableFault.{TableFault}
 use Rattle.lpis_parcels.specs.Release.{Contents}
 use Rattle.lpis_commands.specs.CheckAnswer.{Answer, IsTableAnswer}
-use Rattle.lpis_commands.specs.declared.answer.Answer.{Answer as Printed}
+use Rattle.lpis_commands.proofs.Shared.{table-more, table-status}
 use Rattle.lpis_commands.specs.declared.command.Detail.{Detail}
 use Rattle.lpis_commands.specs.Status.{done}
 use Rattle.lpis_country.specs.Tiling.{frame, rectangles}
@@ -31,19 +33,20 @@ pub two_is_not_done : (n : ℕ) → n ≡ 2 → n ≡ 0 → ⊥
 two_is_not_done n two zero = omega arith
 
 -- an answer to inputs that have a fault before the first region is one to the country
-pub unbegun_answer : (texts : List ℕ → Texts) (detail : Detail) (x : CountryInputs) (a : Printed) → IsUnbegun x a → IsCountryAnswer texts detail x (a.text.items, a.status)
-unbegun_answer texts detail x a (inl (line, fault, text, status)) = inl (line, fault, ap₂ (λ (t : List ℕ) (n : ℕ). (t, n)) text status)
-unbegun_answer texts detail x a (inr (plan, planned, (fault, table, text, status))) = inr (
+pub unbegun_answer : (texts : List ℕ → Texts) (detail : Detail) (x : CountryInputs) (a : Answer) → IsUnbegun x a → IsCountryAnswer texts detail x a
+unbegun_answer texts detail x a (inl refused) = inl refused
+unbegun_answer texts detail x a (inr (plan, planned, refused)) = inr (
   plan,
   planned,
-  subst (λ (said : Result (List Class) TableFault). IsTableAnswer (λ classes. IsRegionsAnswer (setting_of texts detail plan classes)) said (a.text.items, a.status)) (sym table)
-      (ap₂ (λ (t : List ℕ) (n : ℕ). (t, n)) text status),
+  table-more (λ (classes : List Class) (b : Answer). ⊥) (λ (classes : List Class). IsRegionsAnswer (setting_of texts detail plan classes)) (rows_of classes_table x.classes) a
+      (λ classes no. absurd no) refused,
 )
 
 -- and no yes
-pub unbegun_no : (x : CountryInputs) (a : Printed) → IsUnbegun x a → a.status ≡ done → ⊥
-unbegun_no x a (inl (line, fault, text, status)) e = two_is_not_done a.status status e
-unbegun_no x a (inr (plan, planned, (fault, table, text, status))) e = two_is_not_done a.status status e
+pub unbegun_no : (x : CountryInputs) (a : Answer) → IsUnbegun x a → a.1 ≡ done → ⊥
+unbegun_no x a (inl (line, fault, is)) e = two_is_not_done a.1 (ap (λ (b : Answer). b.1) is) e
+unbegun_no x a (inr (plan, planned, refused)) e =
+    two_is_not_done a.1 (table-status (λ (classes : List Class) (b : Answer). ⊥) (rows_of classes_table x.classes) a (λ classes no. absurd no) refused) e
 
 -- the setting of what was begun
 pub begun_setting : (List ℕ → Texts) → Detail → (x : CountryInputs) (b : Begun) → IsBegun x b → Setting

@@ -1,5 +1,5 @@
 -- The end of a run whose regions all passed, and what is handed over of their country.
-use Rattle.std.proofs.Common.{◌≡◌, ◌≤◌, ◌∙◌, [], sym, ap, subst, inl, ℕ, List, Option, Ok, length, map, true}
+use Rattle.std.proofs.Common.{◌≡◌, ◌≤◌, ◌∙◌, [], sym, ap, subst, inl, ℕ, List, Option, length, map, true}
 use Rattle.std.proofs.lemmas.List.{length-map}
 use Rattle.std.specs.String.{string_bytes}
 use Rattle.lpis_parcels.specs.declared.parcel.Parcel.{Parcel}
@@ -13,6 +13,7 @@ use Rattle.lpis_country_seam.specs.Open.{AreJoined, IsSeamOf}
 use Rattle.lpis_country_run.specs.declared.beginning.Begun.{Begun}
 use Rattle.lpis_country_run.specs.declared.failure.CountryFailure.{CountryFailure}
 use Rattle.lpis_country_run.specs.declared.joining.JoinedCountry.{JoinedCountry}
+use Rattle.lpis_country_run.specs.declared.joining.Joining.TheVariants.{Joined}
 use Rattle.lpis_country_run.specs.declared.progress.Progress.{Progress}
 use Rattle.lpis_country_run.specs.CountryAnswer.{Setting}
 use Rattle.lpis_country_run.specs.CountryFailures.{IsOfNone}
@@ -63,7 +64,7 @@ ended s texts detail b names p old now set h same wanted =
 
 -- the regions join
 pub joins_all : (s : Setting) (names : List (List ℕ)) (p : Progress) (old now : Option (List ℕ)) (j : JoinedCountry) → JoinedCountryIsSound → JoinedCountryIsUnion
-    → (h : HasPassedAll s p old now) → IsEnded s h.regions names p → IsCountryJoined s h.regions j → RegionsJoin s old now (Ok j)
+    → (h : HasPassedAll s p old now) → IsEnded s h.regions names p → IsCountryJoined s h.regions j → RegionsJoin s old now (Joined j)
 joins_all s names p old now j law unites h e are = (
   h.regions,
   h.lines,

@@ -6,16 +6,20 @@ use Rattle.std.proofs.lemmas.List.{append-nil, drop_more, length-append, length-
 use Rattle.std.proofs.lemmas.List.Elements.{All-head, All-tail}
 use Rattle.std.specs.Io.KnownBytes.{Appends, Keeps}
 use Rattle.std.specs.declared.alloc.Global.{Global}
-use Rattle.lpis_commands.proofs.Shared.{appends-more}
+use Rattle.lpis_commands.proofs.Shared.{appends-more, refused-more}
 use Rattle.lpis_parcels.specs.Release.{Contents}
 use Rattle.lpis_commands.specs.declared.failure.Failure.{Failure}
 use Rattle.lpis_commands.specs.declared.failure.Failure.TheVariants.{Memory, Read, Write, Store, StoreMemory}
 use Rattle.lpis_commands.specs.declared.failure.Name.{Name}
 use Rattle.lpis_commands.specs.declared.failure.Name.TheVariants.{Cert, Classes, Covers, Out, Parcels}
-use Rattle.lpis_commands.specs.CheckAnswer.{Answer, Inputs, IsProvedOf}
+use Rattle.lpis_commands.specs.CheckAnswer.{Answer, Inputs, IsProvedOf, IsRefusal}
+use Rattle.lpis_commands.specs.Refusals.{line_in_region}
 use Rattle.lpis_commands.specs.declared.answer.Answer.{Answer as Printed}
 use Rattle.lpis_commands.specs.Status.{done}
+use Rattle.lpis_commands.specs.Stops.{IsRefusedAs}
 use Rattle.lpis_commands.specs.Streams.{Begins}
+use Rattle.lpis_commands.specs.declared.stop.Stop.{Stop}
+use Rattle.lpis_commands.specs.declared.stop.Stop.TheVariants.{Refused}
 use Rattle.lpis_parcels.specs.declared.parcel.Parcel.{Parcel}
 use Rattle.lpis_country.specs.Country.{country_of, new_parcels}
 use Rattle.lpis_country.proofs.Shared.{country_is_region, country_snoc}
@@ -33,7 +37,7 @@ use Rattle.lpis_country_run.specs.CountryLines.{country_lines, region_report}
 use Rattle.lpis_country_run.specs.Regions.{AreOfFolder, Texts}
 use Rattle.lpis_country_run.specs.RegionsOutcome.{RegionsEnd, RegionsStop}
 use Rattle.lpis_country_run.specs.private.Progressing.{RegionsBreakOff}
-use Rattle.lpis_country_run.specs.private.Progressing.{AreOfRun, FollowsAs, HasGathered, HasPassedAll, IsAt, IsFailureOf, IsFinished, IsHere, IsReady, IsStart, IsUnfinished}
+use Rattle.lpis_country_run.specs.private.Progressing.{AreOfRun, FollowsAs, HasGathered, HasPassedAll, IsAt, IsFailureOf, IsFinished, IsHere, IsMisfit, IsReady, IsStart, IsUnfinished}
 use Rattle.lpis_country_run.specs.private.Progressing.{IsUnwritten, IsVerdict, IsVerdictText, IsWritten, RegionsPass}
 use Rattle.lpis_country_run.specs.private.Totals.{AreTotalsOf, IsPrintable, last_lines}
 use Rattle.lpis_country_run.proofs.PassedLemmas.{passed_length, passed_more, reached_by, refused_next}
@@ -83,12 +87,18 @@ begun_here s texts names detail p old start = record { before = []; text = []; h
 
 -- ---- the verdict
 -- on a region that is a sound map
-pub judged : {E : Type 0} (r : Result (Result (Vec ℕ Global) Printed) E) (s : Setting) (before : List Contents) (name : List ℕ) (x : Inputs) (region : Contents) (p : Progress)
-    → AreOfFolder x (s.texts name) → IsProvedOf x region → IfOk r (FollowsAs s before name region p) → IfOk r (IsVerdict s before name p)
-judged (Err e) s before name x region p told said h = tt
-judged (Ok (Ok text)) s before name x region p told said (fits, is, at) = (region, record { inputs = x; told = told; said = said; fits = fits }, is, at)
-judged (Ok (Err a)) s before name x region p told said (fault, first, text, status) =
-    (x, told, inr (record { region = region; said = said; fault = fault; first = first; is = ap₂ (λ (t : List ℕ) (n : ℕ). (t, n)) text status }))
+pub judged : (r : Result (Vec ℕ Global) Stop) (s : Setting) (before : List Contents) (name : List ℕ) (x : Inputs) (region : Contents) (p : Progress) → AreOfFolder x (s.texts name)
+    → IsProvedOf x region → FollowsAs s before name region p r → IsVerdict s before name p r
+judged (Ok text) s before name x region p told said (fits, is, at) = (region, record { inputs = x; told = told; said = said; fits = fits }, is, at)
+judged (Err stop) s before name x region p told said h =
+    refused-more (IsMisfit s before name region) (IsRefusedRegion s before name) stop
+    (λ a misfit. (x, told, inr (record { region = region; said = said; fault = misfit.0; first = misfit.1; is = misfit.2 }))) h
+
+-- on inputs that `check` refuses
+pub check_refused : (s : Setting) (before : List Contents) (name : List ℕ) (x : Inputs) (stop : Stop) (a b : Printed) → AreOfFolder x (s.texts name) → IsRefusedAs (IsRefusal x) stop
+    → stop ≡ Refused a → b.text.items ≡ line_in_region a.text.items name → b.status ≡ a.status → IsRefusedRegion s before name (b.text.items, b.status)
+check_refused s before name x stop a b told refusal is text status =
+    (x, told, inl ((a.text.items, a.status), subst (IsRefusedAs (IsRefusal x)) is refusal, ap₂ (λ (t : List ℕ) (n : ℕ). (t, n)) text status))
 
 -- the first fault, which is none of memory
 pub first_of : (faults : List SeamFault) (fault : SeamFault) → (fault ≡ NoMemory) ⊎ IsFirstSeamFault faults fault → (fault ≡ NoMemory → ⊥) → IsFirstSeamFault faults fault
@@ -96,10 +106,12 @@ first_of faults fault (inl e) is_none = absurd (is_none e)
 first_of faults fault (inr first) is_none = first
 
 -- a refusal that was written
-pub refused_written : (s : Setting) (before : List Contents) (name : List ℕ) (p : Progress) (v : Result (Vec ℕ Global) Printed) (a : Printed) (status : ℕ) (old new : Option (List ℕ)) → v ≡ Err a
-    → status ≡ a.status → Appends old new a.text.items → IsVerdict s before name p v → (text : List ℕ) × IsRefusedRegion s before name (text, status) × Appends old new text
-refused_written s before name p v a status old new is same written verdict =
-    let refusal : IsRefusedRegion s before name (a.text.items, a.status) = subst (IsVerdict s before name p) is verdict in
+pub refused_written : (s : Setting) (before : List Contents) (name : List ℕ) (p : Progress) (v : Result (Vec ℕ Global) Stop) (stop : Stop) (a : Printed) (status : ℕ) (old new : Option (List ℕ))
+    → v ≡ Err stop → stop ≡ Refused a → status ≡ a.status → Appends old new a.text.items → IsVerdict s before name p v
+    → (text : List ℕ) × IsRefusedRegion s before name (text, status) × Appends old new text
+refused_written s before name p v stop a status old new is refused same written verdict =
+    let told : IsRefusedAs (IsRefusedRegion s before name) stop = subst (IsVerdict s before name p) is verdict in
+    let refusal : IsRefusedRegion s before name (a.text.items, a.status) = subst (IsRefusedAs (IsRefusedRegion s before name)) refused told in
     (a.text.items, subst (λ (n : ℕ). IsRefusedRegion s before name (a.text.items, n)) (sym same) refusal, written)
 
 -- ---- going on
@@ -187,7 +199,7 @@ unread_is t failure (inr (inl (inl e))) = inl e
 unread_is t failure (inr (inl (inr (inl e)))) = inr (Parcels, e)
 unread_is t failure (inr (inl (inr (inr (inl (w, e)))))) = inr (Covers, e)
 unread_is t failure (inr (inl (inr (inr (inr (w, v, e)))))) = inr (Classes, e)
-unread_is t failure (inr (inr (w, v, x, e))) = inr (Cert, e)
+unread_is t failure (inr (inr (w, e))) = inr (Cert, e)
 
 -- another failure is none of these
 no_other : (failure : Failure) → (failure ≡ Memory) ⊎ ((file : Name) × (failure ≡ Read file)) → (failure ≡ Memory → ⊥) → ((file : Name) → failure ≡ Read file → ⊥) → ⊥
@@ -334,11 +346,3 @@ all_break_off s p old now new failure f h (inr (write, begins)) of =
 pub err_is : {A E : Type 0} (r : Result A E) (P Q : E → Type 0) → IsErrAnd r P → ((e : E) → P e → Q e) → IfErr r Q
 err_is (Ok x) P Q h f = tt
 err_is (Err e) P Q h f = f e h
-
--- an answer that is known
-pub ok_is : {A E : Type 0} (P : A → Type 0) (r : Result A E) (x : A) → r ≡ Ok x → IfOk r P → P x
-ok_is P r x e h = subst (λ z. IfOk z P) e h
-
--- what holds of the error of an answer holds of the one that the answer is known to have
-pub fault_is : {A E : Type 0} (P : E → Type 0) (r : Result A E) (e : E) → r ≡ Err e → IfErr r P → P e
-fault_is P r e is h = subst (λ z. IfErr z P) is h

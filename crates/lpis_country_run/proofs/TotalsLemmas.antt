@@ -1,5 +1,5 @@
 -- Counts and areas of parcels, added up.
-use Rattle.std.proofs.Common.{◌≡◌, ◌≤◌, ◌<◌, ◌∙◌, ◌++◌, ◌∷◌, ◌+◌, ◌*◌, ◌^◌, [], refl, sym, ap, ap₂, subst, arith, ℕ, suc, List, All, Contains, codes, decimal, get_or, length, nat_abs, not, take}
+use Rattle.std.proofs.Common.{◌≡◌, ◌≤◌, ◌<◌, ◌∙◌, ◌++◌, ◌∷◌, ◌+◌, ◌*◌, ◌^◌, [], refl, sym, ap, ap₂, subst, arith, ℕ, suc, zero, List, All, Contains, codes, decimal, get_or, length, nat_abs, not, take}
 use Rattle.std.proofs.lemmas.List.{length-append, take_more}
 use Rattle.std.proofs.lemmas.List.Elements.{All-cons, All-head, All-nil, All-tail, All-weaker}
 use Rattle.std.proofs.lemmas.List.Filters.{length-filter_both}
@@ -50,6 +50,24 @@ pub totals_more : (r : Contents) (ks : List Parcel) (i : ℕ) (k d : Parcel) (s 
     → AreTotalsOf r (take (i + 1) ks) u
 totals_more r ks i k d s t u lt is plus a b =
     subst (λ (ls : List Parcel). AreTotalsOf r ls u) (ap (λ (x : Parcel). take i ks ++ x ∷ []) is ∙ sym (take_more ks i d lt)) (plus r (take i ks) (k ∷ []) a b)
+
+-- the totals of a parcel can be added to those of fewer than a table's rows
+taken-few : (xs : List Parcel) (i : ℕ) → length (take i xs) ≤ i
+taken-few [] zero = omega arith
+taken-few [] (suc i) = omega arith
+taken-few (x ∷ xs) zero = omega arith
+taken-few (x ∷ xs) (suc i) = let less = taken-few xs i in omega (arith, less)
+
+one-more : (n m i p q : ℕ) → p ≡ n → q ≡ 1 → n ≤ i → i < m → m ≤ most_rows → p + q ≤ most_parcels
+one-more n m i p q a b c d e = omega (arith, a, b, c, d, e)
+
+-- the sums of as many parcels as stand before an index, and those of the parcel there, can be added
+pub addable_one : (r : Contents) (ks : List Parcel) (i m : ℕ) (k : Parcel) (s t : Totals) → AreTotalsOf r (take i ks) s → AreTotalsOf r (k ∷ []) t → i < m → m ≤ most_rows → AreAddable s t
+addable_one r ks i m k s t a b lt few = record {
+  first = bounded_of r (take i ks) s a;
+  second = bounded_of r (k ∷ []) t b;
+  few = one-more (length (take i ks)) m i s.parcels t.parcels a.parcels b.parcels (taken-few ks i) lt few;
+}
 
 -- the areas of as many parcels as a country can have are printed
 pub area_fits : (x y n k : ℕ) → x ≤ most_area * n → y ≤ most_area * k → n + k ≤ most_parcels → x + y ≤ most_printed

@@ -1,12 +1,10 @@
 -- What is known before the first region is read.
-use Rattle.std.specs.Prelude.{◌≡◌, ◌≤◌, ◌⊎◌, ℕ, List, Ok, Err, Some, length, map}
+use Rattle.std.specs.Prelude.{◌≡◌, ◌≤◌, ◌⊎◌, ℕ, List, Ok, Some, length, map}
 use Rattle.std.specs.String.{string_bytes}
 use Rattle.lpis_covers.specs.Classes.{classes_table}
 use Rattle.lpis_covers.specs.Faults.{rows_of}
-use Rattle.lpis_covers.specs.declared.fault.TableFault.{TableFault}
-use Rattle.lpis_commands.specs.Refusals.{refusal_text}
+use Rattle.lpis_commands.specs.CheckAnswer.{Answer, IsTableAnswer}
 use Rattle.lpis_commands.specs.Status.{unreadable}
-use Rattle.lpis_commands.specs.declared.answer.Answer.{Answer}
 use Rattle.lpis_country.specs.Tiling.{frame, rectangles}
 use Rattle.lpis_country_plan.specs.CountryText.{IsCountryText}
 use Rattle.lpis_country_plan.specs.Faults.{plan_fault}
@@ -23,12 +21,11 @@ country_inputs_of b = record { plan = b.plan.items; classes = b.classes.items }
 -- the line of the first fault of the text
 abbrev pub IsPlanRefusal : List ℕ → Answer → Type 0
 IsPlanRefusal text a = (line : ℕ) × (plan_fault text ≡ Some line)
-    × (a.text.items ≡ plan_refusal_text line) × (a.status ≡ unreadable)
+    × (a ≡ (plan_refusal_text line, unreadable))
 
 -- the line of the first fault of the table
 abbrev pub IsClassesRefusal : List ℕ → Answer → Type 0
-IsClassesRefusal table a = (fault : TableFault) × (rows_of classes_table table ≡ Err fault)
-    × (a.text.items ≡ refusal_text fault) × (a.status ≡ unreadable)
+IsClassesRefusal table = IsTableAnswer (λ classes a. ⊥) (rows_of classes_table table)
 
 -- the plan and the classes are those of the inputs
 pub record IsBegun (x : CountryInputs) (b : Begun) : Type 0 where

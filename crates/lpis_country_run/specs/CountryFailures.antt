@@ -32,7 +32,7 @@ IsUnopened t failure = (failure ≡ Memory) ⊎ IsMissing t failure Parcels
 
 -- so it is, or a file was not read, while those before it were
 abbrev pub IsUnreadFolder : Texts → Failure → Type 0
-IsUnreadFolder t failure = IsUnopened t failure ⊎ IsUnchecked t.parcels t.covers t.classes failure
+IsUnreadFolder t failure = IsUnopened t failure ⊎ IsUnchecked t.given failure
 
 -- a failure that is of no region
 abbrev pub IsOfNone : CountryFailure → Failure → Type 0

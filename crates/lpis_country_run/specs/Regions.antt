@@ -6,34 +6,28 @@ use Rattle.lpis_covers.specs.Faults.{rows_of}
 use Rattle.lpis_parcels.specs.Release.{Contents}
 use Rattle.lpis_checker.specs.SoundMap.{IsSoundMap}
 use Rattle.lpis_commands.specs.CheckAnswer.{AreRead, Inputs, IsProvedOf}
-use Rattle.lpis_commands.specs.Streams.{IsRead}
+use Rattle.lpis_commands.specs.Folders.{folder_texts}
+use Rattle.lpis_commands.specs.Streams.{FolderTexts, IsRead}
 use Rattle.lpis_commands.specs.declared.failure.Name.{Name}
+use Rattle.lpis_commands.specs.declared.folder.Folder.{Folder}
 use Rattle.lpis_country.specs.Country.{country_of}
 use Rattle.lpis_country.specs.Union.{IsUnion}
 use Rattle.lpis_country_plan.specs.CountryText.{IsCountryText}
 use Rattle.lpis_country_plan.specs.Tree.{Tree, folders}
-use Rattle.lpis_country_run.specs.declared.folder.Folder.{Folder}
 
 -- ---- a folder
--- the four files of a folder: whether one may be missing, and its bytes as far as they are known
+-- the files of a folder: whether one may be missing, and their bytes as far as they are known
 pub record Texts : Type 0 where
   pub may_be_missing : Name → Bool
-  pub parcels : Option (List ℕ)
-  pub covers : Option (List ℕ)
-  pub classes : Option (List ℕ)
-  pub cert : Option (List ℕ)
+  pub given : FolderTexts
 
 -- the readers of a folder have these texts left
-pub record AreGiven {R : Type 0} (remaining : R → Option (List ℕ)) (f : Folder R) (t : Texts) :
-    Type 0 where
-  pub parcels : remaining f.parcels ≡ t.parcels
-  pub covers : remaining f.covers ≡ t.covers
-  pub classes : remaining f.classes ≡ t.classes
-  pub cert : remaining f.cert ≡ t.cert
+abbrev pub AreGiven : {R : Type 0} → (R → Option (List ℕ)) → Folder R → Texts → Type 0
+AreGiven remaining f t = folder_texts remaining f ≡ t.given
 
 -- the inputs are what the files of a folder told, as far as it is known
 abbrev pub AreOfFolder : Inputs → Texts → Type 0
-AreOfFolder x t = AreRead x t.parcels t.covers t.classes t.cert
+AreOfFolder x t = AreRead x t.given
 
 -- they are the tables of this release, which is a sound map, and a certificate that is good for it
 abbrev pub IsRegionOf : Texts → Contents → Type 0

@@ -1,5 +1,5 @@
 -- What a run over the regions of what was begun came to.
-use Rattle.std.specs.Prelude.{◌≡◌, ◌≢◌, ◌≤◌, ◌⊎◌, ℕ, List, Option, Result, Ok, Err, length, map}
+use Rattle.std.specs.Prelude.{◌≡◌, ◌≢◌, ◌≤◌, ◌⊎◌, ℕ, List, Option, length, map}
 use Rattle.std.specs.Io.KnownBytes.{Appends}
 use Rattle.std.specs.String.{string_bytes}
 use Rattle.lpis_parcels.specs.Release.{Contents}
@@ -17,6 +17,8 @@ use Rattle.lpis_country_seam.specs.Open.{AreJoined}
 use Rattle.lpis_country_run.specs.declared.beginning.Begun.{Begun}
 use Rattle.lpis_country_run.specs.declared.failure.CountryFailure.{CountryFailure}
 use Rattle.lpis_country_run.specs.declared.joining.JoinedCountry.{JoinedCountry}
+use Rattle.lpis_country_run.specs.declared.joining.Joining.{Joining}
+use Rattle.lpis_country_run.specs.declared.joining.Joining.TheVariants.{Joined, Refused}
 use Rattle.lpis_country_run.specs.CountryAnswer.{HavePassed, IsReachedBy, IsRegionsAnswer}
 use Rattle.lpis_country_run.specs.CountryAnswer.{Setting}
 use Rattle.lpis_country_run.specs.CountryFailures.{IsOfNone, IsStoppedBefore}
@@ -60,12 +62,11 @@ pub record IsCountryJoined (s : Setting) (regions : List Contents) (j : JoinedCo
     pub text_is : j.text.items ≡ country_lines (length regions) (country_of s.classes regions)
 
 -- all regions passed, and their lines were written; or one was refused, and its line was too
-abbrev pub RegionsJoin : Setting → Option (List ℕ) → Option (List ℕ) → Result JoinedCountry ℕ
-    → Type 0
-RegionsJoin s old new (Ok j) =
+abbrev pub RegionsJoin : Setting → Option (List ℕ) → Option (List ℕ) → Joining → Type 0
+RegionsJoin s old new (Joined j) =
     (regions : List Contents) × (lines : List ℕ) × JoinsAll s regions lines
     × Appends old new lines × IsCountryJoined s regions j
-RegionsJoin s old new (Err status) = RegionsEnd s old new status × (status ≢ done)
+RegionsJoin s old new (Refused status) = RegionsEnd s old new status × (status ≢ done)
 
 -- ---- no end
 -- the text that a run over regions had to write, up to the last one: the lines of those that

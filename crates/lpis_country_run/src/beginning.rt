@@ -1,6 +1,7 @@
 //! What is read before the first region: the plan of the country, and its table of classes.
 
 ghost use Rattle.std.specs.Prelude.{◌≡◌, IfErr, IfOk, Ok};
+ghost use Rattle.lpis_commands.specs.Stops.{IsRefusedAs};
 ghost use Rattle.lpis_covers.specs.Classes.{classes_table};
 ghost use Rattle.lpis_covers.specs.Faults.{rows_of};
 ghost use Rattle.lpis_country_run.specs.Beginning.{IsBegun, IsClassesRefusal, IsPlanRefusal};
@@ -11,11 +12,11 @@ ghost use Rattle.lpis_country_run.specs.private.Beginning.{IsPlanIn};
 
 use crate::failure::CountryFailure;
 use crate::refusals::refuse_plan;
-use lpis_commands::{Answer, Name, read_named};
+use lpis_commands::{Answer, Name, Stop, read_named};
 use lpis_country_plan::{Plan, PlanFault, read_plan};
 use lpis_covers::{Class, Classes, TableFault, read_classes};
 use lpis_points::Box4;
-use std::alloc::{AllocError, Global};
+use std::alloc::Global;
 use std::io::Read;
 
 /// The bytes of the two files at the top.
@@ -54,47 +55,41 @@ pub fn read_top<P: Read + Drop, K: Read + Drop>(
 }
 
 /// The plan of a text, whose bytes are let go, or the line of the text's first fault.
-fn plan_in(alloc: Global, text: Vec<u8>) -> Result<Result<Plan, Answer>, AllocError>
-    ensures plan { IfOk result (λ r. IfOk r (IsPlanIn text.items)) }
-    ensures refusal { IfOk result (λ r. IfErr r (IsPlanRefusal text.items)) }
+fn plan_in(alloc: Global, text: Vec<u8>) -> Result<Plan, Stop>
+    ensures plan { IfOk result (IsPlanIn text.items) }
+    ensures refusal { IfErr result (IsRefusedAs (IsPlanRefusal text.items)) }
 {
     match read_plan(alloc, text.as_slice()) {
-        Ok(plan) => Ok(Ok(plan)),
-        Err(PlanFault::Memory) => Err(AllocError),
-        Err(PlanFault::At { line }) => Ok(Err(refuse_plan(alloc, line)?)),
+        Ok(plan) => Ok(plan),
+        Err(PlanFault::Memory) => Err(Stop::Memory),
+        Err(PlanFault::At { line }) => Err(Stop::Refused(refuse_plan(alloc, line)?)),
     }
 }
 
 /// The classes of a table, whose bytes are let go, or the line of the table's first fault.
-fn classes_in(alloc: Global, table: Vec<u8>) -> Result<Result<Classes, Answer>, AllocError>
-    ensures classes { IfOk result (λ r. IfOk r (λ k. rows_of classes_table table.items ≡ Ok k)) }
-    ensures refusal { IfOk result (λ r. IfErr r (IsClassesRefusal table.items)) }
+fn classes_in(alloc: Global, table: Vec<u8>) -> Result<Classes, Stop>
+    ensures classes { IfOk result (λ k. rows_of classes_table table.items ≡ Ok k) }
+    ensures refusal { IfErr result (IsRefusedAs (IsClassesRefusal table.items)) }
 {
     match read_classes(alloc, table.as_slice()) {
-        Ok(classes) => Ok(Ok(classes)),
-        Err(TableFault::Memory) => Err(AllocError),
-        Err(fault) => Ok(Err(Answer::refuse_table(alloc, &fault)?)),
+        Ok(classes) => Ok(classes),
+        Err(TableFault::Memory) => Err(Stop::Memory),
+        Err(fault) => Err(Stop::Refused(Answer::refuse_table(alloc, &fault)?)),
     }
 }
 
 /// The plan and the classes, or the line of the first fault: of the plan, then of the classes.
-pub fn begin(alloc: Global, top: CountryBytes) -> Result<Result<Begun, Answer>, AllocError>
-    ensures begun { IfOk result (λ r. IfOk r (IsBegun (country_inputs_of top))) }
-    ensures refusal { IfOk result (λ r. IfErr r (IsUnbegun (country_inputs_of top))) }
+pub fn begin(alloc: Global, top: CountryBytes) -> Result<Begun, Stop>
+    ensures begun { IfOk result (IsBegun (country_inputs_of top)) }
+    ensures refusal { IfErr result (IsRefusedAs (IsUnbegun (country_inputs_of top))) }
 {
     let CountryBytes { plan, classes } = top;
-    let plan = match plan_in(alloc, plan)? {
-        Ok(plan) => plan,
-        Err(answer) => return Ok(Err(answer)),
-    };
-    let classes = match classes_in(alloc, classes)? {
-        Ok(classes) => classes,
-        Err(answer) => return Ok(Err(answer)),
-    };
+    let plan = plan_in(alloc, plan)?;
+    let classes = classes_in(alloc, classes)?;
     let (names, tiles) = plan.into_parts();
-    Ok(Ok(Begun {
+    Ok(Begun {
         names,
         tiles,
         classes: classes.into_rows(),
-    }))
+    })
 }

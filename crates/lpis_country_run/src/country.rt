@@ -109,11 +109,11 @@ fn run_begun<G: Regions, W: Write>(
 /// Writes the answer that refuses a country before its first region.
 fn write_refusal<W: Write>(answer: &Answer, out: &mut W) -> Result<u8, CountryFailure>
     ensures ends { (texts : List ℕ → Texts) (detail : Detail) (x : CountryInputs)
-        → IsUnbegun x answer.now → IfOk result (λ status. CountryEnds texts detail x status
-        (W.contents out.old) (W.contents out.new)) }
+        → IsUnbegun x (answer.now.text.items, answer.now.status) → IfOk result (λ status.
+        CountryEnds texts detail x status (W.contents out.old) (W.contents out.new)) }
     ensures failure { (texts : List ℕ → Texts) (detail : Detail) (x : CountryInputs)
-        → IsUnbegun x answer.now → IfErr result (λ f. CountryBreaksOff f texts detail x
-        (W.contents out.old) (W.contents out.new)) }
+        → IsUnbegun x (answer.now.text.items, answer.now.status) → IfErr result (λ f.
+        CountryBreaksOff f texts detail x (W.contents out.old) (W.contents out.new)) }
 {
     match answer.write_to(out) {
         Ok(status) => Ok(status),
@@ -146,8 +146,11 @@ pub fn run_country<P: Read + Drop, K: Read + Drop, G: Regions, W: Write>(
         (P.remaining country) (K.remaining classes) (W.contents out.old) (W.contents out.new)) }
 {
     let top = read_top(alloc, country, classes)?;
-    match begin(alloc, top)? {
+    match begin(alloc, top) {
         Ok(begun) => run_begun(alloc, regions, begun, detail, out),
-        Err(answer) => write_refusal(&answer, out),
+        Err(stop) => {
+            let answer = stop.into_answer()?;
+            write_refusal(&answer, out)
+        }
     }
 }

@@ -11,22 +11,9 @@ ghost use Rattle.lpis_country_run.specs.Regions.{AreGiven, AreOfFolder, Texts};
 ghost use Rattle.lpis_country_run.specs.private.Progressing.{IsFailureOf};
 
 use crate::failure::CountryFailure;
-use lpis_commands::{Failure, InputBytes, read_inputs};
+use lpis_commands::{Failure, Folder, InputBytes, read_folder};
 use std::alloc::Global;
 use std::io::Read;
-
-/// The readers of the four files of a folder.
-#[derive(Drop)]
-pub struct Folder<R: Drop> {
-    /// The parcels table.
-    pub parcels: R,
-    /// The covers table.
-    pub covers: R,
-    /// The classes table.
-    pub classes: R,
-    /// The certificate.
-    pub cert: R,
-}
 
 /// The folders of a country, each of which is opened by its name.
 pub trait Regions {
@@ -36,31 +23,26 @@ pub trait Regions {
     /// What is known of the files of each folder: which may be missing, and their bytes.
     ghost texts: { Self → List ℕ → Texts };
 
-    /// Opens the four files of the folder of this name.
+    /// Opens the files of the folder of this name.
     fn open(&self, name: &str) -> Result<Folder<Self::File>, Failure>
         ensures given { IfOk result (λ f. AreGiven Self.File.remaining f
             (texts self.now name.now)) }
         ensures failure { IfErr result (IsUnopened (texts self.now name.now)) };
 }
 
-/// All bytes of the files of a folder.
+/// All bytes of the files of a folder, whose readers are let go.
 fn read_opened<R: Read + Drop>(alloc: Global, folder: Folder<R>) -> Result<InputBytes, Failure>
     ensures bytes { (t : Texts) → AreGiven R.remaining folder t
         → IfOk result (λ i. AreOfFolder (inputs_of i) t) }
     ensures failure { (t : Texts) → AreGiven R.remaining folder t
-        → IfErr result (IsUnchecked t.parcels t.covers t.classes) }
+        → IfErr result (IsUnchecked t.given) }
 {
-    let Folder {
-        parcels,
-        covers,
-        classes,
-        cert,
-    } = folder;
-    read_inputs(alloc, parcels, covers, classes, cert)
+    let mut folder = folder;
+    read_folder(alloc, &mut folder)
 }
 
 /// All bytes of the files of the folder of this name.
-pub(crate) fn read_folder<G: Regions>(
+pub(crate) fn read_region_files<G: Regions>(
     alloc: Global,
     regions: &G,
     name: &str,
@@ -101,7 +83,7 @@ pub fn read_region<G: Regions>(
     ensures failure { (left : List (List ℕ)) → IfErr result (IsStoppedBefore (G.texts regions.now)
         (get_or (map string_bytes names.old.items) index [] ∷ left)) }
 {
-    let read = read_folder(alloc, regions, names[index].as_str());
+    let read = read_region_files(alloc, regions, names[index].as_str());
     match read {
         Ok(inputs) => Ok(inputs),
         Err(failure) => Err(of_region(failure, names, index)),

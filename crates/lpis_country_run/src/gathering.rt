@@ -1,11 +1,10 @@
 //! The parcels of the regions that passed, gathered if they are wanted.
 
-ghost use Rattle.std.specs.Prelude.{◌≡◌, ◌++◌, true, List, OnOk};
+ghost use Rattle.std.specs.Prelude.{◌≡◌, ◌<◌, ◌++◌, true, List, OnOk, Some, length, slice_get};
 ghost use Rattle.lpis_parcels.specs.declared.parcel.Parcel.{Parcel};
 ghost use Rattle.lpis_country_run.specs.private.Progressing.{HasGathered, gathers};
 ghost use Rattle.lpis_country_run.specs.private.Totals.{AreAt, ArePlaces};
 
-use crate::totals::parcel_at;
 use lpis_country_rows::copy_parcel;
 use lpis_parcels::{Parcel, Release};
 use std::alloc::{AllocError, Global};
@@ -17,6 +16,14 @@ pub(crate) enum Gathered {
     Nothing,
     /// Each once, in the order in which they first stood.
     Parcels(Vec<Parcel>),
+}
+
+/// The parcel at a place.
+fn parcel_at(release: &Release, place: usize) -> &Parcel
+    requires { place < length release.now.parcels }
+    ensures { slice_get release.now.parcels place ≡ Some result.now }
+{
+    &release.parcels()[place]
 }
 
 /// Copies the parcels at these places behind others.
@@ -48,7 +55,7 @@ impl Gathered {
         requires { ArePlaces release.now places.now }
         ensures gathered { (ks ls : List Parcel) → HasGathered ks self.old
             → AreAt release.now places.now ls → OnOk result (HasGathered (ks ++ ls) self.new) }
-        ensures wanted { OnOk result (gathers self.new ≡ gathers self.old) }
+        ensures wanted { gathers self.new ≡ gathers self.old }
     {
         match self {
             Gathered::Nothing => Ok(()),

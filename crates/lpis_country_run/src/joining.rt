@@ -33,6 +33,15 @@ pub struct JoinedCountry {
     pub text: Vec<u8>,
 }
 
+/// What a run over regions comes to.
+#[derive(Drop)]
+pub enum Joining {
+    /// All passed.
+    Joined(JoinedCountry),
+    /// One was refused: its line was written, and this is its status.
+    Refused(u8),
+}
+
 /// The country of all regions, which passed.
 fn end(alloc: Global, names: Vec<String>, progress: Progress) -> Result<JoinedCountry, AllocError>
     requires { (s : Setting) × (regions : List Contents)
@@ -58,15 +67,14 @@ fn end(alloc: Global, names: Vec<String>, progress: Progress) -> Result<JoinedCo
 /// Checks the regions of a country one by one, as `run_country` does, writes what is printed of
 /// each that passes, or the line of the first fault, and gathers the parcels of their union.
 ///
-/// The country's line and the yes are not written: they are handed over. An inner Err is the status
-/// of the first region that is refused.
+/// The country's line and the yes are not written: they are handed over.
 pub fn join_regions<G: Regions, W: Write>(
     alloc: Global,
     regions: &G,
     begun: Begun,
     detail: Detail,
     out: &mut W,
-) -> Result<Result<JoinedCountry, u8>, CountryFailure>
+) -> Result<Joining, CountryFailure>
     requires { (s : Setting) × IsSettingOf s (G.texts regions.now) detail begun }
     ensures joins { (s : Setting) → IsSettingOf s (G.texts regions.now) detail begun
         → IfOk result (RegionsJoin s (W.contents out.old) (W.contents out.new)) }
@@ -86,7 +94,7 @@ pub fn join_regions<G: Regions, W: Write>(
     // The country of what all have passed is their union, and a sound map.
     a_country_of_joined_regions_is_sound();
     match pass_regions(alloc, regions, &mut names, &mut progress, detail, out)? {
-        Some(status) => Ok(Err(status)),
-        None => Ok(Ok(end(alloc, names, progress)?)),
+        Some(status) => Ok(Joining::Refused(status)),
+        None => Ok(Joining::Joined(end(alloc, names, progress)?)),
     }
 }

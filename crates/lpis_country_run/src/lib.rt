@@ -22,6 +22,6 @@ mod totals;
 pub use beginning::{Begun, CountryBytes, begin, read_top};
 pub use country::run_country;
 pub use failure::{CountryFailure, print_country_failure};
-pub use folder::{Folder, Regions, read_region};
-pub use joining::{JoinedCountry, join_regions};
+pub use folder::{Regions, read_region};
+pub use joining::{JoinedCountry, Joining, join_regions};
 pub use refusals::refuse_seam;

@@ -14,7 +14,7 @@ ghost use Rattle.lpis_country_run.specs.CountryLines.{region_sums_line, sums_tex
 ghost use Rattle.lpis_country_run.specs.private.Totals.{AreAt, ArePlaces, IsPrintable};
 ghost use Rattle.lpis_country_run.specs.private.Totals.{count_text, last_lines, totals_text};
 
-use crate::totals::{Totals, parcel_at, release_totals};
+use crate::totals::{Totals, release_totals};
 use lpis_commands::{Answer, DONE, Detail, PrintFault, print_areas, print_parcel};
 use lpis_country::is_region;
 use lpis_parcels::Release;
@@ -71,7 +71,7 @@ fn print_parcels<W: Write>(
         (flat_map (parcel_line release.now) ks)) }
 {
     for (count, place) in places.iter().enumerate() {
-        print_parcel(release, parcel_at(release, *place), out)?;
+        print_parcel(release, *place, out)?;
     }
     Ok(())
 }

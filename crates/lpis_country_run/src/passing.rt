@@ -31,7 +31,7 @@ fn pass_at<G: Regions, W: Write>(
     requires inside { index < length names.old.items }
     requires ready { IsReady progress.old }
     ensures names { OnOk result (names.new.items ≡ names.old.items) }
-    ensures wanted { OnOk result (gathers progress.new.gathered ≡ gathers progress.old.gathered) }
+    ensures wanted { gathers progress.new.gathered ≡ gathers progress.old.gathered }
     ensures written { (s : Setting) (before : List Contents) → IsAt s before progress.old
         → AreOfRun s (G.texts regions.now) (map string_bytes names.old.items) detail
         → IfOk result (IsWritten s before (get_or (map string_bytes names.old.items) index [])
@@ -69,7 +69,7 @@ pub(crate) fn pass_regions<G: Regions, W: Write>(
     requires { (s : Setting) × IsStart s (G.texts regions.now) (map string_bytes names.old.items)
         detail progress.old }
     ensures names { OnOk result (names.new.items ≡ names.old.items) }
-    ensures wanted { OnOk result (gathers progress.new.gathered ≡ gathers progress.old.gathered) }
+    ensures wanted { gathers progress.new.gathered ≡ gathers progress.old.gathered }
     ensures passed { (s : Setting) → IsStart s (G.texts regions.now)
         (map string_bytes names.old.items) detail progress.old
         → IfOk result (RegionsPass s progress.new (W.contents out.old) (W.contents out.new)) }

@@ -1,6 +1,6 @@
 //! How far a run over regions has come.
 
-ghost use Rattle.std.specs.Prelude.{◌≡◌, [], ◌∷◌, ◌++◌, IfOk, List, OnOk, map};
+ghost use Rattle.std.specs.Prelude.{◌≡◌, [], ◌∷◌, ◌++◌, List, map};
 ghost use Rattle.std.specs.String.{string_bytes};
 ghost use Rattle.lpis_checker.specs.SoundMap.{AreasAdd};
 ghost use Rattle.lpis_parcels.specs.Release.{Contents};
@@ -12,11 +12,11 @@ use crate::gathering::Gathered;
 use crate::lines::report_region;
 use crate::refusals::refuse_seam;
 use crate::totals::{Totals, totals_at};
-use lpis_commands::{Answer, Detail};
+use lpis_commands::{Detail, Stop};
 use lpis_country::is_region;
 use lpis_country_seam::OpenSeam;
 use lpis_parcels::Release;
-use std::alloc::{AllocError, Global};
+use std::alloc::Global;
 
 /// What is kept of the regions that passed, what their country has, and its parcels if they are
 /// wanted.
@@ -36,13 +36,13 @@ pub(crate) fn follow(
     detail: Detail,
     progress: &mut Progress,
     release: &Release,
-) -> Result<Result<Vec<u8>, Answer>, AllocError>
+) -> Result<Vec<u8>, Stop>
     requires ready { IsReady progress.old }
     requires areas { AreasAdd release.now }
     ensures follows { (s : Setting) (before : List Contents) → IsAt s before progress.old
         → AreOfSetting s (map string_bytes names.now) detail
-        → IfOk result (FollowsAs s before name.now release.now progress.new) }
-    ensures wanted { OnOk result (gathers progress.new.gathered ≡ gathers progress.old.gathered) }
+        → FollowsAs s before name.now release.now progress.new result }
+    ensures wanted { gathers progress.new.gathered ≡ gathers progress.old.gathered }
 {
     is_region(release);
     let _ = release.parcels();
@@ -52,8 +52,8 @@ pub(crate) fn follow(
             let totals = totals_at(release, places.as_slice());
             progress.totals = progress.totals.plus(totals);
             progress.gathered.gather(alloc, release, places.as_slice())?;
-            Ok(Ok(text))
+            Ok(text)
         }
-        Err(fault) => Ok(Err(refuse_seam(alloc, names, name, &fault)?)),
+        Err(fault) => Err(Stop::Refused(refuse_seam(alloc, names, name, &fault)?)),
     }
 }

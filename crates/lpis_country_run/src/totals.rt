@@ -1,6 +1,6 @@
 //! Counts and areas of parcels, added up.
 
-ghost use Rattle.std.specs.Prelude.{◌≡◌, ◌≤◌, ◌<◌, ◌∷◌, ◌++◌, [], Contains, List, Some, length};
+ghost use Rattle.std.specs.Prelude.{◌≡◌, ◌≤◌, ◌<◌, ◌∷◌, ◌++◌, [], List, Some, length};
 ghost use Rattle.std.specs.Prelude.{slice_get};
 ghost use Rattle.lpis_checker.specs.SoundMap.{AreasAdd};
 ghost use Rattle.lpis_covers.specs.Table.{most_rows};
@@ -9,9 +9,8 @@ ghost use Rattle.lpis_parcels.specs.Release.{Contents, pieces_named};
 ghost use Rattle.lpis_country_run.specs.private.Totals.{AreAddable, AreAt, ArePlaces};
 ghost use Rattle.lpis_country_run.specs.private.Totals.{AreTotalsOf};
 
-use lpis_commands::{Areas, areas_of};
-use lpis_covers::Id;
-use lpis_parcels::{Parcel, Release, pieces_of};
+use lpis_commands::{Areas, areas_at};
+use lpis_parcels::{Release, pieces_at};
 
 /// How many parcels and pieces there are, the area of all parcels, and how much of it is eligible.
 #[derive(Clone, Copy, Debug, PartialEq, Eq)]
@@ -47,26 +46,29 @@ impl Totals {
     }
 }
 
-/// How many pieces the parcel of this identifier has.
-fn count_pieces(release: &Release, parcel: &Id) -> usize
-    ensures count { result ≡ length (pieces_named release.now parcel.now) }
+/// How many pieces the parcel at a place has.
+fn count_pieces(release: &Release, place: usize) -> usize
+    requires { place < length release.now.parcels }
+    ensures count { (parcel : Parcel) → slice_get release.now.parcels place ≡ Some parcel
+        → result ≡ length (pieces_named release.now parcel.id) }
     ensures few { result ≤ most_rows }
 {
     // They are few.
     let _ = release.pieces();
-    pieces_of(release, parcel).count()
+    pieces_at(release, place).count()
 }
 
-/// Of one parcel.
-fn parcel_totals(release: &Release, parcel: &Parcel) -> Totals
+/// Of the parcel at a place.
+fn parcel_totals(release: &Release, place: usize) -> Totals
     requires areas { AreasAdd release.now }
-    requires among { Contains release.now.parcels parcel.now }
-    ensures { AreTotalsOf release.now (parcel.now ∷ []) result }
+    requires within { place < length release.now.parcels }
+    ensures { (parcel : Parcel) → slice_get release.now.parcels place ≡ Some parcel
+        → AreTotalsOf release.now (parcel ∷ []) result }
 {
     Totals {
         parcels: 1,
-        pieces: count_pieces(release, &parcel.id),
-        areas: areas_of(release, parcel),
+        pieces: count_pieces(release, place),
+        areas: areas_at(release, place),
     }
 }
 
@@ -77,19 +79,10 @@ pub(crate) fn release_totals(release: &Release) -> Totals
     ensures few { result.parcels ≤ most_rows }
 {
     let mut totals = Totals::none();
-    for (count, parcel) in release.parcels().iter().enumerate() {
-        totals = totals.plus(parcel_totals(release, parcel));
+    for place in 0..release.parcels().len() {
+        totals = totals.plus(parcel_totals(release, place));
     }
     totals
-}
-
-/// The parcel at a place.
-pub(crate) fn parcel_at(release: &Release, place: usize) -> &Parcel
-    requires { place < length release.now.parcels }
-    ensures parcel { slice_get release.now.parcels place ≡ Some result.now }
-    ensures among { Contains release.now.parcels result.now }
-{
-    &release.parcels()[place]
 }
 
 /// Of the parcels at these places.
@@ -102,8 +95,7 @@ pub(crate) fn totals_at(release: &Release, places: &[usize]) -> Totals
 {
     let mut totals = Totals::none();
     for (count, place) in places.iter().enumerate() {
-        let parcel = parcel_at(release, *place);
-        totals = totals.plus(parcel_totals(release, parcel));
+        totals = totals.plus(parcel_totals(release, *place));
     }
     totals
 }

@@ -9,8 +9,8 @@ ghost use Rattle.lpis_country_seam.specs.private.Testing.{row_named};
 use indexmap::IndexSet;
 use lpis_country_rows::{copy_parcel, copy_pieces_of};
 use lpis_covers::{Id, Piece};
+use lpis_memory::Sequence;
 use lpis_parcels::{Parcel, Release};
-use lpis_rings::Sequence;
 use std::alloc::{AllocError, Global};
 use std::marker::Model;
 

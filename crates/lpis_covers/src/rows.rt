@@ -9,7 +9,7 @@ ghost use Rattle.lpis_covers.specs.Rows.{RowsAnswer};
 use crate::fault::{Table, TableFault};
 use crate::reader::TableReader;
 use csv::ByteRecord;
-use lpis_rings::{Sequence, without_spare};
+use lpis_memory::{Sequence, without_spare};
 use std::alloc::{AllocError, Global};
 
 /// The wanted columns of the rows before the first fault of length or number, as bytes, and that

@@ -1,7 +1,7 @@
 -- What a refusal says of a release.
 use Rattle.std.specs.Prelude.{◌≡◌, ◌≢◌, ◌≤◌, ℕ, List, Option, Some, None, All, Any, ◌⊎◌, ⊤}
 use Rattle.std.specs.Prelude.{Contains as IsAmong}
-use Rattle.lpis_points.specs.Memory.{UnlessMemory}
+use Rattle.lpis_memory.specs.Memory.{UnlessMemory}
 use Rattle.lpis_points.specs.declared.triangle.Triangle.{Triangle}
 use Rattle.lpis_points.specs.Plane.{RationalPoint, same_point}
 use Rattle.lpis_points.specs.Triangles.{IsCounterClockwise}

@@ -23,7 +23,8 @@ use crate::shapes::shape_of;
 use lpis_checker::ExactPart;
 use lpis_covers::Id;
 use lpis_lineage::{Change, Group};
-use lpis_rings::{Polygon, Sequence};
+use lpis_memory::Sequence;
+use lpis_rings::Polygon;
 use std::alloc::{AllocError, AllocFailed, Global};
 use thiserror::Error;
 

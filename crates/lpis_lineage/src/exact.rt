@@ -20,7 +20,7 @@ use crate::kind::Kind;
 use crate::marks::{Marks, marks_of, merges_exactly, splits_exactly};
 use crate::row::Row;
 use lpis_covers::Id;
-use lpis_rings::Sequence;
+use lpis_memory::Sequence;
 use std::alloc::{AllocError, Global};
 use std::collections::HashMap;
 

@@ -5,7 +5,7 @@ ghost use Rattle.lpis_lineage.specs.Accepts.{IsReleaseEntry};
 
 use crate::id_set::IdSet;
 use lpis_covers::Id;
-use lpis_rings::Sequence;
+use lpis_memory::Sequence;
 use std::alloc::{AllocError, Global};
 
 /// A row of lineage: what an old identifier became in the release that the row belongs to.

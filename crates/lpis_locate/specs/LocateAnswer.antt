@@ -5,12 +5,15 @@ use Rattle.std.specs.Io.KnownBytes.{Appends, Keeps}
 use Rattle.lpis_parcels.specs.Release.{Contents}
 use Rattle.lpis_commands.specs.CheckAnswer.{Answer, AreRead, Inputs, IsProvedOf}
 use Rattle.lpis_commands.specs.CheckAnswer.{IsRefusal}
-use Rattle.lpis_commands.specs.Failures.{IsUnchecked}
+use Rattle.lpis_commands.specs.Failures.{AreWithin, IsUnchecked}
+use Rattle.lpis_commands.specs.Folders.{IsFolderUntouched, IsUntouched, folder_names}
+use Rattle.lpis_commands.specs.Folders.{folder_texts}
 use Rattle.lpis_commands.specs.Status.{done, unreadable}
-use Rattle.lpis_commands.specs.Streams.{Begins, IsRead, IsWithin}
+use Rattle.lpis_commands.specs.Streams.{Begins, FolderTexts, IsRead, IsWithin}
 use Rattle.lpis_commands.specs.declared.failure.Failure.{Failure}
 use Rattle.lpis_commands.specs.declared.failure.Failure.TheVariants.{Read, Write}
 use Rattle.lpis_commands.specs.declared.failure.Name.TheVariants.{Out, Points}
+use Rattle.lpis_commands.specs.declared.folder.Folder.{Folder}
 use Rattle.lpis_locating.specs.declared.fault.PointsFault.{PointsFault}
 use Rattle.lpis_locating.specs.Points.{Given, points_of}
 use Rattle.lpis_locate.specs.LocateLines.{AreLines, points_refusal_text}
@@ -34,11 +37,22 @@ IsLocateAnswer x a =
     IsRefusal x.checked a
     ⊎ ((r : Contents) × IsProvedOf x.checked r × IsPointsAnswer r (points_of x.points) a)
 
+-- what is known of the bytes of a folder's files, and of those of the table of points
+pub record LocateTexts : Type 0 where
+  pub folder : FolderTexts
+  pub points : Option (List ℕ)
+
+-- by what is known of each reader
+abbrev pub locate_texts : {R : Type 0} → (R → Option (List ℕ)) → Folder R → R → LocateTexts
+locate_texts remaining folder points = record {
+  folder = folder_texts remaining folder;
+  points = remaining points;
+}
+
 -- the inputs are what five readers reported, as far as it is known
-pub record AreLocateRead (x : LocateInputs) (parcels covers classes cert points : Option (List ℕ)) :
-    Type 0 where
-  pub of_release : AreRead x.checked parcels covers classes cert
-  pub of_points : IsRead x.points points
+pub record AreLocateRead (x : LocateInputs) (given : LocateTexts) : Type 0 where
+  pub of_release : AreRead x.checked given.folder
+  pub of_points : IsRead x.points given.points
 
 -- the release is a sound map, the points are those of the table, and each has the line of its own
 -- place
@@ -60,16 +74,20 @@ pub record LocateEnds (x : LocateInputs) (status : ℕ) (old new : Option (List 
   pub located : status ≡ done → IsLocatedText x text
 
 -- an input was not read, or memory ran out
-abbrev pub IsUnlocated : (parcels covers classes cert : Option (List ℕ)) → Failure → Type 0
-IsUnlocated parcels covers classes cert failure =
-    IsUnchecked parcels covers classes failure
-    ⊎ (IsWithin parcels × IsWithin covers × IsWithin classes × IsWithin cert
-    × (failure ≡ Read Points))
+abbrev pub IsUnlocated : FolderTexts → Failure → Type 0
+IsUnlocated folder failure =
+    IsUnchecked folder failure
+    ⊎ (AreWithin folder.tables × IsWithin folder.cert × (failure ≡ Read Points))
+
+-- the readers behind the one that the failure names are as they were: those of the folder, which
+-- comes first, and that of the points
+abbrev pub AreLocateUntouched : {R : Type 0} → Folder R → Folder R → R → R → Failure → Type 0
+AreLocateUntouched old new points_old points_new failure =
+    IsFolderUntouched old new failure × IsUntouched folder_names points_old points_new failure
 
 -- the run gave no answer: a reader failed, or the writer did after a beginning of the answer
-abbrev pub LocateHalts : Failure → (parcels covers classes cert points : Option (List ℕ))
-    → Option (List ℕ) → Option (List ℕ) → Type 0
-LocateHalts failure parcels covers classes cert points old new =
-    ((x : LocateInputs) × AreLocateRead x parcels covers classes cert points
+abbrev pub LocateHalts : Failure → LocateTexts → Option (List ℕ) → Option (List ℕ) → Type 0
+LocateHalts failure given old new =
+    ((x : LocateInputs) × AreLocateRead x given
     × (failure ≡ Write Out) × ((a : Answer) × IsLocateAnswer x a × Begins old new a.0))
-    ⊎ (IsUnlocated parcels covers classes cert failure × Keeps old new)
+    ⊎ (IsUnlocated given.folder failure × Keeps old new)

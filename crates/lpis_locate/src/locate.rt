@@ -2,17 +2,21 @@
 
 ghost use Rattle.std.specs.Prelude.{◌≡◌, All, IfErr, IfOk, None, Ok, Option, length};
 ghost use Rattle.lpis_checker.specs.SoundMap.{IsSoundMap};
+ghost use Rattle.lpis_commands.specs.Folders.{folder_texts};
 ghost use Rattle.lpis_commands.specs.Inputs.{inputs_of};
 ghost use Rattle.lpis_commands.specs.Status.{done};
 ghost use Rattle.lpis_locating.specs.Points.{points_of};
 ghost use Rattle.lpis_locating.specs.declared.place.Place.{Place};
-ghost use Rattle.lpis_locate.specs.LocateAnswer.{AreLocateRead, IsLocateAnswer, IsLocatedText};
-ghost use Rattle.lpis_locate.specs.LocateAnswer.{IsPointsAnswer, IsUnlocated, LocateEnds};
-ghost use Rattle.lpis_locate.specs.LocateAnswer.{LocateHalts, LocateInputs};
+ghost use Rattle.lpis_locate.specs.LocateAnswer.{AreLocateRead, AreLocateUntouched};
+ghost use Rattle.lpis_locate.specs.LocateAnswer.{IsLocateAnswer, IsLocatedText, IsPointsAnswer};
+ghost use Rattle.lpis_locate.specs.LocateAnswer.{IsUnlocated, LocateEnds, LocateHalts};
+ghost use Rattle.lpis_locate.specs.LocateAnswer.{LocateInputs, locate_texts};
 ghost use Rattle.lpis_locate.specs.private.LocateRuns.{locate_inputs_of};
 
 use crate::printing::{refuse_points, report_points};
-use lpis_commands::{Answer, Failure, InputBytes, Name, checked_release, read_inputs, read_named};
+use lpis_commands::{
+    Answer, Failure, Folder, InputBytes, Name, checked_release, read_folder, read_lent,
+};
 use lpis_locating::{Place, Points, PointsFault, locate_in, no_places, read_points};
 use lpis_parcels::Release;
 use std::alloc::{AllocError, Global};
@@ -74,28 +78,27 @@ fn answer_to(alloc: Global, inputs: LocateBytes) -> Result<Answer, AllocError>
         a.text.items) }
 {
     let LocateBytes { release, points } = inputs;
-    match checked_release(alloc, release)? {
+    match checked_release(alloc, release) {
         Ok(release) => answer_in(alloc, &release, points.as_slice()),
-        Err(refusal) => Ok(refusal),
+        Err(stop) => stop.into_answer(),
     }
 }
 
-/// All bytes of the inputs, which are read in this order.
-fn read_all_inputs<P: Read + Drop, C: Read + Drop, K: Read + Drop, E: Read + Drop, Q: Read + Drop>(
+/// All bytes of the inputs: those of the folder, and then the points. Where one is not read, those
+/// behind it are as they were.
+fn read_all_inputs<R: Read + Drop>(
     alloc: Global,
-    parcels: P,
-    covers: C,
-    classes: K,
-    cert: E,
-    points: Q,
+    folder: &mut Folder<R>,
+    points: &mut R,
 ) -> Result<LocateBytes, Failure>
-    ensures bytes { IfOk result (λ i. AreLocateRead (locate_inputs_of i) (P.remaining parcels)
-        (C.remaining covers) (K.remaining classes) (E.remaining cert) (Q.remaining points)) }
-    ensures failure { IfErr result (IsUnlocated (P.remaining parcels) (C.remaining covers)
-        (K.remaining classes) (E.remaining cert)) }
+    ensures read { IfOk result (λ i. AreLocateRead (locate_inputs_of i)
+        (locate_texts R.remaining folder.old points.old)) }
+    ensures failure { IfErr result (IsUnlocated (folder_texts R.remaining folder.old)) }
+    ensures untouched { IfErr result
+        (AreLocateUntouched folder.old folder.new points.old points.new) }
 {
-    let release = read_inputs(alloc, parcels, covers, classes, cert)?;
-    let points = read_named(alloc, points, Name::Points)?;
+    let release = read_folder(alloc, folder)?;
+    let points = read_lent(alloc, points, Name::Points)?;
     Ok(LocateBytes { release, points })
 }
 
@@ -103,35 +106,27 @@ fn read_all_inputs<P: Read + Drop, C: Read + Drop, K: Read + Drop, E: Read + Dro
 /// the one parcel and the one piece that contain it, or that none does; or the line of the first
 /// fault: those of `run_check` first, then that of the table of points.
 ///
-/// All inputs are read to their ends, in the order in which they stand here, before anything is
-/// decided, and everything is decided before anything is written. Ok is the status: `DONE`,
-/// `REFUSED` or `UNREADABLE`.
-pub fn run_locate<
-    P: Read + Drop,
-    C: Read + Drop,
-    K: Read + Drop,
-    E: Read + Drop,
-    Q: Read + Drop,
-    W: Write,
->(
+/// All inputs are read to their ends, those of the folder in the order in which they stand there
+/// and then the points, before anything is decided, and everything is decided before anything is
+/// written. Ok is the status: `DONE`, `REFUSED` or `UNREADABLE`. A failed read names the input that
+/// failed; the readers behind it are as they were.
+pub fn run_locate<R: Read + Drop, W: Write>(
     alloc: Global,
-    parcels: P,
-    covers: C,
-    classes: K,
-    cert: E,
-    points: Q,
+    folder: &mut Folder<R>,
+    points: &mut R,
     out: &mut W,
 ) -> Result<u8, Failure>
     ensures answer { IfOk result (λ status. (x : LocateInputs)
-        × AreLocateRead x (P.remaining parcels) (C.remaining covers) (K.remaining classes)
-        (E.remaining cert) (Q.remaining points)
+        × AreLocateRead x (locate_texts R.remaining folder.old points.old)
         × LocateEnds x status (W.contents out.old) (W.contents out.new)) }
     // A beginning of the answer was written, or nothing.
-    ensures failure { IfErr result (λ failure. LocateHalts failure (P.remaining parcels)
-        (C.remaining covers) (K.remaining classes) (E.remaining cert) (Q.remaining points)
-        (W.contents out.old) (W.contents out.new)) }
+    ensures failure { IfErr result (λ failure. LocateHalts failure
+        (locate_texts R.remaining folder.old points.old) (W.contents out.old)
+        (W.contents out.new)) }
+    ensures untouched { IfErr result
+        (AreLocateUntouched folder.old folder.new points.old points.new) }
 {
-    let inputs = read_all_inputs(alloc, parcels, covers, classes, cert, points)?;
+    let inputs = read_all_inputs(alloc, folder, points)?;
     let answer = answer_to(alloc, inputs)?;
     answer.write_to(out)
 }

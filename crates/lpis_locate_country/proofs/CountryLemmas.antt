@@ -1,15 +1,21 @@
 -- The search through the regions of a plan, as that in a country.
-use Rattle.std.proofs.Common.{◌≡◌, ◌∙◌, ◌∷◌, [], refl, sym, ap, ap₂, subst, arith, inl, inr, ℕ, List, Option, None, Some, Result, Ok, Err, length, map}
+use Rattle.std.proofs.Common.{◌≡◌, ◌∙◌, ◌∷◌, [], refl, sym, ap, subst, arith, inl, inr, ℕ, List, Option, None, Some, Result, Ok, Err, length, map}
 use Rattle.std.proofs.lemmas.List.{append-nil, length-map}
 use Rattle.std.specs.Io.KnownBytes.{Keeps}
 use Rattle.std.specs.String.{string_bytes}
+use Rattle.lpis_covers.specs.Classes.{classes_table}
+use Rattle.lpis_covers.specs.Faults.{rows_of}
 use Rattle.lpis_covers.specs.declared.class.Class.{Class}
 use Rattle.lpis_covers.specs.declared.fault.TableFault.{TableFault}
 use Rattle.lpis_parcels.specs.Release.{Contents}
+use Rattle.lpis_commands.proofs.Shared.{table-more}
 use Rattle.lpis_commands.specs.CheckAnswer.{Answer as TextStatus, IsTableAnswer}
+use Rattle.lpis_commands.specs.Stops.{IsRefusedAs}
 use Rattle.lpis_commands.specs.declared.answer.Answer.{Answer}
 use Rattle.lpis_commands.specs.declared.command.Detail.TheVariants.{Regions}
 use Rattle.lpis_commands.specs.Status.{done}
+use Rattle.lpis_commands.specs.declared.stop.Stop.{Stop}
+use Rattle.lpis_commands.specs.declared.stop.Stop.TheVariants.{Refused}
 use Rattle.lpis_country.specs.Country.{country_of}
 use Rattle.lpis_country.specs.Tiling.{frame, rectangles}
 use Rattle.lpis_country.specs.Union.{IsUnion}
@@ -21,7 +27,7 @@ use Rattle.lpis_country_run.specs.declared.beginning.Begun.{Begun}
 use Rattle.lpis_country_run.specs.declared.failure.CountryFailure.{CountryFailure}
 use Rattle.lpis_country_run.specs.CountryAnswer.{IsRefusedRegion, Setting, setting_of}
 use Rattle.lpis_country_run.specs.Regions.{IsCountry, Texts}
-use Rattle.lpis_country_run.proofs.Shared.{passed_length, passed_regions, passed_sound, two_is_not_done}
+use Rattle.lpis_country_run.proofs.Shared.{passed_length, passed_regions, passed_sound, two_is_not_done, unbegun_no}
 use Rattle.lpis_locating.specs.declared.fault.PointsFault.{PointsFault}
 use Rattle.lpis_locating.specs.Points.{Given, points_of}
 use Rattle.lpis_locate.specs.LocateAnswer.{IsPointsAnswer}
@@ -36,10 +42,10 @@ begun_setting texts x b begun = setting_of texts Regions begun.plan b.classes.it
 
 -- a search through its regions can start
 pub starts : (texts : List ℕ → Texts) (x : LocateCountryInputs) (b : Begun) (p : Progress) (begun : IsBegun x.country b) → IsSeamOf b.tiles.items b.classes.items [] p.seam
-    → IsSearched x.points [] p.search → IsStart (begun_setting texts x b begun) texts x.points (map string_bytes b.names.items) p
+    → IsSearched x.points [] p.sought → IsStart (begun_setting texts x b begun) texts x.points (map string_bytes b.names.items) p
 unfolding begun_setting
 starts texts x b p begun seam search = record {
-  at = record { seam = subst (λ tiles. IsSeamOf tiles b.classes.items [] p.seam) begun.tiles_are seam; search = search };
+  at = record { seam = subst (λ tiles. IsSeamOf tiles b.classes.items [] p.seam) begun.tiles_are seam; sought = search };
   texts_are = refl;
   names_are = sym begun.names_are;
   as_many = length-map b.names.items string_bytes ∙ begun.as_many ∙ ap length begun.tiles_are;
@@ -133,14 +139,23 @@ stopped texts x b begun f (regions, lines, left, reached, stop) =
 
 -- ---- before the first region
 -- an answer to inputs that have a fault before the first region is one to the country
-pub unbegun_is_answer : (texts : List ℕ → Texts) (x : LocateCountryInputs) (a : Answer) → IsUnbegun x.country a → IsLocateCountryAnswer texts x (a.text.items, a.status)
-unbegun_is_answer texts x a (inl (line, fault, text, status)) = inl (line, fault, ap₂ (λ (t : List ℕ) (n : ℕ). (t, n)) text status)
-unbegun_is_answer texts x a (inr (plan, planned, (fault, table, text, status))) = inr (
+unbegun-answer : (texts : List ℕ → Texts) (x : LocateCountryInputs) (a : TextStatus) → IsUnbegun x.country a → IsLocateCountryAnswer texts x a
+unbegun-answer texts x a (inl refused) = inl refused
+unbegun-answer texts x a (inr (plan, planned, refused)) = inr (
   plan,
   planned,
-  subst (λ (said : Result (List Class) TableFault). IsTableAnswer (λ classes. IsRegionsPointsAnswer x.points (setting_of texts Regions plan classes)) said (a.text.items, a.status)) (sym table)
-      (ap₂ (λ (t : List ℕ) (n : ℕ). (t, n)) text status),
+  table-more (λ (classes : List Class) (b : TextStatus). ⊥) (λ (classes : List Class). IsRegionsPointsAnswer x.points (setting_of texts Regions plan classes))
+      (rows_of classes_table x.country.classes) a (λ classes never. absurd never) refused,
 )
+
+-- so it is of a step that stops
+pub unbegun_is_answer : (texts : List ℕ → Texts) (x : LocateCountryInputs) (stop : Stop) (a : Answer) → stop ≡ Refused a → IsRefusedAs (IsUnbegun x.country) stop
+    → IsLocateCountryAnswer texts x (a.text.items, a.status)
+unbegun_is_answer texts x stop a is may = unbegun-answer texts x (a.text.items, a.status) (subst (IsRefusedAs (IsUnbegun x.country)) is may)
+
+-- and no yes
+pub unbegun_is_no : (x : LocateCountryInputs) (stop : Stop) (a : Answer) → stop ≡ Refused a → IsRefusedAs (IsUnbegun x.country) stop → a.status ≡ done → ⊥
+unbegun_is_no x stop a is may = unbegun_no x.country (a.text.items, a.status) (subst (IsRefusedAs (IsUnbegun x.country)) is may)
 
 -- a writer to which nothing was written keeps what it has
 keeps-itself : (out : Option (List ℕ)) → Keeps out out

@@ -1,29 +1,49 @@
 -- How a search through regions goes on.
-use Rattle.std.proofs.Common.{◌≡◌, ◌<◌, ◌≤◌, ◌∙◌, ◌++◌, ◌∷◌, ◌+◌, [], refl, sym, ap, ap₂, subst, arith, inr, ℕ, List, IfOk, Option, None, Some, Result, Ok, Err, drop, get_or, length, map}
+use Rattle.std.proofs.Common.{◌≡◌, ◌<◌, ◌≤◌, ◌∙◌, ◌++◌, ◌∷◌, ◌+◌, [], refl, sym, ap, ap₂, subst, arith, inl, inr, ℕ, List, Option, None, Some, drop, get_or, length, map}
 use Rattle.std.proofs.lemmas.List.{drop_more, length-append, length-map, take_all}
 use Rattle.lpis_parcels.specs.Release.{Contents}
-use Rattle.lpis_commands.specs.CheckAnswer.{Inputs, IsProvedOf}
+use Rattle.lpis_commands.proofs.Shared.{refused-more}
+use Rattle.lpis_commands.specs.CheckAnswer.{Inputs, IsProvedOf, IsRefusal}
 use Rattle.lpis_commands.specs.Inputs.{inputs_of}
-use Rattle.lpis_commands.specs.declared.answer.Answer.{Answer}
-use Rattle.lpis_commands.specs.declared.check.InputBytes.{InputBytes}
+use Rattle.lpis_commands.specs.Refusals.{line_in_region}
+use Rattle.lpis_commands.specs.Stops.{IsRefusedAs}
+use Rattle.lpis_commands.specs.declared.answer.Answer.{Answer as Printed}
+use Rattle.lpis_commands.specs.declared.folder.InputBytes.{InputBytes}
+use Rattle.lpis_commands.specs.declared.stop.Stop.{Stop}
+use Rattle.lpis_commands.specs.declared.stop.Stop.TheVariants.{Refused}
 use Rattle.lpis_country_run.specs.declared.failure.CountryFailure.{CountryFailure}
-use Rattle.lpis_country_run.specs.CountryAnswer.{HavePassed, None as NonePassed, IsReachedBy, Setting}
+use Rattle.lpis_country_run.specs.CountryAnswer.{HavePassed, None as NonePassed, IsReachedBy, IsRefusedRegion, Setting}
 use Rattle.lpis_country_run.specs.CountryFailures.{IsStoppedBefore}
 use Rattle.lpis_country_run.specs.CountryLines.{region_report}
 use Rattle.lpis_country_run.specs.Regions.{AreOfFolder, Texts}
 use Rattle.lpis_country_run.proofs.Shared.{passed_more, reached_by}
 use Rattle.lpis_country.specs.Country.{country_of}
 use Rattle.lpis_locate_country.specs.declared.progress.Progress.{Progress}
-use Rattle.lpis_locate_country.specs.private.Searching.{FollowsAs, IsHere, IsOutcome, IsReady, IsStart, IsStopped, IsVerdict}
+use Rattle.lpis_locate_country.specs.private.Searching.{Follows, HasPassed, IsHere, IsOutcome, IsReady, IsSeamRefusal, IsStart, IsStopped, IsVerdict}
 
 -- ---- the verdict
--- on a region that is a sound map
-pub judged : {E : Type 0} (r : Result (Option Answer) E) (s : Setting) (table : List ℕ) (before : List Contents) (name : List ℕ) (x : Inputs) (region : Contents) (p : Progress)
-    → AreOfFolder x (s.texts name) → IsProvedOf x region → IfOk r (FollowsAs s table before name region p) → IfOk r (IsVerdict s table before name p)
-judged (Err e) s table before name x region p told said h = tt
-judged (Ok None) s table before name x region p told said (fits, at) = (region, record { inputs = x; told = told; said = said; fits = fits }, at)
-judged (Ok (Some a)) s table before name x region p told said (fault, first, text, status) =
-    (x, told, inr (record { region = region; said = said; fault = fault; first = first; is = ap₂ (λ (t : List ℕ) (n : ℕ). (t, n)) text status }))
+-- on a region that is a sound map and fits those before it
+pub judged : (s : Setting) (table : List ℕ) (before : List Contents) (name : List ℕ) (x : Inputs) (region : Contents) (p : Progress) → AreOfFolder x (s.texts name) → IsProvedOf x region
+    → Follows s table before region p → HasPassed s table before name p
+judged s table before name x region p told said (fits, at) = (region, record { inputs = x; told = told; said = said; fits = fits }, at)
+
+-- on one that does not fit them
+pub seam_refused : (s : Setting) (before : List Contents) (name : List ℕ) (x : Inputs) (region : Contents) (stop : Stop) → AreOfFolder x (s.texts name) → IsProvedOf x region
+    → IsRefusedAs (IsSeamRefusal s before name region) stop → IsRefusedAs (IsRefusedRegion s before name) stop
+seam_refused s before name x region stop told said h =
+    refused-more (IsSeamRefusal s before name region) (IsRefusedRegion s before name) stop
+    (λ a misfit. (x, told, inr (record { region = region; said = said; fault = misfit.0; first = misfit.1; is = misfit.2 }))) h
+
+-- on inputs that `check` refuses
+pub check_refused : (s : Setting) (before : List Contents) (name : List ℕ) (x : Inputs) (stop : Stop) (a b : Printed) → AreOfFolder x (s.texts name) → IsRefusedAs (IsRefusal x) stop
+    → stop ≡ Refused a → b.text.items ≡ line_in_region a.text.items name → b.status ≡ a.status → IsRefusedRegion s before name (b.text.items, b.status)
+check_refused s before name x stop a b told refusal is text status =
+    (x, told, inl ((a.text.items, a.status), subst (IsRefusedAs (IsRefusal x)) is refusal, ap₂ (λ (t : List ℕ) (n : ℕ). (t, n)) text status))
+
+-- the answer of a step that stopped
+pub stopped_with : (s : Setting) (before : List Contents) (name : List ℕ) (stop : Stop) (a : Printed) → stop ≡ Refused a → IsRefusedAs (IsRefusedRegion s before name) stop
+    → IsRefusedRegion s before name (a.text.items, a.status)
+stopped_with s before name stop a is h = subst (IsRefusedAs (IsRefusedRegion s before name)) is h
 
 -- ---- the start
 next-there : (next before n tiles names items : ℕ) → next ≡ before → before ≡ n → items ≡ tiles → names ≡ tiles → n < names → next < items
@@ -68,7 +88,7 @@ left-of s table p n name here lt is =
     subst (IsReachedBy s here.before here.lines) (drop_more s.names n [] lt ∙ ap (λ (x : List ℕ). x ∷ drop (n + 1) s.names) (sym is)) (reached_by s n here.before here.lines here.have_passed)
 
 -- the next region is refused
-pub is_refused : (s : Setting) (table : List ℕ) (p q : Progress) (n : ℕ) (name : List ℕ) (a : Answer) (here : IsHere s table p n) → n < length s.names → name ≡ get_or s.names n []
+pub is_refused : (s : Setting) (table : List ℕ) (p q : Progress) (n : ℕ) (name : List ℕ) (a : Printed) (here : IsHere s table p n) → n < length s.names → name ≡ get_or s.names n []
     → IsVerdict s table here.before name q (Some a) → IsOutcome s table q (Some a)
 is_refused s table p q n name a here lt is refusal = (here.before, here.lines, name, drop (n + 1) s.names, left-of s table p n name here lt is, refusal)
 

@@ -55,10 +55,10 @@ fn answer_to<G: Regions>(
         (locate_country_inputs_of inputs)) }
 {
     let LocateCountryBytes { country, points } = inputs;
-    let search = begin_search(alloc, points)?;
-    match begin(alloc, country)? {
-        Ok(begun) => search_regions(alloc, regions, begun, search),
-        Err(answer) => Ok(answer),
+    let sought = begin_search(alloc, points)?;
+    match begin(alloc, country) {
+        Ok(begun) => search_regions(alloc, regions, begun, sought),
+        Err(stop) => Ok(stop.into_answer()?),
     }
 }
 

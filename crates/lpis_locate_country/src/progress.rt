@@ -1,71 +1,81 @@
 //! How far a search through regions has come.
 
-ghost use Rattle.std.specs.Prelude.{◌≡◌, IfOk, List, map, ℕ};
+ghost use Rattle.std.specs.Prelude.{◌≡◌, IfErr, IfOk, List, map, ℕ};
 ghost use Rattle.std.specs.String.{string_bytes};
 ghost use Rattle.lpis_checker.specs.SoundMap.{IsSoundMap};
 ghost use Rattle.lpis_commands.specs.Inputs.{inputs_of};
-ghost use Rattle.lpis_country_run.specs.CountryAnswer.{Setting};
+ghost use Rattle.lpis_commands.specs.Stops.{IsRefusedAs};
+ghost use Rattle.lpis_country_run.specs.CountryAnswer.{IsRefusedRegion, Setting};
 ghost use Rattle.lpis_country_run.specs.Regions.{AreOfFolder};
 ghost use Rattle.lpis_parcels.specs.Release.{Contents};
-ghost use Rattle.lpis_locate_country.specs.private.Searching.{FollowsAs, IsAt, IsReady, IsVerdict};
+ghost use Rattle.lpis_locate_country.specs.private.Searching.{Follows, HasPassed, IsAt, IsReady};
+ghost use Rattle.lpis_locate_country.specs.private.Searching.{IsSeamRefusal};
 
-use crate::search::{Search, search_in};
-use lpis_commands::{Answer, InputBytes, checked_release};
+use crate::search::{Sought, search_in};
+use lpis_commands::{InputBytes, Stop, checked_release};
 use lpis_country_run::refuse_seam;
 use lpis_country_seam::OpenSeam;
-use lpis_locating::PointsFault;
 use lpis_parcels::Release;
-use std::alloc::{AllocError, Global};
+use std::alloc::Global;
 
-/// What is kept of the regions that passed, and the points with what was found of them there, or
-/// the first fault of their table.
+/// What is kept of the regions that passed, and what is looked for, with what was found of it there.
 #[derive(Drop)]
 pub(crate) struct Progress {
     pub(crate) seam: OpenSeam,
-    pub(crate) search: Result<Search, PointsFault>,
+    pub(crate) sought: Sought,
 }
 
-/// Tests a region that is a sound map against those before it, and looks for the points in it. Some
-/// is the answer to its first fault.
+/// Tests a region that is a sound map against those before it, and looks for the points in it; or
+/// the answer to its first fault.
 fn follow(
     alloc: Global,
     names: &[String],
     name: &str,
     progress: &mut Progress,
     release: &Release,
-) -> Result<Option<Answer>, AllocError>
+) -> Result<(), Stop>
     requires ready { IsReady progress.old }
     requires sound { IsSoundMap release.now }
-    ensures { (s : Setting) (table : List ℕ) (before : List Contents)
+    ensures follows { (s : Setting) (table : List ℕ) (before : List Contents)
+        → IsAt s table before progress.old
+        → IfOk result (λ _. Follows s table before release.now progress.new) }
+    ensures refused { (s : Setting) (table : List ℕ) (before : List Contents)
         → IsAt s table before progress.old → s.names ≡ map string_bytes names.now
-        → IfOk result (FollowsAs s table before name.now release.now progress.new) }
+        → IfErr result (IsRefusedAs (IsSeamRefusal s before name.now release.now)) }
 {
     match progress.seam.step(alloc, release) {
         Ok(_places) => {
-            search_in(release, &mut progress.search)?;
-            Ok(None)
+            search_in(release, &mut progress.sought)?;
+            Ok(())
         }
-        Err(fault) => Ok(Some(refuse_seam(alloc, names, name, &fault)?)),
+        Err(fault) => Err(Stop::Refused(refuse_seam(alloc, names, name, &fault)?)),
     }
 }
 
 /// Checks the region of a folder's bytes, tests it against those before it, and looks for the
-/// points in it. Some is the answer that refuses it.
+/// points in it; or the answer that refuses it.
 pub(crate) fn judge_inputs(
     alloc: Global,
     names: &[String],
     name: &str,
     progress: &mut Progress,
     inputs: InputBytes,
-) -> Result<Option<Answer>, AllocError>
+) -> Result<(), Stop>
     requires { IsReady progress.old }
-    ensures { (s : Setting) (table : List ℕ) (before : List Contents)
+    ensures passed { (s : Setting) (table : List ℕ) (before : List Contents)
+        → IsAt s table before progress.old → AreOfFolder (inputs_of inputs) (s.texts name.now)
+        → IfOk result (λ _. HasPassed s table before name.now progress.new) }
+    ensures refused { (s : Setting) (table : List ℕ) (before : List Contents)
         → IsAt s table before progress.old → s.names ≡ map string_bytes names.now
         → AreOfFolder (inputs_of inputs) (s.texts name.now)
-        → IfOk result (IsVerdict s table before name.now progress.new) }
+        → IfErr result (IsRefusedAs (IsRefusedRegion s before name.now)) }
 {
-    match checked_release(alloc, inputs)? {
+    match checked_release(alloc, inputs) {
         Ok(release) => follow(alloc, names, name, progress, &release),
-        Err(answer) => Ok(Some(answer.in_region(name)?)),
+        Err(stop) => {
+            let refusal = stop.into_answer()?;
+            let answer = refusal.in_region(name)?;
+            Err(Stop::Refused(answer))
+        }
     }
 }

@@ -16,12 +16,11 @@ ghost use Rattle.lpis_locate_country.specs.private.Searching.{IsAt, IsOutcome, I
 ghost use Rattle.lpis_locate_country.specs.private.Searching.{IsStopped, IsUnanswered, IsVerdict};
 
 use crate::progress::{Progress, judge_inputs};
-use crate::search::{Search, report_search};
+use crate::search::{Sought, report_search};
 use lpis_commands::Answer;
 use lpis_country_run::{Begun, CountryFailure, Regions, read_region};
 use lpis_country_seam::OpenSeam;
 use lpis_country_seam::laws::a_country_of_joined_regions_is_sound;
-use lpis_locating::PointsFault;
 use std::alloc::Global;
 
 /// Reads and judges the region of this number, and looks for the points in it. Some is the answer
@@ -50,8 +49,11 @@ fn judge_at<G: Regions>(
         names[index].as_str(),
         progress,
         inputs,
-    )?;
-    Ok(verdict)
+    );
+    match verdict {
+        Ok(()) => Ok(None),
+        Err(stop) => Ok(Some(stop.into_answer()?)),
+    }
 }
 
 /// Reads and judges the regions of these names, one after the other, and looks for the points in
@@ -84,17 +86,17 @@ pub(crate) fn search_regions<G: Regions>(
     alloc: Global,
     regions: &G,
     begun: Begun,
-    search: Result<Search, PointsFault>,
+    sought: Sought,
 ) -> Result<Answer, CountryFailure>
-    requires { (x : LocateCountryInputs) × IsBegun x.country begun × IsSearched x.points [] search }
+    requires { (x : LocateCountryInputs) × IsBegun x.country begun × IsSearched x.points [] sought }
     ensures answer { (x : LocateCountryInputs) → IsBegun x.country begun
-        → IsSearched x.points [] search → IfOk result (λ a.
+        → IsSearched x.points [] sought → IfOk result (λ a.
         IsLocateCountryAnswer (G.texts regions.now) x (a.text.items, a.status)) }
     ensures located { (x : LocateCountryInputs) → IsBegun x.country begun
-        → IsSearched x.points [] search → IfOk result (λ a. a.status ≡ done
+        → IsSearched x.points [] sought → IfOk result (λ a. a.status ≡ done
         → IsLocatedInCountry (G.texts regions.now) x a.text.items) }
     ensures failure { (x : LocateCountryInputs) → IsBegun x.country begun
-        → IsSearched x.points [] search
+        → IsSearched x.points [] sought
         → IfErr result (IsUnanswered (G.texts regions.now) x) }
 {
     let Begun {
@@ -104,12 +106,12 @@ pub(crate) fn search_regions<G: Regions>(
     } = begun;
     let mut progress = Progress {
         seam: OpenSeam::new(alloc, tiles, classes),
-        search,
+        sought,
     };
     // What all that passed make up is their union, and a sound map.
     a_country_of_joined_regions_is_sound();
     match judge_regions(alloc, regions, &mut names, &mut progress)? {
         Some(answer) => Ok(answer),
-        None => Ok(report_search(alloc, &progress.search)?),
+        None => Ok(report_search(alloc, &progress.sought)?),
     }
 }

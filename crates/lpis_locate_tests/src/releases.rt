@@ -1,6 +1,6 @@
 //! Runs of `locate` over texts.
 
-use lpis_commands::Failure;
+use lpis_commands::{Failure, Folder, TableReaders};
 use lpis_locate::run_locate;
 use lpis_testing::{CLASSES, Halting, PARCELS_CERT, expect_answer};
 use std::test::Fail;
@@ -42,15 +42,16 @@ pub fn run(
     failing: Option<(usize, usize)>,
     out: &mut Vec<u8>,
 ) -> Result<u8, Failure> {
-    run_locate(
-        rt.alloc(),
-        Halting::at(0, texts.parcels, failing),
-        Halting::at(1, texts.pieces, failing),
-        Halting::at(2, CLASSES, failing),
-        Halting::at(3, texts.cert, failing),
-        Halting::at(4, texts.points, failing),
-        out,
-    )
+    let mut folder = Folder {
+        tables: TableReaders {
+            parcels: Halting::at(0, texts.parcels, failing),
+            covers: Halting::at(1, texts.pieces, failing),
+            classes: Halting::at(2, CLASSES, failing),
+        },
+        cert: Halting::at(3, texts.cert, failing),
+    };
+    let mut points = Halting::at(4, texts.points, failing);
+    run_locate(rt.alloc(), &mut folder, &mut points, out)
 }
 
 /// Fails unless `locate` writes this text and answers this status.

@@ -2,7 +2,7 @@
 use Rattle.std.specs.Prelude.{◌+◌, ◌∷◌, ℕ, ℤ, List, [], codes, Option, Some, None}
 use Rattle.std.specs.Prelude.{Result, Ok, Err, if◌then◌else◌}
 use Rattle.std.specs.Option.{option_map}
-use Rattle.lpis_points.specs.Memory.{AnswersSame}
+use Rattle.lpis_memory.specs.Memory.{AnswersSame}
 use Rattle.lpis_points.specs.Plane.{RationalPoint}
 use Rattle.lpis_wkt.specs.declared.fault.WktCode.{WktCode}
 use Rattle.lpis_covers.specs.declared.fault.Table.TheVariants.{Area}

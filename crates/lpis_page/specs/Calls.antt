@@ -10,9 +10,7 @@ use Rattle.lpis_commands.specs.Status.{done}
 -- the inputs of a check, by the bytes of the four files
 abbrev pub inputs : (parcels covers classes cert : List ℕ) → Inputs
 inputs parcels covers classes cert = record {
-  parcels = parcels;
-  covers = covers;
-  classes = classes;
+  tables = record { parcels = parcels; covers = covers; classes = classes };
   cert = cert;
 }
 

@@ -4,7 +4,7 @@ ghost use Rattle.std.specs.Prelude.{◌≡◌, IfOk, IsFalse, IsTrue, length, ta
 ghost use Rattle.lpis_page.specs.Calls.{IsCheckOf, IsUnansweredOr, inputs};
 
 use crate::reply::Reply;
-use lpis_commands::{Answer, Failure, run_check};
+use lpis_commands::{Answer, Failure, Folder, TableReaders, run_check};
 use std::alloc::Global;
 
 /// The answer to the bytes of three tables and a certificate.
@@ -18,8 +18,16 @@ fn answer_to(
     ensures { IfOk result (λ a. IsCheckOf (inputs parcels.now covers.now classes.now cert.now)
         a.status a.text.items) }
 {
+    let mut folder = Folder {
+        tables: TableReaders {
+            parcels,
+            covers,
+            classes,
+        },
+        cert,
+    };
     let mut text = Vec::new(alloc);
-    let status = run_check(alloc, parcels, covers, classes, cert, &mut text)?;
+    let status = run_check(alloc, &mut folder, &mut text)?;
     Ok(Answer { text, status })
 }
 

@@ -4,7 +4,7 @@ ghost use Rattle.std.specs.Prelude.{◌≡◌, IfOk, IsFalse, IsTrue, length, ta
 ghost use Rattle.lpis_page.specs.Calls.{IsCutOf, IsUncutOr};
 
 use crate::reply::{Reply, put};
-use lpis_commands::{Answer, Failure, run_cut};
+use lpis_commands::{Answer, Failure, TableReaders, run_cut};
 use std::alloc::Global;
 
 /// A certificate's text, or nothing, and the line that is printed.
@@ -21,9 +21,14 @@ fn cut_of(alloc: Global, parcels: &[u8], covers: &[u8], classes: &[u8]) -> Resul
     ensures { IfOk result (λ c. IsCutOf parcels.now covers.now classes.now c.line.status
         c.cert.items c.line.text.items) }
 {
+    let mut tables = TableReaders {
+        parcels,
+        covers,
+        classes,
+    };
     let mut cert = Vec::new(alloc);
     let mut text = Vec::new(alloc);
-    let status = run_cut(alloc, parcels, covers, classes, &mut cert, &mut text)?;
+    let status = run_cut(alloc, &mut tables, &mut cert, &mut text)?;
     Ok(Cut {
         cert,
         line: Answer { text, status },

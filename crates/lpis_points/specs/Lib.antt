@@ -3,7 +3,6 @@ pub mod RationalRange
 pub mod RatPoints
 pub mod Plane
 pub mod Triangles
-pub mod Memory
 pub mod Sums
 pub mod Decimals
 pub mod Chain

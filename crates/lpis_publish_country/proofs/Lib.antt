@@ -5,3 +5,4 @@ mod PlaceLemmas
 mod PreparingLemmas
 mod RunLemmas
 mod UnionLemmas
+mod UnpreparedLemmas

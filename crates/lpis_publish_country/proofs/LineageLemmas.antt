@@ -1,14 +1,27 @@
 -- How the lineage tables of a country are read, one after the other.
-use Rattle.std.proofs.Common.{◌≡◌, ◌<◌, ◌≤◌, ◌∙◌, ◌++◌, ◌∷◌, ◌+◌, [], sym, ap, ap₂, subst, ℕ, List, Option, None, Some, drop, get_or, length, map, take, arith}
+use Rattle.std.proofs.Common.{◌≡◌, ◌<◌, ◌≤◌, ◌∙◌, ◌++◌, ◌∷◌, ◌+◌, [], refl, sym, ap, ap₂, subst, ℕ, List, Option, Result, Ok, Err, drop, get_or, length, map, take, arith}
 use Rattle.std.proofs.lemmas.Grind.{flat_map-append}
 use Rattle.std.proofs.lemmas.List.{append-nil, drop_more, length-map, map-append, take-append-drop, take_all, take_more}
 use Rattle.std.specs.List.{AllZip}
 use Rattle.lpis_lineage.specs.declared.row.Row.{Row}
-use Rattle.lpis_commands.specs.declared.answer.Answer.{Answer}
+use Rattle.lpis_lineage.specs.LineageTable.{lineage_table}
+use Rattle.lpis_covers.specs.declared.fault.TableFault.{TableFault}
+use Rattle.lpis_covers.specs.Faults.{rows_of}
+use Rattle.lpis_commands.proofs.Shared.{refused-as, refused-more}
+use Rattle.lpis_commands.specs.CheckAnswer.{Answer, IsTableAnswer}
+use Rattle.lpis_commands.specs.Refusals.{line_in_region}
+use Rattle.lpis_commands.specs.Stops.{IsRefusedAs}
+use Rattle.lpis_commands.specs.Streams.{IsRead}
+use Rattle.lpis_commands.specs.declared.answer.Answer.{Answer as Printed}
+use Rattle.lpis_commands.specs.declared.stop.Stop.{Stop}
+use Rattle.lpis_commands.specs.declared.stop.Stop.TheVariants.{Refused}
 use Rattle.lpis_country_run.specs.declared.failure.CountryFailure.{CountryFailure}
 use Rattle.lpis_publish_country.specs.CountryLineage.{AreTablesRefused, AreTablesUnread, IsTableOf, IsUnreadTable, rows_in}
 use Rattle.lpis_publish_country.specs.declared.lineage.CountryLineage.{CountryLineage}
-use Rattle.lpis_publish_country.specs.private.Preparing.{AddsTable, AreRowsOf, HasTables, IsTableAdded}
+use Rattle.lpis_publish_country.specs.declared.unprepared.Unprepared.{Unprepared}
+use Rattle.lpis_publish_country.specs.declared.unprepared.Unprepared.TheVariants.{Failed, Refused as Answered}
+use Rattle.lpis_publish_country.specs.private.Preparing.{AddsTable, AreRowsOf, HasTables, IsTableAdded, IsTableRefusal, IsTableRefused}
+use Rattle.lpis_publish_country.specs.private.Unprepared.{IsUnprepared}
 
 -- ---- lists read side by side
 one-more : {A B : Type 0} (R : A → B → Type 0) (xs : List A) (ys : List B) (x : A) (y : B) → R x y → AllZip R xs ys → AllZip R (xs ++ x ∷ []) (ys ++ y ∷ [])
@@ -39,7 +52,7 @@ tables-grow tables rows old new has adds = record {
 
 -- a table more
 pub goes_on : (told : List ℕ → Option (List ℕ)) (names : List (List ℕ)) (n : ℕ) (name : List ℕ) (old new : CountryLineage) → n < length names → name ≡ get_or names n []
-    → AreRowsOf told (take n names) old → IsTableAdded told name old new None → AreRowsOf told (take (n + 1) names) new
+    → AreRowsOf told (take n names) old → IsTableAdded told name old new → AreRowsOf told (take (n + 1) names) new
 goes_on told names n name old new lt is (tables, zip, has) (rows, of, adds) = (
   tables ++ rows ∷ [],
   subst (λ (l : List (List ℕ)). AllZip (IsTableOf told) l (tables ++ rows ∷ [])) (ap (λ (x : List ℕ). take n names ++ x ∷ []) is ∙ sym (take_more names n [] lt))
@@ -47,10 +60,30 @@ goes_on told names n name old new lt is (tables, zip, has) (rows, of, adds) = (
   tables-grow tables rows old new has adds,
 )
 
+-- the line of the first fault of a table, with its region
+faulty-table : (name table : List ℕ) (said : Result (List Row) TableFault) (a : Answer) → rows_of lineage_table table ≡ said → IsTableAnswer (λ rows b. ⊥) said a
+    → IsTableRefusal name table (line_in_region a.0 name, a.1)
+faulty-table name table (Ok rows) a said never = absurd never
+faulty-table name table (Err fault) a said is = (fault, said, ap (λ (b : Answer). (line_in_region b.0 name, b.1)) is)
+
+-- the line of a table's fault, with the region behind it, refuses the table
+pub refused_with : (name table : List ℕ) (stop : Stop) (a b : Printed) → stop ≡ Refused a → IsRefusedAs (IsTableAnswer (λ rows c. ⊥) (rows_of lineage_table table)) stop
+    → b.text.items ≡ line_in_region a.text.items name → b.status ≡ a.status → IsTableRefusal name table (b.text.items, b.status)
+refused_with name table stop a b is may text status =
+    subst (IsTableRefusal name table) (sym (ap₂ (λ (t : List ℕ) (k : ℕ). (t, k)) text status))
+    (faulty-table name table (rows_of lineage_table table) (a.text.items, a.status) refl
+    (refused-as {A = ℕ} (IsTableAnswer (λ rows c. ⊥) (rows_of lineage_table table)) stop (Ok a) may is))
+
+-- it refuses the table of the folder
+pub table_refused : (told : List ℕ → Option (List ℕ)) (name other table : List ℕ) (stop : Stop) → other ≡ name → IsRead table (told name) → IsRefusedAs (IsTableRefusal other table) stop
+    → IsRefusedAs (IsTableRefused told name) stop
+table_refused told name other table stop is read may =
+    refused-more (IsTableRefusal name table) (IsTableRefused told name) stop (λ a h. (table, read, h)) (subst (λ (k : List ℕ). IsRefusedAs (IsTableRefusal k table) stop) is may)
+
 -- the next table is refused
-pub is_refused : (told : List ℕ → Option (List ℕ)) (names : List (List ℕ)) (n : ℕ) (name : List ℕ) (old new : CountryLineage) (a : Answer) → n < length names → name ≡ get_or names n []
-    → AreRowsOf told (take n names) old → IsTableAdded told name old new (Some a) → AreTablesRefused told names (a.text.items, a.status)
-is_refused told names n name old new a lt is (tables, zip, has) (bytes, read, (fault, faulty, text, status)) = record {
+is-refused : (told : List ℕ → Option (List ℕ)) (names : List (List ℕ)) (n : ℕ) (name : List ℕ) (old : CountryLineage) (a : Answer) → n < length names → name ≡ get_or names n []
+    → AreRowsOf told (take n names) old → IsTableRefused told name a → AreTablesRefused told names a
+is-refused told names n name old a lt is (tables, zip, has) (bytes, read, (fault, faulty, text)) = record {
   passed = take n names;
   name = name;
   left = drop (n + 1) names;
@@ -61,14 +94,20 @@ is_refused told names n name old new a lt is (tables, zip, has) (bytes, read, (f
   read = read;
   fault = fault;
   faulty = faulty;
-  is = ap₂ (λ (t : List ℕ) (k : ℕ). (t, k)) text status;
+  is = text;
 }
 
--- the next table is not read
-pub is_unread : (told : List ℕ → Option (List ℕ)) (names : List (List ℕ)) (n : ℕ) (name : List ℕ) (old : CountryLineage) (f : CountryFailure) → n < length names → name ≡ get_or names n []
+-- or it is not read
+is-unread : (told : List ℕ → Option (List ℕ)) (names : List (List ℕ)) (n : ℕ) (name : List ℕ) (old : CountryLineage) (f : CountryFailure) → n < length names → name ≡ get_or names n []
     → AreRowsOf told (take n names) old → IsUnreadTable name f → AreTablesUnread told names f
-is_unread told names n name old f lt is (tables, zip, has) unread =
+is-unread told names n name old f lt is (tables, zip, has) unread =
     record { passed = take n names; name = name; left = drop (n + 1) names; all = split-here names n name lt is; tables = tables; of_passed = zip; unread = unread }
+
+-- where the next table gives no rows, neither do they all
+pub is_unprepared : (told : List ℕ → Option (List ℕ)) (names : List (List ℕ)) (n : ℕ) (name : List ℕ) (old : CountryLineage) (e : Unprepared) → n < length names → name ≡ get_or names n []
+    → AreRowsOf told (take n names) old → IsUnprepared (IsUnreadTable name) (IsTableRefused told name) e → IsUnprepared (AreTablesUnread told names) (AreTablesRefused told names) e
+is_unprepared told names n name old (Failed f) lt is are unread = is-unread told names n name old f lt is are unread
+is_unprepared told names n name old (Answered a) lt is are refused = is-refused told names n name old (a.text.items, a.status) lt is are refused
 
 -- where as many tables were read as there are folders, they are those of all folders
 pub all_read : (told : List ℕ → Option (List ℕ)) (names : List (List ℕ)) (n : ℕ) (l : CountryLineage) → length names ≤ n → AreRowsOf told (take n names) l → AreRowsOf told names l

@@ -1,5 +1,5 @@
 -- What the files before the regions say, or the answer to the first of them that has a fault.
-use Rattle.std.proofs.Common.{◌≡◌, ◌∙◌, refl, sym, ap, ap₂, subst, inl, inr, ℕ, List, Option, None, Some, Result, Ok, Err, Vec, length, map}
+use Rattle.std.proofs.Common.{◌≡◌, ◌⊎◌, ◌∙◌, refl, sym, ap, subst, inl, inr, IfErr, IfOk, ℕ, List, Option, None, Some, Result, Ok, Err, Vec, length, map}
 use Rattle.std.specs.Option.{option_map}
 use Rattle.std.specs.declared.alloc.Global.{Global}
 use Rattle.std.specs.String.{string_bytes}
@@ -10,28 +10,31 @@ use Rattle.lpis_covers.specs.declared.fault.TableFault.{TableFault}
 use Rattle.lpis_cert.specs.Contents.{IsCertText}
 use Rattle.lpis_cert.specs.Faults.{verdict}
 use Rattle.lpis_cert.specs.declared.cert.Cert.{Cert}
-use Rattle.lpis_cert.specs.declared.fault.CertCode.{CertCode}
 use Rattle.lpis_cert.specs.declared.part.ExactBlock.{ExactBlock}
 use Rattle.lpis_commands.specs.CheckAnswer.{Answer, IsCertAnswer, IsTableAnswer}
-use Rattle.lpis_commands.specs.declared.answer.Answer.{Answer as Printed}
-use Rattle.lpis_commands.proofs.Shared.{answer-of-text}
+use Rattle.lpis_commands.specs.Stops.{IsRefusedAs}
+use Rattle.lpis_commands.specs.declared.failure.Failure.TheVariants.{Memory}
+use Rattle.lpis_commands.specs.declared.stop.Stop.{Stop}
+use Rattle.lpis_commands.proofs.Shared.{answer-of-text, cert-more, refused-more, table-more}
 use Rattle.lpis_country_plan.specs.Tree.{folders}
 use Rattle.lpis_country_run.specs.Beginning.{IsBegun, IsUnbegun}
+use Rattle.lpis_country_run.specs.CountryFailures.{IsOfNone}
 use Rattle.lpis_country_run.specs.declared.beginning.Begun.{Begun}
-use Rattle.lpis_publish_country.specs.CountryLineage.{AreTablesOf, AreTablesRefused}
+use Rattle.lpis_country_run.specs.declared.failure.CountryFailure.{CountryFailure}
+use Rattle.lpis_publish_country.specs.CountryLineage.{AreTablesOf, AreTablesRefused, AreTablesUnread}
 use Rattle.lpis_publish_country.specs.PublishCountryAnswer.{AreBlocksOf, CountryFiles, IsExactTextAnswer, IsRefusedBefore, PublishCountryInputs}
+use Rattle.lpis_publish_country.specs.PublishCountryRuns.{IsUnreadLineage}
 use Rattle.lpis_publish_country.specs.declared.inputs.Prepared.{Prepared}
+use Rattle.lpis_publish_country.specs.declared.unprepared.Unprepared.{Unprepared}
+use Rattle.lpis_publish_country.specs.declared.unprepared.Unprepared.TheVariants.{Failed, Refused}
 use Rattle.lpis_publish_country.specs.private.Preparing.{AreRowsOf, IsPrepared}
+use Rattle.lpis_publish_country.specs.private.Unprepared.{IsUnprepared}
 
 -- ---- the certificate
-of-text : (P Q : Cert → Answer → Type 0) (text : List ℕ) (said : Result ℕ (CertCode × ℕ)) (a : Answer) → ((c : Cert) → P c a → Q c a) → IsCertAnswer P text said a → IsCertAnswer Q text said a
-of-text P Q text (Err fault) a more is = is
-of-text P Q text (Ok lines) a more (c, spelt, next) = (c, spelt, more c next)
-
 -- the answer to a certificate with a fault is one whatever follows
-pub blocks_refused : (IsNext : List ExactBlock → Answer → Type 0) (exact : Option (List ℕ)) (a : Answer) → IsExactTextAnswer (λ blocks b. ⊥) exact a → IsExactTextAnswer IsNext exact a
-blocks_refused IsNext None a never = absurd never
-blocks_refused IsNext (Some text) a is = of-text (λ c b. ⊥) (λ c. IsNext c.exact) text (verdict text) a (λ c never. absurd never) is
+blocks-refused : (IsNext : List ExactBlock → Answer → Type 0) (exact : Option (List ℕ)) (a : Answer) → IsExactTextAnswer (λ blocks b. ⊥) exact a → IsExactTextAnswer IsNext exact a
+blocks-refused IsNext None a never = absurd never
+blocks-refused IsNext (Some text) a is = cert-more (λ c b. ⊥) (λ c. IsNext c.exact) text (verdict text) a (λ c never. absurd never) is
 
 -- the answer to what follows a certificate without a fault
 pub blocks_passed : (IsNext : List ExactBlock → Answer → Type 0) (exact : Option (List ℕ)) (blocks : List ExactBlock) (a : Answer) → AreBlocksOf exact blocks → IsNext blocks a
@@ -40,19 +43,31 @@ blocks_passed IsNext None blocks a is next = subst (λ (l : List ExactBlock). Is
 blocks_passed IsNext (Some text) blocks a (c, spelt, is) next = answer-of-text (λ k. IsNext k.exact) text c a spelt (subst (λ (l : List ExactBlock). IsNext l a) is next)
 
 -- the blocks of a text that was read
-pub blocks_read : (exact : Option (Vec ℕ Global)) (text : Vec ℕ Global) (c : Cert) → exact ≡ Some text → IsCertText text.items c → AreBlocksOf (option_map (λ v. v.items) exact) c.exact
-blocks_read exact text c is spelt = subst (λ (o : Option (Vec ℕ Global)). AreBlocksOf (option_map (λ v. v.items) o) c.exact) (sym is) (c, spelt, refl)
+pub blocks_read : (exact : Option (Vec ℕ Global)) (text : Vec ℕ Global) (r : Result Cert Stop) → exact ≡ Some text → IfOk r (IsCertText text.items)
+    → IfOk r (λ c. AreBlocksOf (option_map (λ v. v.items) exact) c.exact)
+blocks_read exact text (Ok c) is spelt = subst (λ (o : Option (Vec ℕ Global)). AreBlocksOf (option_map (λ v. v.items) o) c.exact) (sym is) (c, spelt, refl)
+blocks_read exact text (Err stop) is spelt = tt
+
+-- the line of its first fault
+pub text_refused : (exact : Option (Vec ℕ Global)) (text : Vec ℕ Global) (r : Result Cert Stop) → exact ≡ Some text
+    → IfErr r (IsRefusedAs (IsCertAnswer (λ c a. ⊥) text.items (verdict text.items))) → IfErr r (IsRefusedAs (IsExactTextAnswer (λ blocks a. ⊥) (option_map (λ v. v.items) exact)))
+text_refused exact text r is refused =
+    subst (λ (o : Option (Vec ℕ Global)). IfErr r (IsRefusedAs (IsExactTextAnswer (λ blocks a. ⊥) (option_map (λ v. v.items) o)))) (sym is) refused
 
 -- ---- before the regions
 -- the plan or the classes have a fault
-pub unbegun_refused : (given : CountryFiles) (x : PublishCountryInputs) (a : Printed) → IsUnbegun x.country a → IsRefusedBefore given x (a.text.items, a.status)
-unbegun_refused given x a (inl (line, fault, text, status)) = inl (line, fault, ap₂ (λ (t : List ℕ) (n : ℕ). (t, n)) text status)
-unbegun_refused given x a (inr (plan, planned, (fault, table, text, status))) = inr (
+unbegun-refused : (given : CountryFiles) (x : PublishCountryInputs) (a : Answer) → IsUnbegun x.country a → IsRefusedBefore given x a
+unbegun-refused given x a (inl fault) = inl fault
+unbegun-refused given x a (inr (plan, planned, fault)) = inr (
   plan,
   planned,
-  subst (λ (said : Result (List Class) TableFault). IsTableAnswer (λ classes. IsExactTextAnswer (λ blocks. AreTablesRefused given.lineages (folders plan)) x.exact) said (a.text.items, a.status))
-      (sym table) (ap₂ (λ (t : List ℕ) (n : ℕ). (t, n)) text status),
+  table-more (λ classes b. ⊥) (λ classes. IsExactTextAnswer (λ blocks. AreTablesRefused given.lineages (folders plan)) x.exact) (rows_of classes_table x.country.classes) a
+      (λ classes never. absurd never) fault,
 )
+
+-- so it is of a step that stops
+pub unbegun_stop : (given : CountryFiles) (x : PublishCountryInputs) (stop : Stop) → IsRefusedAs (IsUnbegun x.country) stop → IsRefusedAs (IsRefusedBefore given x) stop
+unbegun_stop given x stop is = refused-more (IsUnbegun x.country) (IsRefusedBefore given x) stop (unbegun-refused given x) is
 
 -- they have none, and what follows them is refused
 begun-refused : (given : CountryFiles) (x : PublishCountryInputs) (b : Begun) (begun : IsBegun x.country b) (a : Answer)
@@ -64,16 +79,40 @@ begun-refused given x b begun a h = inr (
 )
 
 -- the certificate has one
-pub cert_refused : (given : CountryFiles) (x : PublishCountryInputs) (b : Begun) (a : Answer) → IsBegun x.country b → IsExactTextAnswer (λ blocks b. ⊥) x.exact a → IsRefusedBefore given x a
-cert_refused given x b a begun h = begun-refused given x b begun a (blocks_refused (λ blocks. AreTablesRefused given.lineages (folders begun.plan)) x.exact a h)
+pub cert_stop : (given : CountryFiles) (x : PublishCountryInputs) (b : Begun) (stop : Stop) → IsBegun x.country b → IsRefusedAs (IsExactTextAnswer (λ blocks a. ⊥) x.exact) stop
+    → IsRefusedAs (IsRefusedBefore given x) stop
+cert_stop given x b stop begun is = refused-more (IsExactTextAnswer (λ blocks a. ⊥) x.exact) (IsRefusedBefore given x) stop
+    (λ a h. begun-refused given x b begun a (blocks-refused (λ blocks. AreTablesRefused given.lineages (folders begun.plan)) x.exact a h)) is
 
 -- a lineage table has one
-pub tables_refused : (given : CountryFiles) (x : PublishCountryInputs) (told : List ℕ → Option (List ℕ)) (b : Begun) (blocks : List ExactBlock) (a : Answer)
+tables-refused : (given : CountryFiles) (x : PublishCountryInputs) (told : List ℕ → Option (List ℕ)) (b : Begun) (blocks : List ExactBlock) (a : Answer)
     → given.lineages ≡ told → IsBegun x.country b → AreBlocksOf x.exact blocks → AreTablesRefused told (map string_bytes b.names.items) a → IsRefusedBefore given x a
-tables_refused given x told b blocks a same begun of h = begun-refused given x b begun a
+tables-refused given x told b blocks a same begun of h = begun-refused given x b begun a
     (blocks_passed (λ blocks. AreTablesRefused given.lineages (folders begun.plan)) x.exact blocks a of
     (subst (λ (l : List (List ℕ)). AreTablesRefused given.lineages l a) begun.names_are
     (subst (λ (t : List ℕ → Option (List ℕ)). AreTablesRefused t (map string_bytes b.names.items) a) (sym same) h)))
+
+-- or was not read
+tables-unread : (given : CountryFiles) (x : PublishCountryInputs) (told : List ℕ → Option (List ℕ)) (b : Begun) (blocks : List ExactBlock) (f : CountryFailure)
+    → given.lineages ≡ told → IsBegun x.country b → AreBlocksOf x.exact blocks → AreTablesUnread told (map string_bytes b.names.items) f → IsUnreadLineage given x f
+tables-unread given x told b blocks f same begun of h = record {
+  plan = begun.plan;
+  planned = begun.text;
+  classes = b.classes.items;
+  table = begun.table;
+  blocks = blocks;
+  of_exact = of;
+  unread = subst (λ (l : List (List ℕ)). AreTablesUnread given.lineages l f) begun.names_are
+      (subst (λ (t : List ℕ → Option (List ℕ)). AreTablesUnread t (map string_bytes b.names.items) f) (sym same) h);
+}
+
+-- so it is of tables that give no rows
+pub tables_unprepared : (given : CountryFiles) (x : PublishCountryInputs) (told : List ℕ → Option (List ℕ)) (b : Begun) (blocks : List ExactBlock) (e : Unprepared)
+    → given.lineages ≡ told → IsBegun x.country b → AreBlocksOf x.exact blocks
+    → IsUnprepared (AreTablesUnread told (map string_bytes b.names.items)) (AreTablesRefused told (map string_bytes b.names.items)) e
+    → IsUnprepared (λ f. IsOfNone f Memory ⊎ IsUnreadLineage given x f) (IsRefusedBefore given x) e
+tables_unprepared given x told b blocks (Failed f) same begun of h = inr (tables-unread given x told b blocks f same begun of h)
+tables_unprepared given x told b blocks (Refused a) same begun of h = tables-refused given x told b blocks (a.text.items, a.status) same begun of h
 
 -- ---- no fault
 -- all of them were read, and have no fault

@@ -15,8 +15,9 @@ ghost use Rattle.lpis_publish_country.specs.private.Preparing.{HasTables, IsPrep
 use crate::inputs::{Prepared, PublishCountryBytes, no_parts, prepare, read_country};
 use crate::lineage::{CountryLineage, Lineages};
 use crate::refusals::refuse_country;
+use crate::unprepared::Unprepared;
 use lpis_commands::{Answer, Detail, Outcome};
-use lpis_country_run::{CountryFailure, JoinedCountry, Regions, join_regions};
+use lpis_country_run::{CountryFailure, JoinedCountry, Joining, Regions, join_regions};
 use lpis_lineage::LineageFault;
 use lpis_publishing::{change_of, fill_change};
 use lpis_register::{PublishFault, Register};
@@ -72,11 +73,11 @@ fn fill_prepared<S: Alter, G: Regions, V: Write, W: Write>(
 {
     let Prepared { begun, lineage, .. } = prepared;
     match join_regions(alloc, regions, begun, Detail::Regions, out)? {
-        Ok(country) => {
+        Joining::Joined(country) => {
             let outcome = fill_union(alloc, register, &country, &lineage)?;
             Ok(outcome.write_to(file, out)?)
         }
-        Err(status) => Ok(status),
+        Joining::Refused(status) => Ok(status),
     }
 }
 
@@ -118,8 +119,9 @@ pub fn run_exact_country<
         (held (V.contents file.new) (W.contents out.new)) result }
 {
     let inputs = read_country(alloc, country, classes)?;
-    match prepare(alloc, lineages, inputs)? {
+    match prepare(alloc, lineages, inputs) {
         Ok(prepared) => fill_prepared(alloc, register, regions, prepared, file, out),
-        Err(answer) => Ok(answer.write_to(out)?),
+        Err(Unprepared::Failed(failure)) => Err(failure),
+        Err(Unprepared::Refused(answer)) => Ok(answer.write_to(out)?),
     }
 }

@@ -2,6 +2,7 @@
 
 ghost use Rattle.std.specs.Prelude.{◌≡◌, ◌≢◌, ◌⊎◌, IfErr, IfOk, None};
 ghost use Rattle.std.specs.Option.{option_map};
+ghost use Rattle.lpis_commands.specs.Stops.{IsRefusedAs};
 ghost use Rattle.lpis_commands.specs.declared.failure.Failure.TheVariants.{Memory};
 ghost use Rattle.lpis_country_run.specs.Beginning.{IsBegun};
 ghost use Rattle.lpis_country_run.specs.CountryFailures.{IsOfNone, IsUnreadTop};
@@ -11,13 +12,15 @@ ghost use Rattle.lpis_publish_country.specs.PublishCountryAnswer.{CountryFiles, 
 ghost use Rattle.lpis_publish_country.specs.PublishCountryAnswer.{IsExactRead, IsRefusedBefore};
 ghost use Rattle.lpis_publish_country.specs.PublishCountryRuns.{IsUnreadInput, IsUnreadLineage};
 ghost use Rattle.lpis_publish_country.specs.private.Preparing.{IsPrepared, inputs_of};
+ghost use Rattle.lpis_publish_country.specs.private.Unprepared.{IsUnprepared};
 
 use crate::lineage::{CountryLineage, Lineages, read_lineage};
-use lpis_cert::{Cert, CertFault};
-use lpis_commands::{Answer, Failure, Name, cert_in, read_named, refuse_text};
+use crate::unprepared::Unprepared;
+use lpis_cert::Cert;
+use lpis_commands::{Failure, Name, Stop, certificate_in, read_named};
 use lpis_country_run::{Begun, CountryBytes, CountryFailure, begin, read_top};
-use lpis_rings::Sequence;
-use std::alloc::{AllocError, Global};
+use lpis_memory::Sequence;
+use std::alloc::Global;
 use std::io::Read;
 
 /// The bytes of the files that are no region's.
@@ -104,42 +107,29 @@ pub(crate) fn no_parts(alloc: Global) -> Cert
 
 /// The certificate of a text, whose bytes are let go, or the line of the text's first fault. Where
 /// there is no text, a certificate without blocks.
-fn blocks_in(alloc: Global, exact: Option<Vec<u8>>) -> Result<Result<Cert, Answer>, AllocError>
-    ensures blocks { IfOk result (λ r. IfOk r (λ c. AreBlocksOf (option_map (λ v. v.items) exact)
-        c.exact)) }
-    ensures refusal { IfOk result (λ r. IfErr r (λ a. IsExactTextAnswer (λ blocks b. ⊥)
-        (option_map (λ v. v.items) exact) (a.text.items, a.status))) }
+fn blocks_in(alloc: Global, exact: Option<Vec<u8>>) -> Result<Cert, Stop>
+    ensures blocks { IfOk result (λ c. AreBlocksOf (option_map (λ v. v.items) exact) c.exact) }
+    ensures refused { IfErr result (IsRefusedAs (IsExactTextAnswer (λ blocks a. ⊥)
+        (option_map (λ v. v.items) exact))) }
 {
-    let Some(text) = exact else {
-        return Ok(Ok(no_parts(alloc)));
-    };
-    match cert_in(alloc, text) {
-        Ok(cert) => Ok(Ok(cert)),
-        Err(CertFault::Memory) => Err(AllocError),
-        Err(fault) => Ok(Err(refuse_text(alloc, &fault)?)),
+    match exact {
+        Some(text) => certificate_in(alloc, text),
+        None => Ok(no_parts(alloc)),
     }
 }
 
 /// The plan and the classes, and the certificate whose blocks are used; or the line of the first
 /// fault.
-fn understand(
-    alloc: Global,
-    inputs: PublishCountryBytes,
-) -> Result<Result<(Begun, Cert), Answer>, AllocError>
-    ensures said { IfOk result (λ r. IfOk r (λ p. IsBegun (inputs_of inputs).country p.0
-        × AreBlocksOf (inputs_of inputs).exact p.1.exact)) }
-    ensures refusal { (given : CountryFiles) → IfOk result (λ r. IfErr r (λ a.
-        IsRefusedBefore given (inputs_of inputs) (a.text.items, a.status))) }
+fn understand(alloc: Global, inputs: PublishCountryBytes) -> Result<(Begun, Cert), Stop>
+    ensures said { IfOk result (λ p. IsBegun (inputs_of inputs).country p.0
+        × AreBlocksOf (inputs_of inputs).exact p.1.exact) }
+    ensures refused { (given : CountryFiles) → IfErr result (IsRefusedAs (IsRefusedBefore given
+        (inputs_of inputs))) }
 {
     let PublishCountryBytes { country, exact } = inputs;
-    let begun = match begin(alloc, country)? {
-        Ok(begun) => begun,
-        Err(answer) => return Ok(Err(answer)),
-    };
-    match blocks_in(alloc, exact)? {
-        Ok(cert) => Ok(Ok((begun, cert))),
-        Err(answer) => Ok(Err(answer)),
-    }
+    let begun = begin(alloc, country)?;
+    let cert = blocks_in(alloc, exact)?;
+    Ok((begun, cert))
 }
 
 /// What the files before the regions say, or the line of the first fault: of the plan, of the
@@ -148,25 +138,19 @@ pub(crate) fn prepare<L: Lineages>(
     alloc: Global,
     lineages: &L,
     inputs: PublishCountryBytes,
-) -> Result<Result<Prepared, Answer>, CountryFailure>
+) -> Result<Prepared, Unprepared>
     ensures prepared { (given : CountryFiles) → given.lineages ≡ L.lineages lineages.now
-        → IfOk result (λ r. IfOk r (IsPrepared given (inputs_of inputs))) }
-    ensures refusal { (given : CountryFiles) → given.lineages ≡ L.lineages lineages.now
-        → IfOk result (λ r. IfErr r (λ a.
-        IsRefusedBefore given (inputs_of inputs) (a.text.items, a.status))) }
-    ensures failure { (given : CountryFiles) → given.lineages ≡ L.lineages lineages.now
-        → IfErr result (λ f. IsOfNone f Memory ⊎ IsUnreadLineage given (inputs_of inputs) f) }
+        → IfOk result (IsPrepared given (inputs_of inputs)) }
+    ensures unprepared { (given : CountryFiles) → given.lineages ≡ L.lineages lineages.now
+        → IfErr result (IsUnprepared (λ f. IsOfNone f Memory
+        ⊎ IsUnreadLineage given (inputs_of inputs) f)
+        (IsRefusedBefore given (inputs_of inputs))) }
 {
-    let (mut begun, cert) = match understand(alloc, inputs)? {
-        Ok(said) => said,
-        Err(answer) => return Ok(Err(answer)),
-    };
-    match read_lineage(alloc, lineages, &mut begun.names)? {
-        Ok(lineage) => Ok(Ok(Prepared {
-            begun,
-            cert,
-            lineage,
-        })),
-        Err(answer) => Ok(Err(answer)),
-    }
+    let (mut begun, cert) = understand(alloc, inputs)?;
+    let lineage = read_lineage(alloc, lineages, &mut begun.names)?;
+    Ok(Prepared {
+        begun,
+        cert,
+        lineage,
+    })
 }

@@ -9,6 +9,7 @@ mod inputs;
 mod lineage;
 mod publish_country;
 mod refusals;
+mod unprepared;
 
 pub use exact_country::run_exact_country;
 pub use lineage::Lineages;

@@ -6,18 +6,21 @@ ghost use Rattle.std.specs.String.{string_bytes};
 ghost use Rattle.lpis_covers.specs.Faults.{rows_of};
 ghost use Rattle.lpis_lineage.specs.LineageTable.{lineage_table};
 ghost use Rattle.lpis_commands.specs.Failures.{IsUnread};
+ghost use Rattle.lpis_commands.specs.Stops.{IsRefusedAs};
 ghost use Rattle.lpis_commands.specs.Streams.{IsRead};
 ghost use Rattle.lpis_commands.specs.declared.failure.Name.TheVariants.{Lineage};
 ghost use Rattle.lpis_publish_country.specs.CountryLineage.{AreTablesRefused, AreTablesUnread};
-ghost use Rattle.lpis_publish_country.specs.CountryLineage.{IsTableOf, IsUnreadTable};
+ghost use Rattle.lpis_publish_country.specs.CountryLineage.{IsUnreadTable};
 ghost use Rattle.lpis_publish_country.specs.private.Preparing.{AddsTable, AreRowsOf, HasTables};
 ghost use Rattle.lpis_publish_country.specs.private.Preparing.{IsTableAdded, IsTableRefusal};
 ghost use Rattle.lpis_publish_country.specs.private.Preparing.{IsTableRefused};
+ghost use Rattle.lpis_publish_country.specs.private.Unprepared.{IsUnprepared};
 
-use lpis_commands::{Answer, Failure, Name, read_named};
+use crate::unprepared::Unprepared;
+use lpis_commands::{Failure, Name, Stop, read_named};
 use lpis_country_run::CountryFailure;
-use lpis_covers::TableFault;
-use lpis_lineage::{Row, read_rows};
+use lpis_lineage::Row;
+use lpis_publishing::rows_in;
 use std::alloc::{AllocError, Global};
 use std::io::Read;
 
@@ -88,67 +91,64 @@ fn of_table(failure: Failure, names: &mut Vec<String>, index: usize) -> CountryF
     }
 }
 
+/// All bytes of the lineage table in the folder of this number.
+fn read_table_at<L: Lineages>(
+    alloc: Global,
+    lineages: &L,
+    names: &mut Vec<String>,
+    index: usize,
+) -> Result<Vec<u8>, CountryFailure>
+    requires inside { index < length names.old.items }
+    ensures names { OnOk result (names.new.items ≡ names.old.items) }
+    ensures bytes { IfOk result (λ v. IsRead v.items (L.lineages lineages.now
+        (get_or (map string_bytes names.old.items) index []))) }
+    ensures failure { IfErr result
+        (IsUnreadTable (get_or (map string_bytes names.old.items) index [])) }
+{
+    let read = read_table(alloc, lineages, names[index].as_str());
+    match read {
+        Ok(table) => Ok(table),
+        Err(failure) => Err(of_table(failure, names, index)),
+    }
+}
+
 /// The rows of a table, whose bytes are let go, or the line of the table's first fault, with the
 /// region of this name.
-fn rows_in(
-    alloc: Global,
-    table: Vec<u8>,
-    name: &str,
-) -> Result<Result<Vec<Row>, Answer>, AllocError>
-    ensures rows { IfOk result (λ r. IfOk r (λ v. rows_of lineage_table table.items ≡ Ok v.items)) }
-    ensures refusal { IfOk result (λ r. IfErr r (IsTableRefusal name.now table.items)) }
+fn rows_of_region(alloc: Global, table: Vec<u8>, name: &str) -> Result<Vec<Row>, Stop>
+    ensures rows { IfOk result (λ v. rows_of lineage_table table.items ≡ Ok v.items) }
+    ensures refused { IfErr result (IsRefusedAs (IsTableRefusal name.now table.items)) }
 {
-    match read_rows(alloc, &table) {
-        Ok(rows) => Ok(Ok(rows)),
-        Err(TableFault::Memory) => Err(AllocError),
-        Err(fault) => {
-            let answer = Answer::refuse_table(alloc, &fault)?;
-            Ok(Err(answer.in_region(name)?))
+    match rows_in(alloc, table) {
+        Ok(rows) => Ok(rows),
+        Err(stop) => {
+            let refusal = stop.into_answer()?;
+            let answer = refusal.in_region(name)?;
+            Err(Stop::Refused(answer))
         }
     }
 }
 
-/// The rows of the table in the folder of this name, or the line of its first fault.
-fn table_of<L: Lineages>(
-    alloc: Global,
-    lineages: &L,
-    name: &str,
-) -> Result<Result<Vec<Row>, Answer>, Failure>
-    ensures rows { IfOk result (λ r. IfOk r (λ v. IsTableOf (L.lineages lineages.now) name.now
-        v.items)) }
-    ensures refusal { IfOk result (λ r. IfErr r (IsTableRefused (L.lineages lineages.now)
-        name.now)) }
-    ensures failure { IfErr result (IsUnread Lineage) }
-{
-    let table = read_table(alloc, lineages, name)?;
-    Ok(rows_in(alloc, table, name)?)
-}
-
-/// Reads the table in the folder of this number, and adds its rows. Some is the answer that refuses
-/// it.
+/// Reads the table in the folder of this number, and adds its rows.
 fn add_table<L: Lineages>(
     alloc: Global,
     lineages: &L,
     names: &mut Vec<String>,
     index: usize,
     lineage: &mut CountryLineage,
-) -> Result<Option<Answer>, CountryFailure>
+) -> Result<(), Unprepared>
     requires inside { index < length names.old.items }
     ensures names { OnOk result (names.new.items ≡ names.old.items) }
-    ensures table { IfOk result (IsTableAdded (L.lineages lineages.now)
+    ensures rows { OnOk result (IsTableAdded (L.lineages lineages.now)
         (get_or (map string_bytes names.old.items) index []) lineage.old lineage.new) }
-    ensures failure { IfErr result
-        (IsUnreadTable (get_or (map string_bytes names.old.items) index [])) }
+    ensures unprepared { IfErr result (IsUnprepared
+        (IsUnreadTable (get_or (map string_bytes names.old.items) index []))
+        (IsTableRefused (L.lineages lineages.now)
+        (get_or (map string_bytes names.old.items) index []))) }
 {
-    let read = table_of(alloc, lineages, names[index].as_str());
-    match read {
-        Ok(Ok(table)) => {
-            lineage.add(table)?;
-            Ok(None)
-        }
-        Ok(Err(answer)) => Ok(Some(answer)),
-        Err(failure) => Err(of_table(failure, names, index)),
-    }
+    let table = read_table_at(alloc, lineages, names, index)?;
+    let rows = rows_of_region(alloc, table, names[index].as_str())?;
+    lineage.add(rows)?;
+    Ok(())
 }
 
 /// The rows of the lineage tables in the folders of these names, or the answer to the first table
@@ -157,21 +157,17 @@ pub(crate) fn read_lineage<L: Lineages>(
     alloc: Global,
     lineages: &L,
     names: &mut Vec<String>,
-) -> Result<Result<CountryLineage, Answer>, CountryFailure>
+) -> Result<CountryLineage, Unprepared>
     ensures names { OnOk result (names.new.items ≡ names.old.items) }
-    ensures rows { IfOk result (λ r. IfOk r (AreRowsOf (L.lineages lineages.now)
-        (map string_bytes names.old.items))) }
-    ensures refusal { IfOk result (λ r. IfErr r (λ a. AreTablesRefused (L.lineages lineages.now)
-        (map string_bytes names.old.items) (a.text.items, a.status))) }
-    ensures failure { IfErr result (AreTablesUnread (L.lineages lineages.now)
+    ensures rows { IfOk result (AreRowsOf (L.lineages lineages.now)
         (map string_bytes names.old.items)) }
+    ensures unprepared { IfErr result (IsUnprepared
+        (AreTablesUnread (L.lineages lineages.now) (map string_bytes names.old.items))
+        (AreTablesRefused (L.lineages lineages.now) (map string_bytes names.old.items))) }
 {
     let mut lineage = CountryLineage::none(alloc);
     for index in 0..names.len() {
-        match add_table(alloc, lineages, names, index, &mut lineage)? {
-            Some(answer) => return Ok(Err(answer)),
-            None => {}
-        }
+        add_table(alloc, lineages, names, index, &mut lineage)?;
     }
-    Ok(Ok(lineage))
+    Ok(lineage)
 }

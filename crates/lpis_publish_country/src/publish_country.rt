@@ -21,9 +21,10 @@ ghost use Rattle.lpis_publish_country.specs.private.Preparing.{HasTables, IsPrep
 use crate::inputs::{Prepared, PublishCountryBytes, prepare, read_inputs};
 use crate::lineage::{CountryLineage, Lineages};
 use crate::refusals::refuse_country;
+use crate::unprepared::Unprepared;
 use lpis_cert::Cert;
 use lpis_commands::{Answer, Detail, Failure, REFUSED};
-use lpis_country_run::{CountryFailure, JoinedCountry, Regions, join_regions};
+use lpis_country_run::{CountryFailure, JoinedCountry, Joining, Regions, join_regions};
 use lpis_publishing::{publish_accepted, refuse};
 use lpis_register::{PublishFault, Register};
 use sqlite::Alter;
@@ -110,8 +111,10 @@ fn publish_prepared<S: Alter, G: Regions, W: Write>(
         lineage,
     } = prepared;
     match join_regions(alloc, regions, begun, detail, out)? {
-        Ok(country) => end_union(alloc, register, year, country, &cert, &lineage, out),
-        Err(status) => Ok(status),
+        Joining::Joined(country) => {
+            end_union(alloc, register, year, country, &cert, &lineage, out)
+        }
+        Joining::Refused(status) => Ok(status),
     }
 }
 
@@ -140,9 +143,10 @@ fn publish_inputs<S: Alter, G: Regions, L: Lineages, W: Write>(
         (inputs_of inputs) register.old register.new
         (output (W.contents out.old) (W.contents out.new)) result }
 {
-    match prepare(alloc, lineages, inputs)? {
+    match prepare(alloc, lineages, inputs) {
         Ok(prepared) => publish_prepared(alloc, register, year, regions, prepared, detail, out),
-        Err(answer) => Ok(answer.write_to(out)?),
+        Err(Unprepared::Failed(failure)) => Err(failure),
+        Err(Unprepared::Refused(answer)) => Ok(answer.write_to(out)?),
     }
 }
 

@@ -17,7 +17,7 @@ use Rattle.lpis_register.specs.Holdings.{Holdings}
 use Rattle.lpis_publishing.specs.Submission.{IsSubmitted, Submission, Submitted}
 use Rattle.lpis_publishing.specs.private.ExactRuns.{filled_with, refused_with}
 use Rattle.lpis_publishing.specs.private.Submitting.{IsFaultAnswer}
-use Rattle.lpis_publishing.proofs.SubmissionLemmas.{answer-said, answer-unread}
+use Rattle.lpis_publishing.proofs.SubmissionLemmas.{submission-more, submission-said}
 
 -- ---- the names of parts
 -- parts have the names of their groups
@@ -77,8 +77,8 @@ outcome-filled before said made gs xs o asks has e =
 
 -- ---- answers
 pub answered-said : (x : Submission) (said : Submitted) (before : Holdings) (o : Outputs) → IsSubmitted x said → IsBlocksOutcome said before o → IsExactAnswer x before o
-answered-said x said before o submitted is = record { answer = answer-said (λ s. IsBlocksAnswer s before o.cert) x said (o.line, o.status) submitted is.answer; no_text = is.no_text }
+answered-said x said before o submitted is = record { answer = submission-said (λ s. IsBlocksAnswer s before o.cert) x said (o.line, o.status) submitted is.answer; no_text = is.no_text }
 
 -- the line of the first fault, without a certificate, answers a submission that asks for blocks
-pub answered-unread : (x : Submission) (before : Holdings) (o : Outputs) → IsFaultAnswer x (o.line, o.status) → o.cert ≡ None → IsExactAnswer x before o
-answered-unread x before o is none = record { answer = answer-unread (λ s. IsBlocksAnswer s before o.cert) x (o.line, o.status) is; no_text = λ _. none }
+pub answered-refused : (x : Submission) (before : Holdings) (o : Outputs) → IsFaultAnswer x (o.line, o.status) → o.cert ≡ None → IsExactAnswer x before o
+answered-refused x before o is none = record { answer = submission-more (λ s. IsBlocksAnswer s before o.cert) x (o.line, o.status) is; no_text = λ _. none }

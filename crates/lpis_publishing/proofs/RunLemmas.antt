@@ -16,7 +16,7 @@ use Rattle.lpis_publishing.specs.Output.{output}
 use Rattle.lpis_publishing.specs.Publication.{IsMemoryOrStore}
 use Rattle.lpis_publishing.specs.PublishAnswer.{IsPublishAnswer, IsSoundSubmission, MovesRegister, PublishAnswers, PublishRequest, RunsPublish, candidate_of}
 use Rattle.lpis_publishing.specs.Stored.{IsStoreFailure, Stays}
-use Rattle.lpis_publishing.specs.Submission.{AreAllRead, Readers, IsUnreadSubmission, Submission, Submitted}
+use Rattle.lpis_publishing.specs.Submission.{AreAllRead, IsUnreadSubmission, Submission, SubmissionTexts, Submitted}
 
 -- what was written is the answer, and the status is reported
 answers-of : (asked : PublishRequest) (x : Submission) (a : Answer) (before after : Holdings) (old new : Option (List ℕ)) (r : Result ℕ Failure) → AreAllRead asked.given x
@@ -34,16 +34,16 @@ answers-of asked x a before after old new (Ok status) read answer moves is writt
 answers-of asked x a before after old new (Err failure) read answer moves is written = tt
 
 -- where an input is not read that is the failure, or memory ran out
-unread-is : (given : Readers) (failure : Failure) → IsUnreadSubmission given failure → (failure ≡ Memory) ⊎ ((name : Name) × (failure ≡ Read name))
+unread-is : (given : SubmissionTexts) (failure : Failure) → IsUnreadSubmission given failure → (failure ≡ Memory) ⊎ ((name : Name) × (failure ≡ Read name))
 unread-is given failure (inl (inl (inl e))) = inl e
 unread-is given failure (inl (inl (inr (inl e)))) = inr (Parcels, e)
 unread-is given failure (inl (inl (inr (inr (inl w))))) = inr (Covers, w.1)
 unread-is given failure (inl (inl (inr (inr (inr w))))) = inr (Classes, w.2)
-unread-is given failure (inl (inr w)) = inr (Cert, w.3)
-unread-is given failure (inr w) = inr (Lineage, w.4)
+unread-is given failure (inl (inr w)) = inr (Cert, w.1)
+unread-is given failure (inr w) = inr (Lineage, w.2)
 
 -- and none of the database
-unread-no-store : (given : Readers) (failure : Failure) → IsUnreadSubmission given failure → IsStoreFailure failure → ⊥
+unread-no-store : (given : SubmissionTexts) (failure : Failure) → IsUnreadSubmission given failure → IsStoreFailure failure → ⊥
 unread-no-store given failure unread (inl e) = elim (unread-is given failure unread) [ inl m ↦ cc (m, e) | inr r ↦ cc (r.1, e) ]
 unread-no-store given failure unread (inr e) = elim (unread-is given failure unread) [ inl m ↦ cc (m, e) | inr r ↦ cc (r.1, e) ]
 
@@ -52,10 +52,11 @@ write-no-store : {X : Type 0} (failure : Failure) → failure ≡ Write Out → 
 write-no-store failure is (inl e) = absurd (cc (is, e))
 write-no-store failure is (inr e) = absurd (cc (is, e))
 
-no-answer-of : (given : Readers) (failure : Failure) → IsMemoryOrStore failure → IsUnreadSubmission given failure ⊎ IsStoreFailure failure
+no-answer-of : (given : SubmissionTexts) (failure : Failure) → IsMemoryOrStore failure → IsUnreadSubmission given failure ⊎ IsStoreFailure failure
 no-answer-of given failure (inl is) = inl (inl (inl (inl is)))
 no-answer-of given failure (inr of) = inr of
 
+-- ---- how the run ends
 module _ {S : Type 0} (g : Ghosts S) (asked : PublishRequest) where
   -- where an input is not read all is as it was
   pub runs-unread : (old : RegisterState S) (out : Option (List ℕ)) (failure : Failure) → IsUnreadSubmission asked.given failure → RunsPublish g asked old old (output out out) (Err failure)

@@ -1,65 +1,55 @@
 -- The answer to a submission, by what it says or by its first fault.
-use Rattle.std.proofs.Common.{◌≡◌, ℕ, List, Result, Ok, Err, ap}
+use Rattle.std.proofs.Common.{◌≡◌, ◌≢◌, ◌∙◌, ap, inl, inr, sym}
 use Rattle.lpis_publishing.proofs.Common.{Answer, Cert}
-use Rattle.lpis_parcels.specs.Release.{Contents, release_of}
+use Rattle.lpis_parcels.specs.Release.{Contents}
 use Rattle.lpis_covers.specs.Faults.{rows_of}
-use Rattle.lpis_covers.specs.declared.fault.TableFault.{TableFault}
-use Rattle.lpis_cert.specs.Contents.{IsCertText}
-use Rattle.lpis_cert.specs.Faults.{verdict}
-use Rattle.lpis_cert.specs.declared.fault.CertCode.{CertCode}
 use Rattle.lpis_lineage.specs.LineageTable.{lineage_table}
-use Rattle.lpis_commands.specs.CheckAnswer.{IsCertAnswer, IsTableAnswer}
-use Rattle.lpis_commands.proofs.Shared.{answer-of-text}
-use Rattle.lpis_commands.specs.Status.{unreadable}
-use Rattle.lpis_publishing.specs.Submission.{IsSubmissionAnswer, Submission}
-use Rattle.lpis_publishing.specs.Submission.{IsSubmitted, IsUnreadAnswer, Submitted, submitted}
+use Rattle.lpis_commands.specs.CheckAnswer.{IsCheckAnswer, IsInputAnswer, IsTableAnswer}
+use Rattle.lpis_commands.specs.Inputs.{Say}
+use Rattle.lpis_commands.specs.Status.{done, unreadable}
+use Rattle.lpis_commands.specs.Stops.{IsRefusedAs}
+use Rattle.lpis_commands.specs.declared.stop.Stop.{Stop}
+use Rattle.lpis_commands.proofs.Shared.{answer-said, input-more, input-status, refused-more, table-more, table-status}
+use Rattle.lpis_publishing.specs.Submission.{IsSubmissionAnswer, IsSubmitted, Submission, Submitted, submitted}
 use Rattle.lpis_publishing.specs.private.Submitting.{IsFaultAnswer}
-use Rattle.lpis_publishing.specs.declared.submission.Unread.{Unread}
-use Rattle.lpis_publishing.specs.declared.submission.Unread.TheVariants.{Memory, Refused}
+
+-- of what tables and a text say, the answer to the lineage table
+abbrev pub of_rows : (Submitted → Answer → Type 0) → Submission → Contents → Cert → Answer → Type 0
+of_rows IsNext x r c = IsTableAnswer (λ rows. IsNext (submitted r c rows)) (rows_of lineage_table x.lineage)
 
 -- ---- where it says something
-pub answer-said : (IsNext : Submitted → Answer → Type 0) (x : Submission) (said : Submitted) (a : Answer) → IsSubmitted x said → IsNext said a → IsSubmissionAnswer IsNext x a
-answer-said IsNext x said a is next =
-    let table : IsTableAnswer (λ rows. IsNext (submitted said.release said.cert rows)) (rows_of lineage_table x.lineage) a = rw is.lineage next in
-    rw is.tables (answer-of-text (λ (k : Cert). IsTableAnswer (λ rows. IsNext (submitted said.release k rows)) (rows_of lineage_table x.lineage)) x.checked.cert said.cert a is.text table)
+pub submission-said : (IsNext : Submitted → Answer → Type 0) (x : Submission) (said : Submitted) (a : Answer) → IsSubmitted x said → IsNext said a → IsSubmissionAnswer IsNext x a
+submission-said IsNext x said a is next =
+    let rows : of_rows IsNext x said.release said.cert a = rw is.of_lineage next in
+    answer-said (of_rows IsNext x) x.checked said.release said.cert a is.of_checked rows
 
 -- ---- where it has a fault
-table-more : {A : Type 0} (P Q : A → Answer → Type 0) (said : Result A TableFault) (a : Answer) → ((x : A) → P x a → Q x a) → IsTableAnswer P said a → IsTableAnswer Q said a
-table-more P Q (Ok x) a more is = more x is
-table-more P Q (Err fault) a more is = is
-
-cert-more : (P Q : Cert → Answer → Type 0) (text : List ℕ) (said : Result ℕ (CertCode × ℕ)) (a : Answer) → ((c : Cert) → P c a → Q c a) → IsCertAnswer P text said a → IsCertAnswer Q text said a
-cert-more P Q text (Ok lines) a more is = (is.0, is.1, more is.0 is.2)
-cert-more P Q text (Err fault) a more is = is
-
 -- the line of the first fault answers a submission, whatever would answer it without one
-pub answer-unread : (IsNext : Submitted → Answer → Type 0) (x : Submission) (a : Answer) → IsFaultAnswer x a → IsSubmissionAnswer IsNext x a
-answer-unread IsNext x a is =
-    table-more _ _ (release_of x.checked.parcels x.checked.covers x.checked.classes) a
-    (λ r. cert-more _ _ x.checked.cert (verdict x.checked.cert) a (λ c. table-more _ _ (rows_of lineage_table x.lineage) a (λ rows no. absurd no))) is
-
-table-status : {A : Type 0} (P : A → Answer → Type 0) (said : Result A TableFault) (a : Answer) → ((x : A) → P x a → a.1 ≡ unreadable) → IsTableAnswer P said a → a.1 ≡ unreadable
-table-status P (Ok x) a next is = next x is
-table-status P (Err fault) a next is = ap (λ (b : Answer). b.1) is
-
-cert-status : (P : Cert → Answer → Type 0) (text : List ℕ) (said : Result ℕ (CertCode × ℕ)) (a : Answer) → ((c : Cert) → P c a → a.1 ≡ unreadable) → IsCertAnswer P text said a → a.1 ≡ unreadable
-cert-status P text (Ok lines) a next is = next is.0 is.2
-cert-status P text (Err fault) a next is = ap (λ (b : Answer). b.1) is
+pub submission-more : (IsNext : Submitted → Answer → Type 0) (x : Submission) (a : Answer) → IsFaultAnswer x a → IsSubmissionAnswer IsNext x a
+submission-more IsNext x a is =
+    input-more (of_rows (λ _ _. ⊥) x) (of_rows IsNext x) x.checked a (λ r c. table-more _ _ (rows_of lineage_table x.lineage) a (λ rows no. absurd no)) is
 
 -- its status is that of an input that cannot be read
-pub fault-status : (x : Submission) (a : Answer) → IsFaultAnswer x a → a.1 ≡ unreadable
-fault-status x a is = table-status _ (release_of x.checked.parcels x.checked.covers x.checked.classes) a
-    (λ r. cert-status _ x.checked.cert (verdict x.checked.cert) a (λ c. table-status _ (rows_of lineage_table x.lineage) a (λ rows no. absurd no))) is
+pub submission-status : (x : Submission) (a : Answer) → IsFaultAnswer x a → a.1 ≡ unreadable
+submission-status x a is = input-status (of_rows (λ _ _. ⊥) x) x.checked a (λ r c. table-status _ (rows_of lineage_table x.lineage) a (λ rows no. absurd no)) is
 
--- where the tables are read, the fault of the certificate's text is that of the submission
-pub unread-cert : (x : Submission) (r : Contents) (u : Unread) → release_of x.checked.parcels x.checked.covers x.checked.classes ≡ Ok r
-    → IsUnreadAnswer (IsCertAnswer (λ _ _. ⊥) x.checked.cert (verdict x.checked.cert)) u → IsUnreadAnswer (IsFaultAnswer x) u
-unread-cert x r Memory tables is = tt
-unread-cert x r (Refused a) tables is = rw tables (cert-more _ _ x.checked.cert (verdict x.checked.cert) (a.text.items, a.status) (λ c no. absurd no) is)
+-- the fault of the tables or of the certificate's text is that of the submission
+pub stop-of-inputs : (x : Submission) (stop : Stop) → IsRefusedAs (IsInputAnswer (λ _ _ _. ⊥) x.checked) stop → IsRefusedAs (IsFaultAnswer x) stop
+stop-of-inputs x stop is =
+    refused-more _ (IsFaultAnswer x) stop (λ a. input-more (λ _ _ _. ⊥) (of_rows (λ _ _. ⊥) x) x.checked a (λ r c no. absurd no)) is
 
 -- where tables and certificate are read, the fault of the lineage table is that of the submission
-pub unread-rows : (x : Submission) (r : Contents) (c : Cert) (u : Unread) → release_of x.checked.parcels x.checked.covers x.checked.classes ≡ Ok r → IsCertText x.checked.cert c
-    → IsUnreadAnswer (IsTableAnswer (λ _ _. ⊥) (rows_of lineage_table x.lineage)) u → IsUnreadAnswer (IsFaultAnswer x) u
-unread-rows x r c Memory tables text is = tt
-unread-rows x r c (Refused a) tables text is =
-    rw tables (answer-of-text (λ (k : Cert). IsTableAnswer (λ _ _. ⊥) (rows_of lineage_table x.lineage)) x.checked.cert c (a.text.items, a.status) text is)
+pub stop-of-rows : (x : Submission) (r : Contents) (c : Cert) (stop : Stop) → Say x.checked r c → IsRefusedAs (IsTableAnswer (λ _ _. ⊥) (rows_of lineage_table x.lineage)) stop
+    → IsRefusedAs (IsFaultAnswer x) stop
+stop-of-rows x r c stop said is = refused-more _ (IsFaultAnswer x) stop (λ a fault. answer-said (of_rows (λ _ _. ⊥) x) x.checked r c a said fault) is
+
+-- ---- where its certificate has one
+-- the line of the first fault answers a release and a certificate, whatever would answer good ones
+pub check-more : (r : Contents) (c : Cert) (IsNext : Answer → Type 0) (a : Answer) → IsCheckAnswer r c (λ _. ⊥) a → IsCheckAnswer r c IsNext a
+check-more r c IsNext a (inl p) = absurd p.1
+check-more r c IsNext a (inr fault) = inr fault
+
+-- its status is no yes
+pub refused-is-not-done : (r : Contents) (c : Cert) (a : Answer) → IsCheckAnswer r c (λ _. ⊥) a → a.1 ≢ done
+refused-is-not-done r c a (inl p) same = p.1
+refused-is-not-done r c a (inr fault) same = let no = sym (ap (λ (b : Answer). b.1) fault.2) ∙ same in cc

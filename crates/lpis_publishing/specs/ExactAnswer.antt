@@ -22,8 +22,8 @@ use Rattle.lpis_commands.specs.Outputs.{BreaksOff, Held, Outputs, Writes}
 use Rattle.lpis_commands.specs.Status.{done, refused}
 use Rattle.lpis_commands.specs.declared.failure.Failure.{Failure}
 use Rattle.lpis_publishing.specs.LineageLines.{publish_refusal_text}
-use Rattle.lpis_publishing.specs.Submission.{AreAllRead, Readers, IsSubmissionAnswer, Submission}
-use Rattle.lpis_publishing.specs.Submission.{IsUnreadSubmission, Submitted}
+use Rattle.lpis_publishing.specs.Submission.{AreAllRead, IsSubmissionAnswer, IsUnreadSubmission}
+use Rattle.lpis_publishing.specs.Submission.{Submission, SubmissionTexts, Submitted}
 
 -- ---- text and status
 -- the line of a group for which no flats are found, or more than a certificate may have
@@ -89,13 +89,13 @@ pub record IsExactAnswer (x : Submission) (before : Holdings) (a : Outputs) : Ty
 
 -- ---- the run
 -- what is handed in is what five readers gave, as far as it is known, and this is an answer to it
-pub record Fills (given : Readers) (before : Holdings) (a : Outputs) : Type 0 where
+pub record Fills (given : SubmissionTexts) (before : Holdings) (a : Outputs) : Type 0 where
   pub submission : Submission
   pub read : AreAllRead given submission
   pub answer : IsExactAnswer submission before a
 
 -- a run of what five readers gave, over what a register holds, and over these outputs
-module _ (given : Readers) (holdings : Holdings) (before after : Held) where
+module _ (given : SubmissionTexts) (holdings : Holdings) (before after : Held) where
   -- it gave no answer: an input was not read, or memory ran out, and nothing was written; or the
   -- certificate's file failed after a beginning of the text, or the output after it
   abbrev pub ExactHalts : Failure → Type 0

@@ -20,8 +20,9 @@ use Rattle.lpis_publishing.specs.LineageLines.{publish_refusal_text}
 use Rattle.lpis_publishing.specs.Output.{Output}
 use Rattle.lpis_publishing.specs.Publication.{IsPublicationAnswer, IsReleasePublished}
 use Rattle.lpis_publishing.specs.Stored.{IsStoreFailure, Stays}
-use Rattle.lpis_publishing.specs.Submission.{AreAllRead, Readers, IsSubmissionAnswer, IsSubmitted}
-use Rattle.lpis_publishing.specs.Submission.{IsUnreadSubmission, Submission, Submitted}
+use Rattle.lpis_publishing.specs.Submission.{AreAllRead, IsSubmissionAnswer, IsSubmitted}
+use Rattle.lpis_publishing.specs.Submission.{IsUnreadSubmission, Submission, SubmissionTexts}
+use Rattle.lpis_publishing.specs.Submission.{Submitted}
 
 -- ---- text and status
 -- of a release with a good certificate, and what a register holds: the line of what the register
@@ -66,7 +67,7 @@ MovesRegister year x before after status = (status ≡ done → IsPublished year
 -- what is asked for: a year, and what five readers will give
 pub record PublishRequest : Type 0 where
   pub year : ℕ
-  pub given : Readers
+  pub given : SubmissionTexts
 
 -- a run of a request, over what a register holds before and after it, and an output
 module _ (asked : PublishRequest) (before after : Holdings) (out : Output) where

@@ -10,7 +10,7 @@ use lpis_cert::{Cert, ExactBlock, MOST_FLATS};
 use lpis_checker::ExactPart;
 use lpis_covers::Id;
 use lpis_cutter::exact_flats;
-use lpis_rings::Sequence;
+use lpis_memory::Sequence;
 use std::alloc::{AllocError, AllocFailed, Global};
 
 /// Why a certificate does not get the blocks.

@@ -20,14 +20,15 @@ ghost use Rattle.lpis_commands.specs.Status.{done, refused};
 ghost use Rattle.lpis_publishing.specs.ExactAnswer.{IsBlocksOutcome, IsExactAnswer, RunsExact};
 ghost use Rattle.lpis_publishing.specs.ExactAnswer.{blocks_line, unfilled_line};
 ghost use Rattle.lpis_publishing.specs.LineageLines.{publish_refusal_text};
-ghost use Rattle.lpis_publishing.specs.Submission.{IsUntouched, before_cert, before_classes};
-ghost use Rattle.lpis_publishing.specs.Submission.{before_covers, before_lineage, submitted};
+ghost use Rattle.lpis_publishing.specs.Submission.{IsSubmissionUntouched, submission_texts};
+ghost use Rattle.lpis_publishing.specs.Submission.{submitted};
 ghost use Rattle.lpis_publishing.specs.private.ExactRuns.{filled_with, refused_with};
 ghost use Rattle.lpis_publishing.specs.private.Submitting.{submission_of, submitted_of};
 
 use crate::blocks::{BlockFault, with_blocks};
+use crate::inputs::{SubmissionBytes, SubmissionReaders, read_submission};
 use crate::lineage_lines::refuse;
-use crate::submission::{ReadSubmission, SubmissionBytes, Unread, read_submission, understand};
+use crate::submission::{ReadSubmission, submission_in};
 use lpis_cert::Cert;
 use lpis_checker::ExactPart;
 use lpis_commands::{Answer, DONE, Failure, Outcome, PrintFault, REFUSED};
@@ -228,15 +229,14 @@ fn answer_to<S: Alter>(
     ensures { IfOk result (λ o. IsExactAnswer (submission_of submission) register.now.held
         (outputs_of o)) }
 {
-    match understand(alloc, submission) {
+    match submission_in(alloc, submission) {
         Ok(said) => answer_to_submission(
             alloc,
             register.current(),
             register.current_shapes(),
             said,
         ),
-        Err(Unread::Memory) => Err(AllocError),
-        Err(Unread::Refused(printed)) => Ok(Outcome::without_cert(printed)),
+        Err(stop) => Ok(Outcome::without_cert(stop.into_answer()?)),
     }
 }
 
@@ -252,31 +252,19 @@ fn answer_to<S: Alter>(
 /// then the line; where there is no certificate, `cert_out` is not written to at all. Ok is the
 /// status: `DONE`, `REFUSED` or `UNREADABLE`. The register stays as it is. A failed read names the
 /// input that failed; the readers behind it are as they were.
-pub fn run_exact<S: Alter, P: Read, C: Read, K: Read, E: Read, L: Read, V: Write, W: Write>(
+pub fn run_exact<S: Alter, R: Read + Drop, V: Write, W: Write>(
     alloc: Global,
     register: &Register<S>,
-    parcels: &mut P,
-    covers: &mut C,
-    classes: &mut K,
-    cert: &mut E,
-    lineage: &mut L,
+    submission: &mut SubmissionReaders<R>,
     cert_out: &mut V,
     out: &mut W,
 ) -> Result<u8, Failure>
-    ensures runs { RunsExact (record {
-      parcels = P.remaining parcels.old;
-      covers = C.remaining covers.old;
-      classes = K.remaining classes.old;
-      cert = E.remaining cert.old;
-      lineage = L.remaining lineage.old;
-    }) register.now.held (held (V.contents cert_out.old) (W.contents out.old))
+    ensures runs { RunsExact (submission_texts R.remaining submission.old) register.now.held
+        (held (V.contents cert_out.old) (W.contents out.old))
         (held (V.contents cert_out.new) (W.contents out.new)) result }
-    ensures covers_untouched { IfErr result (IsUntouched before_covers covers.old covers.new) }
-    ensures classes_untouched { IfErr result (IsUntouched before_classes classes.old classes.new) }
-    ensures cert_untouched { IfErr result (IsUntouched before_cert cert.old cert.new) }
-    ensures lineage_untouched { IfErr result (IsUntouched before_lineage lineage.old lineage.new) }
+    ensures untouched { IfErr result (IsSubmissionUntouched submission.old submission.new) }
 {
-    let submission = read_submission(alloc, parcels, covers, classes, cert, lineage)?;
-    let outcome = answer_to(alloc, register, submission)?;
+    let bytes = read_submission(alloc, submission)?;
+    let outcome = answer_to(alloc, register, bytes)?;
     outcome.write_to(cert_out, out)
 }

@@ -1,77 +1,43 @@
-//! The inputs of a submission, read from readers that are lent.
+//! The readers of a submission, and their bytes.
 
 ghost use Rattle.std.specs.Prelude.{IfErr, IfOk};
-ghost use Rattle.lpis_commands.specs.CheckAnswer.{AreRead};
-ghost use Rattle.lpis_commands.specs.Failures.{IsUnchecked, IsUnread, IsUnreadRelease};
-ghost use Rattle.lpis_commands.specs.Inputs.{inputs_of};
-ghost use Rattle.lpis_commands.specs.Streams.{IsRead};
-ghost use Rattle.lpis_publishing.specs.Submission.{IsUntouched, before_cert, before_classes};
-ghost use Rattle.lpis_publishing.specs.Submission.{before_covers};
+ghost use Rattle.lpis_publishing.specs.Submission.{AreAllRead, IsSubmissionUntouched};
+ghost use Rattle.lpis_publishing.specs.Submission.{IsUnreadSubmission, submission_texts};
+ghost use Rattle.lpis_publishing.specs.private.Submitting.{submission_of};
 
-use lpis_commands::{Failure, GREATEST_LIMIT, InputBytes, Name, ReadFault, TableBytes, read_all};
-use lpis_rings::without_spare;
+use lpis_commands::{Failure, Folder, InputBytes, Name, read_folder, read_lent};
 use std::alloc::Global;
 use std::io::Read;
 
-/// All bytes of the input of this name, or the failure that reports it.
-pub(crate) fn read_lent<R: Read>(
-    alloc: Global,
-    reader: &mut R,
-    name: Name,
-) -> Result<Vec<u8>, Failure>
-    ensures all { IfOk result (λ v. IsRead v.items (R.remaining reader.old)) }
-    ensures failure { IfErr result (IsUnread name) }
-{
-    match read_all(alloc, reader, GREATEST_LIMIT) {
-        Ok(bytes) => Ok(without_spare(bytes)?),
-        Err(ReadFault::Memory) => Err(Failure::Memory),
-        Err(_) => Err(Failure::Read(name)),
-    }
+/// The readers of what is handed in.
+#[derive(Drop)]
+pub struct SubmissionReaders<R: Drop> {
+    /// The tables of the release and its certificate.
+    pub folder: Folder<R>,
+    /// The lineage table.
+    pub lineage: R,
 }
 
-/// All bytes of the tables of a release, which are read in this order.
-fn read_tables<P: Read, C: Read, K: Read>(
+/// The bytes of a release, a certificate and a lineage table.
+#[derive(Drop)]
+pub(crate) struct SubmissionBytes {
+    pub(crate) checked: InputBytes,
+    pub(crate) lineage: Vec<u8>,
+}
+
+/// All bytes of the inputs, the lineage table's last. Where one is not read, those behind it are as
+/// they were.
+pub(crate) fn read_submission<R: Read + Drop>(
     alloc: Global,
-    parcels: &mut P,
-    covers: &mut C,
-    classes: &mut K,
-) -> Result<TableBytes, Failure>
-    ensures parcels { IfOk result (λ t. IsRead t.parcels.items (P.remaining parcels.old)) }
-    ensures covers { IfOk result (λ t. IsRead t.covers.items (C.remaining covers.old)) }
-    ensures classes { IfOk result (λ t. IsRead t.classes.items (K.remaining classes.old)) }
+    submission: &mut SubmissionReaders<R>,
+) -> Result<SubmissionBytes, Failure>
+    ensures read { IfOk result (λ b. AreAllRead (submission_texts R.remaining submission.old)
+        (submission_of b)) }
     ensures failure { IfErr result
-        (IsUnreadRelease (P.remaining parcels.old) (C.remaining covers.old)) }
-    ensures covers_untouched { IfErr result (IsUntouched before_covers covers.old covers.new) }
-    ensures classes_untouched { IfErr result (IsUntouched before_classes classes.old classes.new) }
+        (IsUnreadSubmission (submission_texts R.remaining submission.old)) }
+    ensures untouched { IfErr result (IsSubmissionUntouched submission.old submission.new) }
 {
-    let parcels = read_lent(alloc, parcels, Name::Parcels)?;
-    let covers = read_lent(alloc, covers, Name::Covers)?;
-    let classes = read_lent(alloc, classes, Name::Classes)?;
-    Ok(TableBytes {
-        parcels,
-        covers,
-        classes,
-    })
-}
-
-/// All bytes of these and of a certificate, which is read behind them.
-pub(crate) fn read_checked<P: Read, C: Read, K: Read, E: Read>(
-    alloc: Global,
-    parcels: &mut P,
-    covers: &mut C,
-    classes: &mut K,
-    cert: &mut E,
-) -> Result<InputBytes, Failure>
-    ensures bytes { IfOk result
-        (λ i. AreRead (inputs_of i) (P.remaining parcels.old) (C.remaining covers.old)
-        (K.remaining classes.old) (E.remaining cert.old)) }
-    ensures failure { IfErr result (IsUnchecked (P.remaining parcels.old)
-        (C.remaining covers.old) (K.remaining classes.old)) }
-    ensures covers_untouched { IfErr result (IsUntouched before_covers covers.old covers.new) }
-    ensures classes_untouched { IfErr result (IsUntouched before_classes classes.old classes.new) }
-    ensures cert_untouched { IfErr result (IsUntouched before_cert cert.old cert.new) }
-{
-    let tables = read_tables(alloc, parcels, covers, classes)?;
-    let cert = read_lent(alloc, cert, Name::Cert)?;
-    Ok(InputBytes { tables, cert })
+    let checked = read_folder(alloc, &mut submission.folder)?;
+    let lineage = read_lent(alloc, &mut submission.lineage, Name::Lineage)?;
+    Ok(SubmissionBytes { checked, lineage })
 }

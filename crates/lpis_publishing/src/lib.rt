@@ -16,8 +16,9 @@ mod trace;
 mod unopened;
 
 pub use exact::{change_of, fill_change, run_exact};
+pub use inputs::SubmissionReaders;
 pub use lineage_lines::{print_publish_fault, refuse};
 pub use publish::{publish_accepted, run_publish};
-pub use submission::{Unread, understand_cert, understand_rows};
+pub use submission::rows_in;
 pub use trace::run_trace;
 pub use unopened::refuse_register;

@@ -23,20 +23,19 @@ ghost use Rattle.lpis_publishing.specs.PublishAnswer.{IsHistoryAnswer, IsPublish
 ghost use Rattle.lpis_publishing.specs.PublishAnswer.{IsSoundSubmission, MovesRegister};
 ghost use Rattle.lpis_publishing.specs.PublishAnswer.{RunsPublish, candidate_of};
 ghost use Rattle.lpis_publishing.specs.Stored.{IsStoreFailure};
-ghost use Rattle.lpis_publishing.specs.Submission.{IsUntouched, Submitted, before_cert};
-ghost use Rattle.lpis_publishing.specs.Submission.{before_classes, before_covers};
-ghost use Rattle.lpis_publishing.specs.Submission.{before_lineage, submitted};
+ghost use Rattle.lpis_publishing.specs.Submission.{IsSubmissionUntouched, Submitted};
+ghost use Rattle.lpis_publishing.specs.Submission.{submission_texts, submitted};
 ghost use Rattle.lpis_publishing.specs.private.Marked.{is_marked};
 ghost use Rattle.lpis_publishing.specs.private.Submitting.{submission_of, submitted_of};
 
+use crate::inputs::{SubmissionBytes, SubmissionReaders, read_submission};
 use crate::lineage_lines::{marked_ids, print_lineage, print_published, refuse};
-use crate::submission::{ReadSubmission, SubmissionBytes, Unread, read_submission, understand};
+use crate::submission::{ReadSubmission, submission_in};
 use lpis_cert::Cert;
-use lpis_checker::{CheckFault, Yes, check};
-use lpis_commands::{Answer, DONE, Failure, PrintFault, REFUSED, refuse_cert, write_report};
+use lpis_checker::Yes;
+use lpis_commands::{Answer, DONE, Failure, PrintFault, REFUSED, say_yes, write_report};
 use lpis_covers::Id;
 use lpis_lineage::{Change, Row};
-use lpis_pairs::Sweep;
 use lpis_register::{Accepted, PublishFault, Register};
 use sqlite::Alter;
 use std::alloc::{AllocError, Global};
@@ -188,21 +187,16 @@ fn answer_to_submission<S: Alter>(
         (candidate_of year (submitted_of said.now)) register.old register.new
         (failure ≡ Store)) }
 {
-    match check(alloc, &said.release, &said.cert, &Sweep) {
-        Ok(yes) => {
-            // What is checked is a sound map.
-            let _ = yes.release();
-            publish_checked(
-                alloc,
-                register,
-                year,
-                &yes,
-                &said.cert,
-                said.rows.as_slice(),
-            )
-        }
-        Err(CheckFault::Memory) => Err(Failure::Memory),
-        Err(fault) => Ok(refuse_cert(alloc, &fault)?),
+    match say_yes(alloc, &said.release, &said.cert) {
+        Ok(yes) => publish_checked(
+            alloc,
+            register,
+            year,
+            &yes,
+            &said.cert,
+            said.rows.as_slice(),
+        ),
+        Err(stop) => Ok(stop.into_answer()?),
     }
 }
 
@@ -222,10 +216,9 @@ fn answer_to<S: Alter>(
         × IsSoundSubmission (submission_of submission) said × FailsToStore S.Store
         (candidate_of year said) register.old register.new (failure ≡ Store)) }
 {
-    match understand(alloc, submission) {
+    match submission_in(alloc, submission) {
         Ok(said) => answer_to_submission(alloc, register, year, &said),
-        Err(Unread::Memory) => Err(Failure::Memory),
-        Err(Unread::Refused(answer)) => Ok(answer),
+        Err(stop) => Ok(stop.into_answer()?),
     }
 }
 
@@ -242,33 +235,20 @@ fn answer_to<S: Alter>(
 /// or `UNREADABLE`, where the register is as it was. So it is at each failure but that of the
 /// output: then the release may be published, as `trace` shows. A failed read names the input that
 /// failed; the readers behind it are as they were.
-pub fn run_publish<S: Alter, P: Read, C: Read, K: Read, E: Read, L: Read, W: Write>(
+pub fn run_publish<S: Alter, R: Read + Drop, W: Write>(
     alloc: Global,
     register: &mut Register<S>,
     year: u16,
-    parcels: &mut P,
-    covers: &mut C,
-    classes: &mut K,
-    cert: &mut E,
-    lineage: &mut L,
+    submission: &mut SubmissionReaders<R>,
     out: &mut W,
 ) -> Result<u8, Failure>
     ensures runs { RunsPublish S.Store (record {
       year = year;
-      given = record {
-        parcels = P.remaining parcels.old;
-        covers = C.remaining covers.old;
-        classes = K.remaining classes.old;
-        cert = E.remaining cert.old;
-        lineage = L.remaining lineage.old;
-      };
+      given = submission_texts R.remaining submission.old;
     }) register.old register.new (output (W.contents out.old) (W.contents out.new)) result }
-    ensures covers_untouched { IfErr result (IsUntouched before_covers covers.old covers.new) }
-    ensures classes_untouched { IfErr result (IsUntouched before_classes classes.old classes.new) }
-    ensures cert_untouched { IfErr result (IsUntouched before_cert cert.old cert.new) }
-    ensures lineage_untouched { IfErr result (IsUntouched before_lineage lineage.old lineage.new) }
+    ensures untouched { IfErr result (IsSubmissionUntouched submission.old submission.new) }
 {
-    let submission = read_submission(alloc, parcels, covers, classes, cert, lineage)?;
-    let answer = answer_to(alloc, register, year, submission)?;
+    let bytes = read_submission(alloc, submission)?;
+    let answer = answer_to(alloc, register, year, bytes)?;
     answer.write_to(out)
 }

@@ -1,5 +1,5 @@
 //! Rings and polygons, their areas, their edges, and the points that they contain. No call takes
-//! memory but `copy` and `without_spare`.
+//! memory but `copy`.
 //!
 //! The layer above may cite: `edges` is the list; `turns`, `contains`, `area2`.
 //! Begin at `specs/Edges.antt`, then `src/polygon.rt`.
@@ -13,7 +13,6 @@
 //! | `turns` | the sum of the crossings of these edges by a point |
 //! | `contains` | whether the number of these edges with a crossing other than 0 is odd |
 //! | `copy` | an equal ring, member or polygon |
-//! | `without_spare` | the same list in a block of its length |
 //!
 //! Each answer is proved to be that of the definitions in `specs/Ring.antt`, `specs/Polygon.antt`,
 //! `specs/Area.antt` and `specs/Edges.antt`. What follows from these definitions at every rational
@@ -25,12 +24,10 @@ mod crossings;
 pub mod laws;
 mod polygon;
 mod ring;
-mod sequence;
 mod walks;
 
 pub use area::{area2, shoelace};
 pub use crossings::{contains, edges, turns};
 pub use polygon::{BadPolygon, MOST_POINTS, Member, Polygon, PolygonFault};
 pub use ring::{BadRing, Ring, RingFault};
-pub use sequence::{Sequence, without_spare};
 pub use walks::Edges;

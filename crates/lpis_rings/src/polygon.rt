@@ -5,7 +5,7 @@ ghost use Rattle.std.specs.Prelude.{length};
 ghost use Rattle.lpis_rings.specs.Polygon.{IsPolygon, most_points, points_in};
 
 use crate::ring::Ring;
-use crate::sequence::Sequence;
+use lpis_memory::Sequence;
 use std::alloc::{AllocError, Global};
 use std::marker::Model;
 use thiserror::Error;

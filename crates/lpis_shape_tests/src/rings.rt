@@ -1,7 +1,8 @@
 //! Worked polygons, in millimetres.
 
+use lpis_memory::Sequence;
 use lpis_points::{Point, RatPoint};
-use lpis_rings::{Member, Polygon, Ring, Sequence, contains, edges, turns};
+use lpis_rings::{Member, Polygon, Ring, contains, edges, turns};
 use std::alloc::Global;
 use std::process::Abort;
 use std::test::Fail;

@@ -3,7 +3,7 @@ use Rattle.std.specs.Prelude.{ℕ, List, Result}
 use Rattle.lpis_rings.specs.declared.polygon.Member.{Member}
 use Rattle.lpis_wkt.specs.declared.fault.WktCode.{WktCode}
 use Rattle.lpis_wkt.specs.declared.fault.WktFault.{WktFault}
-use Rattle.lpis_points.specs.Memory.{AnswersSame}
+use Rattle.lpis_memory.specs.Memory.{AnswersSame}
 use Rattle.lpis_wkt.specs.Text.{wkt_fault_reported}
 use Rattle.lpis_wkt.specs.Tokens.{tokens}
 use Rattle.lpis_wkt.specs.private.Machine.{AtKeyword, parse_outcome, parse_answer}

@@ -1,6 +1,6 @@
 -- What a text says: a polygon, or its first fault.
 use Rattle.std.specs.Prelude.{ℕ, List, Option, Some, None}
-use Rattle.lpis_points.specs.Memory.{UnlessMemory}
+use Rattle.lpis_memory.specs.Memory.{UnlessMemory}
 use Rattle.lpis_rings.specs.declared.polygon.Member.{Member}
 use Rattle.lpis_wkt.specs.declared.fault.WktCode.{WktCode}
 use Rattle.lpis_wkt.specs.declared.fault.WktFault.{WktFault}

@@ -19,8 +19,9 @@ use crate::fault::{WktCode, WktFault};
 use crate::number::coordinate_of;
 use crate::tokens::{Placed, Token, Tokens};
 use crate::words::{is_dimension, is_empty, is_multi, is_polygon, keyword_code};
+use lpis_memory::{Sequence, without_spare};
 use lpis_points::Point;
-use lpis_rings::{MOST_POINTS, Member, Polygon, Ring, RingFault, Sequence, without_spare};
+use lpis_rings::{MOST_POINTS, Member, Polygon, Ring, RingFault};
 use std::alloc::{AllocError, Global};
 use std::marker::Model;
 

@@ -1,6 +1,6 @@
 -- What the reader has taken from the front of a text.
 use Rattle.std.specs.Prelude.{ℕ, ◌+◌, ◌≡◌, ◌⊎◌, Bool, cond, List, [], ◌∷◌, ◌++◌, length, Ok, Err}
-use Rattle.lpis_points.specs.Memory.{UnlessMemory}
+use Rattle.lpis_memory.specs.Memory.{UnlessMemory}
 use Rattle.lpis_cert.specs.declared.kind.Stage.{Stage}
 use Rattle.lpis_cert.specs.declared.fault.CertCode.{CertCode}
 use Rattle.lpis_cert.specs.declared.fault.CertCode.TheVariants as code

@@ -9,13 +9,15 @@ use Rattle.lpis_covers.specs.Table.{most_rows}
 use Rattle.lpis_parcels.specs.Release.{Contents}
 use Rattle.lpis_parcels.specs.declared.parcel.Parcel.{Parcel}
 use Rattle.lpis_checker.specs.SoundMap.{IsSoundMap}
-use Rattle.lpis_commands.specs.declared.answer.Answer.{Answer}
+use Rattle.lpis_commands.specs.CheckAnswer.{Answer}
 use Rattle.lpis_commands.specs.declared.command.Detail.{Detail}
 use Rattle.lpis_commands.specs.declared.failure.Failure.{Failure}
 use Rattle.lpis_commands.specs.declared.failure.Failure.TheVariants.{Memory, Read, Write}
 use Rattle.lpis_commands.specs.declared.failure.Name.TheVariants.{Out}
 use Rattle.lpis_commands.specs.Status.{done, refused}
+use Rattle.lpis_commands.specs.Stops.{IsRefusedAs}
 use Rattle.lpis_commands.specs.Streams.{Begins}
+use Rattle.lpis_commands.specs.declared.stop.Stop.{Stop}
 use Rattle.lpis_country.specs.Country.{country_of}
 use Rattle.lpis_country.specs.Tiling.{Tiling, frame, rectangles}
 use Rattle.lpis_country_plan.specs.Limits.{most_regions}
@@ -71,26 +73,29 @@ pub record IsReady (p : Progress) : Type 0 where
   pub next : HasNext p.seam
   pub room : p.totals.parcels + most_rows ≤ most_parcels
 
--- a region that is a sound map came to this: the text of one that passes, or the answer to its
--- first fault
+-- the answer to the first fault of a region that is a sound map
+abbrev pub IsMisfit : Setting → List Contents → List ℕ → Contents → Answer → Type 0
+IsMisfit s before name r a =
+    (fault : SeamFault) × IsFirstSeamFault (seam_faults s.tiles s.classes before r) fault
+    × (a ≡ (seam_refusal_text s.names name fault, refused))
+
+-- such a region came to this: the text of one that passes, or this answer
 abbrev pub FollowsAs : Setting → List Contents → List ℕ → Contents → Progress
-    → Result (Vec ℕ Global) Answer → Type 0
+    → Result (Vec ℕ Global) Stop → Type 0
 FollowsAs s before name r p (Ok text) =
     (seam_faults s.tiles s.classes before r ≡ [])
     × (text.items ≡ region_report s.detail (country_of s.classes before) name r)
     × IsAt s (before ++ r ∷ []) p
-FollowsAs s before name r p (Err a) =
-    (fault : SeamFault) × IsFirstSeamFault (seam_faults s.tiles s.classes before r) fault
-    × (a.text.items ≡ seam_refusal_text s.names name fault) × (a.status ≡ refused)
+FollowsAs s before name r p (Err stop) = IsRefusedAs (IsMisfit s before name r) stop
 
 -- the region of a folder came to this
-abbrev pub IsVerdict : Setting → List Contents → List ℕ → Progress → Result (Vec ℕ Global) Answer
+abbrev pub IsVerdict : Setting → List Contents → List ℕ → Progress → Result (Vec ℕ Global) Stop
     → Type 0
 IsVerdict s before name p (Ok text) =
     (r : Contents) × Passes s before name r
     × (text.items ≡ region_report s.detail (country_of s.classes before) name r)
     × IsAt s (before ++ r ∷ []) p
-IsVerdict s before name p (Err a) = IsRefusedRegion s before name (a.text.items, a.status)
+IsVerdict s before name p (Err stop) = IsRefusedAs (IsRefusedRegion s before name) stop
 
 -- the text of the verdict on the region of a folder
 abbrev pub IsVerdictText : Setting → List Contents → List ℕ → List ℕ → Type 0

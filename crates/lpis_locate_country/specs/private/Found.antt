@@ -1,14 +1,14 @@
 -- What was found of points in regions, one after the other.
 use Rattle.std.specs.Prelude.{◌≡◌, ℕ, List, All, Contains as IsAmong, length, slice_get}
-use Rattle.std.specs.Prelude.{Option, None, Some, Result, Ok, Err}
+use Rattle.std.specs.Prelude.{Option, None, Some, Ok, Err}
 use Rattle.lpis_points.specs.Plane.{RationalPoint}
 use Rattle.lpis_parcels.specs.Release.{Contents}
 use Rattle.lpis_checker.specs.SoundMap.{IsNowhere}
 use Rattle.lpis_locating.specs.Places.{IsPlace}
 use Rattle.lpis_locating.specs.Points.{Given, points_of}
-use Rattle.lpis_locating.specs.declared.fault.PointsFault.{PointsFault}
 use Rattle.lpis_locating.specs.declared.place.Place.{Place}
-use Rattle.lpis_locate_country.specs.declared.search.Search.{Search}
+use Rattle.lpis_locate_country.specs.declared.search.Sought.{Sought}
+use Rattle.lpis_locate_country.specs.declared.search.Sought.TheVariants as sought
 
 -- the place of a point in one of the regions, and none where no parcel of them contains it
 abbrev pub IsFoundAmong : List Contents → RationalPoint → Option Place → Type 0
@@ -23,7 +23,7 @@ pub record AreFoundAmong (rs : List Contents) (ps : List Given) (found : List (O
       → slice_get found i ≡ Some f → IsFoundAmong rs g.at f
 
 -- the points of a table with what was found of them in these regions, or the table's first fault
-abbrev pub IsSearched : List ℕ → List Contents → Result Search PointsFault → Type 0
-IsSearched table rs (Ok search) =
+abbrev pub IsSearched : List ℕ → List Contents → Sought → Type 0
+IsSearched table rs (sought.Points search) =
     (points_of table ≡ Ok search.points) × AreFoundAmong rs search.points search.found.items
-IsSearched table rs (Err fault) = points_of table ≡ Err fault
+IsSearched table rs (sought.Nothing fault) = points_of table ≡ Err fault

@@ -1,7 +1,8 @@
 -- How far a search through regions has come, and what the next region came to.
 use Rattle.std.specs.Prelude.{◌≡◌, ◌⊎◌, ◌++◌, ◌∷◌, [], ℕ, List, Option, Some, None, length, take}
 use Rattle.lpis_parcels.specs.Release.{Contents}
-use Rattle.lpis_commands.specs.declared.answer.Answer.{Answer}
+use Rattle.lpis_commands.specs.CheckAnswer.{Answer}
+use Rattle.lpis_commands.specs.declared.answer.Answer.{Answer as Printed}
 use Rattle.lpis_commands.specs.declared.command.Detail.TheVariants.{Regions}
 use Rattle.lpis_commands.specs.declared.failure.Failure.TheVariants.{Memory}
 use Rattle.lpis_commands.specs.Status.{refused}
@@ -30,7 +31,7 @@ locate_country_inputs_of b = record {
 pub record IsAt (s : Setting) (table : List ℕ) (before : List Contents) (p : Progress) : Type 0
   where
     pub seam : IsSeamOf s.tiles s.classes before p.seam
-    pub search : IsSearched table before p.search
+    pub sought : IsSearched table before p.sought
 
 -- so it is of some regions, and there is a tile for the next one
 pub record IsReady (p : Progress) : Type 0 where
@@ -40,20 +41,26 @@ pub record IsReady (p : Progress) : Type 0 where
   pub at : IsAt setting table before p
   pub next : HasNext p.seam
 
--- a region that is a sound map came to this: it passes, or the answer to its first fault
-abbrev pub FollowsAs : Setting → List ℕ → List Contents → List ℕ → Contents → Progress
-    → Option Answer → Type 0
-FollowsAs s table before name r p None =
+-- a region that is a sound map fits those before it, and the points were looked for in it
+abbrev pub Follows : Setting → List ℕ → List Contents → Contents → Progress → Type 0
+Follows s table before r p =
     (seam_faults s.tiles s.classes before r ≡ []) × IsAt s table (before ++ r ∷ []) p
-FollowsAs s table before name r p (Some a) =
-    (fault : SeamFault) × IsFirstSeamFault (seam_faults s.tiles s.classes before r) fault
-    × (a.text.items ≡ seam_refusal_text s.names name fault) × (a.status ≡ refused)
 
--- the region of a folder came to this
-abbrev pub IsVerdict : Setting → List ℕ → List Contents → List ℕ → Progress → Option Answer
-    → Type 0
-IsVerdict s table before name p None =
+-- it does not fit them: the answer to its first fault
+abbrev pub IsSeamRefusal : Setting → List Contents → List ℕ → Contents → Answer → Type 0
+IsSeamRefusal s before name r a =
+    (fault : SeamFault) × IsFirstSeamFault (seam_faults s.tiles s.classes before r) fault
+    × (a ≡ (seam_refusal_text s.names name fault, refused))
+
+-- the region of a folder passed, and the points were looked for in it
+abbrev pub HasPassed : Setting → List ℕ → List Contents → List ℕ → Progress → Type 0
+HasPassed s table before name p =
     (r : Contents) × Passes s before name r × IsAt s table (before ++ r ∷ []) p
+
+-- the region of a folder came to this: it passed, or the answer that refuses it
+abbrev pub IsVerdict : Setting → List ℕ → List Contents → List ℕ → Progress → Option Printed
+    → Type 0
+IsVerdict s table before name p None = HasPassed s table before name p
 IsVerdict s table before name p (Some a) =
     IsRefusedRegion s before name (a.text.items, a.status)
 
@@ -74,7 +81,7 @@ pub record IsHere (s : Setting) (table : List ℕ) (p : Progress) (n : ℕ) : Ty
   pub number : length before ≡ n
 
 -- the regions of all folders passed, or one of them is refused
-abbrev pub IsOutcome : Setting → List ℕ → Progress → Option Answer → Type 0
+abbrev pub IsOutcome : Setting → List ℕ → Progress → Option Printed → Type 0
 IsOutcome s table p None =
     (all : List Contents) × ((lines : List ℕ) × HavePassed s s.names all lines) × IsAt s table all p
 IsOutcome s table p (Some a) =

@@ -1,14 +1,14 @@
 -- What the files before the regions came to.
-use Rattle.std.specs.Prelude.{◌≡◌, ◌++◌, ◌∷◌, [], ℕ, List, Option, None, Some, Err, length, map}
+use Rattle.std.specs.Prelude.{◌≡◌, ◌++◌, ◌∷◌, [], ℕ, List, Option, Err, length, map}
 use Rattle.std.specs.Option.{option_map}
 use Rattle.lpis_covers.specs.declared.fault.TableFault.{TableFault}
 use Rattle.lpis_covers.specs.Faults.{rows_of}
 use Rattle.lpis_lineage.specs.declared.row.Row.{Row}
 use Rattle.lpis_lineage.specs.LineageTable.{lineage_table}
+use Rattle.lpis_commands.specs.CheckAnswer.{Answer}
 use Rattle.lpis_commands.specs.Refusals.{line_in_region, refusal_text}
 use Rattle.lpis_commands.specs.Status.{unreadable}
 use Rattle.lpis_commands.specs.Streams.{IsRead}
-use Rattle.lpis_commands.specs.declared.answer.Answer.{Answer}
 use Rattle.lpis_country_plan.specs.Tree.{Tree}
 use Rattle.lpis_country_run.specs.Beginning.{IsBegun, country_inputs_of}
 use Rattle.lpis_publish_country.specs.CountryLineage.{AreTablesOf, IsTableOf, rows_in}
@@ -22,7 +22,7 @@ use Rattle.lpis_publish_country.specs.declared.lineage.CountryLineage.{CountryLi
 -- the line of the first fault of a table, with its region
 abbrev pub IsTableRefusal : List ℕ → List ℕ → Answer → Type 0
 IsTableRefusal name table a = (fault : TableFault) × (rows_of lineage_table table ≡ Err fault)
-    × (a.text.items ≡ line_in_region (refusal_text fault) name) × (a.status ≡ unreadable)
+    × (a ≡ (line_in_region (refusal_text fault) name, unreadable))
 
 -- the table in a folder is refused
 abbrev pub IsTableRefused : (List ℕ → Option (List ℕ)) → List ℕ → Answer → Type 0
@@ -44,12 +44,11 @@ pub record AddsTable (old new : CountryLineage) (rows : List Row) : Type 0 where
   pub rows_are : new.rows.items ≡ old.rows.items ++ rows
   pub counts_are : new.counts.items ≡ old.counts.items ++ length rows ∷ []
 
--- the table in a folder was added, or is refused
+-- the rows of the table in a folder were added
 abbrev pub IsTableAdded : (List ℕ → Option (List ℕ)) → List ℕ → CountryLineage → CountryLineage
-    → Option Answer → Type 0
-IsTableAdded told name old new None = (rows : List Row) × IsTableOf told name rows
+    → Type 0
+IsTableAdded told name old new = (rows : List Row) × IsTableOf told name rows
     × AddsTable old new rows
-IsTableAdded told name old new (Some a) = IsTableRefused told name a
 
 -- ---- all of them
 abbrev pub inputs_of : PublishCountryBytes → PublishCountryInputs

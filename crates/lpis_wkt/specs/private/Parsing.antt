@@ -1,6 +1,6 @@
 -- The parser's values, as the machine's states.
 use Rattle.std.specs.Prelude.{◌≡◌, ℕ, ◌+◌, ◌<◌, ◌≤◌, true, List, [], ◌++◌, length, Result, Ok, Err}
-use Rattle.lpis_points.specs.Memory.{AnswersUnless}
+use Rattle.lpis_memory.specs.Memory.{AnswersUnless}
 use Rattle.lpis_points.specs.declared.point.Point.{Point}
 use Rattle.lpis_rings.specs.declared.polygon.Member.{Member}
 use Rattle.lpis_rings.specs.Polygon.{most_points}

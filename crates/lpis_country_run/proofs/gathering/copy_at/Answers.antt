@@ -12,4 +12,4 @@ loop-count-preserved c = λ ks at.
     let i = c.loop-count.count in
     let k = c.parcel_at.result.now in
     copy_more c.args.parcels.now.items c.loop-count.parcels.items _ ks i k c.in_ok-parcel.parcel (c.loop-count.invariant ks at) c.in_ok-push.ensures.items c.in_ok-parcel.ensures
-    (omega (arith, as_many_places r.parcels places ks at, c.loop-count-test.true)) (same_place r.parcels places ks i 0 k at c.loop-count-test.true c.parcel_at.ensures.parcel)
+    (omega (arith, as_many_places r.parcels places ks at, c.loop-count-test.true)) (same_place r.parcels places ks i 0 k at c.loop-count-test.true c.parcel_at.ensures)

@@ -36,7 +36,7 @@ end-requires g c =
     let old = g.W.Write.contents c.args.out.now in
     let now = g.W.Write.contents c.pass_regions.new.out in
     let h : HasPassedAll s p old now = subst (RegionsPass s p old now) c.in-None.is (c.in_ok-status.ensures.passed s start) in
-    let e = ended s texts c.args.detail c.args.begun names p old now set h (ap (map string_bytes) c.in_ok-status.ensures.names) c.in_ok-status.ensures.wanted in
+    let e = ended s texts c.args.detail c.args.begun names p old now set h (ap (map string_bytes) c.in_ok-status.ensures.names) c.pass_regions.ensures.wanted in
     (s, h.regions, e)
 
 pub returns-in_err-end-in-None-clause-failure : goal.returns-in_err-end-in-None-clause-failure
@@ -68,6 +68,6 @@ returns-in_ok-end-in-None-clause-joins g c = λ s set.
     let old = g.W.Write.contents c.args.out.now in
     let now = g.W.Write.contents c.pass_regions.new.out in
     let h : HasPassedAll s p old now = subst (RegionsPass s p old now) c.in-None.is (c.in_ok-status.ensures.passed s start) in
-    let e = ended s texts c.args.detail c.args.begun names p old now set h (ap (map string_bytes) c.in_ok-status.ensures.names) c.in_ok-status.ensures.wanted in
+    let e = ended s texts c.args.detail c.args.begun names p old now set h (ap (map string_bytes) c.in_ok-status.ensures.names) c.pass_regions.ensures.wanted in
     joins_all s names p old now c.in_ok-end-in-None.field-0 c.a_country_of_joined_regions_is_sound.ensures.sound c.a_country_of_joined_regions_is_sound.ensures.union h e
     (c.in_ok-end-in-None.ensures s h.regions e)

@@ -1,9 +1,12 @@
 use Rattle.lpis_commands.specs.Inputs.{inputs_of}
-use Rattle.lpis_country_run.proofs.RunLemmas.{judged, ok_is}
+use Rattle.lpis_country_run.proofs.RunLemmas.{check_refused, judged}
 use Rattle.lpis_country_run.proofs.judging.judge_inputs.Goals as goal
 
 pub returns-in-Ok-clause-verdict : goal.returns-in-Ok-clause-verdict
 returns-in-Ok-clause-verdict c = λ s before at of told.
-    judged c.follow.result s before c.args.name.now (inputs_of c.args.inputs) c.in-Ok.release c.follow.new.progress told
-    (ok_is _ c.in_ok-release.field-0 c.in-Ok.release c.in-Ok.is c.in_ok-release.ensures.release)
-    (c.follow.ensures.follows s before at of)
+    judged c.follow.result s before c.args.name.now (inputs_of c.args.inputs) c.in-Ok.release c.follow.new.progress told c.in-Ok.ensures.release (c.follow.ensures.follows s before at of)
+
+pub returns-in_ok-answer-in-Err-clause-verdict : goal.returns-in_ok-answer-in-Err-clause-verdict
+returns-in_ok-answer-in-Err-clause-verdict c = λ s before at of told.
+    check_refused s before c.args.name.now (inputs_of c.args.inputs) c.in-Err.stop c.in_ok-refusal-in-Err.refusal c.in_ok-answer-in-Err.answer told c.in-Err.ensures.refused
+    c.in_ok-refusal-in-Err.ensures c.in_ok-answer-in-Err.ensures.0 c.in_ok-answer-in-Err.ensures.1

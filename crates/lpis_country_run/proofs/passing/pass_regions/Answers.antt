@@ -46,7 +46,7 @@ returns-in_err-status-clause-failure g c = λ s start.
 pub loop-index-preserved : goal.loop-index-preserved
 loop-index-preserved g c = (
   c.in_ok-status.ensures.names ∙ c.loop-index.invariant.0,
-  c.in_ok-status.ensures.wanted ∙ c.loop-index.invariant.1,
+  c.pass_at.ensures.wanted ∙ c.loop-index.invariant.1,
   λ s start.
       let here = c.loop-index.invariant.2 s start in
       let names = map string_bytes c.args.names.now.items in

@@ -1,4 +1,4 @@
-use Rattle.std.proofs.Common.{◌∙◌, ap, sym, List, ℕ}
+use Rattle.std.proofs.Common.{◌∙◌, ap, ap₂, sym, List, ℕ}
 use Rattle.lpis_commands.specs.declared.command.Detail.{Detail}
 use Rattle.lpis_country.specs.Country.{country_of, new_parcels}
 use Rattle.lpis_country_seam.specs.Faults.{seam_faults}
@@ -63,6 +63,7 @@ pub returns-in_ok-refuse_seam-in-Err-clause-follows : goal.returns-in_ok-refuse_
 returns-in_ok-refuse_seam-in-Err-clause-follows c = λ s before at of. (
   c.in-Err.fault,
   first_of (seam_faults s.tiles s.classes before c.args.release.now) c.in-Err.fault (c.in-Err.ensures.reports s.tiles s.classes before at.seam) c.in_ok-refuse_seam-in-Err.ensures.refusal,
-  c.in_ok-refuse_seam-in-Err.ensures.line.0 ∙ ap (λ (names : List (List ℕ)). seam_refusal_text names c.args.name.now c.in-Err.fault) (sym of.names_are),
-  c.in_ok-refuse_seam-in-Err.ensures.line.1,
+  ap₂ (λ (t : List ℕ) (n : ℕ). (t, n))
+      (c.in_ok-refuse_seam-in-Err.ensures.line.0 ∙ ap (λ (names : List (List ℕ)). seam_refusal_text names c.args.name.now c.in-Err.fault) (sym of.names_are))
+      c.in_ok-refuse_seam-in-Err.ensures.line.1,
 )

@@ -1,10 +1,21 @@
+use Rattle.std.proofs.lemmas.Result.{IfErr-weaker, IfOk-weaker}
 use Rattle.lpis_commands.specs.Inputs.{inputs_of}
-use Rattle.lpis_country_run.proofs.Shared.{ok_is}
-use Rattle.lpis_locate_country.proofs.PassingLemmas.{judged}
+use Rattle.lpis_locate_country.proofs.PassingLemmas.{check_refused, judged, seam_refused}
 use Rattle.lpis_locate_country.proofs.progress.judge_inputs.Goals as goal
 
-pub returns-in-Ok : goal.returns-in-Ok
-returns-in-Ok c = λ s table before at names told.
-    judged c.follow.result s table before c.args.name.now (inputs_of c.args.inputs) c.in-Ok.release c.follow.new.progress told
-    (ok_is _ c.in_ok-release.field-0 c.in-Ok.release c.in-Ok.is c.in_ok-release.ensures.release)
-    (c.follow.ensures s table before at names)
+pub returns-in-Ok-clause-passed : goal.returns-in-Ok-clause-passed
+returns-in-Ok-clause-passed c = λ s table before at told.
+    IfOk-weaker c.follow.result _ _
+    (λ done follows. judged s table before c.args.name.now (inputs_of c.args.inputs) c.in-Ok.release c.follow.new.progress told c.in-Ok.ensures.release follows)
+    (c.follow.ensures.follows s table before at)
+
+pub returns-in-Ok-clause-refused : goal.returns-in-Ok-clause-refused
+returns-in-Ok-clause-refused c = λ s table before at names told.
+    IfErr-weaker c.follow.result _ _
+    (λ stop refused. seam_refused s before c.args.name.now (inputs_of c.args.inputs) c.in-Ok.release stop told c.in-Ok.ensures.release refused)
+    (c.follow.ensures.refused s table before at names)
+
+pub returns-in_ok-answer-in-Err-clause-refused : goal.returns-in_ok-answer-in-Err-clause-refused
+returns-in_ok-answer-in-Err-clause-refused c = λ s table before at names told.
+    check_refused s before c.args.name.now (inputs_of c.args.inputs) c.in-Err.stop c.in_ok-refusal-in-Err.refusal c.in_ok-answer-in-Err.answer told c.in-Err.ensures.refused
+    c.in_ok-refusal-in-Err.ensures c.in_ok-answer-in-Err.ensures.0 c.in_ok-answer-in-Err.ensures.1

@@ -27,22 +27,22 @@ returns-in_err-country g c = λ given x told h.
     prepared_halts given x now (held file old) (held file new) c.from_residual.result f.0 f.1
     (fill_stops given x p h now file old new f.0 (rw f.2 stops))
 
-pub returns-in_err-outcome-in-Ok : goal.returns-in_err-outcome-in-Ok
-returns-in_err-outcome-in-Ok g c = λ given x told h.
+pub returns-in_err-outcome-in-Joined : goal.returns-in_err-outcome-in-Joined
+returns-in_err-outcome-in-Joined g c = λ given x told h.
     let p = c.args.prepared in
     let now = c.args.register.now.held in
     let s = fill_setting given x p h in
     let file = g.V.Write.contents c.args.file.now in
     let old = g.W.Write.contents c.args.out.now in
     let new = g.W.Write.contents c.join_regions.new.out in
-    let (regions, lines, joins, written, joined) = subst (RegionsJoin s old new) c.in-Ok.is
+    let (regions, lines, joins, written, joined) = subst (RegionsJoin s old new) c.in-Joined.is
     (c.in_ok-country.ensures.joins s (is_fill_setting given x p h (g.G.Regions.texts c.args.regions.now) told)) in
-    let f = err_from_is_err_and c.from_residual-in_err-outcome-in-Ok.result c.from_residual-in_err-outcome-in-Ok.ensures.1 in
-    prepared_halts given x now (held file old) (held file new) c.from_residual-in_err-outcome-in-Ok.result f.0 f.1
+    let f = err_from_is_err_and c.from_residual-in_err-outcome-in-Joined.result c.from_residual-in_err-outcome-in-Joined.ensures.1 in
+    prepared_halts given x now (held file old) (held file new) c.from_residual-in_err-outcome-in-Joined.result f.0 f.1
     (fill_spent given x p h now regions lines joins file old new written f.0 f.2)
 
-pub returns-in_err-write_to-in-Ok : goal.returns-in_err-write_to-in-Ok
-returns-in_err-write_to-in-Ok g c = λ given x told h.
+pub returns-in_err-write_to-in-Joined : goal.returns-in_err-write_to-in-Joined
+returns-in_err-write_to-in-Joined g c = λ given x told h.
     let p = c.args.prepared in
     let now = c.args.register.now.held in
     let s = fill_setting given x p h in
@@ -51,16 +51,16 @@ returns-in_err-write_to-in-Ok g c = λ given x told h.
     let mid = g.W.Write.contents c.join_regions.new.out in
     let cert = g.V.Write.contents c.write_to.new.cert_out in
     let new = g.W.Write.contents c.write_to.new.out in
-    let (regions, lines, joins, written, joined) = subst (RegionsJoin s old mid) c.in-Ok.is
+    let (regions, lines, joins, written, joined) = subst (RegionsJoin s old mid) c.in-Joined.is
     (c.in_ok-country.ensures.joins s (is_fill_setting given x p h (g.G.Regions.texts c.args.regions.now) told)) in
-    let o = outputs_of c.in_ok-outcome-in-Ok.outcome in
-    let decided = c.in_ok-outcome-in-Ok.ensures s regions lines h.tables joins joined h.has in
-    let f = err_from_is_err_and c.from_residual-in_err-write_to-in-Ok.result c.from_residual-in_err-write_to-in-Ok.ensures.1 in
-    prepared_halts given x now (held file old) (held cert new) c.from_residual-in_err-write_to-in-Ok.result f.0 f.1
-    (fill_breaks given x p h now regions lines joins file old mid written o f.0 _ cert new decided f.2 c.in_err-write_to-in-Ok.ensures.failure)
+    let o = outputs_of c.in_ok-outcome-in-Joined.outcome in
+    let decided = c.in_ok-outcome-in-Joined.ensures s regions lines h.tables joins joined h.has in
+    let f = err_from_is_err_and c.from_residual-in_err-write_to-in-Joined.result c.from_residual-in_err-write_to-in-Joined.ensures.1 in
+    prepared_halts given x now (held file old) (held cert new) c.from_residual-in_err-write_to-in-Joined.result f.0 f.1
+    (fill_breaks given x p h now regions lines joins file old mid written o f.0 _ cert new decided f.2 c.in_err-write_to-in-Joined.ensures.failure)
 
-pub returns-in-Ok : goal.returns-in-Ok
-returns-in-Ok g c = λ given x told h.
+pub returns-in-Joined : goal.returns-in-Joined
+returns-in-Joined g c = λ given x told h.
     let p = c.args.prepared in
     let now = c.args.register.now.held in
     let s = fill_setting given x p h in
@@ -69,12 +69,12 @@ returns-in-Ok g c = λ given x told h.
     let mid = g.W.Write.contents c.join_regions.new.out in
     let cert = g.V.Write.contents c.write_to.new.cert_out in
     let new = g.W.Write.contents c.write_to.new.out in
-    let (regions, lines, joins, written, joined) = subst (RegionsJoin s old mid) c.in-Ok.is
+    let (regions, lines, joins, written, joined) = subst (RegionsJoin s old mid) c.in-Joined.is
     (c.in_ok-country.ensures.joins s (is_fill_setting given x p h (g.G.Regions.texts c.args.regions.now) told)) in
-    let o = outputs_of c.in_ok-outcome-in-Ok.outcome in
-    let decided = c.in_ok-outcome-in-Ok.ensures s regions lines h.tables joins joined h.has in
+    let o = outputs_of c.in_ok-outcome-in-Joined.outcome in
+    let decided = c.in_ok-outcome-in-Joined.ensures s regions lines h.tables joins joined h.has in
     prepared_ends given x now (held file old) (held cert new) _
-    (fill_writes given x p h now regions lines joins file old mid written o _ cert new decided c.in_ok-write_to-in-Ok.ensures.answer)
+    (fill_writes given x p h now regions lines joins file old mid written o _ cert new decided c.in_ok-write_to-in-Joined.ensures.answer)
 
 pub returns : goal.returns
 returns g c = λ given x told h.
@@ -84,6 +84,6 @@ returns g c = λ given x told h.
     let file = g.V.Write.contents c.args.file.now in
     let old = g.W.Write.contents c.args.out.now in
     let new = g.W.Write.contents c.join_regions.new.out in
-    let refused = subst (RegionsJoin s old new) c.in-Err.is (c.in_ok-country.ensures.joins s (is_fill_setting given x p h (g.G.Regions.texts c.args.regions.now) told)) in
-    prepared_ends given x now (held file old) (held file new) c.in-Err.status
-    (fill_refuses given x p h now file old new c.in-Err.status refused.0 refused.1)
+    let refused = subst (RegionsJoin s old new) c.in-Refused.is (c.in_ok-country.ensures.joins s (is_fill_setting given x p h (g.G.Regions.texts c.args.regions.now) told)) in
+    prepared_ends given x now (held file old) (held file new) c.in-Refused.status
+    (fill_refuses given x p h now file old new c.in-Refused.status refused.0 refused.1)

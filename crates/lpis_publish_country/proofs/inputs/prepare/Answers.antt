@@ -1,26 +1,33 @@
-use Rattle.std.proofs.Common.{refl}
-use Rattle.lpis_country_run.proofs.Shared.{fault_is, ok_is}
+use Rattle.std.proofs.Common.{◌⊎◌, inl, refl}
+use Rattle.lpis_commands.specs.declared.failure.Failure.TheVariants.{Memory}
+use Rattle.lpis_country_run.specs.CountryFailures.{IsOfNone}
+use Rattle.lpis_publish_country.specs.PublishCountryAnswer.{IsRefusedBefore}
+use Rattle.lpis_publish_country.specs.PublishCountryRuns.{IsUnreadLineage}
 use Rattle.lpis_publish_country.specs.private.Preparing.{inputs_of}
-use Rattle.lpis_publish_country.proofs.PreparingLemmas.{prepared, tables_refused}
+use Rattle.lpis_publish_country.proofs.PreparingLemmas.{prepared, tables_unprepared}
+use Rattle.lpis_publish_country.proofs.UnpreparedLemmas.{same_handed, stop_handed}
 use Rattle.lpis_publish_country.proofs.inputs.prepare.Goals as goal
 
-pub returns-in-Err-clause-refusal : goal.returns-in-Err-clause-refusal
-returns-in-Err-clause-refusal g c = λ given same. fault_is _ c.in_ok-said.field-0 c.in-Err.answer c.in-Err.is (c.in_ok-said.ensures.refusal given)
-
-pub returns-in-Ok-2-clause-prepared : goal.returns-in-Ok-2-clause-prepared
-returns-in-Ok-2-clause-prepared g c = λ given same.
+pub returns-in_err-begun-clause-unprepared : goal.returns-in_err-begun-clause-unprepared
+returns-in_err-begun-clause-unprepared g c = λ given same.
     let x = inputs_of c.args.inputs in
-    let said = ok_is _ c.in_ok-said.field-0 c.in-Ok.said c.in-Ok.is c.in_ok-said.ensures.said in
-    let rows = ok_is _ c.in_ok-lineage.field-0 c.in-Ok-2.lineage c.in-Ok-2.is c.in_ok-lineage.ensures.rows in
-    prepared given x (g.L.Lineages.lineages c.args.lineages.now) c.in-Ok.said.0 (record {
-      begun = record { names = c.read_lineage.new.names; tiles = c.in-Ok.said.0.tiles; classes = c.in-Ok.said.0.classes };
-      cert = c.in-Ok.said.1;
-      lineage = c.in-Ok-2.lineage;
-    }) same said.0 said.1 rows c.in_ok-lineage.ensures.names refl refl
+    stop_handed (λ f. IsOfNone f Memory ⊎ IsUnreadLineage given x f) (IsRefusedBefore given x)
+    c.from_residual.result _ c.from_residual.ensures.1 (λ f memory. inl memory) (c.in_err-begun.ensures.refused given)
 
-pub returns-in-Err-2-clause-refusal : goal.returns-in-Err-2-clause-refusal
-returns-in-Err-2-clause-refusal g c = λ given same.
+pub returns-in_err-lineage-clause-unprepared : goal.returns-in_err-lineage-clause-unprepared
+returns-in_err-lineage-clause-unprepared g c = λ given same.
     let x = inputs_of c.args.inputs in
-    let said = ok_is _ c.in_ok-said.field-0 c.in-Ok.said c.in-Ok.is c.in_ok-said.ensures.said in
-    tables_refused given x (g.L.Lineages.lineages c.args.lineages.now) c.in-Ok.said.0 c.in-Ok.said.1.exact (c.in-Err-2.answer.text.items, c.in-Err-2.answer.status) same said.0 said.1
-    (fault_is _ c.in_ok-lineage.field-0 c.in-Err-2.answer c.in-Err-2.is c.in_ok-lineage.ensures.refusal)
+    let said = c.in_ok-begun.ensures.said in
+    same_handed (λ f. IsOfNone f Memory ⊎ IsUnreadLineage given x f) (IsRefusedBefore given x) c.from_residual-in_err-lineage.result _ c.from_residual-in_err-lineage.ensures.1
+    (tables_unprepared given x (g.L.Lineages.lineages c.args.lineages.now) c.in_ok-begun.begun c.in_ok-begun.cert.exact _ same said.0 said.1 c.in_err-lineage.ensures.unprepared)
+
+pub returns-clause-prepared : goal.returns-clause-prepared
+returns-clause-prepared g c = λ given same.
+    let x = inputs_of c.args.inputs in
+    let said = c.in_ok-begun.ensures.said in
+    let begun = c.in_ok-begun.begun in
+    prepared given x (g.L.Lineages.lineages c.args.lineages.now) begun (record {
+      begun = record { names = c.read_lineage.new.names; tiles = begun.tiles; classes = begun.classes };
+      cert = c.in_ok-begun.cert;
+      lineage = c.in_ok-lineage.lineage;
+    }) same said.0 said.1 c.in_ok-lineage.ensures.rows c.in_ok-lineage.ensures.names refl refl

@@ -1,15 +1,12 @@
-use Rattle.std.proofs.Common.{None, refl}
-use Rattle.lpis_country_run.proofs.Shared.{fault_is, ok_is}
-use Rattle.lpis_publish_country.specs.PublishCountryAnswer.{CountryFiles, CountryRequest}
+use Rattle.std.proofs.Common.{◌⊎◌, None, Err, refl}
+use Rattle.lpis_commands.specs.declared.failure.Failure.TheVariants.{Memory}
+use Rattle.lpis_country_run.specs.CountryFailures.{IsOfNone}
+use Rattle.lpis_publish_country.specs.PublishCountryAnswer.{CountryFiles, CountryRequest, IsRefusedBefore}
+use Rattle.lpis_publish_country.specs.PublishCountryRuns.{IsUnreadLineage}
 use Rattle.lpis_publish_country.specs.private.Preparing.{inputs_of}
 use Rattle.lpis_publish_country.proofs.RunLemmas.{runs_faulty, runs_faulty_not, runs_unprepared}
+use Rattle.lpis_publish_country.proofs.UnpreparedLemmas.{has_failed, is_refused}
 use Rattle.lpis_publish_country.proofs.publish_country.publish_inputs.Goals as goal
-
-pub returns-in_err-prepared : goal.returns-in_err-prepared
-returns-in_err-prepared g c = λ given texts lineages.
-    let asked : CountryRequest = record { year = c.args.year; given = given; detail = c.args.detail } in
-    runs_unprepared g.S.Store asked c.args.register.now (inputs_of c.args.inputs) (g.W.Write.contents c.args.out.now) c.from_residual.result _ c.from_residual.ensures.1
-    (c.in_err-prepared.ensures.failure given lineages)
 
 pub publish_prepared-requires : goal.publish_prepared-requires
 publish_prepared-requires g c =
@@ -20,22 +17,31 @@ publish_prepared-requires g c =
       texts = g.G.Regions.texts c.args.regions.now;
       lineages = g.L.Lineages.lineages c.args.lineages.now;
     } in
-    (given, inputs_of c.args.inputs, ok_is _ c.in_ok-prepared.field-0 c.in-Ok.prepared c.in-Ok.is (c.in_ok-prepared.ensures.prepared given refl))
+    (given, inputs_of c.args.inputs, c.in-Ok.ensures.prepared given refl)
 
 pub returns-in-Ok : goal.returns-in-Ok
-returns-in-Ok g c = λ given texts lineages.
-    c.publish_prepared.ensures given (inputs_of c.args.inputs) texts (ok_is _ c.in_ok-prepared.field-0 c.in-Ok.prepared c.in-Ok.is (c.in_ok-prepared.ensures.prepared given lineages))
+returns-in-Ok g c = λ given texts lineages. c.publish_prepared.ensures given (inputs_of c.args.inputs) texts (c.in-Ok.ensures.prepared given lineages)
 
-pub returns-in_err-write_to-in-Err : goal.returns-in_err-write_to-in-Err
-returns-in_err-write_to-in-Err g c = λ given texts lineages.
+pub returns-in-Err-Failed : goal.returns-in-Err-Failed
+returns-in-Err-Failed g c = λ given texts lineages.
     let asked : CountryRequest = record { year = c.args.year; given = given; detail = c.args.detail } in
-    runs_faulty_not g.S.Store asked c.args.register.now (inputs_of c.args.inputs) (g.W.Write.contents c.args.out.now) (g.W.Write.contents c.write_to.new.out) c.in-Err.answer
-    c.from_residual-in_err-write_to-in-Err.result _ (fault_is _ c.in_ok-prepared.field-0 c.in-Err.answer c.in-Err.is (c.in_ok-prepared.ensures.refusal given lineages))
-    c.from_residual-in_err-write_to-in-Err.ensures.1 c.in_err-write_to-in-Err.ensures.failure
+    rw c.in-Err-Failed.failure-is
+    (runs_unprepared g.S.Store asked c.args.register.now (inputs_of c.args.inputs) (g.W.Write.contents c.args.out.now) (Err c.in-Err-Failed.failure) c.in-Err-Failed.failure refl
+    (has_failed (λ f. IsOfNone f Memory ⊎ IsUnreadLineage given (inputs_of c.args.inputs) f) (IsRefusedBefore given (inputs_of c.args.inputs))
+    c.in-Err-Failed.field-0 c.in-Err-Failed.failure c.in-Err-Failed.field-0-is (c.in-Err-Failed.ensures.unprepared given lineages)))
 
-pub returns-in_ok-write_to-in-Err : goal.returns-in_ok-write_to-in-Err
-returns-in_ok-write_to-in-Err g c = λ given texts lineages.
+pub returns-in_err-write_to-in-Err-Refused : goal.returns-in_err-write_to-in-Err-Refused
+returns-in_err-write_to-in-Err-Refused g c = λ given texts lineages.
     let asked : CountryRequest = record { year = c.args.year; given = given; detail = c.args.detail } in
-    runs_faulty g.S.Store asked c.args.register.now (inputs_of c.args.inputs) (g.W.Write.contents c.args.out.now) (g.W.Write.contents c.write_to.new.out) c.in-Err.answer
-    c.in_ok-write_to-in-Err.field-0 (fault_is _ c.in_ok-prepared.field-0 c.in-Err.answer c.in-Err.is (c.in_ok-prepared.ensures.refusal given lineages)) c.in_ok-write_to-in-Err.ensures.status
-    c.in_ok-write_to-in-Err.ensures.text
+    runs_faulty_not g.S.Store asked c.args.register.now (inputs_of c.args.inputs) (g.W.Write.contents c.args.out.now) (g.W.Write.contents c.write_to.new.out) c.in-Err-Refused.answer
+    c.from_residual.result _ (is_refused (λ f. IsOfNone f Memory ⊎ IsUnreadLineage given (inputs_of c.args.inputs) f) (IsRefusedBefore given (inputs_of c.args.inputs))
+    c.in-Err-Refused.field-0 c.in-Err-Refused.answer c.in-Err-Refused.field-0-is (c.in-Err-Refused.ensures.unprepared given lineages))
+    c.from_residual.ensures.1 (rw c.in-Err-Refused.answer-is at c.in_err-write_to-in-Err-Refused.ensures.failure)
+
+pub returns-in_ok-write_to-in-Err-Refused : goal.returns-in_ok-write_to-in-Err-Refused
+returns-in_ok-write_to-in-Err-Refused g c = λ given texts lineages.
+    let asked : CountryRequest = record { year = c.args.year; given = given; detail = c.args.detail } in
+    runs_faulty g.S.Store asked c.args.register.now (inputs_of c.args.inputs) (g.W.Write.contents c.args.out.now) (g.W.Write.contents c.write_to.new.out) c.in-Err-Refused.answer
+    c.in_ok-write_to-in-Err-Refused.field-0 (is_refused (λ f. IsOfNone f Memory ⊎ IsUnreadLineage given (inputs_of c.args.inputs) f) (IsRefusedBefore given (inputs_of c.args.inputs))
+    c.in-Err-Refused.field-0 c.in-Err-Refused.answer c.in-Err-Refused.field-0-is (c.in-Err-Refused.ensures.unprepared given lineages))
+    (rw c.in-Err-Refused.answer-is at c.in_ok-write_to-in-Err-Refused.ensures.status) (rw c.in-Err-Refused.answer-is at c.in_ok-write_to-in-Err-Refused.ensures.text)

@@ -21,15 +21,15 @@ returns-in_err-country g c = λ given x texts p.
     runs_stopped g.S.Store asked x old old (g.W.Write.contents c.args.out.now) (g.W.Write.contents c.join_regions.new.out) said p.said
     c.from_residual.result _ c.from_residual.ensures.1 refl (λ failure. stays_same g.S.Store old _) (c.in_err-country.ensures.failure s is)
 
-pub returns-in-Ok : goal.returns-in-Ok
-returns-in-Ok g c = λ given x texts p.
+pub returns-in-Joined : goal.returns-in-Joined
+returns-in-Joined g c = λ given x texts p.
     let asked : CountryRequest = record { year = c.args.year; given = given; detail = c.args.detail } in
     let said = said_of p.begun.plan c.args.prepared p.tables in
     let s = setting_said given c.args.detail said in
     let is = subst (λ t. IsSettingOf s t c.args.detail c.args.prepared.begun) texts (setting_begun given.texts c.args.detail x.country c.args.prepared.begun p.begun) in
     let start = g.W.Write.contents c.args.out.now in
     let now = g.W.Write.contents c.join_regions.new.out in
-    let (regions, lines, all, written, joined) = subst (λ r. RegionsJoin s start now r) c.in-Ok.is (c.in_ok-country.ensures.joins s is) in
+    let (regions, lines, all, written, joined) = subst (λ r. RegionsJoin s start now r) c.in-Joined.is (c.in_ok-country.ensures.joins s is) in
     runs_union g.S.Store asked x c.args.register.now c.end_union.new.register start (g.W.Write.contents c.end_union.new.out) said p.said regions lines now all.have_passed written
     c.end_union.result (c.end_union.ensures s regions lines p.tables all joined p.has)
 
@@ -42,5 +42,5 @@ returns g c = λ given x texts p.
     let is = subst (λ t. IsSettingOf s t c.args.detail c.args.prepared.begun) texts (setting_begun given.texts c.args.detail x.country c.args.prepared.begun p.begun) in
     let start = g.W.Write.contents c.args.out.now in
     let now = g.W.Write.contents c.join_regions.new.out in
-    runs_refused g.S.Store asked x old old start now said p.said c.in-Err.status refl
-    (stays_same g.S.Store old _) (subst (λ r. RegionsJoin s start now r) c.in-Err.is (c.in_ok-country.ensures.joins s is))
+    runs_refused g.S.Store asked x old old start now said p.said c.in-Refused.status refl
+    (stays_same g.S.Store old _) (subst (λ r. RegionsJoin s start now r) c.in-Refused.is (c.in_ok-country.ensures.joins s is))

@@ -1,8 +1,9 @@
-use Rattle.std.proofs.Common.{refl}
+use Rattle.std.proofs.Common.{refl, subst}
 use Rattle.lpis_publishing.proofs.Common.{IfOk-weaker}
 use Rattle.lpis_commands.specs.Outputs.{outputs_of}
-use Rattle.lpis_publishing.specs.private.Submitting.{submission_of, submitted_of}
-use Rattle.lpis_publishing.proofs.ExactLemmas.{answered-said, answered-unread}
+use Rattle.lpis_commands.specs.Stops.{IsRefusedAs}
+use Rattle.lpis_publishing.specs.private.Submitting.{IsFaultAnswer, submission_of, submitted_of}
+use Rattle.lpis_publishing.proofs.ExactLemmas.{answered-said, answered-refused}
 use Rattle.lpis_publishing.proofs.exact.answer_to.Goals as goal
 
 pub returns-in-Ok : goal.returns-in-Ok
@@ -11,7 +12,8 @@ returns-in-Ok g c =
     IfOk-weaker c.answer_to_submission.result _ _
     (λ o done. answered-said (submission_of c.args.submission) (submitted_of c.in-Ok.said) c.args.register.now.held (outputs_of o) c.in-Ok.ensures.said done) told
 
-pub returns-in-Err-Refused : goal.returns-in-Err-Refused
-returns-in-Err-Refused g c =
-    rw (c.without_cert.ensures, c.in-Err-Refused.printed-is)
-    (answered-unread (submission_of c.args.submission) c.args.register.now.held _ (rw c.in-Err-Refused.field-0-is at c.in-Err-Refused.ensures.unread) refl)
+pub returns-in_ok-into_answer-in-Err : goal.returns-in_ok-into_answer-in-Err
+returns-in_ok-into_answer-in-Err g c =
+    let x = submission_of c.args.submission in
+    rw c.without_cert.ensures
+    (answered-refused x c.args.register.now.held _ (subst (IsRefusedAs (IsFaultAnswer x)) c.in_ok-into_answer-in-Err.ensures c.in-Err.ensures.refused) refl)

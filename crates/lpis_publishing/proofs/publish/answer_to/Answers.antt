@@ -1,9 +1,10 @@
-use Rattle.std.proofs.Common.{◌≡◌, ◌∙◌, ℕ, refl, sym}
+use Rattle.std.proofs.Common.{◌≡◌, ◌∙◌, ℕ, refl, subst, sym}
 use Rattle.lpis_publishing.proofs.Common.{IfOk-weaker}
 use Rattle.lpis_publishing.proofs.PublishLemmas.{both-ok, fails-submitted}
-use Rattle.lpis_publishing.proofs.SubmissionLemmas.{answer-said, answer-unread, fault-status}
-use Rattle.lpis_publishing.specs.private.Submitting.{submission_of, submitted_of}
+use Rattle.lpis_publishing.proofs.SubmissionLemmas.{submission-more, submission-said, submission-status}
+use Rattle.lpis_publishing.specs.private.Submitting.{IsFaultAnswer, submission_of, submitted_of}
 use Rattle.lpis_commands.specs.CheckAnswer.{Answer, IsCheckAnswer}
+use Rattle.lpis_commands.specs.Stops.{IsRefusedAs}
 use Rattle.lpis_register.specs.Holdings.{Holdings}
 use Rattle.lpis_publishing.specs.PublishAnswer.{IsHistoryAnswer, candidate_of}
 use Rattle.lpis_publishing.specs.Submission.{Submitted}
@@ -18,7 +19,7 @@ returns-in-Ok-clause-answer g c =
     let x = submission_of c.args.submission in
     let said = submitted_of c.in-Ok.said in
     IfOk-weaker c.answer_to_submission.result _ _
-    (λ a told. answer-said (next c.args.year c.args.register.now.held) x said (a.text.items, a.status) c.in-Ok.ensures.said told) c.answer_to_submission.ensures.answer
+    (λ a told. submission-said (next c.args.year c.args.register.now.held) x said (a.text.items, a.status) c.in-Ok.ensures.said told) c.answer_to_submission.ensures.answer
 
 pub returns-in-Ok-clause-moves : goal.returns-in-Ok-clause-moves
 returns-in-Ok-clause-moves g c =
@@ -32,15 +33,17 @@ returns-in-Ok-clause-moves g c =
     ))
     (both-ok c.answer_to_submission.result _ _ c.answer_to_submission.ensures.published c.answer_to_submission.ensures.leaves.same)
 
-pub returns-in-Err-Refused-clause-answer : goal.returns-in-Err-Refused-clause-answer
-returns-in-Err-Refused-clause-answer g c =
-    rw c.in-Err-Refused.answer-is (answer-unread (next c.args.year c.args.register.now.held) (submission_of c.args.submission) _ (rw c.in-Err-Refused.field-0-is at c.in-Err-Refused.ensures.unread))
+pub returns-in_ok-into_answer-in-Err-clause-answer : goal.returns-in_ok-into_answer-in-Err-clause-answer
+returns-in_ok-into_answer-in-Err-clause-answer g c =
+    let x = submission_of c.args.submission in
+    submission-more (next c.args.year c.args.register.now.held) x _ (subst (IsRefusedAs (IsFaultAnswer x)) c.in_ok-into_answer-in-Err.ensures c.in-Err.ensures.refused)
 
 -- a submission that is not understood changes nothing
-pub returns-in-Err-Refused-clause-moves : goal.returns-in-Err-Refused-clause-moves
-returns-in-Err-Refused-clause-moves g c =
-    let refused = fault-status (submission_of c.args.submission) _ (rw c.in-Err-Refused.field-0-is at c.in-Err-Refused.ensures.unread) in
-    rw c.in-Err-Refused.answer-is ((λ is_done. absurd (let no = sym refused ∙ is_done in cc)), λ _. refl)
+pub returns-in_ok-into_answer-in-Err-clause-moves : goal.returns-in_ok-into_answer-in-Err-clause-moves
+returns-in_ok-into_answer-in-Err-clause-moves g c =
+    let x = submission_of c.args.submission in
+    let refused = submission-status x _ (subst (IsRefusedAs (IsFaultAnswer x)) c.in_ok-into_answer-in-Err.ensures c.in-Err.ensures.refused) in
+    ((λ is_done. absurd (let no = sym refused ∙ is_done in cc)), λ _. refl)
 
 pub returns-in-Ok-clause-cause : goal.returns-in-Ok-clause-cause
 returns-in-Ok-clause-cause g c =

@@ -1,0 +1,24 @@
+-- Why the files before the regions are not prepared.
+use Rattle.std.specs.Prelude.{◌≡◌}
+use Rattle.lpis_commands.specs.CheckAnswer.{Answer}
+use Rattle.lpis_commands.specs.declared.failure.Failure.TheVariants.{Memory as NoMemory}
+use Rattle.lpis_commands.specs.declared.stop.Stop.{Stop}
+use Rattle.lpis_commands.specs.declared.stop.Stop.TheVariants as stop
+use Rattle.lpis_country_run.specs.CountryFailures.{IsOfNone}
+use Rattle.lpis_country_run.specs.declared.failure.CountryFailure.{CountryFailure}
+use Rattle.lpis_publish_country.specs.declared.unprepared.Unprepared.{Unprepared}
+use Rattle.lpis_publish_country.specs.declared.unprepared.Unprepared.TheVariants.{Failed, Refused}
+
+-- the run failed so, or the answer is one of these
+abbrev pub IsUnprepared : (CountryFailure → Type 0) → (Answer → Type 0) → Unprepared → Type 0
+IsUnprepared Fails Is (Failed f) = Fails f
+IsUnprepared Fails Is (Refused a) = Is (a.text.items, a.status)
+
+-- the run failed so
+abbrev pub IsFailed : (CountryFailure → Type 0) → Unprepared → Type 0
+IsFailed Fails e = (f : CountryFailure) × (e ≡ Failed f) × Fails f
+
+-- what a step stops with: memory ran out, or the same answer refuses
+abbrev pub IsOfStop : Stop → Unprepared → Type 0
+IsOfStop stop.Memory e = IsFailed (λ f. IsOfNone f NoMemory) e
+IsOfStop (stop.Refused a) e = e ≡ Refused a
