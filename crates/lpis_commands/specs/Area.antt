@@ -20,7 +20,7 @@ fives_text width d = sign_text d ++ fixed_point width (5 * nat_abs d)
 unfoldable pub area_text : ℤ → List ℕ
 area_text d = fives_text 7 d
 
--- s doubled square millimetres at one percent each, in square metres: one is 5/10^9 of these
+-- s of them at one percent each, in square metres: one is 5/10^9 of a square metre
 unfoldable pub eligible_text : ℤ → List ℕ
 eligible_text s = fives_text 9 s
 

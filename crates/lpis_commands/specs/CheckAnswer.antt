@@ -60,7 +60,7 @@ abbrev pub IsTableAnswer : {A : Type 0} → (A → Answer → Type 0) → Result
 IsTableAnswer IsNext (Err fault) a = a ≡ (refusal_text fault, unreadable)
 IsTableAnswer IsNext (Ok said) a = IsNext said a
 
--- of tables and a text: the line of their first fault, or the answer to what they say
+-- of tables and a text: the line of the tables' fault, else of the text's, or else the next answer
 abbrev pub IsInputAnswer : (Contents → Cert → Answer → Type 0) → Inputs → Answer → Type 0
 IsInputAnswer IsNext x =
     IsTableAnswer (λ r. IsCertAnswer (IsNext r) x.cert (verdict x.cert)) (release_in x.tables)

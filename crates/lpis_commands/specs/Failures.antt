@@ -39,7 +39,7 @@ IsUnreadRelease t failure =
     (failure ≡ Memory) ⊎ (failure ≡ Read Parcels) ⊎ (IsWithin t.parcels × (failure ≡ Read Covers))
     ⊎ (IsWithin t.parcels × IsWithin t.covers × (failure ≡ Read Classes))
 
--- each table of a release is within the limit
+-- what readers reported of each table is within the limit, as far as it is known
 abbrev pub AreWithin : TableTexts → Type 0
 AreWithin t = IsWithin t.parcels × IsWithin t.covers × IsWithin t.classes
 

@@ -4,7 +4,7 @@ ghost use Rattle.std.specs.Prelude.{◌≡◌, IfOk};
 ghost use Rattle.lpis_commands.specs.declared.stop.Stop.{Stop};
 
 use crate::answer::Answer;
-use std::alloc::{AllocError, AllocFailed};
+use std::alloc::AllocError;
 
 /// Why a step of a run gives nothing: the run ends with an answer that refuses what it was handed,
 /// or memory ran out.
@@ -20,14 +20,6 @@ impl From<AllocError> for Stop {
     ghost from_gives = { λ _ e. e ≡ Stop.Memory };
 
     fn from(_e: AllocError) -> Stop {
-        Stop::Memory
-    }
-}
-
-impl<T: Drop> From<AllocFailed<T>> for Stop {
-    ghost from_gives = { λ _ e. e ≡ Stop.Memory };
-
-    fn from(_e: AllocFailed<T>) -> Stop {
         Stop::Memory
     }
 }

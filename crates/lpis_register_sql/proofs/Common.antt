@@ -1,14 +1,13 @@
 -- The names that most proofs of this crate cite, passed on from one place. Declares nothing.
-pub use Rattle.lpis_register_rows.specs.Content.{Content, Format, StoredSpan, with_whole_span, with_whole_spans}
+pub use Rattle.lpis_register_rows.specs.Content.{Content, Format, StoredSpan}
 pub use Rattle.lpis_register_sql.specs.Holding.{AreKeyed, HoldsRows, IsStored, format_row, line_row, live_row, mark_row, span_row, text_row, year_row}
 pub use Rattle.lpis_register_sql.specs.Layouts.{First, LessMarks, LessTexts, Moved, New, Origin, Layout, Whole, has_live, has_marks, has_spans, has_texts, is_moved, mark_tree, no_schema}
 pub use Rattle.lpis_register_sql.specs.Layouts.{origin_of, schema_of, span_tree, text_tree}
-pub use Rattle.lpis_register_sql.specs.Tables.{format_table, mark_table, release_table, row_table, span_table, text_table}
-pub use Rattle.lpis_register_sql.specs.private.Inside.{Inside, IsQuiet, Turns}
+pub use Rattle.lpis_register_sql.specs.Tables.{format_table, mark_table, span_table, text_table}
+pub use Rattle.lpis_register_sql.specs.private.Inside.{Inside}
 pub use Rattle.lpis_register_sql.specs.private.Indices.{mark_place, span_place, text_place}
-pub use Rattle.lpis_register_sql.specs.private.Stages.{one_table, three_tables, two_tables}
 pub use Rattle.lpis_register_sql.specs.Statements.{read_format, read_line_text, read_live, read_mark, read_release, read_span, read_text}
-pub use Rattle.sqlite.proofs.Callers.{runs_as, statement_of}
+pub use Rattle.sqlite.proofs.Callers.{statement_of}
 pub use Rattle.sqlite.specs.Command.TheVariants.{Update}
 pub use Rattle.sqlite.specs.Compile.{table_defined_by}
 pub use Rattle.sqlite.specs.Does.{Does}
@@ -16,21 +15,18 @@ pub use Rattle.sqlite.specs.Edit.{edit_of, is_taken}
 pub use Rattle.sqlite.specs.Effect.{Database}
 pub use Rattle.sqlite.specs.Held.{state}
 unfoldable pub use Rattle.sqlite.specs.Listing.{understood}
-pub use Rattle.sqlite.specs.Order.{Row, column}
+pub use Rattle.sqlite.specs.Order.{Row}
 unfoldable pub use Rattle.sqlite.specs.Order.{value_cmp}
 pub use Rattle.sqlite.specs.Program.{overlay}
-pub use Rattle.sqlite.specs.Query.{IsAnswer, Output, output}
 pub use Rattle.sqlite.specs.Rowids.TheVariants.{Given}
 pub use Rattle.sqlite.specs.Schema.{Schema}
-pub use Rattle.sqlite.specs.State.{ExecutesInside, HasCleanDisk, State, Survives, mode_of}
+pub use Rattle.sqlite.specs.State.{HasCleanDisk, State, Survives, mode_of}
 pub use Rattle.sqlite.specs.Table.{Table}
 pub use Rattle.sqlite.specs.Term.{Term}
 pub use Rattle.sqlite.specs.Tree.{Trees, put_row, rowid}
 pub use Rattle.sqlite.specs.declared.error.Error.{Error}
 pub use Rattle.sqlite.specs.declared.types.Value.TheVariants.{Int, Null}
-pub use Rattle.sqlite_rules.specs.Calls.{ids_of}
 pub use Rattle.sqlite_rules.specs.Lists.{Has}
 pub use Rattle.std.proofs.lemmas.Bool.{and_parts, not-true}
 pub use Rattle.std.proofs.lemmas.Bool.Decides.{nat_tests}
-pub use Rattle.std.proofs.lemmas.List.Concat.{flat_map_single}
 pub use Rattle.std.proofs.lemmas.List.Sorted.{IsPermutation-map, IsPermutation-refl, IsPermutation-trans}

@@ -1,34 +1,23 @@
--- The orders of the tables while those that are not there are made.
-use Rattle.std.proofs.Common.{◌≡◌, true, refl, sym, true≢false}
-use Rattle.lpis_register_sql.proofs.Common.{Layout, has_marks, has_spans, has_texts}
+-- The tables that are not there, made beside those that hold rows.
+use Rattle.std.proofs.Common.{◌≡◌, true, refl}
+use Rattle.sqlite_trees.specs.declared.store.Store as store
+use Rattle.lpis_register_sql.proofs.Common.{Content, Database, First, Layout, LessMarks, LessTexts, Whole, has_marks}
 use Rattle.lpis_register_sql.specs.Layouts.{made_whole}
-use Rattle.lpis_register_sql.specs.private.Completing.{with_span_table, with_text_table}
-use Rattle.lpis_register_sql.proofs.MeaningLemmas.{in_all}
+use Rattle.lpis_register_sql.specs.Making.{completing_statements}
+use Rattle.lpis_register_sql.specs.Quiet.{IsFound}
+use Rattle.lpis_register_sql.specs.declared.found.Found.{Found}
+use Rattle.lpis_register_sql.proofs.StageLemmas.{mark_beside, span_beside, text_beside}
+use Rattle.lpis_register_sql.proofs.TurnLemmas.{Holds, Leads, nothing, one, then}
 
--- once `lpis_span` is made where it was missing, it is there in each order of the tables
-pub spans_stand : (s : Layout) → has_spans (with_span_table s) ≡ true
-spans_stand = in_all _ (λ x. refl) (λ x. refl) (λ x. refl) (λ x. refl) (λ x. refl) (λ x. refl) refl
-
--- making `lpis_span` does not change whether `lpis_text` is there
-pub texts_next : (s : Layout) → has_texts s ≡ has_texts (with_span_table s)
-texts_next = in_all _ (λ x. refl) (λ x. refl) (λ x. refl) (λ x. refl) (λ x. refl) (λ x. refl) refl
-
--- once `lpis_span` and then `lpis_text` are made where they were missing, `lpis_text` is there
-pub texts_stand : (s : Layout) → has_texts (with_text_table (with_span_table s)) ≡ true
-texts_stand = in_all _ (λ x. refl) (λ x. refl) (λ x. refl) (λ x. refl) (λ x. refl) (λ x. refl) refl
-
--- making `lpis_span` and then `lpis_text` does not change whether `lpis_mark` is there
-pub marks_next : (s : Layout) → has_marks s ≡ has_marks (with_text_table (with_span_table s))
-marks_next = in_all _ (λ x. refl) (λ x. refl) (λ x. refl) (λ x. refl) (λ x. refl) (λ x. refl) refl
-
--- the full order of the tables is the same whether or not `lpis_span` and `lpis_text` are made first
-pub whole_next : (s : Layout) → made_whole (with_text_table (with_span_table s)) ≡ made_whole s
-whole_next = in_all _ (λ x. refl) (λ x. refl) (λ x. refl) (λ x. refl) (λ x. refl) (λ x. refl) refl
-
--- ---- one step
+-- in each order, the tables that are not there are made, and those that are hold what they held
+pub completes : {S : Type 0} {g : store.Ghosts S} (found : Found) (base : Database) (c : Content) (s : Layout) → IsFound found s
+    → Leads g (Holds s base c) (completing_statements found) (Holds (made_whole s) base c)
+completes found base c (Whole o) there = rw (there.spans, there.texts, there.marks) nothing
+completes found base c (LessMarks o) there = rw (there.spans, there.texts, there.marks) (one (mark_beside o base c))
+completes found base c (LessTexts o) there = rw (there.spans, there.texts, there.marks) (then (one (text_beside o base c)) (one (mark_beside o base c)))
+completes found base c First there = rw (there.spans, there.texts, there.marks) (then (one (span_beside base c)) (then (one (text_beside _ base c)) (one (mark_beside _ base c))))
 
 -- an order of the tables that has `lpis_mark` is already the full one of version 3
 pub mark_there : (s : Layout) → has_marks s ≡ true → made_whole s ≡ s
-mark_there = in_all _ (λ x is. refl) (λ x is. refl) (λ x is. absurd (true≢false (sym is))) (λ x is. absurd (true≢false (sym is)))
-    (λ x is. absurd (true≢false (sym is))) (λ x is. absurd (true≢false (sym is)))
-    (λ is. absurd (true≢false (sym is)))
+mark_there (Whole o) there = refl
+mark_there s there = absurd cc

@@ -1,12 +1,14 @@
 -- What the statements that insert do.
-use Rattle.std.proofs.Common.{◌≡◌, ℕ, ℤ, pos, List, [], ◌∷◌, drop, slice_get, true, Some, Ok, refl, sym, subst, ◌∙◌}
-use Rattle.lpis_register_sql.proofs.Common.{IsPermutation-trans, IsPermutation-map, Int, Row, edit_of, Database, Trees, State, ExecutesInside, StoredSpan, Content}
+use Rattle.std.proofs.Common.{◌≡◌, ℕ, ℤ, pos, List, [], ◌∷◌, drop, slice_get, true, Some, refl, sym, subst, ◌∙◌}
+use Rattle.lpis_register_sql.proofs.Common.{IsPermutation-trans, IsPermutation-map, Int, Row, edit_of, Database, Trees, State, StoredSpan, Content}
 use Rattle.lpis_register_rows.specs.Content.{StoredText, Line, Mark, with_line}
-use Rattle.lpis_register_sql.proofs.Common.{with_whole_span, format_table}
+use Rattle.lpis_register_sql.proofs.Common.{format_table}
 use Rattle.lpis_register_rows.specs.Content.{with_text, with_mark}
-use Rattle.lpis_register_sql.proofs.Common.{release_table, span_table, row_table, text_table, mark_table, Layout, Origin, Whole, schema_of, span_tree, text_tree, mark_tree, span_place, text_place}
+use Rattle.lpis_register_sql.proofs.Common.{span_table, text_table, mark_table, Layout, Origin, Whole, schema_of, span_tree, text_tree, mark_tree, span_place, text_place}
 use Rattle.lpis_register_sql.proofs.Common.{mark_place, AreKeyed, format_row, year_row, span_row, line_row}
 use Rattle.lpis_register_sql.proofs.Common.{text_row, mark_row, HoldsRows, Inside}
+use Rattle.lpis_register_rows.specs.Content.{with_whole_span}
+use Rattle.lpis_register_sql.specs.Tables.{release_table, row_table}
 use Rattle.std.proofs.lemmas.List.Sorted.{IsPermutation-cons}
 use Rattle.sqlite.specs.declared.types.Value.TheVariants.{Text}
 use Rattle.sqlite.specs.Edit.{next_rowid}
@@ -21,7 +23,12 @@ use Rattle.lpis_register_sql.proofs.MeaningLemmas.{in_each, format_terms, insert
 use Rattle.lpis_register_sql.proofs.MeaningLemmas.{insert_line_means}
 use Rattle.lpis_register_sql.proofs.MeaningLemmas.{line_terms, pair_terms, insert_text_means, insert_mark_means}
 use Rattle.lpis_register_sql.proofs.PartLemmas.{KeepsAll, years_changed, spans_changed, lines_changed, texts_changed, marks_changed}
-use Rattle.lpis_register_sql.proofs.WriteLemmas.{cast_null, cast_int, Adds, adds, keyed_more}
+use Rattle.lpis_register_sql.proofs.WriteLemmas.{cast_null, cast_int, Adds, OneChange, adds, keyed_more}
+use Rattle.lpis_register_sql.specs.Holding.{Means}
+use Rattle.lpis_register_sql.specs.Making.{whole_span_statement}
+use Rattle.lpis_register_sql.specs.Stopping.{edit_statement, line_statement, mark_statement, span_statement, year_statement}
+use Rattle.lpis_register_rows.specs.Content.{Inserts}
+use Rattle.lpis_register_sql.proofs.TurnLemmas.{Holds, Turns}
 
 -- the news of each INSERT
 abbrev pub next_row : Trees → ℕ → Row → Row
@@ -60,118 +67,95 @@ mark_news trees tree m = rw (cast_null, cast_int m.year, cast_int m.position)
 -- ---- inside a transaction
 
 -- after a statement that commits nothing, the transaction is over the same commit and holds what the tables now hold
-pub inside_next : (s t : Layout) (base : Database) (old new : State) (c d : Content) → Inside s base old c → Shows old new new.now old.committed true → HoldsRows t new.now d → Inside t base new d
-inside_next s t base old new c d before shown holds = record { is_open = shown.is_open; in_transaction = shown.mode; base_is = shown.committed_is ∙ before.base_is; holds = holds }
+pub inside_next : {s t : Layout} {base : Database} {old new : State} {c d : Content} → Inside s base old c → Shows old new new.now old.committed true → HoldsRows t new.now d → Inside t base new d
+inside_next before shown holds = record { is_open = shown.is_open; in_transaction = shown.mode; base_is = shown.committed_is ∙ before.base_is; holds = holds }
 
-abbrev next_id : State → ℕ → ℤ
-next_id old tree = next_rowid (old.now.trees tree)
+-- also where it changes one table alone
+pub inside_after : {o : Origin} {base : Database} {old new : State} {c d : Content} {tree : ℕ} → Inside (Whole o) base old c → Shows old new new.now old.committed true → OneChange o old new tree
+    → Means (Whole o) new.now.trees d → Inside (Whole o) base new d
+inside_after before shown w means = inside_next before shown (record { schema = w.schema; sound = w.sound; means = means })
 
 -- a table with one row more keeps what it kept and that row
-more_kept : {X : Type 0} (row : X → Row) (x : X) (xs : List X) (o : Origin) (old new : State) (tree : ℕ) → KeepsAll row xs (old.now.trees tree)
-    → Adds o old new tree (Int (next_id old tree) ∷ row x) → KeepsAll row (x ∷ xs) (new.now.trees tree)
-more_kept row x xs o old new tree there a = (
+more_kept : {X : Type 0} (row : X → Row) (x : X) (xs : List X) {o : Origin} {old new : State} {tree : ℕ} → KeepsAll row xs (old.now.trees tree)
+    → Adds o old new tree (next_row old.now.trees tree (row x))
+    → KeepsAll row (x ∷ xs) (new.now.trees tree)
+more_kept row x xs {old = old} {tree = tree} there a = (
   IsPermutation-trans _ _ _ (IsPermutation-cons _ _ _ there.0) (IsPermutation-map (drop 1) _ _ a.more),
-  subst AreKeyed (sym a.rows) (keyed_more (old.now.trees tree) (next_id old tree) (row x) there.1 a.fresh),
+  subst AreKeyed (sym a.rows) (keyed_more (old.now.trees tree) (next_rowid (old.now.trees tree)) (row x) there.1 a.fresh),
 )
-
--- inside a transaction, the text that inserts into `lpis_release` adds the year and leaves the other rows
-pub release_inside : (o : Origin) (base : Database) (old new : State) (c : Content) (year : ℤ) (count : ℕ)
-    → Inside (Whole o) base old c → ExecutesInside 0 insert_release (Int year ∷ []) old new (Ok count)
-    → Inside (Whole o) base new (with_year year c)
-release_inside o base old new c year count before h =
-    let m = before.holds.means in
-    let a = adds o insert_release 1 2 (release_table 1) release_terms (Int year ∷ []) (year_row year) old new count
-    before.holds.schema (stands o) refl (insert_release_means o) (release_news old.now.trees year) h.0 in
-    inside_next (Whole o) (Whole o) base old new c _ before h.1 (record {
-      schema = a.schema;
-      sound = a.sound;
-      means = years_changed o old.now.trees new.now.trees c (year ∷ c.years) a.others m (IsPermutation-trans _ _ _ (IsPermutation-cons _ _ _ m.years_are) a.more);
-    })
-  where
-    stands : (o : Origin) → slice_get (schema_of (Whole o)).tables 1 ≡ Some (release_table 1)
-    stands = in_each _ (λ x. refl) (λ x. refl)
-
--- one span more, however its row came to be written
-span_more : (o : Origin) (base : Database) (old new : State) (c : Content) (p : StoredSpan) → Inside (Whole o) base old c → Shows old new new.now old.committed true
-    → Adds o old new (span_tree o) (Int (next_id old (span_tree o)) ∷ span_row p) → Inside (Whole o) base new (with_whole_span c p)
-span_more o base old new c p before shown a =
-    let m = before.holds.means in
-    inside_next (Whole o) (Whole o) base old new c _ before shown (record {
-      schema = a.schema;
-      sound = a.sound;
-      means = spans_changed o old.now.trees new.now.trees c (p ∷ c.spans) a.others m (more_kept span_row p c.spans o old new (span_tree o) m.spans_are a);
-    })
 
 -- `lpis_span` is at its place in the list of tables of version 3, wherever the register comes from
 pub span_stands : (o : Origin) → slice_get (schema_of (Whole o)).tables (span_place o) ≡ Some (span_table (span_tree o))
 span_stands = in_each _ (λ x. refl) (λ x. refl)
 
--- inserting an identifier and a year into `lpis_span` adds a span from that year on that has not ended
-pub span_inside : (o : Origin) (base : Database) (old new : State) (c : Content) (id : List ℕ) (since : ℤ) (count : ℕ) → Inside (Whole o) base old c
-    → ExecutesInside 0 insert_span (Text id ∷ Int since ∷ []) old new (Ok count) → Inside (Whole o) base new (with_span since c id)
-span_inside o base old new c id since count before h =
-    span_more o base old new c (record { id = id; since = since; until = pos 0 }) before h.1
-    (adds o insert_span (span_place o) 4 (span_table (span_tree o)) span_terms (Text id ∷ Int since ∷ []) _ old new
-    count before.holds.schema (span_stands o) refl (insert_span_means o)
-    (span_news old.now.trees (span_tree o) id since) h.0)
-
--- inserting all three columns into `lpis_span` adds that span, also one that has ended
-pub whole_span_inside : (o : Origin) (base : Database) (old new : State) (c : Content) (p : StoredSpan) (count : ℕ) → Inside (Whole o) base old c
-    → ExecutesInside 0 insert_whole_span (span_row p) old new (Ok count) → Inside (Whole o) base new (with_whole_span c p)
-whole_span_inside o base old new c p count before h =
-    span_more o base old new c p before h.1
-    (adds o insert_whole_span (span_place o) 4 (span_table (span_tree o)) whole_span_terms (span_row p) _ old new
-    count before.holds.schema (span_stands o) refl (insert_whole_span_means o)
-    (whole_span_news old.now.trees (span_tree o) p) h.0)
-
--- inside a transaction, the text that inserts into `lpis_row` adds that row of lineage and leaves the other rows
-pub line_inside : (o : Origin) (base : Database) (old new : State) (c : Content) (l : Line) (count : ℕ)
-    → Inside (Whole o) base old c → ExecutesInside 0 insert_line (line_row l) old new (Ok count)
-    → Inside (Whole o) base new (with_line c l)
-line_inside o base old new c l count before h =
-    let m = before.holds.means in
-    let a = adds o insert_line 3 5 (row_table 4) line_terms (line_row l) _ old new count before.holds.schema (stands o) refl (insert_line_means o) (line_news old.now.trees l) h.0 in
-    inside_next (Whole o) (Whole o) base old new c _ before h.1 (record {
-      schema = a.schema;
-      sound = a.sound;
-      means = lines_changed o old.now.trees new.now.trees c (l ∷ c.lines) a.others m (IsPermutation-trans _ _ _ (IsPermutation-cons _ _ _ m.lines_are) (IsPermutation-map (drop 1) _ _ a.more));
-    })
-  where
-    stands : (o : Origin) → slice_get (schema_of (Whole o)).tables 3 ≡ Some (row_table 4)
-    stands = in_each _ (λ x. refl) (λ x. refl)
-
--- `lpis_text` is at its place in the list of tables of version 3, wherever the register comes from
+-- so is `lpis_text`
 pub text_stands : (o : Origin) → slice_get (schema_of (Whole o)).tables (text_place o) ≡ Some (text_table (text_tree o))
 text_stands = in_each _ (λ x. refl) (λ x. refl)
 
--- inside a transaction, the text that inserts into `lpis_text` adds that text of a shape and leaves the other rows
-pub text_inside : (o : Origin) (base : Database) (old new : State) (c : Content) (t : StoredText) (count : ℕ) → Inside (Whole o) base old c
-    → ExecutesInside 0 insert_text (text_row t) old new (Ok count) → Inside (Whole o) base new (with_text c t)
-text_inside o base old new c t count before h =
-    let m = before.holds.means in
-    let tree = text_tree o in
-    let a = adds o insert_text (text_place o) 3 (text_table tree) pair_terms (text_row t) _ old new count before.holds.schema (text_stands o) refl (insert_text_means o)
-    (text_news old.now.trees tree t) h.0 in
-    inside_next (Whole o) (Whole o) base old new c _ before h.1 (record {
-      schema = a.schema;
-      sound = a.sound;
-      means = texts_changed o old.now.trees new.now.trees c (t ∷ c.texts) a.others m (more_kept text_row t c.texts o old new tree m.texts_are a);
-    })
-
--- `lpis_mark` is at its place in the list of tables of version 3, wherever the register comes from
+-- and `lpis_mark`
 pub mark_stands : (o : Origin) → slice_get (schema_of (Whole o)).tables (mark_place o) ≡ Some (mark_table (mark_tree o))
 mark_stands = in_each _ (λ x. refl) (λ x. refl)
 
--- inside a transaction, the text that inserts into `lpis_mark` adds that mark and leaves the other rows
-pub mark_inside : (o : Origin) (base : Database) (old new : State) (c : Content) (k : Mark) (count : ℕ) → Inside (Whole o) base old c
-    → ExecutesInside 0 insert_mark (mark_row k) old new (Ok count) → Inside (Whole o) base new (with_mark c k)
-mark_inside o base old new c k count before h =
-    let m = before.holds.means in
-    let tree = mark_tree o in
-    let a = adds o insert_mark (mark_place o) 3 (mark_table tree) pair_terms (mark_row k) _ old new count before.holds.schema (mark_stands o) refl (insert_mark_means o)
-    (mark_news old.now.trees tree k) h.0 in
-    inside_next (Whole o) (Whole o) base old new c _ before h.1 (record {
-      schema = a.schema;
-      sound = a.sound;
-      means = marks_changed o old.now.trees new.now.trees c (k ∷ c.marks) a.others m (more_kept mark_row k c.marks o old new tree m.marks_are a);
-    })
+release_stands : (o : Origin) → slice_get (schema_of (Whole o)).tables 1 ≡ Some (release_table 1)
+release_stands = in_each _ (λ x. refl) (λ x. refl)
+
+row_stands : (o : Origin) → slice_get (schema_of (Whole o)).tables 3 ≡ Some (row_table 4)
+row_stands = in_each _ (λ x. refl) (λ x. refl)
+
+-- one span more, however its row came to be written
+span_more : {o : Origin} {base : Database} {old new : State} {c : Content} (p : StoredSpan) → Inside (Whole o) base old c → Shows old new new.now old.committed true
+    → Adds o old new (span_tree o) (next_row old.now.trees (span_tree o) (span_row p)) → Inside (Whole o) base new (with_whole_span c p)
+span_more {c = c} p before shown a = inside_after before shown a.writes (spans_changed (p ∷ c.spans) a.writes.others before.holds.means (more_kept span_row p c.spans before.holds.means.spans_are a))
+
+module _ (o : Origin) (base : Database) (c : Content) where
+  -- the text that inserts into `lpis_release` adds the year and leaves the other rows
+  pub year_turns : (year : ℤ) → Turns (Holds (Whole o) base c) (year_statement year) (Holds (Whole o) base (with_year year c))
+  year_turns year = record {
+    turns = λ old new count before h.
+        let a = adds o insert_release 1 2 (release_table 1) release_terms (Int year ∷ []) (year_row year) old new count
+        before.holds.schema (release_stands o) refl (insert_release_means o) (release_news old.now.trees year) h.0 in
+        inside_after before h.1 a.writes (years_changed (year ∷ c.years) a.writes.others before.holds.means (IsPermutation-trans _ _ _ (IsPermutation-cons _ _ _ before.holds.means.years_are) a.more));
+  }
+
+  -- inserting an identifier and a year into `lpis_span` adds a span from that year on that has not ended
+  pub span_turns : (since : ℤ) (id : List ℕ) → Turns (Holds (Whole o) base c) (span_statement since id) (Holds (Whole o) base (with_span since c id))
+  span_turns since id = record {
+    turns = λ old new count before h.
+        span_more (record { id = id; since = since; until = pos 0 }) before h.1 (adds o insert_span (span_place o) 4 (span_table (span_tree o)) span_terms (Text id ∷ Int since ∷ []) _ old new
+        count before.holds.schema (span_stands o) refl (insert_span_means o) (span_news old.now.trees (span_tree o) id since) h.0);
+  }
+
+  -- inserting all three columns into `lpis_span` adds that span, also one that has ended
+  pub whole_span_turns : (p : StoredSpan) → Turns (Holds (Whole o) base c) (whole_span_statement p) (Holds (Whole o) base (with_whole_span c p))
+  whole_span_turns p = record {
+    turns = λ old new count before h.
+        span_more p before h.1 (adds o insert_whole_span (span_place o) 4 (span_table (span_tree o)) whole_span_terms (span_row p) _ old new
+        count before.holds.schema (span_stands o) refl (insert_whole_span_means o) (whole_span_news old.now.trees (span_tree o) p) h.0);
+  }
+
+  -- the text that inserts into `lpis_row` adds that row of lineage and leaves the other rows
+  pub line_turns : (l : Line) → Turns (Holds (Whole o) base c) (line_statement l) (Holds (Whole o) base (with_line c l))
+  line_turns l = record {
+    turns = λ old new count before h.
+        let a = adds o insert_line 3 5 (row_table 4) line_terms (line_row l) _ old new count before.holds.schema (row_stands o) refl (insert_line_means o) (line_news old.now.trees l) h.0 in
+        inside_after before h.1 a.writes (lines_changed (l ∷ c.lines) a.writes.others before.holds.means
+        (IsPermutation-trans _ _ _ (IsPermutation-cons _ _ _ before.holds.means.lines_are) (IsPermutation-map (drop 1) _ _ a.more)));
+  }
+
+  -- the text that inserts into `lpis_text` adds that text of a shape and leaves the other rows
+  pub text_turns : (t : StoredText) → Turns (Holds (Whole o) base c) (edit_statement (Inserts t)) (Holds (Whole o) base (with_text c t))
+  text_turns t = record {
+    turns = λ old new count before h.
+        let a = adds o insert_text (text_place o) 3 (text_table (text_tree o)) pair_terms (text_row t) _ old new count before.holds.schema (text_stands o) refl (insert_text_means o)
+        (text_news old.now.trees (text_tree o) t) h.0 in
+        inside_after before h.1 a.writes (texts_changed (t ∷ c.texts) a.writes.others before.holds.means (more_kept text_row t c.texts before.holds.means.texts_are a));
+  }
+
+  -- the text that inserts into `lpis_mark` adds that mark and leaves the other rows
+  pub mark_turns : (k : Mark) → Turns (Holds (Whole o) base c) (mark_statement k) (Holds (Whole o) base (with_mark c k))
+  mark_turns k = record {
+    turns = λ old new count before h.
+        let a = adds o insert_mark (mark_place o) 3 (mark_table (mark_tree o)) pair_terms (mark_row k) _ old new count before.holds.schema (mark_stands o) refl (insert_mark_means o)
+        (mark_news old.now.trees (mark_tree o) k) h.0 in
+        inside_after before h.1 a.writes (marks_changed (k ∷ c.marks) a.writes.others before.holds.means (more_kept mark_row k c.marks before.holds.means.marks_are a));
+  }

@@ -1,65 +1,71 @@
--- Calls that make statements, one after the other, and the transaction that is theirs.
-use Rattle.std.proofs.Common.{false, true, ◌≡◌, ◌++◌, ◌+◌, ◌<◌, ◌∷◌, ◌∙◌, [], ℕ, List, Ok, Err, Result, OnOk, IsTrue, IsErrAnd, ap, arith, drop, get_or, length, map, refl, subst, sym, take}
+-- Calls that make statements in a loop, and the transaction that is theirs.
+use Rattle.std.proofs.Common.{true, ◌≡◌, ◌++◌, ◌+◌, ◌<◌, ◌∷◌, ◌∙◌, [], ℕ, List, Ok, Err, Result, OnOk, IfErr, IsTrue, IsErrAnd, ap, arith, drop, get_or, length, map, refl, subst, sym, take}
 use Rattle.std.proofs.Math.Seq.{take-length}
-use Rattle.std.proofs.lemmas.List.{map-append, map_more, take-append-drop}
+use Rattle.std.proofs.lemmas.List.{append_assoc, map-append, map_more, take-append-drop}
 use Rattle.sqlite.specs.Held.{Held}
-use Rattle.sqlite.specs.State.{KeepsCounts, Shows}
+use Rattle.sqlite.specs.State.{Commits}
+use Rattle.sqlite.specs.Steps.{FailsToCommit}
 use Rattle.sqlite_trees.specs.declared.store.Store as store
-use Rattle.lpis_register_sql.specs.Stopping.{BoundStatement, Ran, RanAlone}
+use Rattle.lpis_register_sql.specs.Stopping.{BoundStatement, Ran, RanAlone, StopsWithin}
 use Rattle.lpis_register_sql.specs.private.Inside.{Makes}
-use Rattle.lpis_register_sql.proofs.Common.{Error, HasCleanDisk, IsQuiet, Survives, Trees, state}
-use Rattle.lpis_register_sql.proofs.StepLemmas.{quiet_on}
-use Rattle.lpis_register_sql.proofs.StopLemmas.{Halts, fails_first, fails_part, handed_on, makes_both, makes_more}
+use Rattle.lpis_register_sql.proofs.Common.{Error, HasCleanDisk, Survives, Trees, state}
+use Rattle.lpis_register_sql.proofs.StepLemmas.{IsCommitted}
+use Rattle.lpis_register_sql.proofs.StopLemmas.{failed_commit, fails, stops_still, then}
 
-module _ {S : Type 0} (g : store.Ghosts S) where
-  -- ---- calls in turn
+module _ {S : Type 0} {g : store.Ghosts S} where
+  -- ---- a loop
 
-  -- the first of two fails
-  pub first_fails : (xs ys : List BoundStatement) (a b : Held S) (e : Error) (r : Result (Unit {0}) Error) → IsErrAnd r (λ x. x ≡ e) → Halts g xs a b e → Makes g (xs ++ ys) a b r
-  first_fails xs ys a b e r is h = handed_on g (xs ++ ys) a b e r is (fails_first g xs ys a b e h)
+  -- statements that stop it are of all
+  pub loop_fails : {xs ys : List BoundStatement} (left all : List BoundStatement) {a b c : Held S} {x : Unit {0}} {e : Error} {r : Result (Unit {0}) Error} → IsErrAnd r (λ x. x ≡ e)
+      → xs ++ (ys ++ left) ≡ all → Makes g xs a b (Ok x) → Makes g ys b c (Err e) → Makes g all a c r
+  loop_fails left all {a = a} {c = c} {r = r} is of_all done stop = subst (λ l. Makes g l a c r) of_all (then done (fails left is stop))
 
-  -- the second of three
-  pub second_fails : (xs ys zs : List BoundStatement) (a b c : Held S) (e : Error) (r : Result (Unit {0}) Error) → IsErrAnd r (λ x. x ≡ e) → IsQuiet (state g a) (state g b)
-      → IsQuiet (state g b) (state g c) → Makes g xs a b (Ok tt) → Halts g ys b c e → Makes g (xs ++ (ys ++ zs)) a c r
-  second_fails xs ys zs a b c e r is one two made h =
-      handed_on g (xs ++ (ys ++ zs)) a c e r is (makes_both g xs (ys ++ zs) a b c (Err e) one two made (fails_first g ys zs b c e h))
-
-  -- each of three makes its statements
-  pub makes_three : (xs ys zs : List BoundStatement) (a b c d : Held S) (r : Result (Unit {0}) Error) → IsQuiet (state g a) (state g b) → IsQuiet (state g b) (state g c)
-      → IsQuiet (state g c) (state g d) → Makes g xs a b (Ok tt) → Makes g ys b c (Ok tt) → Makes g zs c d r → Makes g (xs ++ (ys ++ zs)) a d r
-  makes_three xs ys zs a b c d r one two three first second third =
-      makes_both g xs (ys ++ zs) a b d r one (quiet_on (state g b) (state g c) (state g d) two three) first (makes_both g ys zs b c d r two three second third)
-
-  -- ---- a loop with a statement an item
-
-  module _ {X : Type 0} (f : X → BoundStatement) (xs : List X) (i : ℕ) (d x : X) (a b c : Held S) (low : i < length xs) (is : x ≡ get_or xs i d) (one : IsQuiet (state g a) (state g b))
-      (two : IsQuiet (state g b) (state g c)) (made : Makes g (map f (take i xs)) a b (Ok tt)) where
-    -- one more
-    pub makes_item : (r : Result (Unit {0}) Error) → Makes g (f x ∷ []) b c r → Makes g (map f (take (i + 1) xs)) a c r
-    makes_item r more =
-        makes_more g (map f (take i xs)) (f x ∷ []) (map f (take (i + 1) xs)) a b c r (map_more f xs i d low ∙ ap (λ y. map f (take i xs) ++ f y ∷ []) (sym is)) one two made more
+  module _ {X : Type 0} (f : X → BoundStatement) (xs : List X) (i : ℕ) (d x : X) (low : i < length xs) (is : x ≡ get_or xs i d) where
+    -- the statement of one item more
+    pub makes_item : {a b c : Held S} {y z : Unit {0}} → Makes g (map f (take i xs)) a b (Ok y) → Makes g (f x ∷ []) b c (Ok z) → Makes g (map f (take (i + 1) xs)) a c (Ok z)
+    makes_item {a = a} {c = c} {z = z} done more =
+        subst (λ l. Makes g l a c (Ok z)) (ap (λ y. map f (take i xs) ++ f y ∷ []) is ∙ sym (map_more f xs i d low)) (then done more)
 
     -- which stops
-    pub item_fails : (e : Error) (r : Result (Unit {0}) Error) → IsErrAnd r (λ y. y ≡ e) → Halts g (f x ∷ []) b c e → Makes g (map f xs) a c r
-    item_fails e r same h = handed_on g (map f xs) a c e r same
-        (fails_part g (map f (take (i + 1) xs)) (map f (drop (i + 1) xs)) (map f xs) a c e
-        (ap (map f) (sym (take-append-drop (i + 1) xs)) ∙ map-append f (take (i + 1) xs) (drop (i + 1) xs)) (makes_item (Err e) h))
+    pub item_fails : {a b c : Held S} {y : Unit {0}} {e : Error} {r : Result (Unit {0}) Error} → IsErrAnd r (λ y. y ≡ e) → Makes g (map f (take i xs)) a b (Ok y) → Makes g (f x ∷ []) b c (Err e)
+        → Makes g (map f xs) a c r
+    item_fails same done stop = loop_fails (map f (drop (i + 1) xs)) (map f xs) same
+        (sym (append_assoc (map f (take i xs)) (f x ∷ []) (map f (drop (i + 1) xs)))
+        ∙ ap (λ l. l ++ map f (drop (i + 1) xs)) (ap (λ y. map f (take i xs) ++ f y ∷ []) is ∙ sym (map_more f xs i d low))
+        ∙ sym (map-append f (take (i + 1) xs) (drop (i + 1) xs)) ∙ ap (map f) (take-append-drop (i + 1) xs)) done stop
 
   -- and its end
-  pub makes_at_end : {X : Type 0} (f : X → BoundStatement) (xs : List X) (i : ℕ) (a b : Held S) → i ≡ length xs → Makes g (map f (take i xs)) a b (Ok tt) → Makes g (map f xs) a b (Ok tt)
-  makes_at_end f xs i a b ends made = subst (λ ys. Makes g (map f ys) a b (Ok tt)) (ap (λ n. take n xs) ends ∙ take-length xs) made
+  pub makes_all : {X : Type 0} (f : X → BoundStatement) (xs : List X) (i : ℕ) {a b : Held S} {x : Unit {0}} → i ≡ length xs → Makes g (map f (take i xs)) a b (Ok x) → Makes g (map f xs) a b (Ok x)
+  makes_all f xs i {a = a} {b = b} {x = x} ends made = subst (λ ys. Makes g (map f ys) a b (Ok x)) (ap (λ n. take n xs) ends ∙ take-length xs) made
 
-  -- ---- a transaction
+-- ---- a transaction
 
-  -- one that is committed has run its statements
-  pub committed_alone : (xs : List BoundStatement) (held first last end new : Held S) (r : Result (Unit {0}) Error) (P : Trees → Type 0) → first ≡ record held { in_transaction = true } → end ≡ new
-      → Survives (state g last) (state g end) P → Makes g xs first last (Ok tt)
-      → (HasCleanDisk (state g end) → OnOk r (IsTrue last.in_transaction × Shows (state g last) (state g end) (state g last).now (state g last).now false
-      × KeepsCounts (state g last) (state g end) × ((state g end).marks ≡ [])))
+module _ {S : Type 0} (g : store.Ghosts S) (held first end new : Held S) (begun : first ≡ record held { in_transaction = true }) (same : end ≡ new) where
+  seen_outside : (Q : Held S → Held S → Type 0) → (IsTrue (state g first).is_open → IsTrue first.in_transaction → HasCleanDisk (state g end) → Q first end)
+      → IsTrue (state g held).is_open → HasCleanDisk (state g new) → Q (record held { in_transaction = true }) new
+  seen_outside Q h up clean = subst (Q (record held { in_transaction = true })) same (subst (λ x. Q x end) begun
+      (h (subst (λ x. IsTrue (state g x).is_open) (sym begun) up) (subst (λ x. IsTrue x.in_transaction) (sym begun) refl) (subst (λ x. HasCleanDisk (state g x)) (sym same) clean)))
+
+module _ {S : Type 0} {g : store.Ghosts S} {xs : List BoundStatement} (held : Held S) {first last end new : Held S} (begun : first ≡ record held { in_transaction = true }) (same : end ≡ new) where
+  -- its statements were run, and it is not committed
+  pub commit_stops : {x : Unit {0}} {P : Trees → Type 0} (r : Result (Unit {0}) Error) → Makes g xs first last (Ok x) → Survives (state g last) (state g end) P
+      → (HasCleanDisk (state g end) → IfErr r (FailsToCommit (state g last) (state g end)))
+      → IsTrue (state g held).is_open → HasCleanDisk (state g new) → IfErr r (StopsWithin g xs (record held { in_transaction = true }) new)
+  commit_stops (Ok _) made ends err = λ up clean. tt
+  commit_stops (Err e) made ends err = seen_outside g held first end new begun same (λ a b. StopsWithin g xs a b e)
+      (λ up within clean. failed_commit g xs first last end e made.quiet.survives.counts (made.ends (omega (arith, ends.clean)) up within) up within (err clean))
+
+  -- its statements failed, and it is dropped
+  pub undone_stops : {e : Error} (r : Result (Unit {0}) Error) → IsErrAnd r (λ x. x ≡ e) → Makes g xs first last (Err e) → Survives (state g last) (state g end) (λ _. ⊥)
+      → IsTrue (state g held).is_open → HasCleanDisk (state g new) → IfErr r (StopsWithin g xs (record held { in_transaction = true }) new)
+  undone_stops (Ok _) is made drops = λ up clean. tt
+  undone_stops {e = e} (Err y) is made drops = seen_outside g held first end new begun same (λ a b. StopsWithin g xs a b y)
+      (λ up within clean. subst (StopsWithin g xs first end) (sym is) (stops_still g xs first last end e drops.counts (made.ends (omega (arith, drops.clean)) up within)))
+
+  -- it is committed
+  pub committed_alone : {x : Unit {0}} {P : Trees → Type 0} (r : Result (Unit {0}) Error) → Makes g xs first last (Ok x) → Survives (state g last) (state g end) P
+      → (HasCleanDisk (state g end) → IsCommitted (state g last) (state g end) r)
       → IsTrue (state g held).is_open → HasCleanDisk (state g new) → OnOk r (RanAlone g xs held new)
-  committed_alone xs held first last end new (Err e) P begun same ends made ok up clean = tt
-  committed_alone xs held first last end new (Ok x) P begun same ends made ok up clean =
-      let late : HasCleanDisk (state g end) = subst (λ h. HasCleanDisk (state g h)) (sym same) clean in
-      let ran : Ran g xs first last = made (omega (arith, late, ends.clean)) (subst (λ h. IsTrue (state g h).is_open) (sym begun) up) (subst (λ h. IsTrue h.in_transaction) (sym begun) refl) in
-      let it = ok late in
-      subst (RanAlone g xs held) same (last, subst (λ h. Ran g xs h last) begun ran, (it.1, it.2, it.3))
+  committed_alone (Err e) made ends ok = λ up clean. tt
+  committed_alone (Ok y) made ends ok = seen_outside g held first end new begun same (λ a b. (mid : Held S) × Ran g xs a mid × Commits (state g mid) (state g b))
+      (λ up within clean. let it = ok clean in (last, made.ends (omega (arith, ends.clean)) up within, (it.1, it.2, it.3)))

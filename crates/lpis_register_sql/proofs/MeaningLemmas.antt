@@ -1,12 +1,13 @@
 -- What the texts mean, in each order of the tables.
 use Rattle.std.proofs.Common.{◌≡◌, ℕ, Ok, refl, codes, [], ◌∷◌, None, true, false, pos, negsuc, List, sym, true≢false}
-use Rattle.lpis_register_sql.proofs.Common.{Null, Int, table_defined_by, Term, Update, understood, statement_of, Schema, Table, format_table, release_table, span_table}
+use Rattle.lpis_register_sql.proofs.Common.{Null, Int, table_defined_by, Term, Update, understood, statement_of, Schema, Table, format_table, span_table}
 use Rattle.sqlite.specs.Command.TheVariants.{CreateTable}
-use Rattle.lpis_register_sql.proofs.Common.{row_table}
 use Rattle.lpis_register_sql.proofs.Common.{Layout, Origin, New, First, Moved, Whole, LessMarks, LessTexts, schema_of, has_spans, has_live, has_texts, has_marks, span_tree, text_tree, mark_tree}
 use Rattle.lpis_register_sql.proofs.Common.{origin_of, no_schema, span_place}
-use Rattle.lpis_register_sql.proofs.Common.{text_place, mark_place, one_table, two_tables, three_tables, read_format, read_release, read_span, read_line_text, read_live, read_text, read_mark}
+use Rattle.lpis_register_sql.proofs.Common.{text_place, mark_place, read_format, read_release, read_span, read_line_text, read_live, read_text, read_mark}
 use Rattle.lpis_register_sql.proofs.Common.{text_table, mark_table}
+use Rattle.lpis_register_sql.specs.Tables.{release_table, row_table}
+use Rattle.lpis_register_sql.specs.private.Stages.{one_table, three_tables, two_tables}
 use Rattle.lpis_register_sql.specs.Beside.{Beside, nothing}
 use Rattle.sqlite_schema.specs.declared.program.Program.{Program}
 use Rattle.sqlite.specs.Term.{lit, col, op2}

@@ -5,7 +5,7 @@ use Rattle.sqlite_value.specs.Order.{Row}
 use Rattle.sqlite.specs.Effect.{Database}
 use Rattle.sqlite.specs.Clock.{timed}
 use Rattle.sqlite.specs.Listing.{understood, reads_listing, IsSourceOf}
-use Rattle.sqlite.specs.State.{State, IsUnchanged, IsRolledBack, IsNotRun, IsStatement, Fails, FailsToQuery, FailsToShow, Shown, ShowsRows}
+use Rattle.sqlite.specs.State.{State, IsUnchanged, IsRolledBack, IsNotRun, IsStatement, FailsToQuery, FailsToShow, Shown, ShowsRows}
 use Rattle.sqlite.specs.declared.error.Error.{Error}
 use Rattle.sqlite.proofs.Callers.{IsPlain, unchanged_then}
 
@@ -30,21 +30,6 @@ fails_same sql params old new e plain (inl (inr failed)) = inr failed.3
 fails_same sql params old new e plain (inr h) =
     let none = (subst IsPlain h.1.is plain).0 in
     let it = subst (FailsToShow old new sql h.0 (timed params h.0.formats h.1.now) e) none h.2 in inl it.3
-
--- a transaction that is undone later is undone
-undone_since : (old mid new : State) → IsUnchanged old mid → IsRolledBack mid new → IsRolledBack old new
-undone_since old mid new same back = record {
-  was_open = λ up. same.0.was_open;
-  undone = λ up. let it = back.undone up in (it.0 ∙ same.0.committed_is, it.1 ∙ same.0.committed_is);
-  autocommit = back.autocommit;
-  unmarked = back.unmarked;
-  counts = record { changes = back.counts.changes ∙ same.1.changes; last_rowid = back.counts.last_rowid ∙ same.1.last_rowid };
-}
-
--- a step that fails after calls that changed nothing
-pub step_fails : (old mid new : State) (e : Error) → IsUnchanged old mid → Fails mid new ⊥ e ⊎ IsUnchanged mid new → IsUnchanged old new ⊎ IsRolledBack old new
-step_fails old mid new e same (inl failed) = inr (undone_since old mid new same failed.3)
-step_fails old mid new e same (inr still) = inl (unchanged_then old mid new same still)
 
 -- one row more is read
 pub one_read : {X : Type 0} (shown : Row → X) (all next : List X) (rows : List Row) (row : Row) (it : X) → next ≡ all ++ it ∷ [] → shown row ≡ it → all ≡ map shown rows

@@ -1,7 +1,8 @@
 -- Trees list one schema, whatever it is.
 use Rattle.std.proofs.Common.{◌≡◌, inl, inr, ℕ, ◌+◌, ◌<◌, pos, List, [], ◌∷◌, ◌++◌, Bool, true, false, slice_get, Some, None, Ok, Result, refl, sym, ap, ap₂, subst, ◌∙◌, arith, true≢false, Option}
 use Rattle.std.proofs.Common.{MatchBool, bytes_eq, codes, filter}
-use Rattle.lpis_register_sql.proofs.Common.{nat_tests, Row, column, Database, State, Table, Schema, Trees, Has, table_defined_by, Content, HoldsRows, IsStored, Layout, no_schema, schema_of}
+use Rattle.lpis_register_sql.proofs.Common.{nat_tests, Row, Database, State, Table, Schema, Trees, Has, table_defined_by, Content, HoldsRows, IsStored, Layout, no_schema, schema_of}
+use Rattle.sqlite.specs.Order.{column}
 use Rattle.lpis_register_sql.specs.Holding.{Leaves}
 use Rattle.std.specs.List.{AllZip, AllByRecursion}
 use Rattle.std.specs.Fmt.{decimal}
@@ -172,14 +173,9 @@ empty_schema schema trees none b =
     let tables = subst (λ rows. AllZip IsTableRow (filter is_table_row rows) schema.tables) none b.lists.listed.tables in
     let indexes = subst (λ rows. AllZip (IsIndexRow schema.tables) (filter is_index_row rows) schema.indexes) none b.lists.listed.indexes in
     let views = subst (λ rows. AllZip IsViewRow (filter is_view_row rows) schema.views) none b.lists.listed.views in
-    let first : schema ≡ record no_schema { views = schema.views } =
-    ap₂ (λ ts is. record schema { tables = ts; indexes = is }) (no_rows IsTableRow _ tables)
-    (no_rows (IsIndexRow schema.tables) _ indexes) in
-    first ∙ ap (λ vs. record no_schema { views = vs }) (no_rows IsViewRow _ views)
-  where
-    no_rows : {X : Type 0} (R : Row → X → Type 0) (xs : List X) → AllZip R [] xs → xs ≡ []
-    no_rows R [] h = refl
-    no_rows R (x ∷ xs) h = absurd h
+    ap₂ (λ ts is. record schema { tables = ts; indexes = is }) (same_all IsTableRow same_table [] _ [] tables tt)
+    (same_all (IsIndexRow schema.tables) (same_index same_itself schema.tables b.lists.listed.named) [] _ [] indexes tt)
+    ∙ ap (λ vs. record no_schema { views = vs }) (same_all IsViewRow same_view [] _ [] views tt)
 
 -- what an open finds in trees that hold rows of the register
 pub opened_stored : (layout : Layout) (s : State) (c : Content) → Opens s → IsLive s → Leaves layout c s.committed.trees → IsStored layout s c

@@ -116,9 +116,12 @@ last_part : (o : Origin) (P : Table → Type 0) → AllByRecursion P (schema_of 
 last_part (New x) P h = h.1.1.1.1.1.1
 last_part (Moved x) P h = h.1.1.1.1.1.1.1
 
--- a step that leaves every table's tree but one of the register leaves what stands behind
-pub behind_kept : (o : Origin) (at : ℕ) (db next : Trees) → AllByRecursion (λ t. t.tree ≢ at → next t.tree ≡ db t.tree) (schema_of (Whole o)).tables
-    → nat_lt at (mark_tree o + 2) ≡ true → Stands (Whole o) db → Stands (Whole o) next
+-- a step that leaves every table's tree but one
+abbrev pub Others : Origin → ℕ → Trees → Trees → Type 0
+Others o at db next = AllByRecursion (λ t. t.tree ≢ at → next t.tree ≡ db t.tree) (schema_of (Whole o)).tables
+
+-- it leaves what stands behind, if that one is of the register
+pub behind_kept : (o : Origin) (at : ℕ) (db next : Trees) → Others o at db next → nat_lt at (mark_tree o + 2) ≡ true → Stands (Whole o) db → Stands (Whole o) next
 behind_kept o at db next h low stands = (stands.0, go (beside_of o).tables (last_part o _ h) stands.0 stands.1)
   where
     rows : Trees

@@ -1,6 +1,6 @@
 -- Statements of a transaction, in turn, and why they stop.
-use Rattle.std.proofs.Common.{◌≡◌, ℕ, Bool, true, false, List, [], ◌∷◌, ◌++◌, arith, refl, sym, ap, subst, ◌∙◌, Ok, Err, Result, OnOk, inl, inr, IsTrue, ◌⊎◌, IfErr, MatchBool}
-use Rattle.std.proofs.Common.{None, IsErrAnd}
+use Rattle.std.proofs.Common.{◌≡◌, ℕ, Bool, true, false, List, [], ◌∷◌, ◌++◌, arith, refl, sym, ap, subst, ◌∙◌, Ok, Err, Result, inl, inr, IsTrue, ◌⊎◌, MatchBool}
+use Rattle.std.proofs.Common.{None, IsErrAnd, MatchResult}
 use Rattle.std.proofs.lemmas.List.{append_assoc}
 use Rattle.std.proofs.Common.{◌≤◌}
 use Rattle.sqlite.specs.Held.{Held}
@@ -13,14 +13,11 @@ use Rattle.sqlite_trees.specs.declared.error.StoreError.TheVariants as cause
 use Rattle.sqlite_trees.specs.declared.store.Store as store
 use Rattle.sqlite.specs.declared.error.Error.TheVariants.{SqliteFailure}
 use Rattle.sqlite.specs.declared.error.ErrorCode.TheVariants as code
-use Rattle.lpis_register_sql.specs.private.Inside.{Makes}
-use Rattle.lpis_register_sql.proofs.Common.{Does, Error, ExecutesInside, HasCleanDisk, IsQuiet, State, Survives, Trees, mode_of, state}
-use Rattle.lpis_register_sql.specs.Stopping.{BoundStatement, IsRefusedIn, IsStuck, Ran, StopsWithin}
-
--- what follows of an answer follows where there is one
-pub on_ok : {A E P Q : Type 0} (r : Result A E) → (P → Q) → OnOk r P → OnOk r Q
-on_ok (Ok _) f p = f p
-on_ok (Err _) f p = tt
+use Rattle.lpis_register_sql.specs.private.Inside.{Ends, Makes}
+use Rattle.lpis_register_sql.proofs.Common.{Does, Error, State, mode_of, state}
+use Rattle.sqlite.specs.State.{ExecutesInside}
+use Rattle.lpis_register_sql.proofs.StepLemmas.{quiet_none, quiet_on}
+use Rattle.lpis_register_sql.specs.Stopping.{BoundStatement, IsRefusedIn, Ran, StopsWithin}
 
 -- ---- one statement
 
@@ -86,10 +83,6 @@ more_faults a b c low more = omega arith
 pub faults_kept : (a b c : ℕ) → MoreFaults a b → b ≤ c → MoreFaults a c
 faults_kept a b c more low = omega arith
 
--- a call that makes these statements in an open transaction fails, and says why
-abbrev pub Halts : {S : Type 0} → store.Ghosts S → List BoundStatement → Held S → Held S → Error → Type 0
-Halts g xs a b e = HasCleanDisk (state g b) → IsTrue (state g a).is_open → IsTrue a.in_transaction → StopsWithin g xs a b e
-
 module _ {S : Type 0} (g : store.Ghosts S) where
   -- ---- statements in turn
 
@@ -112,12 +105,15 @@ module _ {S : Type 0} (g : store.Ghosts S) where
   ran_then (x ∷ xs) ys a b c (mid, count, ran, same, more) s = (mid, count, ran, same, ran_then xs ys mid b c more s)
 
   -- statements that were run leave the transaction open
-  pub ran_open : (xs : List BoundStatement) (a b : Held S) → Ran g xs a b → IsTrue (state g a).is_open → IsTrue a.in_transaction → IsTrue (state g b).is_open × IsTrue b.in_transaction
+  ran_open : (xs : List BoundStatement) (a b : Held S) → Ran g xs a b → IsTrue (state g a).is_open → IsTrue a.in_transaction → IsTrue (state g b).is_open × IsTrue b.in_transaction
   ran_open [] a b r up within = subst (λ h. IsTrue (state g h).is_open × IsTrue h.in_transaction) r (up, within)
   ran_open (x ∷ xs) a b (mid, count, ran, same, more) up within = ran_open xs mid b more ran.1.is_open ran.1.mode
 
-  stuck_before : (xs ys : List BoundStatement) (a : Held S) → IsStuck g xs a → IsStuck g (xs ++ ys) a
-  stuck_before xs ys a s = record {
+  -- where the first of two lists stops, both do
+  stops_before : (xs ys : List BoundStatement) (a b : Held S) (e : Error) → StopsWithin g xs a b e → StopsWithin g (xs ++ ys) a b e
+  stops_before xs ys a b e (inl memory) = inl memory
+  stops_before xs ys a b e (inr (inl more)) = inr (inl more)
+  stops_before xs ys a b e (inr (inr s)) = inr (inr (record {
     before = s.before;
     next = s.next;
     after = s.after ++ ys;
@@ -125,10 +121,13 @@ module _ {S : Type 0} (g : store.Ghosts S) where
     reached = s.reached;
     ran = s.ran;
     refused = s.refused;
-  }
+  }))
 
-  stuck_after : (xs ys : List BoundStatement) (a b : Held S) → Ran g xs a b → IsStuck g ys b → IsStuck g (xs ++ ys) a
-  stuck_after xs ys a b ran s = record {
+  -- and where the first was run and the second stops
+  stops_after : (xs ys : List BoundStatement) (a b c : Held S) (e : Error) → (state g a).faults ≤ (state g b).faults → Ran g xs a b → StopsWithin g ys b c e → StopsWithin g (xs ++ ys) a c e
+  stops_after xs ys a b c e low ran (inl memory) = inl memory
+  stops_after xs ys a b c e low ran (inr (inl more)) = inr (inl (more_faults (state g a).faults (state g b).faults (state g c).faults low more))
+  stops_after xs ys a b c e low ran (inr (inr s)) = inr (inr (record {
     before = xs ++ s.before;
     next = s.next;
     after = s.after;
@@ -136,53 +135,15 @@ module _ {S : Type 0} (g : store.Ghosts S) where
     reached = s.reached;
     ran = ran_then xs s.before a b s.reached ran s.ran;
     refused = s.refused;
-  }
+  }))
 
-  -- where the first of two lists stops, both do
-  pub stops_before : (xs ys : List BoundStatement) (a b : Held S) (e : Error) → StopsWithin g xs a b e → StopsWithin g (xs ++ ys) a b e
-  stops_before xs ys a b e (inl memory) = inl memory
-  stops_before xs ys a b e (inr (inl more)) = inr (inl more)
-  stops_before xs ys a b e (inr (inr stuck)) = inr (inr (stuck_before xs ys a stuck))
+  both_end : (xs ys : List BoundStatement) (a b c : Held S) (r : Result (Unit {0}) Error) → (state g a).faults ≤ (state g b).faults → Ran g xs a b
+      → MatchResult r (λ _. Ran g ys b c) (StopsWithin g ys b c) → MatchResult r (λ _. Ran g (xs ++ ys) a c) (StopsWithin g (xs ++ ys) a c)
+  both_end xs ys a b c (Ok _) low first more = ran_then xs ys a b c first more
+  both_end xs ys a b c (Err e) low first more = stops_after xs ys a b c e low first more
 
-  -- and where the first was run and the second stops
-  pub stops_after : (xs ys : List BoundStatement) (a b c : Held S) (e : Error) → (state g a).faults ≤ (state g b).faults → Ran g xs a b → StopsWithin g ys b c e → StopsWithin g (xs ++ ys) a c e
-  stops_after xs ys a b c e low ran (inl memory) = inl memory
-  stops_after xs ys a b c e low ran (inr (inl more)) = inr (inl (more_faults (state g a).faults (state g b).faults (state g c).faults low more))
-  stops_after xs ys a b c e low ran (inr (inr stuck)) = inr (inr (stuck_after xs ys a b ran stuck))
-
-  -- of two calls, one after the other, each makes its statements
-  pub makes_both : (xs ys : List BoundStatement) (a b c : Held S) (r : Result (Unit {0}) Error) → IsQuiet (state g a) (state g b) → IsQuiet (state g b) (state g c)
-      → Makes g xs a b (Ok tt) → Makes g ys b c r → Makes g (xs ++ ys) a c r
-  makes_both xs ys a b c (Ok _) first second done more clean up within =
-      let ran : Ran g xs a b = done (omega (arith, second.survives.clean)) up within in
-      let on = ran_open xs a b ran up within in ran_then xs ys a b c ran (more clean on.0 on.1)
-  makes_both xs ys a b c (Err e) first second done more clean up within =
-      let ran : Ran g xs a b = done (omega (arith, second.survives.clean)) up within in
-      let on = ran_open xs a b ran up within in stops_after xs ys a b c e first.survives.counts ran (more clean on.0 on.1)
-
-  -- and where the first of them fails, that is all
-  pub fails_first : (xs ys : List BoundStatement) (a b : Held S) (e : Error) → Halts g xs a b e → Halts g (xs ++ ys) a b e
-  fails_first xs ys a b e h clean up within = stops_before xs ys a b e (h clean up within)
-
-  -- a failure that is handed on
-  pub handed_on : (xs : List BoundStatement) (a b : Held S) (e : Error) (r : Result (Unit {0}) Error) → IsErrAnd r (λ x. x ≡ e) → Halts g xs a b e → Makes g xs a b r
-  handed_on xs a b e (Ok _) is h = absurd is
-  handed_on xs a b e (Err x) is h = λ clean up within. subst (StopsWithin g xs a b) (sym is) (h clean up within)
-
-  -- no later call takes a cause away
-  stops_still : (xs : List BoundStatement) (a b c : Held S) (e : Error) → (state g b).faults ≤ (state g c).faults → StopsWithin g xs a b e → StopsWithin g xs a c e
-  stops_still xs a b c e low (inl memory) = inl memory
-  stops_still xs a b c e low (inr (inl more)) = inr (inl (faults_kept (state g a).faults (state g b).faults (state g c).faults more low))
-  stops_still xs a b c e low (inr (inr stuck)) = inr (inr stuck)
-
-  -- a transaction that is dropped after its statements failed
-  pub undone_stops : (xs : List BoundStatement) (a b c : Held S) (e : Error) (r : Result (Unit {0}) Error) → IsErrAnd r (λ x. x ≡ e) → Survives (state g b) (state g c) (λ _. ⊥) → Halts g xs a b e
-      → HasCleanDisk (state g c) → IsTrue (state g a).is_open → IsTrue a.in_transaction → IfErr r (StopsWithin g xs a c)
-  undone_stops xs a b c e (Ok _) is drops h clean up within = tt
-  undone_stops xs a b c e (Err x) is drops h clean up within =
-      subst (StopsWithin g xs a c) (sym is) (stops_still xs a b c e drops.counts (h (omega (arith, drops.clean)) up within))
-
-  failed_commit : (xs : List BoundStatement) (a b c : Held S) (e : Error) → (state g a).faults ≤ (state g b).faults → Ran g xs a b → IsTrue (state g a).is_open → IsTrue a.in_transaction
+  -- a transaction whose statements were run, and that is not committed
+  pub failed_commit : (xs : List BoundStatement) (a b c : Held S) (e : Error) → (state g a).faults ≤ (state g b).faults → Ran g xs a b → IsTrue (state g a).is_open → IsTrue a.in_transaction
       → FailsToCommit (state g b) (state g c) e → StopsWithin g xs a c e
   failed_commit xs a b c e low ran up within (inl failed) = elim (failing ⊥ (state g b) (state g c) e (ran_open xs a b ran up within).0 failed) [
     | inl memory ↦ inl memory
@@ -190,28 +151,35 @@ module _ {S : Type 0} (g : store.Ghosts S) where
   ]
   failed_commit xs a b c e low ran up within (inr late) = absurd (let on = (ran_open xs a b ran up within).1 in let off = late.1 in cc)
 
-  -- a transaction whose statements were run, and that is not committed
-  pub commit_stops : (xs : List BoundStatement) (a b c : Held S) (r : Result (Unit {0}) Error) (P : Trees → Type 0) → IsQuiet (state g a) (state g b) → Survives (state g b) (state g c) P
-      → (HasCleanDisk (state g c) → IfErr r (FailsToCommit (state g b) (state g c))) → Makes g xs a b (Ok tt)
-      → HasCleanDisk (state g c) → IsTrue (state g a).is_open → IsTrue a.in_transaction → IfErr r (StopsWithin g xs a c)
-  commit_stops xs a b c (Ok _) P quiet ends err done clean up within = tt
-  commit_stops xs a b c (Err e) P quiet ends err done clean up within =
-      failed_commit xs a b c e quiet.survives.counts (done (omega (arith, ends.clean)) up within) up within (err clean)
+  -- no later call takes a cause away
+  pub stops_still : (xs : List BoundStatement) (a b c : Held S) (e : Error) → (state g b).faults ≤ (state g c).faults → StopsWithin g xs a b e → StopsWithin g xs a c e
+  stops_still xs a b c e low (inl memory) = inl memory
+  stops_still xs a b c e low (inr (inl more)) = inr (inl (faults_kept (state g a).faults (state g b).faults (state g c).faults more low))
+  stops_still xs a b c e low (inr (inr stuck)) = inr (inr stuck)
 
-  -- a call that begins a transaction for its statements
-  pub begun_stops : (xs : List BoundStatement) (held first last new : Held S) (r : Result (Unit {0}) Error) → first ≡ record held { in_transaction = true } → last ≡ new
-      → (HasCleanDisk (state g last) → IsTrue (state g first).is_open → IsTrue first.in_transaction → IfErr r (StopsWithin g xs first last))
-      → IsTrue (state g held).is_open → HasCleanDisk (state g new) → IfErr r (StopsWithin g xs (record held { in_transaction = true }) new)
-  begun_stops xs held first last new r begun same h up clean =
-      subst (λ x. IfErr r (StopsWithin g xs (record held { in_transaction = true }) x)) same
-      (subst (λ x. IfErr r (StopsWithin g xs x last)) begun (h (subst (λ x. HasCleanDisk (state g x)) (sym same) clean)
-      (subst (λ x. IsTrue (state g x).is_open) (sym begun) up) (subst (λ x. IsTrue x.in_transaction) (sym begun) refl)))
+  -- a failure that is handed on
+  pub handed_on : (xs : List BoundStatement) (a b : Held S) (e : Error) (r : Result (Unit {0}) Error) → IsErrAnd r (λ x. x ≡ e) → Ends g xs a b (Err e) → Ends g xs a b r
+  handed_on xs a b e (Ok _) is h = absurd is
+  handed_on xs a b e (Err x) is h = λ clean up within. subst (StopsWithin g xs a b) (sym is) (h clean up within)
 
-  -- a loop makes the statements of one item more
-  pub makes_more : (xs ys zs : List BoundStatement) (a b c : Held S) (r : Result (Unit {0}) Error) → zs ≡ xs ++ ys → IsQuiet (state g a) (state g b) → IsQuiet (state g b) (state g c)
-      → Makes g xs a b (Ok tt) → Makes g ys b c r → Makes g zs a c r
-  makes_more xs ys zs a b c r is first second done more = subst (λ l. Makes g l a c r) (sym is) (makes_both xs ys a b c r first second done more)
+module _ {S : Type 0} {g : store.Ghosts S} where
+  -- a call that makes no statement
+  pub none : {a : Held S} {x : Unit {0}} → Makes g [] a a (Ok x)
+  none {a = a} = record { quiet = quiet_none (state g a); ends = λ clean up within. refl }
 
-  -- of the statements of a list, those of its beginning stop it
-  pub fails_part : (xs ys zs : List BoundStatement) (a b : Held S) (e : Error) → zs ≡ xs ++ ys → Halts g xs a b e → Halts g zs a b e
-  fails_part xs ys zs a b e is h = subst (λ l. Halts g l a b e) (sym is) (fails_first xs ys a b e h)
+  -- of two calls in turn each makes its statements
+  pub then : {xs ys : List BoundStatement} {a b c : Held S} {x : Unit {0}} {r : Result (Unit {0}) Error} → Makes g xs a b (Ok x) → Makes g ys b c r → Makes g (xs ++ ys) a c r
+  then {xs = xs} {ys = ys} {a = a} {b = b} {c = c} {r = r} first more = record {
+    quiet = quiet_on (state g a) (state g b) (state g c) first.quiet more.quiet;
+    ends = λ clean up within.
+        let ran : Ran g xs a b = first.ends (omega (arith, more.quiet.survives.clean)) up within in
+        let on = ran_open g xs a b ran up within in both_end g xs ys a b c r first.quiet.survives.counts ran (more.ends clean on.0 on.1);
+  }
+
+  -- and where the first of them fails, that is all
+  pub fails : {xs : List BoundStatement} (ys : List BoundStatement) {a b : Held S} {e : Error} {r : Result (Unit {0}) Error} → IsErrAnd r (λ x. x ≡ e) → Makes g xs a b (Err e)
+      → Makes g (xs ++ ys) a b r
+  fails {xs = xs} ys {a = a} {b = b} {e = e} {r = r} is h = record {
+    quiet = h.quiet;
+    ends = handed_on g (xs ++ ys) a b e r is (λ clean up within. stops_before g xs ys a b e (h.ends clean up within));
+  }

@@ -8,16 +8,18 @@ use Rattle.sqlite_resolve.specs.declared.error.CompileError.{CompileError}
 use Rattle.sqlite.specs.Clock.{timed}
 use Rattle.sqlite.specs.Effect.{Database, RefusesToRead}
 use Rattle.sqlite.specs.Listing.{understood, reads_listing, IsSourceOf}
-use Rattle.sqlite.specs.State.{Begins, FailsToQuery, FailsToShow, IsNotRun, IsNoStatement, IsStatement, IsUnchanged, ShowsRows, Shown, State, Survives, HasCleanDisk}
+use Rattle.sqlite.specs.State.{Begins, FailsToQuery, FailsToShow, IsNotRun, IsNoStatement, IsStatement, IsUnchanged, ShowsRows, Shown, State, HasCleanDisk}
 use Rattle.sqlite.specs.declared.error.Error.{Error}
 use Rattle.sqlite.specs.declared.error.Error.TheVariants.{SqliteFailure}
 use Rattle.sqlite.specs.declared.error.ErrorCode.TheVariants as code
 use Rattle.std.proofs.Common.{◌≤◌, IsErrAnd}
-use Rattle.sqlite.specs.Tree.{Trees}
 use Rattle.sqlite.proofs.Callers.{IsPlain, unchanged_then}
 use Rattle.lpis_register_sql.specs.declared.found.Found.{Found}
 use Rattle.lpis_register_sql.specs.Unread.{IsRefusedQuery, HasColumns, IsOfKind, IsUnanswered, IsUnread, ColumnKind, StoredTable, Tells, is_read, kinds_of, query_of}
 use Rattle.lpis_register_sql.specs.private.Telling.{TellsRows}
+use Rattle.lpis_register_rows.specs.Content.{Content}
+use Rattle.lpis_register_sql.specs.Quiet.{IsFound, ReadsRows}
+use Rattle.lpis_register_sql.proofs.QuietLemmas.{Told, nothing_yet, then, then_fails}
 use Rattle.lpis_register_sql.proofs.StopLemmas.{failing, faults_kept, more_faults, unchanged}
 
 -- ---- what is decided
@@ -159,43 +161,44 @@ unread_still found a b c low (inr h) = inr h
 
 -- ---- one call after the other
 
--- what the calls so far have told
-pub record Heard (found : Found) (a b : State) : Type 0 where
-  pub told : Tells {X = Unit {0}} found a b (Ok tt)
-  pub clean : HasCleanDisk b → HasCleanDisk a
+-- what the calls so far have answered, and what they have told
+pub record Loaded (found : Found) (Says : Content → Type 0) (a b : State) : Type 0 where
+  pub told : Told (IsFound found) Says a b
+  pub heard : HasCleanDisk b → IsTrue a.is_open → IsUnchanged a b ⊎ IsUnread found a b
   pub limit : b.step_limit ≡ a.step_limit
-  pub counts : a.faults ≤ b.faults
 
 -- before the first call
-pub heard_none : (found : Found) (a : State) → Heard found a a
-heard_none found a = record { told = λ clean up. inl (unchanged a up); clean = λ up. up; limit = refl; counts = omega arith }
+pub none_loaded : {found : Found} {a : State} → Loaded found (λ c. Unit {0}) a a
+none_loaded {a = a} = record { told = nothing_yet; heard = λ clean up. inl (unchanged a up); limit = refl }
 
--- one call more
-pub hear : {X : Type 0} {P : Trees → Type 0} (found : Found) (a b c : State) (x : X) → Heard found a b → Survives b c P → Tells found b c (Ok x) → Heard found a c
-hear found a b c x first two more = record {
-  told = λ clean up. elim (first.told (omega (arith, clean, two.clean)) up) [
-    | inr unread ↦ inr (unread_still found a b c two.counts unread)
-    | inl same ↦ elim (more clean same.0.is_open) [
-      | inl still ↦ inl (unchanged_then a b c same still)
-      | inr unread ↦ inr (unread_before found a b c same first.limit first.counts unread)
-    ]
-  ];
-  clean = λ clean. first.clean (omega (arith, clean, two.clean));
-  limit = two.limit ∙ first.limit;
-  counts = omega (arith, first.counts, two.counts);
-}
+heard_on : {Says : Content → Type 0} (found : Found) (a b c : State) → Loaded found Says a b → (Cause : Type 0) → (HasCleanDisk c → HasCleanDisk b) → b.faults ≤ c.faults
+    → (HasCleanDisk c → IsTrue b.is_open → (IsUnchanged a b → Cause) ⊎ IsUnread found b c) → HasCleanDisk c → IsTrue a.is_open → Cause ⊎ IsUnread found a c
+heard_on found a b c before Cause clean later more now up = elim (before.heard (clean now) up) [
+  | inr unread ↦ inr (unread_still found a b c later unread)
+  | inl same ↦ elim (more now same.0.is_open) [ inl cause ↦ inl (cause same) | inr unread ↦ inr (unread_before found a b c same before.limit before.told.survives.counts unread) ]
+]
 
--- the last of them, which fails
-pub hear_err : {Y : Type 0} {P : Trees → Type 0} (found : Found) (a b c : State) (e : Error) (r : Result Y Error) → Heard found a b → Survives b c P
-    → (HasCleanDisk c → IsTrue b.is_open → (e ≡ SqliteFailure code.OutOfMemory) ⊎ IsUnread found b c) → IsErrAnd r (λ x. x ≡ e) → Tells found a c r
-hear_err found a b c e (Ok y) first two more is = absurd is
-hear_err found a b c e (Err x) first two more is = λ clean up. subst (λ i. (i ≡ SqliteFailure code.OutOfMemory) ⊎ IsUnread found a c) (sym is) (elim (first.told (omega (arith, clean, two.clean)) up) [
-  | inr unread ↦ inr (unread_still found a b c two.counts unread)
-  | inl same ↦ elim (more clean same.0.is_open) [
-    | inl memory ↦ inl memory
-    | inr unread ↦ inr (unread_before found a b c same first.limit first.counts unread)
-  ]
-])
+module _ {found : Found} {Says : Content → Type 0} {X E : Type 0} {More : Content → X → Type 0} {a b c : State} (before : Loaded found Says a b) where
+  -- one call more
+  pub load : {x : X} → ReadsRows {E = E} (IsFound found) More b c (Ok x) → (HasCleanDisk c → IsTrue b.is_open → IsUnchanged b c ⊎ IsUnread found b c)
+      → Loaded found (λ content. Says content × More content x) a c
+  load reads more = record {
+    told = then (λ s p. p) before.told reads;
+    heard = heard_on found a b c before (IsUnchanged a c) (λ now. omega (arith, now, reads.survives.clean)) reads.survives.counts
+        (λ clean up. elim (more clean up) [ inl still ↦ inl (λ same. unchanged_then a b c same still) | inr unread ↦ inr unread ]);
+    limit = reads.survives.limit ∙ before.limit;
+  }
+
+  -- the last of them, which fails
+  pub load_fails : {Y : Type 0} {All : Content → Y → Type 0} {d : E} (e : Error) (r : Result Y Error) → IsErrAnd r (λ x. x ≡ e) → ReadsRows (IsFound found) More b c (Err d)
+      → (HasCleanDisk c → IsTrue b.is_open → (e ≡ SqliteFailure code.OutOfMemory) ⊎ IsUnread found b c) → ReadsRows (IsFound found) All a c r × Tells found a c r
+  load_fails e (Ok y) is reads more = absurd is
+  load_fails e (Err x) is reads more = (
+    then_fails {Why = λ y. y ≡ e} (x, refl, is) (λ s p. p) before.told reads,
+    λ clean up. subst (λ i. (i ≡ SqliteFailure code.OutOfMemory) ⊎ IsUnread found a c) (sym is)
+        (heard_on found a b c before (e ≡ SqliteFailure code.OutOfMemory) (λ now. omega (arith, now, reads.survives.clean)) reads.survives.counts
+        (λ clean up. elim (more clean up) [ inl memory ↦ inl (λ same. memory) | inr unread ↦ inr unread ]) clean up),
+  )
 
 -- ---- a row that is not read
 

@@ -1,5 +1,5 @@
 -- What UPDATE .. WHERE makes of a table's rows.
-use Rattle.std.proofs.Common.{◌≡◌, inl, inr, ℤ, List, [], ◌∷◌, ◌++◌, map, Bool, true, not, refl, sym, ap, ap₂, subst, ◌∙◌, IsPermutation, true≢false, is_eq, arith, if◌then◌else◌, ◌||◌, filter}
+use Rattle.std.proofs.Common.{◌≡◌, inl, inr, ℤ, List, [], ◌∷◌, ◌++◌, map, Bool, true, false, not, refl, sym, ap, ap₂, subst, ◌∙◌, IsPermutation, true≢false, is_eq, arith, if◌then◌else◌, ◌||◌, filter}
 use Rattle.std.specs.List.{list_any}
 use Rattle.std.proofs.lemmas.Bool.{cases_Bool}
 use Rattle.lpis_register_sql.proofs.Common.{nat_tests, and_parts, not-true, IsPermutation-refl, IsPermutation-trans, IsPermutation-map, Int, Row, value_cmp, rowid, put_row}
@@ -8,6 +8,7 @@ use Rattle.lpis_register_sql.proofs.Common.{Given, Has, AreKeyed}
 use Rattle.std.proofs.lemmas.Int.{ints}
 use Rattle.std.proofs.lemmas.List.Sorted.{IsPermutation-sym, IsPermutation-middle, IsPermutation-append, IsPermutation-append_right, IsPermutation-filter_both}
 use Rattle.std.proofs.lemmas.List.{map-append}
+use Rattle.std.proofs.lemmas.Simd.{map-map}
 use Rattle.std.proofs.lemmas.Cmp.{tied_itself}
 use Rattle.sqlite_value.proofs.OrderLemmas.{value_cmp_total, value_cmp-Int}
 use Rattle.sqlite.specs.Tree.{has_rowid, without_rowid}
@@ -30,6 +31,16 @@ put_all_more (n ∷ news) rows fresh =
     (IsPermutation-append_right news _ _ (put_more n rows (not-true (is_taken rows n) both_are.0))))
     (put_all_more news (put_row n rows) both_are.1)
 
+-- a filter that lets each item pass leaves the list as it is
+pub all_kept : {X : Type 0} (xs : List X) → filter (λ x. true) xs ≡ xs
+all_kept [] = refl
+all_kept (x ∷ xs) = ap (λ l. x ∷ l) (all_kept xs)
+
+-- a filter that lets no item pass leaves the empty list
+pub none_kept : {X : Type 0} (xs : List X) → filter (λ x. false) xs ≡ []
+none_kept [] = refl
+none_kept (x ∷ xs) = none_kept xs
+
 filter_twice : {X : Type 0} (p q : X → Bool) (xs : List X) → filter (λ x. not (q x)) (filter (λ x. not (p x)) xs) ≡ filter (λ x. not (p x || q x)) xs
 filter_twice p q [] = refl
 filter_twice p q (x ∷ xs) = elim (cases_Bool (p x)) [
@@ -46,11 +57,7 @@ is_gone ids r = list_any (λ id. has_rowid id r) ids
 
 -- taking rowids out one after the other leaves the rows with none of them, in their order
 pub without_is : (ids : List ℤ) (rows : List Row) → without_all rows ids ≡ filter (λ r. not (is_gone ids r)) rows
-without_is [] rows = sym (all rows)
-  where
-    all : (rows : List Row) → filter (λ r. true) rows ≡ rows
-    all [] = refl
-    all (r ∷ rows) = ap (λ l. r ∷ l) (all rows)
+without_is [] rows = sym (all_kept rows)
 without_is (id ∷ ids) rows = without_is ids (without_rowid id rows) ∙ filter_twice (has_rowid id) (is_gone ids) rows
 
 -- two tests that agree on each item of a list pick the same items
@@ -127,18 +134,10 @@ walk_replaces {X} p f g rows =
     subst (IsPermutation (map u rows)) (joined rows rows) (IsPermutation-map u _ _ (IsPermutation-filter_both p (λ r. not (p r)) (λ r. refl) rows))
   where
     hit : (rows : List Row) → map (λ r. if p r then g (f r) else g r) (filter p rows) ≡ map g (map f (filter p rows))
-    hit [] = refl
-    hit (r ∷ rows) = elim (cases_Bool (p r)) [
-      | inl hit_it ↦ rw hit_it (ap₂ ◌∷◌ (rw hit_it refl) (hit rows))
-      | inr miss_it ↦ rw miss_it (hit rows)
-    ]
+    hit rows = map_same_at _ _ (filter p rows) (λ r there. rw (has_filtered p rows r there).1 refl) ∙ sym (map-map g f (filter p rows))
 
     missed : (rows : List Row) → map (λ r. if p r then g (f r) else g r) (filter (λ r. not (p r)) rows) ≡ map g (filter (λ r. not (p r)) rows)
-    missed [] = refl
-    missed (r ∷ rows) = elim (cases_Bool (p r)) [
-      | inl hit_it ↦ rw hit_it (missed rows)
-      | inr miss_it ↦ rw miss_it (ap₂ ◌∷◌ (rw miss_it refl) (missed rows))
-    ]
+    missed rows = map_same_at _ _ (filter (λ r. not (p r)) rows) (λ r there. rw (not-true (p r) (has_filtered (λ r. not (p r)) rows r there).1) refl)
 
     joined : (xs ys : List Row) → map (λ r. if p r then g (f r) else g r) (filter p xs ++ filter (λ r. not (p r)) ys) ≡ map g (map f (filter p xs) ++ filter (λ r. not (p r)) ys)
     joined xs ys = map-append _ (filter p xs) _ ∙ ap₂ ◌++◌ (hit xs) (missed ys) ∙ sym (map-append g (map f (filter p xs)) _)

@@ -1,15 +1,16 @@
 -- What a statement that writes does to the trees.
-use Rattle.std.proofs.Common.{◌≡◌, ◌≢◌, ◌⊎◌, inl, inr, ℕ, ℤ, List, [], ◌∷◌, length, slice_get, Bool, true, false, cond, Some, None, Ok, Err, Result, refl, sym, ap, subst, ◌∙◌, IsPermutation, is_eq}
+use Rattle.std.proofs.Common.{◌≡◌, ◌⊎◌, inl, inr, ℕ, ℤ, List, [], ◌∷◌, length, slice_get, Bool, true, false, cond, Some, None, Ok, Err, Result, refl, sym, ap, subst, ◌∙◌, IsPermutation, is_eq}
 use Rattle.std.proofs.lemmas.Bool.{or_parts}
-use Rattle.std.proofs.Common.{true≢false, if◌then◌else◌, ◌/◌, ◌+◌, Option, MatchBool, is_lt, int_cmp, nat_lt}
-use Rattle.lpis_register_sql.proofs.Common.{and_parts, not-true, Null, Int, Row, value_cmp, Table, Update, edit_of, is_taken, ids_of, Has, Given, Does, Database, Schema, Term}
+use Rattle.std.proofs.Common.{true≢false, if◌then◌else◌, ◌/◌, Option, MatchBool, is_lt, int_cmp}
+use Rattle.lpis_register_sql.proofs.Common.{and_parts, not-true, Null, Int, Row, value_cmp, Table, Update, edit_of, is_taken, Has, Given, Does, Database, Schema, Term}
 use Rattle.lpis_register_sql.proofs.Common.{Trees}
-use Rattle.lpis_register_sql.proofs.Common.{rowid, put_row, Error, understood, State, mode_of, statement_of, runs_as, Origin, New, Moved, Whole, schema_of, is_moved, span_tree, text_tree, mark_tree}
+use Rattle.lpis_register_sql.proofs.Common.{rowid, put_row, Error, understood, State, mode_of, statement_of, Origin, Whole, schema_of}
 use Rattle.lpis_register_sql.proofs.Common.{AreKeyed}
+use Rattle.sqlite.proofs.Callers.{runs_as}
+use Rattle.sqlite_rules.specs.Calls.{ids_of}
 use Rattle.sqlite_schema.specs.declared.program.Program.{Program}
 use Rattle.sqlite.specs.Does.{Tally}
 use Rattle.sqlite.specs.declared.run.Mode.{Mode}
-use Rattle.std.specs.List.{AllByRecursion}
 use Rattle.std.proofs.lemmas.Cmp.{tied_itself}
 use Rattle.sqlite_value.proofs.OrderLemmas.{value_cmp_total}
 use Rattle.sqlite.specs.declared.types.Value.{Value}
@@ -26,12 +27,13 @@ use Rattle.sqlite.specs.Rowids.TheVariants.{Chosen}
 use Rattle.sqlite.specs.Does.{AtPlace, OnRows}
 use Rattle.sqlite.specs.Rows.{Written, Edited, stamped, Task, rowids_for, Counts, CountsIn, count_of, sequence}
 use Rattle.sqlite.specs.Effect.{value_rows, IsDatabase, Answers}
-use Rattle.sqlite.specs.State.{Executes}
-use Rattle.sqlite.proofs.Callers.{one_step}
+use Rattle.sqlite.specs.State.{Executes, Runs, Writes}
+use Rattle.sqlite.proofs.Callers.{IsPlain, command_of, one_step}
+use Rattle.sqlite_schema.specs.declared.command.Command.{Command}
 use Rattle.lpis_register_sql.proofs.MeaningLemmas.{Says}
-use Rattle.lpis_register_sql.specs.Standing.{Fits, Stands}
+use Rattle.lpis_register_sql.specs.Standing.{Fits}
 use Rattle.lpis_register_sql.proofs.PutLemmas.{put_more}
-use Rattle.lpis_register_sql.proofs.StandLemmas.{behind_kept, may_change, no_work, no_work_of_insert}
+use Rattle.lpis_register_sql.proofs.StandLemmas.{Others, may_change, no_work, no_work_of_insert}
 
 either : (b : Bool) (x : Value) → cond b x x ≡ x
 either true x = refl
@@ -55,6 +57,24 @@ did_not_stop (inr on) = on
 -- two equal Ok results have equal values
 pub same_value : {B E : Type 0} {a b : B} → ◌≡◌ {A = Result B E} (Ok a) (Ok b) → a ≡ b
 same_value e = cc
+
+-- what a statement does that was run, by what its text means
+pub record Run (s : Schema) (sql : List ℕ) (given : Row) (command : Command) (old new : State) : Type 0 where
+  pub tally : Tally
+  pub does : Does old.step_limit (mode_of old) given (record old.now { schema = s }) (statement_of sql (understood s sql)) None command (Ok (tally, new.now))
+  pub sound : IsDatabase new.now
+
+-- a statement that was run
+pub ran : (s : Schema) (sql : List ℕ) (given : Row) (command : Command) (old new : State) (count : ℕ)
+    → (Runs old new None command (statement_of sql (understood s sql)) given count → Writes old new None command (statement_of sql (understood s sql)) given count)
+    → old.now.schema ≡ s → (command_of (understood s sql) ≡ command) × IsPlain (understood s sql) → Executes sql given old new (Ok count) → Run s sql given command old new
+ran s sql given command old new count writes has says h =
+    let w = writes (runs_as sql given old new s has command says.0 says.1 count h) in
+    record {
+      tally = w.tally;
+      does = subst (λ it. Does old.step_limit (mode_of old) given (record old.now { schema = it }) (statement_of sql (understood s sql)) None command (Ok (w.tally, new.now))) has w.changed;
+      sound = w.sound;
+    }
 
 counts_none : (task : Task) (db next : Trees) (counter : Option Row) (top : ℤ) → task.table.is_counted ≡ false → Counts task db counter top (Ok next) → next ≡ db
 counts_none task db next counter top e h =
@@ -136,54 +156,24 @@ deletes limit mode params schema trees text index table q tally after at h =
       edited = subst (λ (t : Trees). Edited schema mode.keys trees (edit_of trees table (ids_of given.0) Given 0 []) (Ok t)) (sym (ap (λ (d : Database). d.trees) now ∙ trees_are)) written.1;
     }
 
--- the trees that a step on one table leaves
-pub record Kept (o : Origin) (at : ℕ) (db next : Trees) : Type 0 where
-  pub formats : (0 ≡ at → ⊥) → next 0 ≡ db 0
-  pub years : (1 ≡ at → ⊥) → next 1 ≡ db 1
-  pub spans : (span_tree o ≡ at → ⊥) → next (span_tree o) ≡ db (span_tree o)
-  pub lines : (4 ≡ at → ⊥) → next 4 ≡ db 4
-  pub live : is_moved o ≡ true → (2 ≡ at → ⊥) → next 2 ≡ db 2
-  pub texts : (text_tree o ≡ at → ⊥) → next (text_tree o) ≡ db (text_tree o)
-  pub marks : (mark_tree o ≡ at → ⊥) → next (mark_tree o) ≡ db (mark_tree o)
-  pub behind : nat_lt at (mark_tree o + 2) ≡ true → Stands (Whole o) db → Stands (Whole o) next
-
--- a step that leaves every table's tree but one leaves each of the register's tables, by name, but that one
-pub kept_of : (o : Origin) (at : ℕ) (db next : Trees) → AllByRecursion (λ t. t.tree ≢ at → next t.tree ≡ db t.tree) (schema_of (Whole o)).tables → Kept o at db next
-kept_of (New x) at db next h = record {
-  formats = h.0;
-  years = h.1.0;
-  spans = h.1.1.0;
-  lines = h.1.1.1.0;
-  live = λ is. absurd (true≢false (sym is));
-  texts = h.1.1.1.1.0;
-  marks = h.1.1.1.1.1.0;
-  behind = behind_kept (New x) at db next h;
-}
-kept_of (Moved x) at db next h = record {
-  formats = h.0;
-  years = h.1.0;
-  spans = h.1.1.1.1.0;
-  lines = h.1.1.1.0;
-  live = λ is. h.1.1.0;
-  texts = h.1.1.1.1.1.0;
-  marks = h.1.1.1.1.1.1.0;
-  behind = behind_kept (Moved x) at db next h;
-}
-
 -- an edit that came to its end, foreign keys enforced, is one step: no foreign key acts
 pub step_of : (o : Origin) (trees next : Trees) (edit : Edit) → Fits (Whole o) → may_change o edit.table.tree ≡ true → Edited (schema_of (Whole o)) Enforced trees edit (Ok next)
     → Applies (schema_of (Whole o)) Enforced trees edit next
 step_of o trees next edit fits changes h =
     one_step (schema_of (Whole o)) Enforced trees next edit (no_work o edit.table.tree (taken_by trees edit) edit.news fits changes) h
 
--- one row more in one table
-pub record Adds (o : Origin) (old new : State) (tree : ℕ) (row : Row) : Type 0 where
+-- a statement that changes one table alone
+pub record OneChange (o : Origin) (old new : State) (tree : ℕ) : Type 0 where
   pub schema : new.now.schema ≡ schema_of (Whole o)
   pub sound : IsDatabase new.now
+  pub others : Others o tree old.now.trees new.now.trees
+
+-- one row more in it
+pub record Adds (o : Origin) (old new : State) (tree : ℕ) (row : Row) : Type 0 where
+  pub writes : OneChange o old new tree
   pub more : IsPermutation (row ∷ old.now.trees tree) (new.now.trees tree)
   pub rows : new.now.trees tree ≡ put_row row (old.now.trees tree)
   pub fresh : is_taken (old.now.trees tree) row ≡ false
-  pub others : Kept o tree old.now.trees new.now.trees
 
 -- an INSERT whose terms make one row adds just that row to its table, and leaves the other tables
 pub adds : (o : Origin) (sql : List ℕ) (index width : ℕ) (table : Table) (terms : List Term) (params row : Row) (old new : State) (count : ℕ) → old.now.schema ≡ schema_of (Whole o)
@@ -194,22 +184,16 @@ pub adds : (o : Origin) (sql : List ℕ) (index width : ℕ) (table : Table) (te
 adds o sql index width table terms params row old new count has at plain_key means news h =
     let s = schema_of (Whole o) in
     let db = old.now.trees in
-    let w = runs_as sql params old new s has (Insert index (Values terms width)) means.0 means.1 count h in
-    let text = statement_of sql (understood s sql) in
-    let made = inserts old.step_limit (mode_of old) params s db text index table terms width w.tally new.now
-    at plain_key
-    (subst (λ s. Does old.step_limit (mode_of old) params (record old.now { schema = s }) text None
-    (Insert index (Values terms width)) (Ok (w.tally, new.now))) has w.changed) in
+    let w = ran s sql params (Insert index (Values terms width)) old new count (λ w. w) has means h in
+    let made = inserts old.step_limit (mode_of old) params s db (statement_of sql (understood s sql)) index table terms width w.tally new.now at plain_key w.does in
     let step = one_step s (mode_of old).keys db new.now.trees _ (no_work_of_insert o (mode_of old).keys table.tree _) made.1 in
     let free : is_taken (db table.tree) row ≡ false = not-true _ (and_parts _ _ (subst (λ n. are_fresh (db table.tree) n ≡ true) news step.fresh)).0 in
     let rows : new.now.trees table.tree ≡ put_row row (db table.tree) = step.rows ∙ ap (λ n. put_all (db table.tree) n) news in
     record {
-      schema = made.0;
-      sound = w.sound;
+      writes = record { schema = made.0; sound = w.sound; others = step.tables };
       more = subst (IsPermutation (row ∷ db table.tree)) (sym rows) (put_more row (db table.tree) free);
       rows = rows;
       fresh = free;
-      others = kept_of o table.tree db new.now.trees step.tables;
     }
 
 -- a fresh row with a number keeps the rowids apart

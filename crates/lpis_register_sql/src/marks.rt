@@ -1,15 +1,12 @@
 //! The marks of the rows of lineage, written.
 
 ghost use Rattle.std.specs.Prelude.{◌≡◌, ◌<◌, ◌^◌, ◌∷◌, [], map, pos};
-ghost use Rattle.sqlite.specs.Held.{state};
-ghost use Rattle.lpis_register_rows.specs.Content.{marks_from, with_mark};
-ghost use Rattle.lpis_register_rows.specs.Content.{without_marks};
+ghost use Rattle.lpis_register_rows.specs.Content.{marks_from};
 ghost use Rattle.lpis_register_sql.specs.Making.{plain_statement};
 ghost use Rattle.lpis_register_sql.specs.Statements.{clear_mark};
 ghost use Rattle.lpis_register_sql.specs.Stopping.{mark_statement};
-ghost use Rattle.lpis_register_sql.specs.private.Inside.{IsQuiet, Makes, Turns};
+ghost use Rattle.lpis_register_sql.specs.private.Inside.{Makes};
 ghost use Rattle.lpis_register_sql.specs.private.Lines.{mark_at};
-ghost use Rattle.lpis_register_sql.specs.private.Tasks.{after, mark_task, statement_of};
 
 use crate::statements::run;
 use lpis_lineage::Row;
@@ -18,11 +15,8 @@ use sqlite::{Alter, Error, Transaction, params};
 /// No mark is left.
 pub(crate) fn clear_marks<S: Alter>(tx: &mut Transaction<'_, S>) -> Result<(), Error>
     ensures same_reference { tx.new.conn.ghost_name ≡ tx.old.conn.ghost_name }
-    ensures cleared { Turns without_marks (state S.Store tx.old.conn.now)
-        (state S.Store tx.new.conn.now) result }
     ensures makes { Makes S.Store (plain_statement clear_mark ∷ [])
         tx.old.conn.now tx.new.conn.now result }
-    ensures quiet { IsQuiet (state S.Store tx.old.conn.now) (state S.Store tx.new.conn.now) }
 {
     run(tx, "DELETE FROM lpis_mark", &[])
 }
@@ -35,11 +29,8 @@ fn insert_mark<S: Alter>(
 ) -> Result<(), Error>
     requires small { position < 2 ^ 63 }
     ensures same_reference { tx.new.conn.ghost_name ≡ tx.old.conn.ghost_name }
-    ensures adds { Turns (λ c. with_mark c (mark_at (pos year) (pos position)))
-        (state S.Store tx.old.conn.now) (state S.Store tx.new.conn.now) result }
     ensures makes { Makes S.Store (mark_statement (mark_at (pos year) (pos position)) ∷ []) tx.old.conn.now
         tx.new.conn.now result }
-    ensures quiet { IsQuiet (state S.Store tx.old.conn.now) (state S.Store tx.new.conn.now) }
 {
     let position = position as i64;
     run(
@@ -58,12 +49,9 @@ pub(crate) fn insert_if<S: Alter>(
 ) -> Result<(), Error>
     requires small { position < 2 ^ 63 }
     ensures same_reference { tx.new.conn.ghost_name ≡ tx.old.conn.ghost_name }
-    ensures adds { Turns (after (map mark_task (marks_from (pos year) position (row.now ∷ []))))
-        (state S.Store tx.old.conn.now) (state S.Store tx.new.conn.now) result }
     ensures makes { Makes S.Store
-        (map statement_of (map mark_task (marks_from (pos year) position (row.now ∷ []))))
+        (map mark_statement (marks_from (pos year) position (row.now ∷ [])))
         tx.old.conn.now tx.new.conn.now result }
-    ensures quiet { IsQuiet (state S.Store tx.old.conn.now) (state S.Store tx.new.conn.now) }
 {
     if row.exact {
         insert_mark(tx, year, position)

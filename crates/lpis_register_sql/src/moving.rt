@@ -1,14 +1,10 @@
 //! Moving a database of version 1 or 2 to version 3, in one transaction.
 
-ghost use Rattle.std.specs.Prelude.{◌≡◌, ◌∷◌, [], pos, false, true, IfErr, IsTrue};
-ghost use Rattle.std.specs.Prelude.{OnOk, map};
+ghost use Rattle.std.specs.Prelude.{◌≡◌, ◌∷◌, [], false, true, IfErr, IsTrue};
+ghost use Rattle.std.specs.Prelude.{map};
 ghost use Rattle.sqlite.specs.Held.{state};
 ghost use Rattle.sqlite.specs.State.{HasCleanDisk};
-ghost use Rattle.lpis_register_rows.specs.Content.{in_spans, moved, raised, with_version};
-ghost use Rattle.lpis_register_rows.specs.Content.{with_whole_span, with_whole_spans};
-ghost use Rattle.lpis_register_rows.specs.Content.{without_live, without_spans};
-ghost use Rattle.lpis_register_rows.specs.Histories.{only_format};
-ghost use Rattle.lpis_register_sql.specs.Layouts.{Moved, Whole, is_moved, made_whole};
+ghost use Rattle.lpis_register_rows.specs.Content.{moved, raised};
 ghost use Rattle.lpis_register_sql.specs.Making.{completing_statements, lives_emptied};
 ghost use Rattle.lpis_register_sql.specs.Making.{moving_statements, plain_statement};
 ghost use Rattle.lpis_register_sql.specs.Making.{raising_statements, spans_in_place};
@@ -16,7 +12,7 @@ ghost use Rattle.lpis_register_sql.specs.Making.{version_in_place, whole_span_st
 ghost use Rattle.lpis_register_sql.specs.Quiet.{IsFound};
 ghost use Rattle.lpis_register_sql.specs.Statements.{clear_live, clear_span, set_version};
 ghost use Rattle.lpis_register_sql.specs.Stopping.{StopsWithin};
-ghost use Rattle.lpis_register_sql.specs.private.Inside.{Inside, IsQuiet, Makes, Turns};
+ghost use Rattle.lpis_register_sql.specs.private.Inside.{Makes};
 ghost use Rattle.lpis_register_sql.specs.private.Lines.{span_at};
 ghost use Rattle.lpis_register_sql.specs.Commits.{IsFoundOf, Rewrites};
 
@@ -31,11 +27,8 @@ use sqlite::{Alter, Connection, Error, Transaction, params};
 /// No span is left.
 fn clear_spans<S: Alter>(tx: &mut Transaction<'_, S>) -> Result<(), Error>
     ensures same_reference { tx.new.conn.ghost_name ≡ tx.old.conn.ghost_name }
-    ensures cleared { Turns without_spans
-        (state S.Store tx.old.conn.now) (state S.Store tx.new.conn.now) result }
     ensures makes { Makes S.Store (plain_statement clear_span ∷ [])
         tx.old.conn.now tx.new.conn.now result }
-    ensures quiet { IsQuiet (state S.Store tx.old.conn.now) (state S.Store tx.new.conn.now) }
 {
     run(tx, "DELETE FROM lpis_span", &[])
 }
@@ -43,13 +36,8 @@ fn clear_spans<S: Alter>(tx: &mut Transaction<'_, S>) -> Result<(), Error>
 /// Nothing is left of what version 1 has in place of spans.
 fn clear_lives<S: Alter>(tx: &mut Transaction<'_, S>) -> Result<(), Error>
     ensures same_reference { tx.new.conn.ghost_name ≡ tx.old.conn.ghost_name }
-    ensures cleared { HasCleanDisk (state S.Store tx.new.conn.now) → (beside : _) (base : _) (c : _)
-        → Inside (Whole (Moved beside)) base (state S.Store tx.old.conn.now) c
-        → OnOk result (Inside (Whole (Moved beside)) base (state S.Store tx.new.conn.now)
-        (without_live c)) }
     ensures makes { Makes S.Store (plain_statement clear_live ∷ [])
         tx.old.conn.now tx.new.conn.now result }
-    ensures quiet { IsQuiet (state S.Store tx.old.conn.now) (state S.Store tx.new.conn.now) }
 {
     run(tx, "DELETE FROM lpis_live", &[])
 }
@@ -57,14 +45,8 @@ fn clear_lives<S: Alter>(tx: &mut Transaction<'_, S>) -> Result<(), Error>
 /// The version is 3.
 fn set_version<S: Alter>(tx: &mut Transaction<'_, S>) -> Result<(), Error>
     ensures same_reference { tx.new.conn.ghost_name ≡ tx.old.conn.ghost_name }
-    ensures set { HasCleanDisk (state S.Store tx.new.conn.now) → (origin : _) (base : _) (c : _)
-        → (version : _) → c.formats ≡ only_format version
-        → Inside (Whole origin) base (state S.Store tx.old.conn.now) c
-        → OnOk result (Inside (Whole origin) base (state S.Store tx.new.conn.now)
-        (with_version (pos 3) c)) }
     ensures makes { Makes S.Store (plain_statement set_version ∷ [])
         tx.old.conn.now tx.new.conn.now result }
-    ensures quiet { IsQuiet (state S.Store tx.old.conn.now) (state S.Store tx.new.conn.now) }
 {
     run(tx, "UPDATE lpis_format SET version = 3", &[])
 }
@@ -77,12 +59,8 @@ fn insert_span_at<S: Alter>(
     until: i64,
 ) -> Result<(), Error>
     ensures same_reference { tx.new.conn.ghost_name ≡ tx.old.conn.ghost_name }
-    ensures adds { Turns (λ c. with_whole_span c
-        (span_at id.now since until)) (state S.Store tx.old.conn.now)
-        (state S.Store tx.new.conn.now) result }
     ensures makes { Makes S.Store (whole_span_statement (span_at id.now since until) ∷ [])
         tx.old.conn.now tx.new.conn.now result }
-    ensures quiet { IsQuiet (state S.Store tx.old.conn.now) (state S.Store tx.new.conn.now) }
 {
     run(
         tx,
@@ -94,11 +72,8 @@ fn insert_span_at<S: Alter>(
 /// One more span.
 fn insert_whole_span<S: Alter>(tx: &mut Transaction<'_, S>, span: &SpanRow) -> Result<(), Error>
     ensures same_reference { tx.new.conn.ghost_name ≡ tx.old.conn.ghost_name }
-    ensures adds { Turns (λ c. with_whole_span c span.now)
-        (state S.Store tx.old.conn.now) (state S.Store tx.new.conn.now) result }
     ensures makes { Makes S.Store (whole_span_statement span.now ∷ [])
         tx.old.conn.now tx.new.conn.now result }
-    ensures quiet { IsQuiet (state S.Store tx.old.conn.now) (state S.Store tx.new.conn.now) }
 {
     insert_span_at(tx, span.id.as_str(), span.since, span.until)
 }
@@ -106,11 +81,8 @@ fn insert_whole_span<S: Alter>(tx: &mut Transaction<'_, S>, span: &SpanRow) -> R
 /// Spans, in this order.
 fn insert_whole_spans<S: Alter>(tx: &mut Transaction<'_, S>, spans: &[SpanRow]) -> Result<(), Error>
     ensures same_reference { tx.new.conn.ghost_name ≡ tx.old.conn.ghost_name }
-    ensures adds { Turns (with_whole_spans spans.now)
-        (state S.Store tx.old.conn.now) (state S.Store tx.new.conn.now) result }
     ensures makes { Makes S.Store (map whole_span_statement spans.now)
         tx.old.conn.now tx.new.conn.now result }
-    ensures quiet { IsQuiet (state S.Store tx.old.conn.now) (state S.Store tx.new.conn.now) }
 {
     for span in spans {
         insert_whole_span(tx, span)?;
@@ -121,14 +93,8 @@ fn insert_whole_spans<S: Alter>(tx: &mut Transaction<'_, S>, spans: &[SpanRow]) 
 /// Nothing is left in `lpis_live`, where it is there.
 fn empty_lives<S: Alter>(tx: &mut Transaction<'_, S>, found: &Found) -> Result<(), Error>
     ensures same_reference { tx.new.conn.ghost_name ≡ tx.old.conn.ghost_name }
-    ensures emptied { HasCleanDisk (state S.Store tx.new.conn.now) → (origin : _)
-        → found.now.lives ≡ is_moved origin → (base : _) (c : _)
-        → Inside (Whole origin) base (state S.Store tx.old.conn.now) c
-        → OnOk result (Inside (Whole origin) base (state S.Store tx.new.conn.now)
-        (without_live c)) }
     ensures makes { Makes S.Store (lives_emptied found.now)
         tx.old.conn.now tx.new.conn.now result }
-    ensures quiet { IsQuiet (state S.Store tx.old.conn.now) (state S.Store tx.new.conn.now) }
 {
     if found.lives { clear_lives(tx) } else { Ok(()) }
 }
@@ -140,14 +106,8 @@ fn put_in_spans<S: Alter>(
     spans: &[SpanRow],
 ) -> Result<(), Error>
     ensures same_reference { tx.new.conn.ghost_name ≡ tx.old.conn.ghost_name }
-    ensures put { HasCleanDisk (state S.Store tx.new.conn.now) → (origin : _)
-        → found.now.lives ≡ is_moved origin → (base : _) (c : _)
-        → Inside (Whole origin) base (state S.Store tx.old.conn.now) c
-        → OnOk result (Inside (Whole origin) base (state S.Store tx.new.conn.now)
-        (in_spans spans.now c)) }
     ensures makes { Makes S.Store (spans_in_place found.now spans.now)
         tx.old.conn.now tx.new.conn.now result }
-    ensures quiet { IsQuiet (state S.Store tx.old.conn.now) (state S.Store tx.new.conn.now) }
 {
     clear_spans(tx)?;
     insert_whole_spans(tx, spans)?;
@@ -157,12 +117,7 @@ fn put_in_spans<S: Alter>(
 /// Version 3, with no text and no mark.
 fn raise<S: Alter>(tx: &mut Transaction<'_, S>) -> Result<(), Error>
     ensures same_reference { tx.new.conn.ghost_name ≡ tx.old.conn.ghost_name }
-    ensures raised { HasCleanDisk (state S.Store tx.new.conn.now) → (origin : _) (base : _) (c : _)
-        → (version : _) → c.formats ≡ only_format version
-        → Inside (Whole origin) base (state S.Store tx.old.conn.now) c
-        → OnOk result (Inside (Whole origin) base (state S.Store tx.new.conn.now) (raised c)) }
     ensures makes { Makes S.Store version_in_place tx.old.conn.now tx.new.conn.now result }
-    ensures quiet { IsQuiet (state S.Store tx.old.conn.now) (state S.Store tx.new.conn.now) }
 {
     clear_texts(tx)?;
     clear_marks(tx)?;
@@ -176,14 +131,8 @@ fn fill_moved<S: Alter>(
     spans: &[SpanRow],
 ) -> Result<(), Error>
     ensures same_reference { tx.new.conn.ghost_name ≡ tx.old.conn.ghost_name }
-    ensures moved { HasCleanDisk (state S.Store tx.new.conn.now) → (layout : _)
-        → IsFound found.now layout → (base : _) (c : _) → c.formats ≡ only_format 1
-        → Inside layout base (state S.Store tx.old.conn.now) c
-        → OnOk result (Inside (made_whole layout) base (state S.Store tx.new.conn.now)
-        (moved spans.now c)) }
     ensures makes { Makes S.Store (moving_statements found.now spans.now)
         tx.old.conn.now tx.new.conn.now result }
-    ensures quiet { IsQuiet (state S.Store tx.old.conn.now) (state S.Store tx.new.conn.now) }
 {
     complete(tx, found)?;
     put_in_spans(tx, found, spans)?;
@@ -193,14 +142,8 @@ fn fill_moved<S: Alter>(
 /// The steps from version 2 to version 3.
 fn fill_raised<S: Alter>(tx: &mut Transaction<'_, S>, found: &Found) -> Result<(), Error>
     ensures same_reference { tx.new.conn.ghost_name ≡ tx.old.conn.ghost_name }
-    ensures raised { HasCleanDisk (state S.Store tx.new.conn.now) → (layout : _)
-        → IsFound found.now layout → (base : _) (c : _) → c.formats ≡ only_format 2
-        → Inside layout base (state S.Store tx.old.conn.now) c
-        → OnOk result (Inside (made_whole layout) base (state S.Store tx.new.conn.now)
-        (raised c)) }
     ensures makes { Makes S.Store (raising_statements found.now)
         tx.old.conn.now tx.new.conn.now result }
-    ensures quiet { IsQuiet (state S.Store tx.old.conn.now) (state S.Store tx.new.conn.now) }
 {
     complete(tx, found)?;
     raise(tx)

@@ -1,12 +1,10 @@
 //! The statements that write, one a function.
 
-ghost use Rattle.std.specs.Prelude.{◌≡◌, ◌<◌, ◌^◌, ◌∷◌, [], pos, IsTrue, OnOk, ℕ, Ok};
+ghost use Rattle.std.specs.Prelude.{◌≡◌, ◌<◌, ◌^◌, ◌∷◌, [], pos};
 ghost use Rattle.sqlite.specs.Held.{state};
-ghost use Rattle.sqlite.specs.State.{ExecutesInside, HasCleanDisk};
 ghost use Rattle.sqlite.specs.Values.{bound};
-ghost use Rattle.lpis_register_rows.specs.Content.{with_year, with_span, with_line, with_ended};
 ghost use Rattle.lpis_register_rows.specs.Content.{successor_text};
-ghost use Rattle.lpis_register_sql.specs.private.Inside.{IsQuiet, Makes, Turns};
+ghost use Rattle.lpis_register_sql.specs.private.Inside.{Ends, IsQuiet, Makes};
 ghost use Rattle.lpis_register_sql.specs.private.Lines.{line_with, row_line};
 ghost use Rattle.lpis_register_sql.specs.Stopping.{ending_statement, line_statement};
 ghost use Rattle.lpis_register_sql.specs.Stopping.{span_statement, year_statement};
@@ -16,17 +14,14 @@ use lpis_lineage::Row;
 use sqlite::types::ValueRef;
 use sqlite::{Alter, Error, Transaction, params};
 
-/// Runs a statement inside a transaction.
-pub(crate) fn run<S: Alter>(
+/// Executes a statement inside a transaction.
+fn execute<S: Alter>(
     tx: &mut Transaction<'_, S>,
     sql: &str,
     values: &[ValueRef<'_>],
 ) -> Result<(), Error>
     ensures same_reference { tx.new.conn.ghost_name ≡ tx.old.conn.ghost_name }
-    ensures runs { HasCleanDisk (state S.Store tx.new.conn.now) → IsTrue tx.old.conn.now.in_transaction
-        → OnOk result ((count : ℕ) × ExecutesInside 0 sql.now (bound values.now)
-        (state S.Store tx.old.conn.now) (state S.Store tx.new.conn.now) (Ok count)) }
-    ensures makes { Makes S.Store ((record { sql = sql.now; values = bound values.now }) ∷ [])
+    ensures ends { Ends S.Store ((record { sql = sql.now; values = bound values.now }) ∷ [])
         tx.old.conn.now tx.new.conn.now result }
     ensures quiet { IsQuiet (state S.Store tx.old.conn.now) (state S.Store tx.new.conn.now) }
 {
@@ -34,14 +29,24 @@ pub(crate) fn run<S: Alter>(
     Ok(())
 }
 
+/// Makes a statement inside a transaction.
+pub(crate) fn run<S: Alter>(
+    tx: &mut Transaction<'_, S>,
+    sql: &str,
+    values: &[ValueRef<'_>],
+) -> Result<(), Error>
+    ensures same_reference { tx.new.conn.ghost_name ≡ tx.old.conn.ghost_name }
+    ensures makes { Makes S.Store ((record { sql = sql.now; values = bound values.now }) ∷ [])
+        tx.old.conn.now tx.new.conn.now result }
+{
+    execute(tx, sql, values)
+}
+
 /// One more release, inside a transaction.
 pub(crate) fn insert_release<S: Alter>(tx: &mut Transaction<'_, S>, year: u32) -> Result<(), Error>
     ensures same_reference { tx.new.conn.ghost_name ≡ tx.old.conn.ghost_name }
-    ensures adds { Turns (with_year (pos year))
-        (state S.Store tx.old.conn.now) (state S.Store tx.new.conn.now) result }
     ensures makes { Makes S.Store (year_statement (pos year) ∷ [])
         tx.old.conn.now tx.new.conn.now result }
-    ensures quiet { IsQuiet (state S.Store tx.old.conn.now) (state S.Store tx.new.conn.now) }
 {
     run(
         tx,
@@ -57,11 +62,8 @@ pub(crate) fn insert_span<S: Alter>(
     id: &Id,
 ) -> Result<(), Error>
     ensures same_reference { tx.new.conn.ghost_name ≡ tx.old.conn.ghost_name }
-    ensures adds { Turns (λ c. with_span (pos year) c id.now)
-        (state S.Store tx.old.conn.now) (state S.Store tx.new.conn.now) result }
     ensures makes { Makes S.Store (span_statement (pos year) id.now ∷ [])
         tx.old.conn.now tx.new.conn.now result }
-    ensures quiet { IsQuiet (state S.Store tx.old.conn.now) (state S.Store tx.new.conn.now) }
 {
     let id = id.as_str();
     run(
@@ -78,11 +80,8 @@ pub(crate) fn end_span<S: Alter>(
     id: &Id,
 ) -> Result<(), Error>
     ensures same_reference { tx.new.conn.ghost_name ≡ tx.old.conn.ghost_name }
-    ensures adds { Turns (λ c. with_ended (pos year) c id.now)
-        (state S.Store tx.old.conn.now) (state S.Store tx.new.conn.now) result }
     ensures makes { Makes S.Store (ending_statement (pos year) id.now ∷ [])
         tx.old.conn.now tx.new.conn.now result }
-    ensures quiet { IsQuiet (state S.Store tx.old.conn.now) (state S.Store tx.new.conn.now) }
 {
     let id = id.as_str();
     run(
@@ -112,12 +111,8 @@ fn insert_line<S: Alter>(
 ) -> Result<(), Error>
     requires small { position < 2 ^ 63 }
     ensures same_reference { tx.new.conn.ghost_name ≡ tx.old.conn.ghost_name }
-    ensures adds { Turns (λ c. with_line c
-        (line_with (pos year) (pos position) old.now new.now)) (state S.Store tx.old.conn.now)
-        (state S.Store tx.new.conn.now) result }
     ensures makes { Makes S.Store (line_statement (line_with (pos year) (pos position) old.now new.now) ∷ [])
         tx.old.conn.now tx.new.conn.now result }
-    ensures quiet { IsQuiet (state S.Store tx.old.conn.now) (state S.Store tx.new.conn.now) }
 {
     let position = position as i64;
     run(
@@ -136,11 +131,8 @@ pub(crate) fn insert_row<S: Alter>(
 ) -> Result<(), Error>
     requires small { position < 2 ^ 63 }
     ensures same_reference { tx.new.conn.ghost_name ≡ tx.old.conn.ghost_name }
-    ensures adds { Turns (λ c. with_line c (row_line (pos year) (pos position) row.now))
-        (state S.Store tx.old.conn.now) (state S.Store tx.new.conn.now) result }
     ensures makes { Makes S.Store (line_statement (row_line (pos year) (pos position) row.now) ∷ [])
         tx.old.conn.now tx.new.conn.now result }
-    ensures quiet { IsQuiet (state S.Store tx.old.conn.now) (state S.Store tx.new.conn.now) }
 {
     let old = row.old.as_str();
     let new = text_of_successor(&row.new);

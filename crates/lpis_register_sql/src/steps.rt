@@ -1,12 +1,11 @@
 //! What writing a release does, one statement after the other.
 
-ghost use Rattle.std.specs.Prelude.{◌≡◌, ◌<◌, ◌++◌, [], MatchOption, map, pos};
-ghost use Rattle.lpis_register_rows.specs.Content.{Content, marks_from, published, released};
+ghost use Rattle.std.specs.Prelude.{◌≡◌, ◌<◌, ◌++◌, [], MatchOption, pos};
 ghost use Rattle.lpis_register_rows.specs.Shapes.{text_edits};
 ghost use Rattle.lpis_register_sql.specs.Stopping.{release_statements};
-ghost use Rattle.lpis_register_sql.specs.private.Tasks.{after, rows_left, rows_size, spans_left};
-ghost use Rattle.lpis_register_sql.specs.private.Tasks.{spans_size, statement_of, tasks_in};
-ghost use Rattle.lpis_register_sql.specs.private.Tasks.{tasks_left, tasks_size};
+ghost use Rattle.lpis_register_sql.specs.private.StepStatements.{rows_left, rows_size, size_left};
+ghost use Rattle.lpis_register_sql.specs.private.StepStatements.{spans_left, spans_size};
+ghost use Rattle.lpis_register_sql.specs.private.StepStatements.{statements_in, statements_left};
 
 use crate::placed::{Placed, RowsFrom, next_placed};
 use lpis_covers::Id;
@@ -60,8 +59,8 @@ pub(crate) struct Steps<'a> {
 
 /// The next step for the year and the spans.
 fn next_span(rest: SpanSteps<'_>) -> Option<(Step<'_>, SpanSteps<'_>)>
-    ensures tasks { MatchOption result (spans_left rest.entry ≡ [])
-        (λ it. spans_left rest.entry ≡ tasks_in it.0 ++ spans_left it.1) }
+    ensures statements { MatchOption result (spans_left rest.entry ≡ [])
+        (λ it. spans_left rest.entry ≡ statements_in it.0 ++ spans_left it.1) }
     ensures shorter { MatchOption result (Unit {0})
         (λ it. spans_size it.1 < spans_size rest.entry) }
 {
@@ -85,8 +84,8 @@ fn next_span(rest: SpanSteps<'_>) -> Option<(Step<'_>, SpanSteps<'_>)>
 
 /// The next step for the rows, their marks and the texts.
 fn next_row(rest: RowSteps<'_>) -> Option<(Step<'_>, RowSteps<'_>)>
-    ensures tasks { MatchOption result (rows_left rest.entry ≡ [])
-        (λ it. rows_left rest.entry ≡ tasks_in it.0 ++ rows_left it.1) }
+    ensures statements { MatchOption result (rows_left rest.entry ≡ [])
+        (λ it. rows_left rest.entry ≡ statements_in it.0 ++ rows_left it.1) }
     ensures shorter { MatchOption result (Unit {0})
         (λ it. rows_size it.1 < rows_size rest.entry) }
 {
@@ -104,10 +103,10 @@ fn next_row(rest: RowSteps<'_>) -> Option<(Step<'_>, RowSteps<'_>)>
 
 /// The next step, and what is left then; `None` at the end.
 pub(crate) fn next_step(rest: Steps<'_>) -> Option<(Step<'_>, Steps<'_>)>
-    ensures tasks { MatchOption result (tasks_left rest.entry ≡ [])
-        (λ it. tasks_left rest.entry ≡ tasks_in it.0 ++ tasks_left it.1) }
+    ensures statements { MatchOption result (statements_left rest.entry ≡ [])
+        (λ it. statements_left rest.entry ≡ statements_in it.0 ++ statements_left it.1) }
     ensures shorter { MatchOption result (Unit {0})
-        (λ it. tasks_size it.1 < tasks_size rest.entry) }
+        (λ it. size_left it.1 < size_left rest.entry) }
 {
     match next_span(rest.spans) {
         Some((step, spans)) => Some((step, Steps { spans, ..rest })),
@@ -127,13 +126,8 @@ pub(crate) fn steps_of<'a>(
     rows: &'a [Row],
     change: ShapeChange<'a>,
 ) -> Steps<'a>
-    ensures statements { map statement_of (tasks_left result) ≡ release_statements (pos year)
-        (pos last) dropped.now fresh.now rows.now
-        (text_edits change.entry.kept.now change.entry.shapes.now) }
-    ensures turn { (c : Content) → after (tasks_left result) c ≡ released
-        (text_edits change.entry.kept.now change.entry.shapes.now)
-        (marks_from (pos year) 0 rows.now)
-        (published (pos year) (pos last) dropped.now fresh.now rows.now c) }
+    ensures { statements_left result ≡ release_statements (pos year) (pos last) dropped.now
+        fresh.now rows.now (text_edits change.entry.kept.now change.entry.shapes.now) }
 {
     // Which is below 2^63.
     let _ = rows.len();

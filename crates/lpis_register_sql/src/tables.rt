@@ -3,18 +3,12 @@
 ghost use Rattle.std.specs.Prelude.{◌≡◌, ◌∷◌, [], false, true, IfErr, IsTrue, OnOk};
 ghost use Rattle.sqlite.specs.Held.{state};
 ghost use Rattle.sqlite.specs.State.{HasCleanDisk};
-ghost use Rattle.lpis_register_rows.specs.Content.{no_content};
-ghost use Rattle.lpis_register_sql.specs.Beside.{nothing};
-ghost use Rattle.lpis_register_sql.specs.Layouts.{New, First, Moved, LessTexts, LessMarks};
-ghost use Rattle.lpis_register_sql.specs.Layouts.{Whole, schema_of, no_schema};
 ghost use Rattle.lpis_register_sql.specs.Making.{first_tables, making_statements, other_tables};
 ghost use Rattle.lpis_register_sql.specs.Making.{plain_statement, version_statements};
 ghost use Rattle.lpis_register_sql.specs.Statements.{insert_format, make_format, make_mark};
 ghost use Rattle.lpis_register_sql.specs.Statements.{make_release, make_row, make_span, make_text};
 ghost use Rattle.lpis_register_sql.specs.Stopping.{RanAlone, StopsWithin};
-ghost use Rattle.lpis_register_sql.specs.private.Stages.{one_table, two_tables, three_tables};
-ghost use Rattle.lpis_register_sql.specs.private.Stages.{Stage};
-ghost use Rattle.lpis_register_sql.specs.private.Inside.{Inside, IsQuiet, Makes};
+ghost use Rattle.lpis_register_sql.specs.private.Inside.{Makes};
 ghost use Rattle.lpis_register_sql.specs.Commits.{Creates};
 
 use crate::found::Found;
@@ -24,12 +18,8 @@ use sqlite::{Alter, Connection, Error, Transaction};
 /// The table of the version.
 fn make_format<S: Alter>(tx: &mut Transaction<'_, S>) -> Result<(), Error>
     ensures same_reference { tx.new.conn.ghost_name ≡ tx.old.conn.ghost_name }
-    ensures made { HasCleanDisk (state S.Store tx.new.conn.now) → (base : _)
-        → Stage no_schema base (state S.Store tx.old.conn.now)
-        → OnOk result (Stage one_table base (state S.Store tx.new.conn.now)) }
     ensures makes { Makes S.Store (plain_statement make_format ∷ [])
         tx.old.conn.now tx.new.conn.now result }
-    ensures quiet { IsQuiet (state S.Store tx.old.conn.now) (state S.Store tx.new.conn.now) }
 {
     run(
         tx,
@@ -41,12 +31,8 @@ fn make_format<S: Alter>(tx: &mut Transaction<'_, S>) -> Result<(), Error>
 /// The table of releases.
 fn make_release<S: Alter>(tx: &mut Transaction<'_, S>) -> Result<(), Error>
     ensures same_reference { tx.new.conn.ghost_name ≡ tx.old.conn.ghost_name }
-    ensures made { HasCleanDisk (state S.Store tx.new.conn.now) → (base : _)
-        → Stage one_table base (state S.Store tx.old.conn.now)
-        → OnOk result (Stage two_tables base (state S.Store tx.new.conn.now)) }
     ensures makes { Makes S.Store (plain_statement make_release ∷ [])
         tx.old.conn.now tx.new.conn.now result }
-    ensures quiet { IsQuiet (state S.Store tx.old.conn.now) (state S.Store tx.new.conn.now) }
 {
     run(
         tx,
@@ -58,15 +44,8 @@ fn make_release<S: Alter>(tx: &mut Transaction<'_, S>) -> Result<(), Error>
 /// The table of spans.
 pub(crate) fn make_span<S: Alter>(tx: &mut Transaction<'_, S>) -> Result<(), Error>
     ensures same_reference { tx.new.conn.ghost_name ≡ tx.old.conn.ghost_name }
-    ensures made { HasCleanDisk (state S.Store tx.new.conn.now) → (base : _)
-        → Stage two_tables base (state S.Store tx.old.conn.now)
-        → OnOk result (Stage three_tables base (state S.Store tx.new.conn.now)) }
-    ensures beside { HasCleanDisk (state S.Store tx.new.conn.now) → (base : _) (c : _)
-        → Inside First base (state S.Store tx.old.conn.now) c
-        → OnOk result (Inside (LessTexts (Moved nothing)) base (state S.Store tx.new.conn.now) c) }
     ensures makes { Makes S.Store (plain_statement make_span ∷ [])
         tx.old.conn.now tx.new.conn.now result }
-    ensures quiet { IsQuiet (state S.Store tx.old.conn.now) (state S.Store tx.new.conn.now) }
 {
     run(
         tx,
@@ -78,13 +57,8 @@ pub(crate) fn make_span<S: Alter>(tx: &mut Transaction<'_, S>) -> Result<(), Err
 /// The table of rows of lineage.
 fn make_row<S: Alter>(tx: &mut Transaction<'_, S>) -> Result<(), Error>
     ensures same_reference { tx.new.conn.ghost_name ≡ tx.old.conn.ghost_name }
-    ensures made { HasCleanDisk (state S.Store tx.new.conn.now) → (base : _)
-        → Stage three_tables base (state S.Store tx.old.conn.now)
-        → OnOk result (Stage (schema_of (LessTexts (New nothing))) base
-        (state S.Store tx.new.conn.now)) }
     ensures makes { Makes S.Store (plain_statement make_row ∷ [])
         tx.old.conn.now tx.new.conn.now result }
-    ensures quiet { IsQuiet (state S.Store tx.old.conn.now) (state S.Store tx.new.conn.now) }
 {
     run(
         tx,
@@ -96,16 +70,8 @@ fn make_row<S: Alter>(tx: &mut Transaction<'_, S>) -> Result<(), Error>
 /// The table of the texts of shapes.
 pub(crate) fn make_text<S: Alter>(tx: &mut Transaction<'_, S>) -> Result<(), Error>
     ensures same_reference { tx.new.conn.ghost_name ≡ tx.old.conn.ghost_name }
-    ensures made { HasCleanDisk (state S.Store tx.new.conn.now) → (base : _)
-        → Stage (schema_of (LessTexts (New nothing))) base (state S.Store tx.old.conn.now)
-        → OnOk result (Stage (schema_of (LessMarks (New nothing))) base
-        (state S.Store tx.new.conn.now)) }
-    ensures beside { HasCleanDisk (state S.Store tx.new.conn.now) → (origin : _) (base : _) (c : _)
-        → Inside (LessTexts origin) base (state S.Store tx.old.conn.now) c
-        → OnOk result (Inside (LessMarks origin) base (state S.Store tx.new.conn.now) c) }
     ensures makes { Makes S.Store (plain_statement make_text ∷ [])
         tx.old.conn.now tx.new.conn.now result }
-    ensures quiet { IsQuiet (state S.Store tx.old.conn.now) (state S.Store tx.new.conn.now) }
 {
     run(
         tx,
@@ -117,16 +83,8 @@ pub(crate) fn make_text<S: Alter>(tx: &mut Transaction<'_, S>) -> Result<(), Err
 /// The table of the rows of lineage that are marked exact.
 pub(crate) fn make_mark<S: Alter>(tx: &mut Transaction<'_, S>) -> Result<(), Error>
     ensures same_reference { tx.new.conn.ghost_name ≡ tx.old.conn.ghost_name }
-    ensures made { HasCleanDisk (state S.Store tx.new.conn.now) → (base : _)
-        → Stage (schema_of (LessMarks (New nothing))) base (state S.Store tx.old.conn.now)
-        → OnOk result (Stage (schema_of (Whole (New nothing))) base
-        (state S.Store tx.new.conn.now)) }
-    ensures beside { HasCleanDisk (state S.Store tx.new.conn.now) → (origin : _) (base : _) (c : _)
-        → Inside (LessMarks origin) base (state S.Store tx.old.conn.now) c
-        → OnOk result (Inside (Whole origin) base (state S.Store tx.new.conn.now) c) }
     ensures makes { Makes S.Store (plain_statement make_mark ∷ [])
         tx.old.conn.now tx.new.conn.now result }
-    ensures quiet { IsQuiet (state S.Store tx.old.conn.now) (state S.Store tx.new.conn.now) }
 {
     run(
         tx,
@@ -138,13 +96,8 @@ pub(crate) fn make_mark<S: Alter>(tx: &mut Transaction<'_, S>) -> Result<(), Err
 /// The row that tells the version.
 fn insert_format<S: Alter>(tx: &mut Transaction<'_, S>) -> Result<(), Error>
     ensures same_reference { tx.new.conn.ghost_name ≡ tx.old.conn.ghost_name }
-    ensures begun { HasCleanDisk (state S.Store tx.new.conn.now) → (base : _)
-        → Stage (schema_of (Whole (New nothing))) base (state S.Store tx.old.conn.now)
-        → OnOk result (Inside (Whole (New nothing)) base (state S.Store tx.new.conn.now)
-        no_content) }
     ensures makes { Makes S.Store (plain_statement insert_format ∷ [])
         tx.old.conn.now tx.new.conn.now result }
-    ensures quiet { IsQuiet (state S.Store tx.old.conn.now) (state S.Store tx.new.conn.now) }
 {
     run(
         tx,
@@ -156,15 +109,8 @@ fn insert_format<S: Alter>(tx: &mut Transaction<'_, S>) -> Result<(), Error>
 /// The row that tells the version, where its table was not found.
 fn begin_format<S: Alter>(tx: &mut Transaction<'_, S>, found: &Found) -> Result<(), Error>
     ensures same_reference { tx.new.conn.ghost_name ≡ tx.old.conn.ghost_name }
-    ensures begun { found.now.format ≡ false → HasCleanDisk (state S.Store tx.new.conn.now)
-        → (base : _)
-        → Stage (schema_of (Whole (New nothing))) base (state S.Store tx.old.conn.now)
-        → OnOk result (Inside (Whole (New nothing)) base (state S.Store tx.new.conn.now)
-        no_content) }
-    ensures stays { found.now.format ≡ true → tx.new ≡ tx.old }
     ensures makes { Makes S.Store (version_statements found.now)
         tx.old.conn.now tx.new.conn.now result }
-    ensures quiet { IsQuiet (state S.Store tx.old.conn.now) (state S.Store tx.new.conn.now) }
 {
     if found.format {
         Ok(())
@@ -176,11 +122,7 @@ fn begin_format<S: Alter>(tx: &mut Transaction<'_, S>, found: &Found) -> Result<
 /// The first three tables.
 fn make_begin<S: Alter>(tx: &mut Transaction<'_, S>) -> Result<(), Error>
     ensures same_reference { tx.new.conn.ghost_name ≡ tx.old.conn.ghost_name }
-    ensures made { HasCleanDisk (state S.Store tx.new.conn.now) → (base : _)
-        → Stage no_schema base (state S.Store tx.old.conn.now)
-        → OnOk result (Stage three_tables base (state S.Store tx.new.conn.now)) }
     ensures makes { Makes S.Store first_tables tx.old.conn.now tx.new.conn.now result }
-    ensures quiet { IsQuiet (state S.Store tx.old.conn.now) (state S.Store tx.new.conn.now) }
 {
     make_format(tx)?;
     make_release(tx)?;
@@ -190,12 +132,7 @@ fn make_begin<S: Alter>(tx: &mut Transaction<'_, S>) -> Result<(), Error>
 /// The other three.
 fn make_rest<S: Alter>(tx: &mut Transaction<'_, S>) -> Result<(), Error>
     ensures same_reference { tx.new.conn.ghost_name ≡ tx.old.conn.ghost_name }
-    ensures made { HasCleanDisk (state S.Store tx.new.conn.now) → (base : _)
-        → Stage three_tables base (state S.Store tx.old.conn.now)
-        → OnOk result (Stage (schema_of (Whole (New nothing))) base
-        (state S.Store tx.new.conn.now)) }
     ensures makes { Makes S.Store other_tables tx.old.conn.now tx.new.conn.now result }
-    ensures quiet { IsQuiet (state S.Store tx.old.conn.now) (state S.Store tx.new.conn.now) }
 {
     make_row(tx)?;
     make_text(tx)?;
@@ -205,14 +142,8 @@ fn make_rest<S: Alter>(tx: &mut Transaction<'_, S>) -> Result<(), Error>
 /// The tables that were not found, empty but for the version.
 fn make_all<S: Alter>(tx: &mut Transaction<'_, S>, found: &Found) -> Result<(), Error>
     ensures same_reference { tx.new.conn.ghost_name ≡ tx.old.conn.ghost_name }
-    ensures begun { found.now.format ≡ false → HasCleanDisk (state S.Store tx.new.conn.now)
-        → (base : _)
-        → Stage no_schema base (state S.Store tx.old.conn.now)
-        → OnOk result (Inside (Whole (New nothing)) base (state S.Store tx.new.conn.now)
-        no_content) }
     ensures makes { Makes S.Store (making_statements found.now)
         tx.old.conn.now tx.new.conn.now result }
-    ensures quiet { IsQuiet (state S.Store tx.old.conn.now) (state S.Store tx.new.conn.now) }
 {
     make_begin(tx)?;
     make_rest(tx)?;

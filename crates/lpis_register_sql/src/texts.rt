@@ -1,17 +1,14 @@
 //! The texts of the shapes of the last release's parcels, written.
 
 ghost use Rattle.std.specs.Prelude.{◌≡◌, ◌∷◌, [], map};
-ghost use Rattle.sqlite.specs.Held.{state};
-ghost use Rattle.lpis_register_rows.specs.Content.{TextEdit, Deletes, Replaces, Inserts};
-ghost use Rattle.lpis_register_rows.specs.Content.{with_edit, without_texts};
+ghost use Rattle.lpis_register_rows.specs.Content.{Deletes, Replaces, Inserts};
 ghost use Rattle.lpis_register_rows.specs.Shapes.{written_text};
 ghost use Rattle.lpis_register_rows.specs.Editing.{edit_in, edits_in};
 ghost use Rattle.lpis_register_sql.specs.Making.{plain_statement};
 ghost use Rattle.lpis_register_sql.specs.Statements.{clear_text};
 ghost use Rattle.lpis_register_sql.specs.Stopping.{edit_statement};
-ghost use Rattle.lpis_register_sql.specs.private.Inside.{IsQuiet, Makes, Turns};
+ghost use Rattle.lpis_register_sql.specs.private.Inside.{Makes};
 ghost use Rattle.lpis_register_sql.specs.private.Lines.{text_at};
-ghost use Rattle.lpis_register_sql.specs.private.Tasks.{after, edit_task, statement_of};
 
 use crate::statements::run;
 use lpis_covers::Id;
@@ -24,11 +21,8 @@ use std::alloc::Global;
 /// No text is left.
 pub(crate) fn clear_texts<S: Alter>(tx: &mut Transaction<'_, S>) -> Result<(), Error>
     ensures same_reference { tx.new.conn.ghost_name ≡ tx.old.conn.ghost_name }
-    ensures cleared { Turns without_texts (state S.Store tx.old.conn.now)
-        (state S.Store tx.new.conn.now) result }
     ensures makes { Makes S.Store (plain_statement clear_text ∷ [])
         tx.old.conn.now tx.new.conn.now result }
-    ensures quiet { IsQuiet (state S.Store tx.old.conn.now) (state S.Store tx.new.conn.now) }
 {
     run(tx, "DELETE FROM lpis_text", &[])
 }
@@ -36,11 +30,8 @@ pub(crate) fn clear_texts<S: Alter>(tx: &mut Transaction<'_, S>) -> Result<(), E
 /// No text is of this identifier.
 fn delete_text<S: Alter>(tx: &mut Transaction<'_, S>, id: &Id) -> Result<(), Error>
     ensures same_reference { tx.new.conn.ghost_name ≡ tx.old.conn.ghost_name }
-    ensures turns { Turns (λ c. with_edit c (Deletes id.now)) (state S.Store tx.old.conn.now)
-        (state S.Store tx.new.conn.now) result }
     ensures makes { Makes S.Store (edit_statement (Deletes id.now) ∷ []) tx.old.conn.now
         tx.new.conn.now result }
-    ensures quiet { IsQuiet (state S.Store tx.old.conn.now) (state S.Store tx.new.conn.now) }
 {
     let id = id.as_str();
     run(tx, "DELETE FROM lpis_text WHERE id = ?1", params![id])
@@ -49,11 +40,8 @@ fn delete_text<S: Alter>(tx: &mut Transaction<'_, S>, id: &Id) -> Result<(), Err
 /// A text in place of that of its identifier, its columns apart.
 fn replace_text_at<S: Alter>(tx: &mut Transaction<'_, S>, id: &str, wkt: &str) -> Result<(), Error>
     ensures same_reference { tx.new.conn.ghost_name ≡ tx.old.conn.ghost_name }
-    ensures turns { Turns (λ c. with_edit c (Replaces (text_at id.now wkt.now)))
-        (state S.Store tx.old.conn.now) (state S.Store tx.new.conn.now) result }
     ensures makes { Makes S.Store (edit_statement (Replaces (text_at id.now wkt.now)) ∷ [])
         tx.old.conn.now tx.new.conn.now result }
-    ensures quiet { IsQuiet (state S.Store tx.old.conn.now) (state S.Store tx.new.conn.now) }
 {
     run(
         tx,
@@ -69,11 +57,8 @@ fn replace_text<S: Alter>(
     shape: &(Id, Polygon),
 ) -> Result<(), Error>
     ensures same_reference { tx.new.conn.ghost_name ≡ tx.old.conn.ghost_name }
-    ensures turns { Turns (λ c. with_edit c (Replaces (written_text shape.now)))
-        (state S.Store tx.old.conn.now) (state S.Store tx.new.conn.now) result }
     ensures makes { Makes S.Store (edit_statement (Replaces (written_text shape.now)) ∷ [])
         tx.old.conn.now tx.new.conn.now result }
-    ensures quiet { IsQuiet (state S.Store tx.old.conn.now) (state S.Store tx.new.conn.now) }
 {
     let wkt = write(alloc, &shape.1)?;
     replace_text_at(tx, shape.0.as_str(), wkt.as_str())
@@ -82,11 +67,8 @@ fn replace_text<S: Alter>(
 /// One more text, its columns apart.
 fn insert_text_at<S: Alter>(tx: &mut Transaction<'_, S>, id: &str, wkt: &str) -> Result<(), Error>
     ensures same_reference { tx.new.conn.ghost_name ≡ tx.old.conn.ghost_name }
-    ensures turns { Turns (λ c. with_edit c (Inserts (text_at id.now wkt.now)))
-        (state S.Store tx.old.conn.now) (state S.Store tx.new.conn.now) result }
     ensures makes { Makes S.Store (edit_statement (Inserts (text_at id.now wkt.now)) ∷ [])
         tx.old.conn.now tx.new.conn.now result }
-    ensures quiet { IsQuiet (state S.Store tx.old.conn.now) (state S.Store tx.new.conn.now) }
 {
     run(
         tx,
@@ -102,11 +84,8 @@ fn insert_text<S: Alter>(
     shape: &(Id, Polygon),
 ) -> Result<(), Error>
     ensures same_reference { tx.new.conn.ghost_name ≡ tx.old.conn.ghost_name }
-    ensures turns { Turns (λ c. with_edit c (Inserts (written_text shape.now)))
-        (state S.Store tx.old.conn.now) (state S.Store tx.new.conn.now) result }
     ensures makes { Makes S.Store (edit_statement (Inserts (written_text shape.now)) ∷ [])
         tx.old.conn.now tx.new.conn.now result }
-    ensures quiet { IsQuiet (state S.Store tx.old.conn.now) (state S.Store tx.new.conn.now) }
 {
     let wkt = write(alloc, &shape.1)?;
     insert_text_at(tx, shape.0.as_str(), wkt.as_str())
@@ -119,11 +98,8 @@ fn write_edit<S: Alter>(
     edit: Edit<'_>,
 ) -> Result<(), Error>
     ensures same_reference { tx.new.conn.ghost_name ≡ tx.old.conn.ghost_name }
-    ensures turns { Turns (λ c. with_edit c (edit_in edit.entry)) (state S.Store tx.old.conn.now)
-        (state S.Store tx.new.conn.now) result }
     ensures makes { Makes S.Store (edit_statement (edit_in edit.entry) ∷ []) tx.old.conn.now
         tx.new.conn.now result }
-    ensures quiet { IsQuiet (state S.Store tx.old.conn.now) (state S.Store tx.new.conn.now) }
 {
     match edit {
         Edit::Deletes(id) => delete_text(tx, id),
@@ -139,11 +115,8 @@ pub(crate) fn write_if<S: Alter>(
     edit: Option<Edit<'_>>,
 ) -> Result<(), Error>
     ensures same_reference { tx.new.conn.ghost_name ≡ tx.old.conn.ghost_name }
-    ensures turns { Turns (after (map edit_task (edits_in edit.entry)))
-        (state S.Store tx.old.conn.now) (state S.Store tx.new.conn.now) result }
-    ensures makes { Makes S.Store (map statement_of (map edit_task (edits_in edit.entry)))
+    ensures makes { Makes S.Store (map edit_statement (edits_in edit.entry))
         tx.old.conn.now tx.new.conn.now result }
-    ensures quiet { IsQuiet (state S.Store tx.old.conn.now) (state S.Store tx.new.conn.now) }
 {
     match edit {
         Some(edit) => write_edit(alloc, tx, edit),

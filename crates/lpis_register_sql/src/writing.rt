@@ -1,9 +1,8 @@
 //! The loop that writes a release, which rests on the statements' clauses alone.
 
-ghost use Rattle.std.specs.Prelude.{◌≡◌, map};
-ghost use Rattle.sqlite.specs.Held.{state};
-ghost use Rattle.lpis_register_sql.specs.private.Inside.{IsQuiet, Makes, Turns};
-ghost use Rattle.lpis_register_sql.specs.private.Tasks.{after, statement_of, tasks_in, tasks_left};
+ghost use Rattle.std.specs.Prelude.{◌≡◌};
+ghost use Rattle.lpis_register_sql.specs.private.Inside.{Makes};
+ghost use Rattle.lpis_register_sql.specs.private.StepStatements.{statements_in, statements_left};
 
 use crate::marks::insert_if;
 use crate::statements::{end_span, insert_release, insert_row, insert_span};
@@ -19,11 +18,8 @@ fn write_step<S: Alter>(
     step: Step<'_>,
 ) -> Result<(), Error>
     ensures same_reference { tx.new.conn.ghost_name ≡ tx.old.conn.ghost_name }
-    ensures turns { Turns (after (tasks_in step.entry)) (state S.Store tx.old.conn.now)
-        (state S.Store tx.new.conn.now) result }
-    ensures makes { Makes S.Store (map statement_of (tasks_in step.entry)) tx.old.conn.now
+    ensures makes { Makes S.Store (statements_in step.entry) tx.old.conn.now
         tx.new.conn.now result }
-    ensures quiet { IsQuiet (state S.Store tx.old.conn.now) (state S.Store tx.new.conn.now) }
 {
     match step {
         Step::Year(year) => insert_release(tx, year),
@@ -42,11 +38,8 @@ pub(crate) fn write_steps<S: Alter>(
     steps: Steps<'_>,
 ) -> Result<(), Error>
     ensures same_reference { tx.new.conn.ghost_name ≡ tx.old.conn.ghost_name }
-    ensures turns { Turns (after (tasks_left steps.entry)) (state S.Store tx.old.conn.now)
-        (state S.Store tx.new.conn.now) result }
-    ensures makes { Makes S.Store (map statement_of (tasks_left steps.entry)) tx.old.conn.now
+    ensures makes { Makes S.Store (statements_left steps.entry) tx.old.conn.now
         tx.new.conn.now result }
-    ensures quiet { IsQuiet (state S.Store tx.old.conn.now) (state S.Store tx.new.conn.now) }
 {
     let mut rest = steps;
     'each: while let Some((step, next)) = next_step(rest) {

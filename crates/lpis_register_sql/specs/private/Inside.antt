@@ -1,12 +1,12 @@
 -- What it means that a transaction holds rows of the register, and what a call within it does.
-use Rattle.std.specs.Prelude.{◌≡◌, IsTrue, List, MatchResult, OnOk, Result}
+use Rattle.std.specs.Prelude.{◌≡◌, IsTrue, List, MatchResult, Result}
 use Rattle.sqlite.specs.Effect.{Database}
 use Rattle.sqlite.specs.Held.{Held, state}
 use Rattle.sqlite.specs.State.{State, HasCleanDisk, KeepsCommit, Survives}
 use Rattle.sqlite.specs.declared.error.Error.{Error}
 use Rattle.sqlite_trees.specs.declared.store.Store.{Ghosts}
 use Rattle.lpis_register_rows.specs.Content.{Content}
-use Rattle.lpis_register_sql.specs.Layouts.{Layout, Origin, Whole}
+use Rattle.lpis_register_sql.specs.Layouts.{Layout}
 use Rattle.lpis_register_sql.specs.Holding.{HoldsRows}
 use Rattle.lpis_register_sql.specs.Stopping.{BoundStatement, Ran, StopsWithin}
 
@@ -17,20 +17,20 @@ pub record Inside (s : Layout) (base : Database) (st : State) (c : Content) : Ty
   pub base_is : st.committed ≡ base
   pub holds : HoldsRows s st.now c
 
--- a call that answers has turned the rows into these, where all tables stand
-abbrev pub Turns : (Content → Content) → State → State → Result (Unit {0}) Error → Type 0
-Turns turn old new r =
-    HasCleanDisk new → (origin : Origin) (base : Database) (c : Content)
-    → Inside (Whole origin) base old c → OnOk r (Inside (Whole origin) base new (turn c))
-
 -- nothing is committed, and a crash leaves what it left before
 pub record IsQuiet (old new : State) : Type 0 where
   pub kept : HasCleanDisk new → KeepsCommit old new
   pub survives : Survives old new (λ _. ⊥)
 
--- a call that makes these statements in an open transaction runs them all, or it stops and says why
-abbrev pub Makes : {S : Type 0} → Ghosts S → List BoundStatement → Held S → Held S
+-- statements that a call makes in an open transaction: it runs them all, or it stops and says why
+abbrev pub Ends : {S : Type 0} → Ghosts S → List BoundStatement → Held S → Held S
     → Result (Unit {0}) Error → Type 0
-Makes store xs old new r = HasCleanDisk (state store new) → IsTrue (state store old).is_open
+Ends store xs old new r = HasCleanDisk (state store new) → IsTrue (state store old).is_open
     → IsTrue old.in_transaction
     → MatchResult r (λ _. Ran store xs old new) (StopsWithin store xs old new)
+
+-- a call that makes them and nothing else
+pub record Makes {S : Type 0} (store : Ghosts S) (xs : List BoundStatement) (old new : Held S)
+    (r : Result (Unit {0}) Error) : Type 0 where
+  pub quiet : IsQuiet (state store old) (state store new)
+  pub ends : Ends store xs old new r

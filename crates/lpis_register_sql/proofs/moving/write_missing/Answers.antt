@@ -1,35 +1,21 @@
 use Rattle.std.proofs.Common.{◌≡◌, rules}
-use Rattle.lpis_register_sql.proofs.Common.{state}
+use Rattle.lpis_register_sql.proofs.MakingLemmas.{commit_stops, undone_stops}
+use Rattle.lpis_register_sql.proofs.CompletingLemmas.{completes}
 use Rattle.lpis_register_sql.proofs.StepLemmas.{written_at_commit}
-use Rattle.lpis_register_sql.specs.Making.{completing_statements}
-use Rattle.lpis_register_sql.proofs.StopLemmas.{begun_stops, commit_stops, undone_stops}
 use Rattle.lpis_register_sql.proofs.moving.write_missing.Goals as goal
 
 pub returns-clause-writes : goal.returns-clause-writes
 returns-clause-writes g c =
     let same : c.commit.new.self.0 ≡ c.conn-2-1.given.0 = search rules in
-    let first = c.transaction-tx.result.conn.now in
-    rw (← same) (written_at_commit g.S.Store c.args.conn.now first (state g.S.Store c.complete.new.tx.conn.now) _ (λ content. content) c.transaction-tx.ensures.begun c.complete.ensures.quiet
-    (state g.S.Store c.commit.new.self.0) c.commit.result (λ clean layout base content such before. c.in_ok-complete.ensures.made clean layout such base content before)
-    c.commit.ensures.ok c.commit.ensures.err c.commit.ensures.survives (λ up db may. g.met.S.Store.settled c.commit.new.self.0.store db up may))
+    rw (← same) (written_at_commit c.args.conn.now c.commit.new.self.0 c.transaction-tx.ensures.begun c.in_ok-complete.ensures.makes c.commit.ensures.survives c.commit.ensures.ok c.commit.ensures.err
+    (λ s base content such. completes c.args.found.now base content s such) (λ up db may. g.met.S.Store.settled c.commit.new.self.0.store db up may))
 
 pub returns-clause-stops : goal.returns-clause-stops
 returns-clause-stops g c =
-    let all = completing_statements c.args.found.now in
-    let first = c.transaction-tx.result.conn.now in
-    let last = c.complete.new.tx.conn.now in
-    let new = c.commit.new.self.0 in
-    let same : new ≡ c.conn-2-1.given.0 = search rules in
-    begun_stops g.S.Store all c.args.conn.now first new c.conn-2-1.given.0 c.commit.result c.transaction-tx.ensures.begun same
-    (commit_stops g.S.Store all first last new c.commit.result _ c.complete.ensures.quiet c.commit.ensures.survives c.commit.ensures.err c.in_ok-complete.ensures.makes)
+    let same : c.commit.new.self.0 ≡ c.conn-2-1.given.0 = search rules in
+    commit_stops c.args.conn.now c.transaction-tx.ensures.begun same c.commit.result c.in_ok-complete.ensures.makes c.commit.ensures.survives c.commit.ensures.err
 
 pub returns-in_err-complete-clause-stops : goal.returns-in_err-complete-clause-stops
 returns-in_err-complete-clause-stops g c =
-    let all = completing_statements c.args.found.now in
-    let first = c.transaction-tx.result.conn.now in
-    let last = c.complete.new.tx.conn.now in
-    let new = c.drop-tx.new.self.0 in
-    let same : new ≡ c.conn-1.given.0 = search rules in
-    let e = c.in_err-complete.field-0.0 in
-    begun_stops g.S.Store all c.args.conn.now first new c.conn-1.given.0 c.from_residual.result c.transaction-tx.ensures.begun same
-    (undone_stops g.S.Store all first last new e c.from_residual.result c.from_residual.ensures.1 c.drop-tx.ensures.survives c.in_err-complete.ensures.makes)
+    let same : c.drop-tx.new.self.0 ≡ c.conn-1.given.0 = search rules in
+    undone_stops c.args.conn.now c.transaction-tx.ensures.begun same c.from_residual.result c.from_residual.ensures.1 c.in_err-complete.ensures.makes c.drop-tx.ensures.survives

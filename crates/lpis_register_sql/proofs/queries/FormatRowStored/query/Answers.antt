@@ -6,5 +6,5 @@ use Rattle.lpis_register_sql.proofs.queries.FormatRowStored.query.Goals as goal
 
 pub returns-clause-reads : goal.returns-clause-reads
 returns-clause-reads g c =
-    by_query read_format format_shown (λ layout any. (read_format_means layout).2) (λ layout any content seen. formats_shown layout _ _ seen content)
+    by_query read_format format_shown (λ layout any. (read_format_means layout).2) (λ layout any content seen stored. formats_shown _ seen stored)
     c.read_rows.ensures.shown c.read_rows.ensures.same c.read_rows.ensures.survives

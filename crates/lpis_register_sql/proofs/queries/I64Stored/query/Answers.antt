@@ -6,5 +6,5 @@ use Rattle.lpis_register_sql.proofs.queries.I64Stored.query.Goals as goal
 
 pub returns-clause-reads : goal.returns-clause-reads
 returns-clause-reads g c =
-    by_query read_release year_shown (λ layout any. (read_release_means layout).2) (λ layout any content seen. years_shown layout _ _ seen content)
+    by_query read_release year_shown (λ layout any. (read_release_means layout).2) (λ layout any content seen stored. years_shown _ seen stored)
     c.read_rows.ensures.shown c.read_rows.ensures.same c.read_rows.ensures.survives

@@ -6,5 +6,5 @@ use Rattle.lpis_register_sql.proofs.queries.LiveRowStored.query.Goals as goal
 
 pub returns-clause-reads : goal.returns-clause-reads
 returns-clause-reads g c =
-    by_query read_live live_shown (λ layout there. (read_live_means layout there).2) (λ layout there content seen. live_shown_are layout _ _ seen content there)
+    by_query read_live live_shown (λ layout there. (read_live_means layout there).2) (λ layout there content seen stored. live_shown_are _ seen stored there)
     c.read_rows.ensures.shown c.read_rows.ensures.same c.read_rows.ensures.survives

@@ -6,5 +6,5 @@ use Rattle.lpis_register_sql.proofs.queries.MarkRowStored.query.Goals as goal
 
 pub returns-clause-reads : goal.returns-clause-reads
 returns-clause-reads g c =
-    by_query read_mark mark_shown (λ layout there. (read_mark_means layout there).2) (λ layout there content seen. marks_shown layout _ _ seen content there)
+    by_query read_mark mark_shown (λ layout there. (read_mark_means layout there).2) (λ layout there content seen stored. marks_shown _ seen stored there)
     c.read_rows.ensures.shown c.read_rows.ensures.same c.read_rows.ensures.survives

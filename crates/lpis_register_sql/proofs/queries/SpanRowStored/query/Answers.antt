@@ -6,5 +6,5 @@ use Rattle.lpis_register_sql.proofs.queries.SpanRowStored.query.Goals as goal
 
 pub returns-clause-reads : goal.returns-clause-reads
 returns-clause-reads g c =
-    by_query read_span span_shown (λ layout there. (read_span_means layout there).2) (λ layout there content seen. spans_shown layout _ _ seen content there)
+    by_query read_span span_shown (λ layout there. (read_span_means layout there).2) (λ layout there content seen stored. spans_shown _ seen stored there)
     c.read_rows.ensures.shown c.read_rows.ensures.same c.read_rows.ensures.survives
