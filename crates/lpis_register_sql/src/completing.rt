@@ -6,7 +6,8 @@ ghost use Rattle.lpis_register_sql.specs.Making.{missing_spans, missing_texts};
 ghost use Rattle.lpis_register_sql.specs.private.Inside.{Makes};
 
 use crate::found::Found;
-use crate::tables::{make_mark, make_span, make_text};
+use crate::statements::run;
+use crate::tables::{MAKE_MARK, MAKE_SPAN, MAKE_TEXT};
 use sqlite::{Alter, Error, Transaction};
 
 /// The table of spans, where it is not there.
@@ -15,7 +16,11 @@ fn complete_spans<S: Alter>(tx: &mut Transaction<'_, S>, found: &Found) -> Resul
     ensures makes { Makes S.Store (missing_spans found.now)
         tx.old.conn.now tx.new.conn.now result }
 {
-    if found.spans { Ok(()) } else { make_span(tx) }
+    if found.spans {
+        Ok(())
+    } else {
+        run(tx, MAKE_SPAN, &[])
+    }
 }
 
 /// The table of texts, where it is not there.
@@ -24,7 +29,11 @@ fn complete_texts<S: Alter>(tx: &mut Transaction<'_, S>, found: &Found) -> Resul
     ensures makes { Makes S.Store (missing_texts found.now)
         tx.old.conn.now tx.new.conn.now result }
 {
-    if found.texts { Ok(()) } else { make_text(tx) }
+    if found.texts {
+        Ok(())
+    } else {
+        run(tx, MAKE_TEXT, &[])
+    }
 }
 
 /// The table of marks, where it is not there.
@@ -33,7 +42,11 @@ fn complete_marks<S: Alter>(tx: &mut Transaction<'_, S>, found: &Found) -> Resul
     ensures makes { Makes S.Store (missing_marks found.now)
         tx.old.conn.now tx.new.conn.now result }
 {
-    if found.marks { Ok(()) } else { make_mark(tx) }
+    if found.marks {
+        Ok(())
+    } else {
+        run(tx, MAKE_MARK, &[])
+    }
 }
 
 /// The tables that are not there, each empty.

@@ -2,8 +2,6 @@
 
 ghost use Rattle.std.specs.Prelude.{◌≡◌, ◌<◌, ◌^◌, ◌∷◌, [], map, pos};
 ghost use Rattle.lpis_register_rows.specs.Content.{marks_from};
-ghost use Rattle.lpis_register_sql.specs.Making.{plain_statement};
-ghost use Rattle.lpis_register_sql.specs.Statements.{clear_mark};
 ghost use Rattle.lpis_register_sql.specs.Stopping.{mark_statement};
 ghost use Rattle.lpis_register_sql.specs.private.Inside.{Makes};
 ghost use Rattle.lpis_register_sql.specs.private.Lines.{mark_at};
@@ -11,15 +9,6 @@ ghost use Rattle.lpis_register_sql.specs.private.Lines.{mark_at};
 use crate::statements::run;
 use lpis_lineage::Row;
 use sqlite::{Alter, Error, Transaction, params};
-
-/// No mark is left.
-pub(crate) fn clear_marks<S: Alter>(tx: &mut Transaction<'_, S>) -> Result<(), Error>
-    ensures same_reference { tx.new.conn.ghost_name ≡ tx.old.conn.ghost_name }
-    ensures makes { Makes S.Store (plain_statement clear_mark ∷ [])
-        tx.old.conn.now tx.new.conn.now result }
-{
-    run(tx, "DELETE FROM lpis_mark", &[])
-}
 
 /// One more mark: of the row of lineage at a position of a year's release.
 fn insert_mark<S: Alter>(

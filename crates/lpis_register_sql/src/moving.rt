@@ -1,16 +1,14 @@
 //! Moving a database of version 1 or 2 to version 3, in one transaction.
 
-ghost use Rattle.std.specs.Prelude.{◌≡◌, ◌∷◌, [], false, true, IfErr, IsTrue};
-ghost use Rattle.std.specs.Prelude.{map};
+ghost use Rattle.std.specs.Prelude.{◌≡◌, ◌∷◌, [], false, true, IfErr, IsTrue, map};
 ghost use Rattle.sqlite.specs.Held.{state};
 ghost use Rattle.sqlite.specs.State.{HasCleanDisk};
 ghost use Rattle.lpis_register_rows.specs.Content.{moved, raised};
 ghost use Rattle.lpis_register_sql.specs.Making.{completing_statements, lives_emptied};
-ghost use Rattle.lpis_register_sql.specs.Making.{moving_statements, plain_statement};
-ghost use Rattle.lpis_register_sql.specs.Making.{raising_statements, spans_in_place};
+ghost use Rattle.lpis_register_sql.specs.Making.{moving_statements, raising_statements};
+ghost use Rattle.lpis_register_sql.specs.Making.{spans_in_place};
 ghost use Rattle.lpis_register_sql.specs.Making.{version_in_place, whole_span_statement};
 ghost use Rattle.lpis_register_sql.specs.Quiet.{IsFound};
-ghost use Rattle.lpis_register_sql.specs.Statements.{clear_live, clear_span, set_version};
 ghost use Rattle.lpis_register_sql.specs.Stopping.{StopsWithin};
 ghost use Rattle.lpis_register_sql.specs.private.Inside.{Makes};
 ghost use Rattle.lpis_register_sql.specs.private.Lines.{span_at};
@@ -18,38 +16,9 @@ ghost use Rattle.lpis_register_sql.specs.Commits.{IsFoundOf, Rewrites};
 
 use crate::completing::complete;
 use crate::found::Found;
-use crate::marks::clear_marks;
-use crate::statements::run;
-use crate::texts::clear_texts;
+use crate::statements::{run, run_all};
 use lpis_register_rows::SpanRow;
 use sqlite::{Alter, Connection, Error, Transaction, params};
-
-/// No span is left.
-fn clear_spans<S: Alter>(tx: &mut Transaction<'_, S>) -> Result<(), Error>
-    ensures same_reference { tx.new.conn.ghost_name ≡ tx.old.conn.ghost_name }
-    ensures makes { Makes S.Store (plain_statement clear_span ∷ [])
-        tx.old.conn.now tx.new.conn.now result }
-{
-    run(tx, "DELETE FROM lpis_span", &[])
-}
-
-/// Nothing is left of what version 1 has in place of spans.
-fn clear_lives<S: Alter>(tx: &mut Transaction<'_, S>) -> Result<(), Error>
-    ensures same_reference { tx.new.conn.ghost_name ≡ tx.old.conn.ghost_name }
-    ensures makes { Makes S.Store (plain_statement clear_live ∷ [])
-        tx.old.conn.now tx.new.conn.now result }
-{
-    run(tx, "DELETE FROM lpis_live", &[])
-}
-
-/// The version is 3.
-fn set_version<S: Alter>(tx: &mut Transaction<'_, S>) -> Result<(), Error>
-    ensures same_reference { tx.new.conn.ghost_name ≡ tx.old.conn.ghost_name }
-    ensures makes { Makes S.Store (plain_statement set_version ∷ [])
-        tx.old.conn.now tx.new.conn.now result }
-{
-    run(tx, "UPDATE lpis_format SET version = 3", &[])
-}
 
 /// One more span, its columns apart.
 fn insert_span_at<S: Alter>(
@@ -96,7 +65,11 @@ fn empty_lives<S: Alter>(tx: &mut Transaction<'_, S>, found: &Found) -> Result<(
     ensures makes { Makes S.Store (lives_emptied found.now)
         tx.old.conn.now tx.new.conn.now result }
 {
-    if found.lives { clear_lives(tx) } else { Ok(()) }
+    if found.lives {
+        run(tx, "DELETE FROM lpis_live", &[])
+    } else {
+        Ok(())
+    }
 }
 
 /// These spans in place of any, and no live rows.
@@ -109,7 +82,7 @@ fn put_in_spans<S: Alter>(
     ensures makes { Makes S.Store (spans_in_place found.now spans.now)
         tx.old.conn.now tx.new.conn.now result }
 {
-    clear_spans(tx)?;
+    run(tx, "DELETE FROM lpis_span", &[])?;
     insert_whole_spans(tx, spans)?;
     empty_lives(tx, found)
 }
@@ -119,9 +92,12 @@ fn raise<S: Alter>(tx: &mut Transaction<'_, S>) -> Result<(), Error>
     ensures same_reference { tx.new.conn.ghost_name ≡ tx.old.conn.ghost_name }
     ensures makes { Makes S.Store version_in_place tx.old.conn.now tx.new.conn.now result }
 {
-    clear_texts(tx)?;
-    clear_marks(tx)?;
-    set_version(tx)
+    let texts = [
+        "DELETE FROM lpis_text",
+        "DELETE FROM lpis_mark",
+        "UPDATE lpis_format SET version = 3",
+    ];
+    run_all(tx, &texts)
 }
 
 /// The steps from version 1 to version 3.

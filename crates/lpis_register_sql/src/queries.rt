@@ -14,6 +14,7 @@ impl FromRow for FormatRow {
 
     ghost kinds = { kinds_of Formats };
 
+    #[tactic(auto, using(crate::proofs::UnreadLemmas::misfit))]
     fn read(row: &Row) -> Result<FormatRow, Error> {
         let one = row.get(0)?;
         let version = row.get(1)?;
@@ -52,6 +53,7 @@ impl FromRow for i64 {
 
     ghost kinds = { kinds_of Years };
 
+    #[tactic(auto, using(crate::proofs::UnreadLemmas::misfit_alone))]
     fn read(row: &Row) -> Result<i64, Error> {
         row.get(0)
     }
@@ -87,6 +89,7 @@ impl FromRow for SpanRow {
 
     ghost kinds = { kinds_of Spans };
 
+    #[tactic(auto, using(crate::proofs::UnreadLemmas::misfit))]
     fn read(row: &Row) -> Result<SpanRow, Error> {
         let id = row.get(0)?;
         let since = row.get(1)?;
@@ -129,6 +132,7 @@ impl FromRow for LineRow {
 
     ghost kinds = { kinds_of Lines };
 
+    #[tactic(auto, using(crate::proofs::UnreadLemmas::misfit))]
     fn read(row: &Row) -> Result<LineRow, Error> {
         let year = row.get(0)?;
         let position = row.get(1)?;
@@ -177,6 +181,7 @@ impl FromRow for LiveRow {
 
     ghost kinds = { kinds_of Lives };
 
+    #[tactic(auto, using(crate::proofs::UnreadLemmas::misfit))]
     fn read(row: &Row) -> Result<LiveRow, Error> {
         let year = row.get(0)?;
         let id = row.get(1)?;
@@ -218,6 +223,7 @@ impl FromRow for TextRow {
 
     ghost kinds = { kinds_of Texts };
 
+    #[tactic(auto, using(crate::proofs::UnreadLemmas::misfit))]
     fn read(row: &Row) -> Result<TextRow, Error> {
         let id = row.get(0)?;
         let wkt = row.get(1)?;
@@ -255,6 +261,7 @@ impl FromRow for MarkRow {
 
     ghost kinds = { kinds_of Marks };
 
+    #[tactic(auto, using(crate::proofs::UnreadLemmas::misfit))]
     fn read(row: &Row) -> Result<MarkRow, Error> {
         let year = row.get(0)?;
         let position = row.get(1)?;

@@ -1,9 +1,10 @@
 //! The statements that write, one a function.
 
-ghost use Rattle.std.specs.Prelude.{◌≡◌, ◌<◌, ◌^◌, ◌∷◌, [], pos};
+ghost use Rattle.std.specs.Prelude.{◌≡◌, ◌<◌, ◌^◌, ◌∷◌, [], map, pos};
 ghost use Rattle.sqlite.specs.Held.{state};
 ghost use Rattle.sqlite.specs.Values.{bound};
 ghost use Rattle.lpis_register_rows.specs.Content.{successor_text};
+ghost use Rattle.lpis_register_sql.specs.Making.{plain_statement};
 ghost use Rattle.lpis_register_sql.specs.private.Inside.{Ends, IsQuiet, Makes};
 ghost use Rattle.lpis_register_sql.specs.private.Lines.{line_with, row_line};
 ghost use Rattle.lpis_register_sql.specs.Stopping.{ending_statement, line_statement};
@@ -40,6 +41,18 @@ pub(crate) fn run<S: Alter>(
         tx.old.conn.now tx.new.conn.now result }
 {
     execute(tx, sql, values)
+}
+
+/// Makes statements without parameters, in turn.
+pub(crate) fn run_all<S: Alter>(tx: &mut Transaction<'_, S>, texts: &[&str]) -> Result<(), Error>
+    ensures same_reference { tx.new.conn.ghost_name ≡ tx.old.conn.ghost_name }
+    ensures makes { Makes S.Store (map (λ t. plain_statement t.now) texts.now)
+        tx.old.conn.now tx.new.conn.now result }
+{
+    for text in texts {
+        run(tx, text, &[])?;
+    }
+    Ok(())
 }
 
 /// One more release, inside a transaction.

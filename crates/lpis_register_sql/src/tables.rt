@@ -1,110 +1,28 @@
 //! The tables of a new register.
 
-ghost use Rattle.std.specs.Prelude.{◌≡◌, ◌∷◌, [], false, true, IfErr, IsTrue, OnOk};
+ghost use Rattle.std.specs.Prelude.{◌≡◌, false, true, IfErr, IsTrue, OnOk};
 ghost use Rattle.sqlite.specs.Held.{state};
 ghost use Rattle.sqlite.specs.State.{HasCleanDisk};
-ghost use Rattle.lpis_register_sql.specs.Making.{first_tables, making_statements, other_tables};
-ghost use Rattle.lpis_register_sql.specs.Making.{plain_statement, version_statements};
-ghost use Rattle.lpis_register_sql.specs.Statements.{insert_format, make_format, make_mark};
-ghost use Rattle.lpis_register_sql.specs.Statements.{make_release, make_row, make_span, make_text};
+ghost use Rattle.lpis_register_sql.specs.Making.{making_statements, version_statements};
 ghost use Rattle.lpis_register_sql.specs.Stopping.{RanAlone, StopsWithin};
 ghost use Rattle.lpis_register_sql.specs.private.Inside.{Makes};
 ghost use Rattle.lpis_register_sql.specs.Commits.{Creates};
 
 use crate::found::Found;
-use crate::statements::run;
+use crate::statements::{run, run_all};
 use sqlite::{Alter, Connection, Error, Transaction};
 
-/// The table of the version.
-fn make_format<S: Alter>(tx: &mut Transaction<'_, S>) -> Result<(), Error>
-    ensures same_reference { tx.new.conn.ghost_name ≡ tx.old.conn.ghost_name }
-    ensures makes { Makes S.Store (plain_statement make_format ∷ [])
-        tx.old.conn.now tx.new.conn.now result }
-{
-    run(
-        tx,
-        "CREATE TABLE IF NOT EXISTS lpis_format (one INTEGER NOT NULL PRIMARY KEY, version INTEGER NOT NULL) STRICT",
-        &[],
-    )
-}
-
-/// The table of releases.
-fn make_release<S: Alter>(tx: &mut Transaction<'_, S>) -> Result<(), Error>
-    ensures same_reference { tx.new.conn.ghost_name ≡ tx.old.conn.ghost_name }
-    ensures makes { Makes S.Store (plain_statement make_release ∷ [])
-        tx.old.conn.now tx.new.conn.now result }
-{
-    run(
-        tx,
-        "CREATE TABLE IF NOT EXISTS lpis_release (year INTEGER NOT NULL PRIMARY KEY) STRICT",
-        &[],
-    )
-}
-
 /// The table of spans.
-pub(crate) fn make_span<S: Alter>(tx: &mut Transaction<'_, S>) -> Result<(), Error>
-    ensures same_reference { tx.new.conn.ghost_name ≡ tx.old.conn.ghost_name }
-    ensures makes { Makes S.Store (plain_statement make_span ∷ [])
-        tx.old.conn.now tx.new.conn.now result }
-{
-    run(
-        tx,
-        "CREATE TABLE IF NOT EXISTS lpis_span (id TEXT NOT NULL PRIMARY KEY, since INTEGER NOT NULL REFERENCES lpis_release (year), until INTEGER NOT NULL) STRICT",
-        &[],
-    )
-}
-
-/// The table of rows of lineage.
-fn make_row<S: Alter>(tx: &mut Transaction<'_, S>) -> Result<(), Error>
-    ensures same_reference { tx.new.conn.ghost_name ≡ tx.old.conn.ghost_name }
-    ensures makes { Makes S.Store (plain_statement make_row ∷ [])
-        tx.old.conn.now tx.new.conn.now result }
-{
-    run(
-        tx,
-        "CREATE TABLE IF NOT EXISTS lpis_row (year INTEGER NOT NULL REFERENCES lpis_release (year), pos INTEGER NOT NULL, old TEXT NOT NULL, new TEXT NOT NULL, PRIMARY KEY (year, pos)) STRICT",
-        &[],
-    )
-}
+pub(crate) const MAKE_SPAN: &str =
+    "CREATE TABLE IF NOT EXISTS lpis_span (id TEXT NOT NULL PRIMARY KEY, since INTEGER NOT NULL REFERENCES lpis_release (year), until INTEGER NOT NULL) STRICT";
 
 /// The table of the texts of shapes.
-pub(crate) fn make_text<S: Alter>(tx: &mut Transaction<'_, S>) -> Result<(), Error>
-    ensures same_reference { tx.new.conn.ghost_name ≡ tx.old.conn.ghost_name }
-    ensures makes { Makes S.Store (plain_statement make_text ∷ [])
-        tx.old.conn.now tx.new.conn.now result }
-{
-    run(
-        tx,
-        "CREATE TABLE IF NOT EXISTS lpis_text (id TEXT NOT NULL PRIMARY KEY, wkt TEXT NOT NULL) STRICT",
-        &[],
-    )
-}
+pub(crate) const MAKE_TEXT: &str =
+    "CREATE TABLE IF NOT EXISTS lpis_text (id TEXT NOT NULL PRIMARY KEY, wkt TEXT NOT NULL) STRICT";
 
 /// The table of the rows of lineage that are marked exact.
-pub(crate) fn make_mark<S: Alter>(tx: &mut Transaction<'_, S>) -> Result<(), Error>
-    ensures same_reference { tx.new.conn.ghost_name ≡ tx.old.conn.ghost_name }
-    ensures makes { Makes S.Store (plain_statement make_mark ∷ [])
-        tx.old.conn.now tx.new.conn.now result }
-{
-    run(
-        tx,
-        "CREATE TABLE IF NOT EXISTS lpis_mark (year INTEGER NOT NULL, pos INTEGER NOT NULL, PRIMARY KEY (year, pos), FOREIGN KEY (year, pos) REFERENCES lpis_row (year, pos)) STRICT",
-        &[],
-    )
-}
-
-/// The row that tells the version.
-fn insert_format<S: Alter>(tx: &mut Transaction<'_, S>) -> Result<(), Error>
-    ensures same_reference { tx.new.conn.ghost_name ≡ tx.old.conn.ghost_name }
-    ensures makes { Makes S.Store (plain_statement insert_format ∷ [])
-        tx.old.conn.now tx.new.conn.now result }
-{
-    run(
-        tx,
-        "INSERT INTO lpis_format (one, version) VALUES (1, 3)",
-        &[],
-    )
-}
+pub(crate) const MAKE_MARK: &str =
+    "CREATE TABLE IF NOT EXISTS lpis_mark (year INTEGER NOT NULL, pos INTEGER NOT NULL, PRIMARY KEY (year, pos), FOREIGN KEY (year, pos) REFERENCES lpis_row (year, pos)) STRICT";
 
 /// The row that tells the version, where its table was not found.
 fn begin_format<S: Alter>(tx: &mut Transaction<'_, S>, found: &Found) -> Result<(), Error>
@@ -115,38 +33,29 @@ fn begin_format<S: Alter>(tx: &mut Transaction<'_, S>, found: &Found) -> Result<
     if found.format {
         Ok(())
     } else {
-        insert_format(tx)
+        run(
+            tx,
+            "INSERT INTO lpis_format (one, version) VALUES (1, 3)",
+            &[],
+        )
     }
 }
 
-/// The first three tables.
-fn make_begin<S: Alter>(tx: &mut Transaction<'_, S>) -> Result<(), Error>
-    ensures same_reference { tx.new.conn.ghost_name ≡ tx.old.conn.ghost_name }
-    ensures makes { Makes S.Store first_tables tx.old.conn.now tx.new.conn.now result }
-{
-    make_format(tx)?;
-    make_release(tx)?;
-    make_span(tx)
-}
-
-/// The other three.
-fn make_rest<S: Alter>(tx: &mut Transaction<'_, S>) -> Result<(), Error>
-    ensures same_reference { tx.new.conn.ghost_name ≡ tx.old.conn.ghost_name }
-    ensures makes { Makes S.Store other_tables tx.old.conn.now tx.new.conn.now result }
-{
-    make_row(tx)?;
-    make_text(tx)?;
-    make_mark(tx)
-}
-
-/// The tables that were not found, empty but for the version.
+/// The tables, empty but for the version.
 fn make_all<S: Alter>(tx: &mut Transaction<'_, S>, found: &Found) -> Result<(), Error>
     ensures same_reference { tx.new.conn.ghost_name ≡ tx.old.conn.ghost_name }
     ensures makes { Makes S.Store (making_statements found.now)
         tx.old.conn.now tx.new.conn.now result }
 {
-    make_begin(tx)?;
-    make_rest(tx)?;
+    let tables = [
+        "CREATE TABLE IF NOT EXISTS lpis_format (one INTEGER NOT NULL PRIMARY KEY, version INTEGER NOT NULL) STRICT",
+        "CREATE TABLE IF NOT EXISTS lpis_release (year INTEGER NOT NULL PRIMARY KEY) STRICT",
+        MAKE_SPAN,
+        "CREATE TABLE IF NOT EXISTS lpis_row (year INTEGER NOT NULL REFERENCES lpis_release (year), pos INTEGER NOT NULL, old TEXT NOT NULL, new TEXT NOT NULL, PRIMARY KEY (year, pos)) STRICT",
+        MAKE_TEXT,
+        MAKE_MARK,
+    ];
+    run_all(tx, &tables)?;
     begin_format(tx, found)
 }
 

@@ -4,8 +4,6 @@ ghost use Rattle.std.specs.Prelude.{◌≡◌, ◌∷◌, [], map};
 ghost use Rattle.lpis_register_rows.specs.Content.{Deletes, Replaces, Inserts};
 ghost use Rattle.lpis_register_rows.specs.Shapes.{written_text};
 ghost use Rattle.lpis_register_rows.specs.Editing.{edit_in, edits_in};
-ghost use Rattle.lpis_register_sql.specs.Making.{plain_statement};
-ghost use Rattle.lpis_register_sql.specs.Statements.{clear_text};
 ghost use Rattle.lpis_register_sql.specs.Stopping.{edit_statement};
 ghost use Rattle.lpis_register_sql.specs.private.Inside.{Makes};
 ghost use Rattle.lpis_register_sql.specs.private.Lines.{text_at};
@@ -17,15 +15,6 @@ use lpis_rings::Polygon;
 use lpis_wkt_writer::write;
 use sqlite::{Alter, Error, Transaction, params};
 use std::alloc::Global;
-
-/// No text is left.
-pub(crate) fn clear_texts<S: Alter>(tx: &mut Transaction<'_, S>) -> Result<(), Error>
-    ensures same_reference { tx.new.conn.ghost_name ≡ tx.old.conn.ghost_name }
-    ensures makes { Makes S.Store (plain_statement clear_text ∷ [])
-        tx.old.conn.now tx.new.conn.now result }
-{
-    run(tx, "DELETE FROM lpis_text", &[])
-}
 
 /// No text is of this identifier.
 fn delete_text<S: Alter>(tx: &mut Transaction<'_, S>, id: &Id) -> Result<(), Error>
