@@ -163,7 +163,7 @@ class Outcome:
         if row.found and self.source.shapes.get(id(row)) is None:
             return "its shape has no area"
         if name == "parcels":
-            return "other parcels' pieces have its whole place" if row["parcel"] in self.source.pieces_of else "no piece names it"
+            return "narrower than a millimetre, or other parcels' pieces have its whole place" if row["parcel"] in self.source.pieces_of else "no piece names it"
         return "narrower than a millimetre, or other pieces have its whole place"
 
 
