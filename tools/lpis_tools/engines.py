@@ -11,14 +11,19 @@ from .streams import Trouble
 
 MOST_TOLD = 20
 UNLIKE = "rows of it are in no region, or in the regions alone, or were changed"
-MAKEFILE = """# The certificates of the regions of country.txt, many at once: make -k -j 4. LPIS is the program. Written by `country cut`.
+MAKEFILE = """# The certificates of the regions of country.txt, many at once: make -f Makefile -r -k -j 4. LPIS is the program.
+# Written by `country cut`. No rule that make knows by itself is used, so that nothing else in this folder is run.
+MAKEFLAGS += -r
 LPIS ?= lpis
 REGIONS := {regions}
+.PHONY: all
+.SUFFIXES:
 
 all: $(REGIONS:%=%/cert.txt)
 
 %/cert.txt: %/parcels.csv %/covers.csv %/classes.csv
-	@$(LPIS) cut $* $@.new >$*/cut.txt && mv $@.new $@
+	@rm -f -- $@.new $*/cut.txt
+	@$(LPIS) cut $* $@.new >$*/cut.txt && mv -- $@.new $@
 	@echo "$*: $$(cat $*/cut.txt)"
 """
 SNAKEFILE = """# The certificates of the regions of country.txt: snakemake -k -j 4, or on a cluster snakemake -k --profile slurm. LPIS is the program.
@@ -46,7 +51,7 @@ rule cut:
         mem_mb=4000,
         runtime=60,
     shell:
-        "{LPIS} cut {wildcards.region} {output}.new >{wildcards.region}/cut.txt && mv {output}.new {output}"
+        "rm -f -- {output}.new {wildcards.region}/cut.txt; {LPIS} cut {wildcards.region} {output}.new >{wildcards.region}/cut.txt && mv -- {output}.new {output}"
 """
 PROFILE = """# For Snakemake 7: snakemake -k --profile slurm. The folder lies where all machines see it. Snakemake 8 takes `executor: slurm`
 # (its plugin of that name) in place of `cluster`. Other engines take another word there, such as `qsub -V -cwd`.
@@ -91,13 +96,15 @@ def run(command, words, regions):
     write(os.path.join(folder, "Snakefile"), SNAKEFILE)
     os.makedirs(os.path.join(folder, "slurm"), exist_ok=True)
     write(os.path.join(folder, "slurm", "config.yaml"), PROFILE)
-    surroundings = {**os.environ, "LPIS": shlex.join(absolute(command))}
+    program = shlex.join(absolute(command))
     if words.profile:
-        engine = ["snakemake", "-k", "--profile", os.path.abspath(words.profile)]
+        engine = ["snakemake", "-s", "Snakefile", "-k", "--profile", os.path.abspath(words.profile)]
     elif words.snakemake:
-        engine = ["snakemake", "-k", "-q", "all", "-j", str(jobs)]
+        engine = ["snakemake", "-s", "Snakefile", "-k", "-q", "all", "-j", str(jobs)]
     else:
-        engine = ["make", "-k", "--no-print-directory", "-j", str(jobs)]
+        engine = ["make", "-f", "Makefile", "-r", "-k", "--no-print-directory", "-j", str(jobs)]
+        program = program.replace("$", "$$")  # make works out what it has of the environment
+    surroundings = {**os.environ, "LPIS": program}
     if shutil.which(engine[0]) is None:
         raise Trouble(f"there is no {engine[0]}")
     ending.run(engine, cwd=folder, env=surroundings, stdout=2, check=False)

@@ -9,7 +9,7 @@ import re
 import zlib
 from array import array
 
-from . import balance, parting, tiles
+from . import balance, files, parting, tiles
 from .streams import Folder, OneFile, Stream, Trouble, ended, measured, shown
 
 MOST_TOLD = 20
@@ -19,7 +19,7 @@ NAMES = ("parcels", "covers", "classes")
 WRITTEN = (*NAMES, "lineage")
 MOST_ROWS = 200_000  # of a table
 COUNTS = "split.txt"
-NEW = ".new"  # behind the name of a file that is to take the place of another
+NEW = files.NEW  # behind the name of a file that is to take the place of another
 MASK = (1 << 128) - 1
 PARCELS = ("parcels", "")
 CHANGED = "the source changed while it was read; nothing was changed, run it again"
@@ -169,7 +169,7 @@ class Writer:
         self.paths = [os.path.join(out, folder, f"{name}.csv") for folder in folders]
         self.rows, self.size = {}, 0
         for path in self.paths:
-            with open(path + NEW, "w", encoding="latin-1", newline="") as file:
+            with files.fresh(path + NEW, encoding="latin-1", newline="") as file:
                 file.write(header)
 
     def add(self, regions, raw):
@@ -181,7 +181,7 @@ class Writer:
 
     def flush(self):
         for region, rows in self.rows.items():
-            with open(self.paths[region] + NEW, "a", encoding="latin-1", newline="") as file:
+            with files.more(self.paths[region] + NEW, encoding="latin-1", newline="") as file:
                 file.writelines(rows)
         self.rows, self.size = {}, 0
 
@@ -191,12 +191,12 @@ def settle(path):
     if os.path.exists(path) and filecmp.cmp(path, path + NEW, shallow=False):
         os.remove(path + NEW)
         return False
-    os.replace(path + NEW, path)
+    files.settle(path + NEW, path)
     return True
 
 
 def write_new(path, text):
-    with open(path + NEW, "w", encoding="latin-1", newline="") as file:
+    with files.fresh(path + NEW, encoding="latin-1", newline="") as file:
         file.write(text)
     return path
 
@@ -243,7 +243,7 @@ def write_lineage(path, tiling, out, say):
                     raise Trouble(f"{path}: {MOST_ROWS} rows a region are too few: it has more")
                 if file:
                     file.close()
-                file = open(os.path.join(out, folder, f"lineage.csv{NEW}"), "a", encoding="latin-1", newline="")
+                file = files.more(os.path.join(out, folder, f"lineage.csv{NEW}"), encoding="latin-1", newline="")
             file.write(ended(raw))
             count = row
     finally:

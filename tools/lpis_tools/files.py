@@ -1,0 +1,93 @@
+"""Files that take their place only when they are whole, and that are never written through a link which lies in their place.
+
+    with files.anew(path) as file      beside the place under a name that nobody can foresee, and then renamed; the mode of what stood there is kept
+    with files.fresh(path) as file     in its place from the start; what lies there is removed first, and a link is not followed
+    with files.more(path) as file      goes on with a file of one's own; a link is not followed
+    files.forget()                     removes what is not whole, where a tool ends at once
+"""
+
+import contextlib
+import os
+import secrets
+import stat
+
+NEW = ".new"  # how the names of files end that are not whole
+MADE = os.O_WRONLY | os.O_CREAT | os.O_EXCL | os.O_NOFOLLOW | os.O_CLOEXEC
+TEXT = {"encoding": "utf-8", "errors": "backslashreplace"}  # bytes of a folder's name that are no letters are no crash
+
+_unfinished = set()
+
+
+def is_device(path):
+    """Whether a path is no file but a terminal, a pipe or another thing that takes bytes and can't be renamed over."""
+    return os.path.abspath(path).startswith(("/dev/", "/proc/")) or (os.path.exists(path) and not os.path.isfile(path))
+
+
+def mode_of(path):
+    """The mode of a file that lies there itself, or None."""
+    with contextlib.suppress(OSError):
+        found = os.lstat(path)
+        if stat.S_ISREG(found.st_mode):
+            return stat.S_IMODE(found.st_mode)
+    return None
+
+
+def opened(handle, mode, form):
+    return os.fdopen(handle, mode, **(form if "b" in mode else {**TEXT, **form}))
+
+
+@contextlib.contextmanager
+def beside(path, mode=None):
+    """The name of a new, empty file beside a path. If all goes well, it takes its place, with the mode given or that of the file there."""
+    name = os.path.join(os.path.dirname(path), f".lpis-{secrets.token_hex(8)}{NEW}")
+    handle, mode = os.open(name, MADE, 0o666), mode_of(path) if mode is None else mode
+    _unfinished.add(name)
+    try:
+        if mode is not None:
+            os.fchmod(handle, mode)
+        os.close(handle)
+        yield name
+        os.replace(name, path)
+    finally:
+        remove(name)
+        _unfinished.discard(name)
+
+
+@contextlib.contextmanager
+def anew(path, mode="w", **form):
+    """A file to write that takes its place only when it is whole."""
+    if is_device(path):
+        with opened(os.open(path, os.O_WRONLY | os.O_CLOEXEC), mode, form) as file:
+            yield file
+        return
+    with beside(path) as name, opened(os.open(name, os.O_WRONLY | os.O_NOFOLLOW | os.O_CLOEXEC), mode, form) as file:
+        yield file
+        file.flush()
+
+
+def fresh(path, **form):
+    remove(path)
+    return opened(os.open(path, MADE, 0o666), "w", form)
+
+
+def more(path, **form):
+    return opened(os.open(path, os.O_WRONLY | os.O_APPEND | os.O_NOFOLLOW | os.O_CLOEXEC), "a", form)
+
+
+def settle(name, path):
+    """Puts a file in the place of another, whose mode is kept."""
+    mode = mode_of(path)
+    if mode is not None:
+        os.chmod(name, mode)
+    os.replace(name, path)
+
+
+def remove(path):
+    with contextlib.suppress(FileNotFoundError):
+        os.remove(path)
+
+
+def forget():
+    for name in list(_unfinished):
+        with contextlib.suppress(OSError):
+            os.remove(name)
