@@ -1,13 +1,12 @@
 //! A grid of points, found by the run and one by one by `Yes::locate`.
 
-use crate::releases::{PARCELS, PIECES, expect_run, halves};
+use crate::releases::{CLASSES, PARCELS, PARCELS_CERT, PIECES, expect_run, halves};
 use lpis_cert::read_cert;
 use lpis_checker::{Yes, check};
 use lpis_covers::Id;
 use lpis_pairs::Sweep;
 use lpis_parcels::{Release, read_release};
 use lpis_points::RatPoint;
-use lpis_testing::{CLASSES, PARCELS_CERT};
 use std::test::Fail;
 
 /// The coordinates of the grid in millimetres, in no order: it has the corners of the parcels, the

@@ -8,7 +8,11 @@
 #[cfg(test)]
 mod beside;
 #[cfg(test)]
+mod expecting;
+#[cfg(test)]
 mod failures;
+#[cfg(test)]
+mod halting;
 #[cfg(test)]
 mod releases;
 #[cfg(test)]

@@ -1,11 +1,12 @@
 //! Runs of `locate` over texts.
 
+use crate::expecting::expect_answer;
+use crate::halting::Halting;
 use lpis_commands::{Failure, Folder, TableReaders};
 use lpis_locate::run_locate;
-use lpis_testing::{CLASSES, Halting, PARCELS_CERT, expect_answer};
 use std::test::Fail;
 
-/// The halves of the square as two parcels, of one piece each, and their certificate.
+/// The halves of a square of ten metres as two parcels, of one piece each.
 pub static PARCELS: &str = "parcel,wkt
 B,\"POLYGON((0 0,5 0,5 10,0 10,0 0))\"
 C,\"POLYGON((5 0,10 0,10 10,5 10,5 0))\"
@@ -14,6 +15,25 @@ C,\"POLYGON((5 0,10 0,10 10,5 10,5 0))\"
 pub static PIECES: &str = "piece,parcel,class,wkt
 b1,B,G,\"POLYGON((0 0,5 0,5 10,0 10,0 0))\"
 c1,C,W,\"POLYGON((5 0,10 0,10 10,5 10,5 0))\"
+";
+
+/// The table of two classes, the first of which is eligible.
+pub static CLASSES: &str = "class,eligible\nG,1\nW,0\n";
+
+/// The certificate of version 1, in centimetres.
+pub static PARCELS_CERT: &str = "lpis-cert 1
+piece b1 2 0
+t 0 0 500 0 500 1000
+t 0 0 500 1000 0 1000
+piece c1 2 0
+t 500 0 1000 0 1000 1000
+t 500 0 1000 1000 500 1000
+parcel B 0
+parcel C 0
+pairs 2
+s 0 1 2
+s 2 3 2
+end
 ";
 
 /// The texts of a run: of the release, of its certificate, and of the points.

@@ -3,7 +3,7 @@
 use std::test::Fail;
 
 /// Fails unless the texts are equal.
-pub fn expect(told: &str, wanted: &str) -> Result<(), Fail> {
+fn expect(told: &str, wanted: &str) -> Result<(), Fail> {
     if told == wanted {
         return Ok(());
     }
