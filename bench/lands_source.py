@@ -1,0 +1,77 @@
+"""Writes a generated land as a source: a GeoPackage by sqlite3 alone, or a folder of tables as spreadsheets write them. Nothing of tools/ is used."""
+
+import csv
+import os
+import shutil
+import sqlite3
+
+from lands_land import KEYS
+from lands_shapes import field_of_package, wkt
+
+SYSTEM = 25832
+DEFINITION = ('PROJCS["ETRS89 / UTM zone 32N",GEOGCS["ETRS89",DATUM["European_Terrestrial_Reference_System_1989",SPHEROID["GRS 1980",6378137,298.257222101]],'
+              'PRIMEM["Greenwich",0],UNIT["degree",0.0174532925199433]],PROJECTION["Transverse_Mercator"],PARAMETER["latitude_of_origin",0],PARAMETER["central_meridian",9],'
+              'PARAMETER["scale_factor",0.9996],PARAMETER["false_easting",500000],PARAMETER["false_northing",0],UNIT["metre",1],AUTHORITY["EPSG","25832"]]')
+FRAME = """
+    PRAGMA application_id = 1196444487; PRAGMA user_version = 10300;
+    CREATE TABLE gpkg_spatial_ref_sys (srs_name TEXT NOT NULL, srs_id INTEGER NOT NULL PRIMARY KEY, organization TEXT NOT NULL, organization_coordsys_id INTEGER NOT NULL,
+      definition TEXT NOT NULL, description TEXT);
+    CREATE TABLE gpkg_contents (table_name TEXT NOT NULL PRIMARY KEY, data_type TEXT NOT NULL, identifier TEXT UNIQUE, description TEXT DEFAULT '',
+      last_change DATETIME NOT NULL DEFAULT '2026-01-01T00:00:00Z', min_x DOUBLE, min_y DOUBLE, max_x DOUBLE, max_y DOUBLE, srs_id INTEGER);
+    CREATE TABLE gpkg_geometry_columns (table_name TEXT NOT NULL, column_name TEXT NOT NULL, geometry_type_name TEXT NOT NULL, srs_id INTEGER NOT NULL, z TINYINT NOT NULL, m TINYINT NOT NULL);
+    INSERT INTO gpkg_spatial_ref_sys VALUES ('Undefined', -1, 'NONE', -1, 'undefined', NULL), ('Undefined', 0, 'NONE', 0, 'undefined', NULL);
+"""
+SHEETS = {"csv": (",", "utf-8", "\n"), "semicolons": (";", "utf-8-sig", "\r\n"), "utf16": ("\t", "utf-16", "\r\n"), "tabs": ("\t", "utf-8", "\n")}
+
+
+def write(land, folder):
+    """The path of the source, and the words that tell prepare of its table of classes."""
+    path = write_package(land, os.path.join(folder, "land.gpkg")) if land.form in ("package", "rows") else write_sheets(land, os.path.join(folder, "land"))
+    if land.classes_given != "file":
+        return path, []
+    table = os.path.join(folder, "classes.csv")
+    write_sheet(table, ["class", "percent"], land.classes, "csv")
+    return path, ["--classes", table]
+
+
+def write_package(land, path):
+    """A GeoPackage; of the form `rows` its layers have no key."""
+    if os.path.exists(path):
+        os.remove(path)
+    base = sqlite3.connect(path)
+    base.executescript(FRAME)
+    base.execute("INSERT INTO gpkg_spatial_ref_sys VALUES ('ETRS89 / UTM zone 32N', ?, 'EPSG', ?, ?, NULL)", (SYSTEM, SYSTEM, DEFINITION))
+    key = "fid INTEGER PRIMARY KEY AUTOINCREMENT NOT NULL, " if land.form == "package" else ""
+    for layer, rows in (("parcels", land.parcels), ("covers", land.covers)):
+        columns = KEYS[layer]
+        base.execute(f"CREATE TABLE {layer} ({key}geom GEOMETRY, {', '.join(f'{column} TEXT' for column in columns)})")
+        base.execute("INSERT INTO gpkg_contents (table_name, data_type, identifier, srs_id) VALUES (?, 'features', ?, ?)", (layer, layer, SYSTEM))
+        base.execute("INSERT INTO gpkg_geometry_columns VALUES (?, 'geom', 'GEOMETRY', ?, 2, 2)", (layer, SYSTEM))
+        base.executemany(f"INSERT INTO {layer} (geom, {', '.join(columns)}) VALUES (?{', ?' * len(columns)})",
+                         [(field_of_package(row.shape, SYSTEM), *(row.fields[column] for column in columns)) for row in rows])
+    if land.classes_given == "land":
+        base.execute("CREATE TABLE classes (class TEXT, percent INTEGER)")
+        base.execute("INSERT INTO gpkg_contents (table_name, data_type, identifier, srs_id) VALUES ('classes', 'attributes', 'classes', 0)")
+        base.executemany("INSERT INTO classes VALUES (?, ?)", land.classes)
+    base.commit()
+    base.close()
+    return path
+
+
+def write_sheets(land, folder):
+    shutil.rmtree(folder, ignore_errors=True)
+    os.makedirs(folder)
+    for layer, rows in (("parcels", land.parcels), ("covers", land.covers)):
+        columns = KEYS[layer]
+        write_sheet(os.path.join(folder, f"{layer}.csv"), [*columns, "wkt"], [[*(row.fields[column] for column in columns), wkt(row.shape)] for row in rows], land.form)
+    if land.classes_given == "land":
+        write_sheet(os.path.join(folder, "classes.csv"), ["class", "percent"], land.classes, land.form)
+    return folder
+
+
+def write_sheet(path, header, rows, form):
+    separator, encoding, end = SHEETS.get(form, SHEETS["csv"])
+    with open(path, "w", newline="", encoding=encoding) as file:
+        table = csv.writer(file, delimiter=separator, lineterminator=end)
+        table.writerow(header)
+        table.writerows(rows)

@@ -1,0 +1,219 @@
+"""A trial of one land, or of one damaged source: every run of the tools over it, and what is not as it has to be."""
+
+import hashlib
+import os
+import re
+import shutil
+
+import lands_judge
+import lands_source
+from common import answer, lpis
+from lands_judge import FILES, Judge, Written, records
+
+STATUSES = {0, 1, 64}
+PROGRESS = re.compile(r"(prepare|compare|country): (reading|testing|borders|faces|tables|conflicts|comparing)")
+NO_CUT = "no cut parts them"
+TABLES = ("parcels.csv", "covers.csv", "classes.csv")
+
+
+def digests(folder):
+    """The files of a folder with their digests."""
+    found = {}
+    for where, _, names in os.walk(folder):
+        for name in names:
+            path = os.path.join(where, name)
+            with open(path, "rb") as file:
+                found[os.path.relpath(path, folder)] = hashlib.sha256(file.read()).hexdigest()
+    return found
+
+
+class Enough(Exception):
+    """The first fault was found, and no other is wanted."""
+
+
+class Trial:
+    """The runs over one source. A fault is a kind and its words; where the first one alone is wanted, it ends the trial."""
+
+    def __init__(self, runner, folder, points, is_first_enough=False):
+        self.runner, self.folder, self.points, self.faults, self.runs, self.is_first_enough = runner, folder, points, [], [], is_first_enough
+
+    def path(self, name):
+        return os.path.join(self.folder, name)
+
+    def say(self, kind, words):
+        self.faults.append((kind, words))
+        if self.is_first_enough:
+            raise Enough
+
+    def run(self, tool, *words, statuses=STATUSES):
+        """A run that has to end as the documents say."""
+        run = self.runner.run(tool, *words, points=self.points)
+        self.runs.append(run)
+        where = f"{tool} {'--accept ' * ('--accept' in words)}"
+        if run.status is None:
+            self.say("time", f"{where}took more than {run.seconds:.0f} s, of {self.points} points")
+        elif "Traceback" in run.told + run.text:
+            self.say("crash", f"{where}{place_of(run.told + run.text)}: {last_line(run.told)}")
+        elif run.status not in statuses:
+            self.say("status", f"{where}ended with {run.status}: {last_line(run.told, run.text)}")
+        elif run.status and not run.told.strip() and not run.text.strip():
+            self.say("mute", f"{where}ended with {run.status} and without a word")
+        return run
+
+    def prepared(self, source, out, *words):
+        """A run of prepare, and whether what it left is whole."""
+        before = digests_of(source)
+        run = self.run("prepare", source, out, *words)
+        if digests_of(source) != before:
+            self.say("source", "prepare changed its source")
+        names = set(os.listdir(out)) if os.path.isdir(out) else set()
+        if leftovers := sorted(name for name in names if name.startswith(".") or name.endswith(".new")):
+            self.say("leftovers", f"prepare left {' '.join(leftovers)}")
+        there = [name for name in TABLES[:2] if name in names]
+        if run.status == 0 and len(there) < 2:
+            self.say("tables", f"status 0 without {' '.join(sorted(set(TABLES[:2]) - set(there)))}")
+        elif run.status == 0 and not all(records(out, name) for name in TABLES[:2]):
+            self.say("nothing", "status 0 and a table without a row")
+        elif run.status and there and out == self.path("accepted"):
+            self.say("tables", f"status {run.status} with {' '.join(there)}")
+        return run
+
+    # What follows the tables.
+
+    def proved(self, out):
+        """The program's yes of tables that were written, with the judge's area."""
+        if not os.path.exists(os.path.join(out, "classes.csv")):
+            return
+        cert = self.path("cert.txt")
+        for words in (["cut", out, cert], ["check", out, cert]):
+            status, text, told = answer([lpis(), *words])
+            if status != 0:
+                self.say("refused", f"lpis {words[0]}: {(text + told).strip()[-200:]}")
+                return
+        lines = text.splitlines()
+        doubled = sum(Written(record, "parcels").area2 for record in records(out, "parcels.csv"))
+        wanted = f"{doubled // 2_000_000}.{doubled % 2_000_000 * 5:07d}"
+        if lines[-1] != "yes" or f" area {wanted} " not in f"{lines[-2]} ":
+            self.say("area", f"lpis check: {' '.join(lines[-2:])}, and the judge has {wanted}")
+
+    def compared(self, source, out, is_sound):
+        """`compare` over the same source and tables has the same balance."""
+        other = self.path("compared")
+        shutil.rmtree(other, ignore_errors=True)
+        os.makedirs(other)
+        for name in TABLES:
+            if os.path.exists(os.path.join(out, name)):
+                shutil.copy(os.path.join(out, name), other)
+        run = self.run("recipes/compare", source, other, *([] if is_sound else ["--accept"]))
+        if run.status != 0:
+            self.say("compare", f"compare ended with {run.status}: {last_line(run.told, run.text)}")
+            return
+        here = {(record["layer"], record["class"]): record for record in records(out, "balance.csv")}
+        for record in records(other, "balance.csv"):
+            group = record["layer"], record["class"]
+            mine = here.get(group, {}).get("tables_m2", "0")
+            if abs(float(record["tables_m2"]) - float(mine)) > 0.002:
+                self.say("compare", f"tables of {group}: compare has {record['tables_m2']}, and prepare {mine} m2")
+            if not record["class"] and group in here and abs(float(record["source_m2"]) - float(here[group]["source_m2"])) > 0.01:
+                self.say("compare", f"source of {group}: compare has {record['source_m2']}, and prepare {here[group]['source_m2']} m2")
+
+    def split(self, out):
+        """The regions of a country have each row of the tables, and nothing else; each gets its yes."""
+        if not os.path.exists(os.path.join(out, "classes.csv")):
+            return
+        country = self.path("country")
+        shutil.rmtree(country, ignore_errors=True)
+        count = len(records(out, "parcels.csv"))
+        run = self.run("country", "split", out, country, "--parcels", str(max(4, count // 3)))
+        if run.status == 1 and NO_CUT in run.text + run.told:  # islands in islands
+            run = self.run("country", "split", out, country)
+        if run.status != 0:
+            self.say("split", f"split ended with {run.status}: {last_line(run.told, run.text)}")
+            return
+        with open(os.path.join(country, "country.txt"), encoding="ascii") as file:
+            regions = [line.split()[1] for line in file if line.startswith("region ")]
+        for name in TABLES[:2]:
+            wanted = {tuple(record.items()) for record in records(out, name)}
+            found = {tuple(record.items()) for region in regions for record in records(os.path.join(country, region), name)}
+            if wanted != found:
+                self.say("split", f"{name}: {len(wanted - found)} rows are in no region, {len(found - wanted)} are of no table")
+        for region in regions:
+            answer([lpis(), "cut", os.path.join(country, region), os.path.join(country, region, "cert.txt")])
+        status, text, told = answer([lpis(), "country", country])
+        if status != 0:
+            self.say("split", f"lpis country: {(text + told).strip()[-200:]}")
+
+
+def digests_of(path):
+    if os.path.isdir(path):
+        return digests(path)
+    beside = {name for name in os.listdir(os.path.dirname(path)) if name.startswith(os.path.basename(path))}
+    with open(path, "rb") as file:
+        return beside, hashlib.sha256(file.read()).hexdigest()
+
+
+def last_line(*texts):
+    """What was said last, but for lines of progress."""
+    lines = [line for text in texts for line in text.strip().splitlines() if line.strip() and not PROGRESS.match(line)]
+    return lines[-1][:300] if lines else "nothing"
+
+
+def place_of(text):
+    """Where a traceback says that it happened: the innermost function of the tools."""
+    places = re.findall(r'File "[^"]*/tools/([^"]*)", line \d+, in (\S+)', text)
+    return " ".join(places[-1]) if places else "somewhere"
+
+
+def of_land(land, runner, folder, is_first_enough=False):
+    """What does not hold of a land, of all that has to hold: its faults."""
+    shutil.rmtree(folder, ignore_errors=True)
+    os.makedirs(folder)
+    trial = Trial(runner, folder, land.points(), is_first_enough)
+    try:
+        try_land(trial, land, folder)
+    except Enough:
+        pass
+    return trial.faults
+
+
+def try_land(trial, land, folder):
+    source, words = lands_source.write(land, folder)
+    plain, accepted, out = trial.path("plain"), trial.path("accepted"), trial.path("accepted")
+    first = trial.prepared(source, plain, *words)
+    run = trial.prepared(source, accepted, *words, "--accept")
+    if 64 in (first.status, run.status):
+        trial.say("status", f"prepare ended with 64: {last_line(run.told)}")
+    if land.is_clean and land.classes_given != "none" and first.status != 0:
+        trial.say("clean", f"a clean land has something to look at: {last_line(first.text)}")
+    if run.status == 1 and "no table is written" not in run.text:
+        trial.say("mute", "status 1, and no word that no table is written")
+    if run.status not in (0, 1) or any(kind == "crash" for kind, _ in trial.faults):
+        return
+    again(trial, land, source, words, run)
+    if run.status == 0:
+        if first.status == 0:
+            same(trial, "plain and accepted", {name: value for name, value in digests(plain).items() if name in TABLES}, {name: value for name, value in digests(out).items() if name in TABLES})
+        for fault in Judge(land, out).judge():
+            trial.say(*fault)
+        trial.proved(out)
+        trial.compared(source, out, first.status == 0 and not os.path.exists(os.path.join(out, "identifiers.csv")))
+        trial.split(out)
+
+
+def again(trial, land, source, words, before):
+    """A second run, into a fresh folder or over what the first one left, gives the same bytes and says the same."""
+    out, kept = trial.path("accepted"), digests(trial.path("accepted"))
+    if land.seed % 2:
+        shutil.move(out, trial.path("first"))
+    run = trial.prepared(source, out, *words, "--accept")
+    same(trial, "the first and the second run", kept, digests(out))
+    if (run.status, run.text) != (before.status, before.text):
+        trial.say("again", f"the second run says {last_line(run.text)}, and the first {last_line(before.text)}")
+
+
+def same(trial, what, one, other):
+    if one != other:
+        trial.say("again", f"{what} differ in {' '.join(sorted(name for name in {*one, *other} if one.get(name) != other.get(name)))}")
+
+
+__all__ = ["FILES", "STATUSES", "Trial", "digests", "last_line", "lands_judge", "of_land"]
