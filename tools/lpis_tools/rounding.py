@@ -89,12 +89,12 @@ class Map:
         if not self.texts:
             self.texts = [f"{metres(x)} {metres(y)}" for part in numpy.array_split(self.network.points, 100) for x, y in part.tolist()]
         before, rings = None, []
-        for owner, ring in faces.Rings(self.faces, owners).walked():
+        for owner, member, ring in faces.Rings(self.faces, owners).walked():
             if owner != before and rings:
                 yield before, self.text(rings)
                 rings = []
             before = owner
-            rings.append(ring)
+            rings.append((member, ring))
         if rings:
             yield before, self.text(rings)
 
