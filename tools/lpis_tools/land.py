@@ -177,13 +177,13 @@ def read_package(path, names, wanted):
             columns = {row[1]: row for row in connection.execute(f"PRAGMA table_xinfo({quoted(table)})")}
             chosen, lacking, _ = chosen_of(list(columns), name, COLUMNS[name], names, f"layer {table}")
             reasons += lacking
-            shape = shapes.get(table.lower(), [])
-            if name in SHAPED and len(shape) != 1:
-                reasons.append(f"layer {table}: {'two columns of shapes: ' + ' and '.join(column for column, _ in shape) if shape else 'it has no column of shapes'}")
+            shape, why = chosen_shape(shapes.get(table.lower(), []), name, names)
+            if name in SHAPED and why:
+                reasons.append(f"layer {table}: {why}")
             elif not lacking:
                 key = next((column for column, row in columns.items() if row[5] == 1 and str(row[2]).upper() in ("INTEGER", "INT")), None)
-                layers[name] = read_layer(connection, table, Layer(name), chosen, shape[0] if shape else None, key)
-                layers[name].others = [column for column in columns if column not in chosen.values() and column not in (key, shape[0][0] if shape else "")]
+                layers[name] = read_layer(connection, table, Layer(name), chosen, shape, key)
+                layers[name].others = [column for column in columns if column not in chosen.values() and column not in (key, shape[0] if shape else "")]
         if reasons:
             raise Trouble(*reasons)
         return layers
@@ -191,6 +191,20 @@ def read_package(path, names, wanted):
         raise Trouble(f"{path}: {error}") from None
     finally:
         connection.close()
+
+
+def chosen_shape(shapes, name, names):
+    """The column of a layer's shapes with its system, and why there is none. --name LAYER.wkt chooses among several."""
+    called = names.get(f"{name}.wkt")
+    found = [shape for shape in shapes if called is None or shape[0].lower() == called.lower()]
+    found = [shape for shape in found if shape[0] == called] or found
+    if len(found) == 1:
+        return found[0], ""
+    there = ", ".join(shown(column) for column, _ in shapes)
+    if not shapes:
+        return None, "it has no column of shapes"
+    which = f"{len(found)} columns of shapes" if found else f"no column of shapes {shown(called)}"
+    return None, f"{which}: there are {there} (--name {name}.wkt=COLUMN says which it is)"
 
 
 def shapes_of(connection):

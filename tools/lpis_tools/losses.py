@@ -18,6 +18,7 @@ from .findings import readable
 
 __all__ = ["Loss", "conflicts_alone", "line_of", "number_of", "parts_of", "polygons_by", "report"]
 MOST_TOLD = 20
+MOST_REASONS = 3
 COLUMNS = ["kind", "layer", "row", "identifiers", "width_m", "area_m2", "x", "y", "stops", "words"]
 
 
@@ -112,6 +113,13 @@ def line_of(loss):
     return f"{what}{layer}{at}{area}: {loss.words}"
 
 
+def why_nothing(losses, whole):
+    """Why tables have no row: the commonest reasons of the source's rows."""
+    reasons = {id(entry.row): entry.row.why for entry in whole.entries.values() if entry.row.why}
+    found = Counter(reasons.values()) or Counter(loss.words for loss in losses if loss.kind in ("lost", "left out"))
+    return "; ".join(f"{count} row{'s' * (count > 1)}: {words}" for words, count in found.most_common(MOST_REASONS)) or "the tables have no row"
+
+
 def report(layers, out, accept, say, epsg=None, counts=None, whole=None, tables=None, source=None, seen=None):
     """Finds, writes and prints. The status: 1 where something is lost, changed or in wide conflict, unless that is accepted. `counts` are the rows of
     the source, where some were left out before; `whole` the balance of what was read, where that was mended; `tables` the folder of the tables,
@@ -125,6 +133,9 @@ def report(layers, out, accept, say, epsg=None, counts=None, whole=None, tables=
     whole.write(out)
     for line in [*told(losses, layers, found, out, counts), *whole.words()]:
         print(line)
+    if not all(found):
+        print(f"nothing is left: {why_nothing(losses, whole)}")
+        return 1
     stopping = sum(loss.stops() for loss in losses)
     if not stopping and whole.is_even():
         return 0

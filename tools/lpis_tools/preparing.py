@@ -25,6 +25,7 @@ class Preparation:
     def __init__(self, layers, epsg, say):
         self.layers, self.say, self.findings, self.epsg = layers, say, [], epsg
         self.counts = {name: len(layer.rows) for name, layer in layers.items()}
+        self.shapeless = []  # parcels without a shape that can be used, each with its finding
 
     def find(self, kind, layer, row, words, done="left out", is_mended=False):
         """A finding about a row, or about a layer. What is not mended without asking has its area and place."""
@@ -126,7 +127,16 @@ class Preparation:
 
     def without_shape(self, kind, name, row, words):
         self.find(kind, name, row, words, "made of its pieces" if name == "parcels" else "left out")
+        if name == "parcels":
+            self.shapeless.append((row, self.findings[-1]))
         row.found, row.why = None, words
+
+    def tell_shapeless(self):
+        """Of parcels without a shape, when it is known which have pieces: the others are left out."""
+        kept = set(map(id, self.layers["parcels"].rows))
+        for row, finding in self.shapeless:
+            if id(row) not in kept:
+                finding.done = "left out"
 
     def place(self, name, row, are_metres, prefixes):
         """Tests where a shape lies, and how many points it has."""
