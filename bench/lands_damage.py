@@ -4,13 +4,11 @@ number has its own damage, done to a small generated land. Nothing of tools/ is 
 import os
 import random
 import re
-import shutil
 import sqlite3
 import struct
 
 import lands_source
 from lands_land import Land
-from lands_shapes import field_of_package
 
 FILES, PACKAGES, SHEETS = [], [], []
 
@@ -278,6 +276,3 @@ def damage_sheet(folder, draw):
         with open(path, "wb") as file:
             file.write(function(text, draw).encode(encoding, "surrogateescape" if encoding == "utf-8" else "replace"))
     return function.__name__
-
-
-__all__ = ["damaged", "field_of_package", "shutil"]

@@ -21,7 +21,6 @@ NEAR = 0.5  # square metres: what a balance that adds up may miss
 DEEP = 0.006  # metres from all borders of its shape: a point that rounding takes from nobody
 SAMPLES = 150
 MOST = 1e16  # square metres: of coordinates beyond the range, whose row is left out by name
-FILES = {"prepared.csv", "identifiers.csv", "report.csv", "report.geojson", "balance.csv", "parcels.csv", "covers.csv", "classes.csv"}
 
 
 def records(folder, name):

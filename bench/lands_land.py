@@ -153,6 +153,17 @@ class Land:
         """How many points all shapes have; one of an arc counts as those that it becomes."""
         return sum(len(ring) * (MADE_STRAIGHT if row.shape.form in CURVED else 1) for row in self.rows() for ring, _ in row.shape.rings())
 
+    @classmethod
+    def of_rows(cls, parcels, covers, form="package"):
+        """A land of given rows: (parcel, shape) and (piece, parcel, class, shape)."""
+        land = object.__new__(cls)
+        land.seed, land.is_clean, land.form, land.classes_given, land.parts = 1, False, form, "land", []
+        land.classes = [("GRASS", 100), ("TREES", 30), ("WATER", 0)]
+        land.parcels = [Row("parcels", {"parcel": name}, shape) for name, shape in parcels]
+        land.covers = [Row("covers", dict(zip(KEYS["covers"], names)), shape) for *names, shape in covers]
+        land.number_rows()
+        return land
+
     def without(self, rows):
         """The same land without some of its rows, to shrink it."""
         other = object.__new__(Land)
@@ -162,6 +173,15 @@ class Land:
             setattr(other, layer, [copy_of(row) for row in getattr(self, layer) if id(row) not in gone])
         other.number_rows()
         return other
+
+
+def told(land):
+    """The rows of a land as words of Python, for a table of cases."""
+    lines = [f"# {land.form}, {len(land.parcels)} parcels, {len(land.covers)} pieces"]
+    for row in land.rows():
+        more = "".join(f", {name}=True" for name in ("has_z", "has_m") if getattr(row.shape, name))
+        lines.append(f"({', '.join(map(repr, row.fields.values()))}, Shape({row.shape.members!r}, {row.shape.form!r}{more})),")
+    return "\n".join(lines) + "\n"
 
 
 def copy_of(row):

@@ -10,7 +10,6 @@ import select
 import signal
 import sys
 import tempfile
-import time
 import traceback
 from dataclasses import dataclass
 
@@ -27,15 +26,11 @@ ROOM, ROOM_EACH = 500_000_000, 4_000
 class Run:
     """A run's end. The status is negative where a signal ended it, and None where it was out of time."""
 
-    words: list
     status: int | None
     text: str
     told: str
     seconds: float
     peak: int
-
-    def command(self):
-        return " ".join(self.words)
 
 
 def preload():
@@ -54,7 +49,6 @@ class Runner:
 
     def __init__(self, folder):
         self.folder, self.codes = folder, {}
-        self.base = resource.getrusage(resource.RUSAGE_SELF).ru_maxrss * 1024
 
     def code(self, tool):
         if tool not in self.codes:
@@ -79,7 +73,7 @@ class Runner:
             for file in (out, err):
                 file.seek(0)
                 texts.append(file.read().decode("utf-8", "replace"))
-        return Run(words, status, *texts, usage.ru_utime + usage.ru_stime, usage.ru_maxrss * 1024)
+        return Run(status, *texts, usage.ru_utime + usage.ru_stime, usage.ru_maxrss * 1024)
 
 
 def waited(pid, wall):
@@ -144,7 +138,3 @@ def ended(code, words):
             traceback.print_exc()
     atexit._run_exitfuncs()
     return status
-
-
-def clock():
-    return time.perf_counter()

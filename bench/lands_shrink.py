@@ -1,6 +1,5 @@
 """Makes a land that fails small, while it still fails in the same way: whole parcels with their pieces, then rows, then corners are taken out."""
 
-from lands_land import Row
 from lands_shapes import Shape
 
 TRIES = 100
@@ -90,6 +89,3 @@ def smaller_shapes(shape):
 
 def like(shape, members):
     return Shape(members, shape.form, shape.has_z, shape.has_m)
-
-
-__all__ = ["Row", "Shrinking"]

@@ -5,10 +5,10 @@ import os
 import re
 import shutil
 
-import lands_judge
+import lands_damage
 import lands_source
 from common import answer, lpis
-from lands_judge import FILES, Judge, Written, records
+from lands_judge import Judge, Written, records
 
 STATUSES = {0, 1, 64}
 PROGRESS = re.compile(r"(prepare|compare|country): (reading|testing|borders|faces|tables|conflicts|comparing)")
@@ -216,4 +216,17 @@ def same(trial, what, one, other):
         trial.say("again", f"{what} differ in {' '.join(sorted(name for name in {*one, *other} if one.get(name) != other.get(name)))}")
 
 
-__all__ = ["FILES", "STATUSES", "Trial", "digests", "last_line", "lands_judge", "of_land"]
+def of_damaged(number, runner, folder):
+    """What does not hold of the damaged source of a number, and what was done to it: it ends as the documents say, and what is written gets its yes."""
+    shutil.rmtree(folder, ignore_errors=True)
+    os.makedirs(folder)
+    path, words, done, points = lands_damage.damaged(number, folder)
+    trial = Trial(runner, folder, points)
+    for name, more in (("plain", []), ("accepted", ["--accept"]))[number % 3 == 0:]:
+        out = trial.path(name)
+        run = trial.prepared(path, out, *words, *more)
+        if run.status == 0:
+            trial.proved(out)
+            if "the balance adds up" not in run.text:
+                trial.say("uneven", f"prepare: {last_line(run.text)}")
+    return trial.faults, done
