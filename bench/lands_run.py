@@ -20,6 +20,7 @@ PRELOADED = ["numpy", "shapely.geometry", "shapely.ops", "shapely.strtree", "sha
 # What a run may take, by the points of its source: seconds of a processor, and megabytes beyond those of a process that has loaded all.
 SECONDS, SECONDS_EACH = 10.0, 0.001
 ROOM, ROOM_EACH = 500_000_000, 4_000
+WALL = 30  # times as long by the clock, beside other work
 
 
 @dataclass
@@ -68,7 +69,7 @@ class Runner:
             pid = os.fork()
             if pid == 0:
                 in_child(code, words, out.fileno(), err.fileno(), seconds, room)
-            status, usage = waited(pid, 4 * seconds)
+            status, usage = waited(pid, WALL * seconds)
             texts = []
             for file in (out, err):
                 file.seek(0)

@@ -1,15 +1,17 @@
 """Makes a land that fails small, while it still fails in the same way: whole parcels with their pieces, then rows, then corners are taken out."""
 
+import time
+
 from lands_shapes import Shape
 
-TRIES = 100
+TRIES, SECONDS = 100, 120.0
 
 
 class Shrinking:
     """The search for a small land of which `fails` is still true."""
 
     def __init__(self, land, fails, tries=TRIES):
-        self.land, self.fails, self.left = land, fails, tries
+        self.land, self.fails, self.left, self.end = land, fails, tries, time.monotonic() + SECONDS
 
     def run(self):
         self.halve(self.by_parcel())
@@ -27,6 +29,8 @@ class Shrinking:
 
     def takes(self, land):
         """Whether a smaller land fails too; it then takes the place of the one before."""
+        if time.monotonic() > self.end:
+            self.left = 0
         if self.left <= 0 or not land.rows():
             return False
         self.left -= 1
