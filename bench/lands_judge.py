@@ -73,7 +73,7 @@ class Judge:
         for record in records(out, "identifiers.csv"):
             self.new_names[record["kind"]][plain(record["old"])] = record["new"]
         self.tables = {layer: [Written(record, layer) for record in records(out, f"{layer}.csv")] for layer in KEYS}
-        self.told, self.told_names = defaultdict(set), set()
+        self.told, self.told_names, self.made_names = defaultdict(set), set(), set()
         self.read_reports()
 
     def say(self, kind, words):
@@ -88,6 +88,8 @@ class Judge:
     def read_reports(self):
         for record in records(self.out, "prepared.csv"):
             self.told[record["layer"], record["row"]].add(record["kind"])
+            if record["kind"] in ("doubled", "nameless"):
+                self.made_names |= set(record["done"].replace(",", " ").split())
         for record in records(self.out, "report.csv"):
             for layer in KEYS:
                 if layer == record["layer"] or record["kind"] in ("outside", "gap", "overlap"):
@@ -166,7 +168,7 @@ class Judge:
             self.row(row, name, written[row.layer].get(name))
         for layer, rows in written.items():
             for name in set(rows) - known[layer]:
-                if name not in self.told_names and not any(kinds & {"nameless", "doubled"} for (where, _), kinds in self.told.items() if where == layer):
+                if name not in self.told_names | self.made_names:
                     self.say("rows", f"{layer}: the tables have {name}, and the source has not")
 
     def row(self, row, name, found):
@@ -207,7 +209,7 @@ class Judge:
         for layer, rows in self.tables.items():
             for row in draw.sample(rows, min(SAMPLES, len(rows))):
                 point, origins = deep_point(row.ways, draw), sources[layer, row.name]
-                if not point or row.name in self.told_names or any(self.told[layer, str(origin.number)] - {"z", "m", "identifier"} for origin in origins):
+                if not point or row.name in self.told_names | self.made_names or any(self.told[layer, str(origin.number)] - {"z", "m", "identifier"} for origin in origins):
                     continue
                 ways = [[ring for ring, _ in origin.shape.rings()] for origin in origins if origin.shape.form in ("polygon", "multi")]
                 if len(ways) == len(origins) and not any(contains(way, box_of(way), point) for way in ways):

@@ -1,5 +1,6 @@
 """A whole land of a number: its rows, its names, and how it is written. Nothing of tools/ is used."""
 
+import math
 import random
 
 from lands_parts import CLEAN, NASTY
@@ -38,13 +39,17 @@ class Land:
         self.count = min(most, self.random.randrange(200, 2001) if self.is_large else int(10 ** self.random.uniform(0, 1.9)))
         self.origin = self.random.choice(ORIGINS[:6] if self.is_clean else ORIGINS)
         self.grain = self.random.choice([None, None, 0.001, 0.0005, 0.01])
+        turn = self.random.choice([0.0, self.random.uniform(0, 2 * math.pi)])
+        self.turn = math.cos(turn), math.sin(turn)
         self.classes = [("GRASS", 100), ("TREES", 30), ("WATER", 0)]
         self.hair = 0.0
         self.fill()
         if not self.is_clean:
             self.spoil_names()
         self.classes_given = self.random.choice(["land", "land", "land", "file", "none"])
-        self.form = self.random.choice(["package", "package", "package", "rows", "csv", "csv", "semicolons", "utf16", "tabs"])
+        self.form = self.random.choice(["package", "package", "package", "gdal", "rows", "csv", "csv", "semicolons", "utf16", "tabs"])
+        if self.form == "gdal" and {"without_shape", "elsewhere"} & set(self.parts):
+            self.form = "package"  # ogr2ogr leaves such shapes out itself
         self.number_rows()
 
     def fill(self):
@@ -55,7 +60,8 @@ class Land:
 
         def corner(i, j):
             if (i, j) not in corners:
-                corners[i, j] = self.settled(tuple(self.origin[k] + (place + self.random.uniform(-0.2, 0.2)) * self.step for k, place in enumerate((i, j))))
+                x, y = ((place + self.random.uniform(-0.2, 0.2)) * self.step for place in (i, j))
+                corners[i, j] = self.settled((self.origin[0] + self.turn[0] * x - self.turn[1] * y, self.origin[1] + self.turn[1] * x + self.turn[0] * y))
             return corners[i, j]
 
         for cell in range(self.count):

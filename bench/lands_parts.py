@@ -263,7 +263,7 @@ def on_pixels(land, a, b, c, d):
 @nasty
 def members(land, a, b, c, d):
     """A parcel of many members, or of many holes that another fills."""
-    count = land.random.choice([10, 50, 200, 1000] if land.is_large else [10, 50])
+    count = land.random.choice([10, 50, 200, 1000, 5000] if land.is_large else [10, 50])
     across = math.ceil(count ** 0.5)
     centre, width = middle((a, b, c, d)), land.step * 0.5 / across
     boxes = [boxed(centre[0] + (k % across - across / 2) * width, centre[1] + (k // across - across / 2) * width, width * 0.6) for k in range(count)]

@@ -4,6 +4,7 @@ import csv
 import os
 import shutil
 import sqlite3
+import subprocess
 
 from lands_land import KEYS
 from lands_shapes import field_of_package, wkt
@@ -26,7 +27,9 @@ SHEETS = {"csv": (",", "utf-8", "\n"), "semicolons": (";", "utf-8-sig", "\r\n"),
 
 def write(land, folder):
     """The path of the source, and the words that tell prepare of its table of classes."""
-    path = write_package(land, os.path.join(folder, "land.gpkg")) if land.form in ("package", "rows") else write_sheets(land, os.path.join(folder, "land"))
+    path = write_package(land, os.path.join(folder, "land.gpkg")) if land.form in ("package", "gdal", "rows") else write_sheets(land, os.path.join(folder, "land"))
+    if land.form == "gdal" and shutil.which("ogr2ogr"):
+        path = written_by_gdal(path, os.path.join(folder, "gdal.gpkg"))
     if land.classes_given != "file":
         return path, []
     table = os.path.join(folder, "classes.csv")
@@ -41,7 +44,7 @@ def write_package(land, path):
     base = sqlite3.connect(path)
     base.executescript(FRAME)
     base.execute("INSERT INTO gpkg_spatial_ref_sys VALUES ('ETRS89 / UTM zone 32N', ?, 'EPSG', ?, ?, NULL)", (SYSTEM, SYSTEM, DEFINITION))
-    key = "fid INTEGER PRIMARY KEY AUTOINCREMENT NOT NULL, " if land.form == "package" else ""
+    key = "" if land.form == "rows" else "fid INTEGER PRIMARY KEY AUTOINCREMENT NOT NULL, "
     for layer, rows in (("parcels", land.parcels), ("covers", land.covers)):
         columns = KEYS[layer]
         base.execute(f"CREATE TABLE {layer} ({key}geom GEOMETRY, {', '.join(f'{column} TEXT' for column in columns)})")
@@ -56,6 +59,14 @@ def write_package(land, path):
     base.commit()
     base.close()
     return path
+
+
+def written_by_gdal(path, made):
+    """The same GeoPackage as ogr2ogr writes it."""
+    if os.path.exists(made):
+        os.remove(made)
+    subprocess.run(["ogr2ogr", "-q", "-f", "GPKG", made, path], check=True, capture_output=True)
+    return made
 
 
 def write_sheets(land, folder):

@@ -198,6 +198,7 @@ def try_land(trial, land, folder):
         trial.proved(out)
         trial.compared(source, out, first.status == 0 and not os.path.exists(os.path.join(out, "identifiers.csv")))
         trial.split(out)
+        next_year(trial, source, out, words)
 
 
 def again(trial, land, source, words, before):
@@ -209,6 +210,20 @@ def again(trial, land, source, words, before):
     same(trial, "the first and the second run", kept, digests(out))
     if (run.status, run.text) != (before.status, before.text):
         trial.say("again", f"the second run says {last_line(run.text)}, and the first {last_line(before.text)}")
+
+
+def next_year(trial, source, out, words):
+    """What a run wrote the next year's run takes: the same source has the same names then, and its tables get their yes."""
+    names, later = os.path.join(out, "identifiers.csv"), trial.path("later")
+    run = trial.prepared(source, later, *words, "--accept", "--previous", out, *(["--identifiers", names] if os.path.exists(names) else []))
+    if run.status != 0:
+        trial.say("next year", f"the next year's run ended with {run.status}: {last_line(run.told, run.text)}")
+        return
+    for name, keys in (("parcels.csv", ["parcel"]), ("covers.csv", ["piece", "parcel", "class"])):
+        before, after = ({tuple(record[key] for key in keys) for record in records(folder, name)} for folder in (out, later))
+        if before != after:
+            trial.say("next year", f"{name}: {len(before - after)} rows are gone and {len(after - before)} came, such as {sorted(before ^ after)[:2]}")
+    trial.proved(later)
 
 
 def same(trial, what, one, other):
