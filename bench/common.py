@@ -2,8 +2,8 @@
 what is wanted and with which words it is run; constants and a `main` follow. It prints a page of Markdown: a heading, a line on what it is,
 a table, and under it what was wanted and what was got. `bench/all` runs them, and keeps the page of NAME as bench/results/NAME.md.
 
-`CUT=PROGRAM` in the environment names another program that knows `cut DIR CERT`, `LPIS=PROGRAM` a proved `lpis` that is built already;
-without them the repository's own is proved and built where that is needed. `BEFORE=PROGRAM` names an `lpis` of before millimetres and
+`CUT=PROGRAM` in the environment names another program that knows `cut DIR CERT`, `LPIS=PROGRAM` another `lpis`; without them it is the one that
+./lpis runs. `BEFORE=PROGRAM` names an `lpis` of before millimetres and
 percentages: bench/area, bench/check and bench/cut then run it in turns with the other on the same tables, and tell what the change costs."""
 
 import collections
@@ -66,10 +66,11 @@ def bytes_of(folder, names):
 
 @functools.cache
 def lpis():
+    """The path of the program that is run: named by LPIS, or the one that ./lpis runs."""
     if "LPIS" in os.environ:
         return os.path.realpath(os.environ["LPIS"])
-    subprocess.run([os.path.join(TOP, "lpis"), "build"], stdout=subprocess.DEVNULL, check=True)
-    return os.path.join(TOP, "out", "program", "lpis")
+    found = subprocess.run([os.path.join(TOP, "lpis"), "program"], stdout=subprocess.PIPE, text=True, check=False)
+    return found.stdout.rstrip("\n") if found.returncode == 0 else sys.exit(found.returncode)
 
 
 def cutter():

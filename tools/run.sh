@@ -3,10 +3,37 @@
 #
 #     run_program FOLDER WORD..     FOLDER has the program `lpis` and `facts`, what was known when it was built
 #
-# On standard error: that a register is not there or is none, before the program runs; behind `failed ..`, which file was meant and what is
+# A program that cannot start on this system ends with status 70, in one line, before anything else: a loader that misses its C library ends
+# with 1, which would read as refused by the gate. On standard error: that a register is not there or is none, before the program runs; behind `failed ..`, which file was meant and what is
 # wrong with it.
 
+NEEDS='Linux on x86-64 with glibc 2.34 or later (Debian 12, Ubuntu 22.04, RHEL 9)'
+
 say() { printf 'lpis: %s\n' "$*" >&2; }
+
+# The value of the line `$1 VALUE` of a file of facts; nothing where it has none.
+fact() {
+  local name value
+  while read -r name value; do
+    [[ $name != "$1" ]] || { printf '%s' "$value" && return; }
+  done 2>/dev/null <"$2" || true
+}
+
+# Looks whether the program of a folder starts here, which takes milliseconds; else says what it needs, and ends with 70. Status 3 is an answer
+# of the program, such as that it had no memory.
+look() {
+  local told status=0
+  if [[ ! -x $1/lpis ]]; then
+    say "$1/lpis may not be run: chmod +x it, on a file system from which programs may run"
+    exit 70
+  fi
+  told=$("$1/lpis" --version 2>&1 >/dev/null </dev/null) || status=$?
+  if [[ $status -ne 0 && $status -ne 3 ]]; then
+    told=${told##*$'\n'}
+    say "the program does not start here, it needs $NEEDS: ${told:-it ended with status $status}"
+    exit 70
+  fi
+}
 
 # Puts in `words` the command and its words that are no options, and in `valued` the options that have a value, as OPTION=VALUE.
 plain_words() {
@@ -303,17 +330,24 @@ run_and_hear() {
   exec {heard}<&-
 }
 
+# What `--version` adds: what was known of the program in a folder when it was built, and `remark`, where the caller has one.
+say_facts() {
+  grep -vE '^(version|sha256|glibc) ' -- "$1/facts" 2>/dev/null || true
+  [[ -z ${remark-} ]] || printf '%s\n' "$remark"
+}
+
 run_program() {
-  local program=$1/lpis facts=$1/facts status told signal out
+  local home_of_program=$1 program=$1/lpis status told signal out
   shift
   # The C library would keep a freed block for itself where it is smaller than the largest freed before: of a cut that is a fifth more memory at its peak.
   export MALLOC_MMAP_THRESHOLD_=${MALLOC_MMAP_THRESHOLD_-131072}
+  look "$home_of_program"
   warn_of_register "$@"
   # The program's standard output is the caller's own; its standard error, of a few lines, is passed on as it is.
   { exec {out}>&1; } 2>/dev/null || exec "$program" "$@" # standard output is closed
   run_and_hear "$out" "$program" "$@"
   printf '%s' "$told" >&2
-  [[ $status -ne 0 || $# -ne 1 || ($1 != --version && $1 != -V) ]] || cat -- "$facts" 2>/dev/null || true
+  [[ $status -ne 0 || $# -ne 1 || ($1 != --version && $1 != -V) ]] || say_facts "$home_of_program"
   [[ $status -ne 3 ]] || say_cause "${told%$'\n'}" "$out" "$@"
   # A caller sees that a signal ended it, as it would of the program itself.
   [[ -z $signal || $status -le 128 ]] || kill -s "$signal" "$$"

@@ -69,7 +69,7 @@ def writes_fail(cases, runs, whole):
 def run(cases, folder):
     compiler = shutil.which("cc") or shutil.which("gcc")
     if not compiler:
-        print("tests/cases: no C compiler, no call is made to fail")
+        cases.leave_out("calls that fail: no C compiler (Debian: gcc)")
         return
     shim = folder / "failing.so"
     subprocess.run([compiler, "-O2", "-shared", "-fPIC", "-o", shim, Path(__file__).with_name("failing.c")], check=True)

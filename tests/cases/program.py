@@ -1,11 +1,14 @@
 """The built program, and what is counted of its cases."""
 
-import os
 import subprocess
+import sys
 from pathlib import Path
 
 TOP = Path(__file__).resolve().parent.parent.parent
-LPIS = os.environ.get("LPIS") or str(TOP / "crates" / "lpis" / "out" / "lpis")
+sys.path.append(str(TOP / "bench"))
+import common  # noqa: E402
+
+LPIS = common.lpis()
 SECONDS = 120
 
 SQUARE = "POLYGON((0 0,10 0,10 10,0 10,0 0))"
@@ -15,10 +18,10 @@ CLASSES = "class,eligible\nG,1\nW,0\n"
 
 
 class Cases:
-    """How many cases had their answer, and how many had another."""
+    """How many cases had their answer, how many had another, and how many groups of them were left out."""
 
     def __init__(self):
-        self.passed = self.failed = 0
+        self.passed = self.failed = self.left_out = 0
 
     def expect(self, name, wanted, found):
         if wanted == found:
@@ -26,6 +29,11 @@ class Cases:
         else:
             self.failed += 1
             print(f"FAILED {name}: wanted {wanted!r}, found {found!r}")
+
+
+    def leave_out(self, words):
+        self.left_out += 1
+        print(f"left out: {words}")
 
 
 def lpis(*words):

@@ -21,11 +21,12 @@ import tempfile
 
 TOP = pathlib.Path(__file__).resolve().parent.parent.parent
 sys.path.append(str(TOP / "bench"))
+import common  # noqa: E402
 import country_example  # noqa: E402
 from registers import VERSION_1, VERSION_2, VERSION_3, WITHOUT_MARKS, made, said  # noqa: E402
 
 EXAMPLES = TOP / "examples"
-LPIS = os.environ.get("LPIS") or str(TOP / "crates" / "lpis" / "out" / "lpis")
+LPIS = common.lpis()
 SECONDS, MANY, SAMPLE, SEED = 60, 1_000, 100, 20_261_123
 # A file system in memory, where there is one: the register is put on its disk by each publish.
 FAST = "/dev/shm" if os.access("/dev/shm", os.W_OK) else None

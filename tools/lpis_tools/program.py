@@ -1,43 +1,73 @@
 """The command that is `lpis`."""
 
 import os
+import re
 import shlex
 import shutil
 import subprocess
+import sys
 
 from . import ending
 
 HERE = os.path.dirname(os.path.dirname(os.path.realpath(__file__)))
+ABSENT = 70  # the status where there is no lpis that starts, as that of the script ./lpis
 
 
 class Absent(Exception):
-    """There is no lpis."""
+    """There is no lpis, or it does not start here."""
 
 
 def is_program(path):
     return os.path.isfile(path) and os.access(path, os.X_OK)
 
 
+def of_repository():
+    """The program that ./lpis runs, where the tools are in a repository, and what the script says of it."""
+    script = os.path.join(os.path.dirname(HERE), "lpis")
+    if not is_program(script):
+        return None, ""
+    told = ending.run([script, "program"], capture_output=True, text=True)
+    return told.stdout.rstrip("\n") or None, told.stderr
+
+
 def beside():
-    """The program that is installed beside the tools, or built in the repository that they are in; None where there is none."""
-    places = os.path.join(HERE, "program", "lpis"), os.path.join(os.path.dirname(HERE), "out", "program", "lpis")
-    return next(filter(is_program, places), None)
+    """The program that is installed beside the tools, or that the repository's ./lpis runs; None where there is none."""
+    installed = os.path.join(HERE, "program", "lpis")
+    return installed if is_program(installed) else of_repository()[0]
 
 
 def command(words=""):
-    """Named, installed beside the tools, of the repository that the tools are in (built by its script first), or on the path."""
+    """Named, installed beside the tools, that of the repository that the tools are in, or on the path. It starts here; nothing is built."""
+    installed = os.path.join(HERE, "program", "lpis")
     if words:
-        return shlex.split(words)
-    script = os.path.join(os.path.dirname(HERE), "lpis")
-    if is_program(script) and not is_program(os.path.join(HERE, "program", "lpis")):
-        ending.run([script, "--help"], stdout=subprocess.DEVNULL, check=True)
-    built = beside()
-    if built is not None:
-        return [built]
+        return started(shlex.split(words))
+    if is_program(installed):
+        return started([installed])
+    found, said = of_repository()
+    if found is not None:
+        sys.stderr.write(said)
+        return [found]
     found = shutil.which("lpis")
     if found is None:
-        raise Absent("no lpis beside the tools and none on PATH: name it by --lpis or LPIS")
-    return [found]
+        raise Absent(said.strip().removeprefix("lpis: ") or "there is no lpis beside the tools and none on PATH: name it by --lpis or LPIS")
+    return started([found])
+
+
+def started(words):
+    """The same words, where that program starts here: a loader that misses its C library ends with 1, as a refusal does."""
+    try:
+        ended = ending.run([*words, "--version"], capture_output=True, text=True, errors="replace", stdin=subprocess.DEVNULL)
+    except OSError as error:
+        raise Absent(f"{words[0]} does not start here ({error.strerror}): it needs {needs()}") from None
+    if ended.returncode in (126, 127) or (ended.returncode == 1 and "GLIBC" in ended.stderr):
+        raise Absent(f"{words[0]} does not start here, it needs {needs()}: {' '.join(ended.stderr.split())}")
+    return words
+
+
+def needs():
+    """The systems on which the program starts, by the script that runs it."""
+    with open(os.path.join(HERE, "run.sh"), encoding="utf-8") as file:
+        return re.search(r"(?m)^NEEDS='(.*)'$", file.read())[1]
 
 
 def facts(words):

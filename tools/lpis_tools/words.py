@@ -59,7 +59,8 @@ def version_of_sources():
 
 
 def run(name, main, *troubles):
-    """Ends with the status of a tool, with 64 and the reason in a line, or with 128 and the number of the signal that stopped it."""
+    """Ends with the status of a tool, with 64 and the reason in a line (70 where there is no lpis), or with 128 and the number of the signal that
+    stopped it."""
     ending.listen()
     try:
         sys.exit(main())
@@ -69,6 +70,9 @@ def run(name, main, *troubles):
     except BrokenPipeError:  # who reads standard output has gone away
         os.dup2(os.open(os.devnull, os.O_WRONLY), sys.stdout.fileno())
         sys.exit(TROUBLE)
-    except (OSError, program.Absent, subprocess.CalledProcessError, *troubles) as error:
+    except program.Absent as error:
+        print(f"{name}: {error}", file=sys.stderr)
+        sys.exit(program.ABSENT)
+    except (OSError, subprocess.CalledProcessError, *troubles) as error:
         print(f"{name}: {error}", file=sys.stderr)
         sys.exit(TROUBLE)

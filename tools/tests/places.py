@@ -7,12 +7,12 @@ TESTS = os.path.dirname(os.path.realpath(__file__))
 TOOLS = os.path.dirname(TESTS)
 TOP = os.path.dirname(TOOLS)
 sys.path.insert(0, TOOLS)
+from lpis_tools import program  # noqa: E402
 
 
 def built():
-    """The path of the program: named by LPIS, or what was built last by `rt` or by `./lpis build`; None where there is none."""
-    paths = os.environ.get("LPIS"), os.path.join(TOP, "crates", "lpis", "out", "lpis"), os.path.join(TOP, "out", "program", "lpis")
-    return next((path for path in paths if path and os.access(path, os.X_OK)), None)
+    """The path of the program: named by LPIS, or the one that ./lpis runs; None where there is none."""
+    return os.environ.get("LPIS") or program.beside()
 
 
 BUILT = built()

@@ -36,7 +36,8 @@ def lpis():
     if named:
         return named
     tools = os.path.dirname(tool("report"))
-    for path in (os.path.join(tools, "program", "lpis"), os.path.join(os.path.dirname(tools), "out", "program", "lpis")):
+    top = os.path.dirname(tools)
+    for path in (os.path.join(tools, "program", "lpis"), os.path.join(top, "out", "program", "lpis"), os.path.join(top, "program", "lpis")):
         if os.access(path, os.X_OK):
             return path
     found = shutil.which("lpis")
