@@ -11,6 +11,7 @@ def main():
     for test, why in result.skipped:
         print(f"left out: {str(test).split(' ')[0]}: {why}")
     if result.skipped:
+        print("dev/packages installs what a package brings")
         print(f"{len(result.skipped)} left out")
     print(f"{max(0, result.testsRun - len(failed) - len(result.skipped))} passed, {len(failed)} failed")
     sys.exit(bool(failed))
