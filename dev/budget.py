@@ -16,7 +16,7 @@ PAGE_WORDS = {
     "bench/RESULTS.md": 1_650,
     "docs/*.1": 4_500,  # the pages of the manual together
 }
-PAGE_LINES = {"docs/DECISIONS.md": 250, "docs/PROOF.md": 350, "bench/RESULTS.md": 250}
+PAGE_LINES = {"docs/DECISIONS.md": 260, "docs/PROOF.md": 350, "bench/RESULTS.md": 250}
 
 
 def sizes():

@@ -12,6 +12,8 @@ import csv
 import math
 import os
 
+from . import files
+
 SHAPED = ("parcels", "covers")
 COLUMNS = ("source", "mended", "left out", "settled", "tables")
 FILE = "balance.csv"
@@ -113,7 +115,7 @@ class Balance:
 
     def write(self, out):
         """balance.csv in a folder."""
-        with open(os.path.join(out, FILE), "w", newline="", encoding="utf-8") as file:
+        with files.anew(os.path.join(out, FILE), newline="") as file:
             table = csv.writer(file, lineterminator="\n")
             table.writerow(["layer", "class", *(f"{column.replace(' ', '_')}_m2" for column in COLUMNS), "unaccounted_m2"])
             table.writerows([layer, land_class, *(f"{value:.3f}" for value in (*found.values(), missing(found)))] for (layer, land_class), found in self.lines())

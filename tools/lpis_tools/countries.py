@@ -4,7 +4,7 @@ regions as one."""
 import os
 
 from . import polygons, tiles
-from .tables import COLUMNS, Table, path_of, shown
+from .tables import COLUMNS, Table, path_of, quoted, shown
 
 
 def rows_of(folder, name):
@@ -117,8 +117,8 @@ class OfCountry:
         number = self.refusal.cert_line
         count = len(lines) - (lines[-1] == b"")
         self.say(f"{path} has {count} lines{'' if lines[-1] == b'' else ', the last without its line end'}")
-        if number <= count:
-            self.say(f"  line {number}: {shown(lines[number - 1])!r}")
+        if 1 <= number <= count:
+            self.say(f"  line {number}: {quoted(lines[number - 1])}")
         try:
             tiles.read(b"\n".join(lines).decode("latin-1"))
         except tiles.Unreadable as error:
@@ -175,5 +175,5 @@ class OfCountry:
         for folder in (self.top, self.folder):
             table = Table(path_of(folder, "classes"), "classes")
             record = table.record(self.refusal.row)
-            fields = ", ".join(f"{name} {shown(table.field(record, name))!r}" for name in COLUMNS["classes"] if name in table.names) if record else "there is no such row"
+            fields = ", ".join(f"{name} {quoted(table.field(record, name))}" for name in COLUMNS["classes"] if name in table.names) if record else "there is no such row"
             self.say(f"{table.path}: row {self.refusal.row}: {fields}")

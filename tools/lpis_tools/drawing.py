@@ -3,7 +3,7 @@
 import json
 from fractions import Fraction
 
-from . import polygons
+from . import polygons, printing
 
 FILLS = ["#4477aa", "#cc6677", "#228833", "#ccbb44", "#66ccee", "#aa3377"]
 SIZE = 420  # of the picture's square, in its own units
@@ -142,4 +142,4 @@ def svg(shapes, place, line, stretches=()):
 
 
 def escaped(text):
-    return text.replace("&", "&amp;").replace("<", "&lt;").replace(">", "&gt;")
+    return printing.escaped(text).replace("&", "&amp;").replace("<", "&lt;").replace(">", "&gt;")

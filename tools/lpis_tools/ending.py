@@ -27,7 +27,15 @@ class Stopped(KeyboardInterrupt):
         self.status = 128 + number
 
 
+def stopped():
+    """The signal that has come, as an exception, or None."""
+    return Stopped(_stops[0]) if _stops else None
+
+
 def start(words, **more):
+    """A program. Where its text is read, bytes that are no letters are no crash."""
+    if more.get("text") or more.get("encoding"):
+        more.setdefault("errors", "backslashreplace")
     with _starting:
         if _stops:
             raise Stopped(_stops[0])

@@ -5,7 +5,8 @@ import shlex
 import shutil
 import subprocess
 
-from . import drawing, ending, finding, tiles
+from . import drawing, ending, files, finding, tiles
+from .printing import escaped
 from .splitting import COUNTS, write
 from .streams import Trouble
 
@@ -141,13 +142,13 @@ def cut(command, words, say):
     refused = [region for region in regions if not is_cut(words.folder, region)]
     for region in refused:
         try:
-            with open(os.path.join(words.folder, region, "cut.txt"), encoding="utf-8") as file:
-                print(f"region {region}: {file.read().strip() or 'its cut failed'}")
+            with open(os.path.join(words.folder, region, "cut.txt"), encoding="utf-8", errors="replace") as file:
+                print(f"region {region}: {escaped(file.read().strip()) or 'its cut failed'}")
         except OSError:
             print(f"region {region}: it was not cut")
     if refused:
         features = faults_of(command, words.folder, refused, say)
-        with open(os.path.join(words.folder, "faults.geojson"), "w", encoding="utf-8") as file:
+        with files.anew(os.path.join(words.folder, "faults.geojson")) as file:
             file.write(drawing.collection(features, None))
         tell(features)
     print(f"regions {len(regions)} refused {len(refused)}")

@@ -6,7 +6,7 @@ from .lineages import OfGroups
 from .names import SourceNames
 from .refusal import metres_of, read
 from .sentences import SENTENCES
-from .tables import COLUMNS, FREE, INSTEAD, KEYS, LETTERS, MARK, Table, is_identifier, kind_of_file, path_of, shown
+from .tables import COLUMNS, FREE, INSTEAD, KEYS, LETTERS, MARK, Table, is_identifier, kind_of_file, path_of, quoted, shown
 
 
 class Explained(OfGroups, OfCountry):
@@ -98,7 +98,7 @@ class Explained(OfGroups, OfCountry):
         if record is None:
             self.say_sentence("no row", path=table.path, row=row, count=max(len(table.records) - 1, 0))
             return
-        fields = ", ".join(f"{n} {shown(table.field(record, n))!r}" for n in COLUMNS[name] if n != "wkt" and n in table.names)
+        fields = ", ".join(f"{n} {quoted(table.field(record, n))}" for n in COLUMNS[name] if n != "wkt" and n in table.names)
         self.named = [shown(table.field(record, n)) for n in COLUMNS[name] if n != "wkt"]
         self.say_sentence("row", path=table.path, row=row, line=table.line(row))
         if fields:
@@ -150,10 +150,10 @@ class Explained(OfGroups, OfCountry):
             self.say_text(table.field(record, "wkt"))
         elif code in ("39", "3b", "3c"):
             name = {"39": "eligible", "3b": "percent", "3c": "exact"}[code]
-            self.say(f"  {name} is {shown(table.field(record, name))!r}")
+            self.say(f"  {name} is {quoted(table.field(record, name))}")
         elif code == "3d":
             name, number = self.refusal.column, self.refusal.number_code
-            self.say(f"  {name} is {shown(table.field(record, name))!r}; {number}: {codes.NUMBERS[number][0]}")
+            self.say(f"  {name} is {quoted(table.field(record, name))}; {number}: {codes.NUMBERS[number][0]}")
         elif code == "78":
             self.say_marks(table, record)
         elif code in ("73", "74"):
@@ -177,7 +177,7 @@ class Explained(OfGroups, OfCountry):
 
     def say_length(self, table, record):
         if len(record) != len(table.header):
-            self.say(f"  the header has {len(table.header)} fields, this row {len(record)}: {', '.join(repr(shown(f, 24)) for f in record[:8])}")
+            self.say(f"  the header has {len(table.header)} fields, this row {len(record)}: {', '.join(quoted(f, 24) for f in record[:8])}")
             if any(f.upper().startswith((b"POLYGON", b"MULTIPOLYGON")) and f.count(b"(") > f.count(b")") for f in record):
                 self.say('  the wkt is not quoted: write "POLYGON((..))" in double quotes')
             return
@@ -190,24 +190,24 @@ class Explained(OfGroups, OfCountry):
         if not field:
             self.say_sentence("empty", "  ", name=name)
         elif len(field) > 40:
-            self.say_sentence("long", "  ", name=name, count=len(field), value=repr(shown(field)))
+            self.say_sentence("long", "  ", name=name, count=len(field), value=quoted(field))
         else:
             place = next(i for i, letter in enumerate(field) if letter not in LETTERS)
             letter = field[place:].decode("utf-8", "replace")[:1]
-            self.say_sentence("letter", "  ", name=name, value=repr(shown(field)), number=place + 1, letter=repr(letter))
+            self.say_sentence("letter", "  ", name=name, value=quoted(field), number=place + 1, letter=repr(letter))
 
     def say_absent(self, name, value, table):
         if table is None:
             return
-        alike = [shown(table.field(r, name)) for _, r in table.rows() if table.field(r, name).strip().lower() == value.strip().lower()]
-        self.say(f"  {table.path} has {len(table.records) - 1} rows, none of {name} {shown(value)!r}" + (f"; {alike[0]!r} differs in case alone" if alike else ""))
+        alike = [quoted(table.field(r, name)) for _, r in table.rows() if table.field(r, name).strip().lower() == value.strip().lower()]
+        self.say(f"  {table.path} has {len(table.records) - 1} rows, none of {name} {quoted(value)}" + (f"; {alike[0]} differs in case alone" if alike else ""))
 
     def say_text(self, text):
         offset = self.refusal.offset
         found = polygons.TOKEN.match(text, offset)
         word = found.group() if found else b""
         number = text[:offset].count(b",") + 1
-        what = f"{shown(word)!r}" if word else SENTENCES["end of text"]
+        what = f"{quoted(word)}" if word else SENTENCES["end of text"]
         before = text[max(0, offset - 40):offset].decode("utf-8", "replace")
         self.say_sentence("offset", "  ", offset=offset, word=what, number=number, before=repr((".." if offset > 40 else "") + before))
         self.say(f"  {extent_of_words(text)}")
@@ -227,8 +227,8 @@ class Explained(OfGroups, OfCountry):
         number = self.refusal.cert_line
         count = len(lines) - (lines[-1] == b"")
         self.say_sentence("lines", path=self.cert, count=count, without="" if lines[-1] == b"" else SENTENCES["without"])
-        if number <= count:
-            self.say_sentence("line", "  ", number=number, text=repr(shown(lines[number - 1])))
+        if 1 <= number <= count:
+            self.say_sentence("line", "  ", number=number, text=quoted(lines[number - 1]))
         if lines[0].endswith(b"\r"):
             self.say("  its lines end with CR LF (Windows): LF alone is read")
 

@@ -74,9 +74,9 @@ def more(path, **form):
     return opened(os.open(path, os.O_WRONLY | os.O_APPEND | os.O_NOFOLLOW | os.O_CLOEXEC), "a", form)
 
 
-def settle(name, path):
-    """Puts a file in the place of another, whose mode is kept."""
-    mode = mode_of(path)
+def settle(name, path, mode=None):
+    """Puts a file in the place of another, whose mode is kept, or that given."""
+    mode = mode_of(path) if mode is None else mode
     if mode is not None:
         os.chmod(name, mode)
     os.replace(name, path)

@@ -5,6 +5,9 @@ from __future__ import annotations
 import csv
 from collections import Counter
 
+from . import files
+from .printing import readable
+
 MOST_SHOWN = 20
 NOTES = {"curve": "arcs made straight, within half a millimetre", "z": "heights dropped", "m": "measures dropped"}
 COLUMNS = ["kind", "layer", "row", "identifier", "area_m2", "x", "y", "words", "done"]
@@ -39,14 +42,9 @@ class Finding:
         return [self.kind, self.layer, "" if self.row is None else self.row, self.name, area, x, y, self.words, done]
 
 
-def readable(name):
-    """A name in a line for people: line ends and letters that nobody sees are written out."""
-    return name if name.isprintable() else repr(name)
-
-
 def write(findings, path, accept):
     """The table prepared.csv."""
-    with open(path, "w", newline="", encoding="utf-8") as file:
+    with files.anew(path, newline="") as file:
         table = csv.writer(file, lineterminator="\n")
         table.writerow(COLUMNS)
         table.writerows(finding.record(accept) for finding in findings)

@@ -11,7 +11,8 @@ import sys
 from collections import Counter
 from dataclasses import dataclass, field
 
-from . import ending, sheets, systems, wkb, wkt
+from . import databases, ending, sheets, systems, unforeseen, wkb, wkt
+from .printing import readable
 
 COLUMNS = {"parcels": ["parcel"], "covers": ["piece", "parcel", "class"], "classes": ["class", "percent"]}
 SHAPED = ("parcels", "covers")
@@ -93,7 +94,7 @@ def connected(path):
         connection = sqlite3.connect(f"file:{path.replace('%', '%25').replace('?', '%3f').replace('#', '%23')}?{mode}", uri=True)
         try:
             connection.execute("SELECT count(*) FROM sqlite_master")
-            return connection
+            return databases.guarded(connection)
         except sqlite3.Error as error:
             connection.close()
             if "locked" in str(error):
@@ -141,14 +142,14 @@ def chosen_of(columns, name, wanted, names, where):
         if not found:
             reasons.append(f"{where}: no column {names.get(f'{name}.{column}', column)}: there are {', '.join(map(shown, columns))} (--name {name}.{column}=COLUMN says which it is)")
         elif len(found) > 1:
-            faults.append(sheets.Fault(0, f"two columns are called {column}: {' and '.join(found)}"))
+            faults.append(sheets.Fault(0, f"two columns are called {column}: {' and '.join(map(shown, found))}"))
         else:
             chosen[column] = found[0]
     return chosen, reasons, faults
 
 
 def shown(name):
-    return name if name.isprintable() and name else repr(name)
+    return readable(name) or "''"
 
 
 def text_of(value):
@@ -161,10 +162,11 @@ def text_of(value):
 
 
 def read_package(path, names, wanted):
+    unforeseen.at(path)
     connection = connected(path)
     connection.text_factory = lambda text: text.decode("utf-8", "backslashreplace")  # letters that are none stay different
     try:
-        tables = [name for (name,) in connection.execute("SELECT table_name FROM gpkg_contents ORDER BY rowid")]
+        tables = [str(name) for (name,) in databases.rows(connection, "SELECT table_name FROM gpkg_contents ORDER BY rowid")]
         shapes = shapes_of(connection)
         reasons, layers = [], {}
         for name in wanted:
@@ -172,7 +174,7 @@ def read_package(path, names, wanted):
             table = next((t for t in tables if t.lower() == called.lower()), None)
             if table is None:
                 if name in SHAPED:
-                    reasons.append(f"no layer {called}: there are {', '.join(tables) or 'none'} (--name {name}=LAYER says which it is)")
+                    reasons.append(f"no layer {called}: there are {', '.join(map(shown, tables)) or 'none'} (--name {name}=LAYER says which it is)")
                 continue
             columns = {row[1]: row for row in connection.execute(f"PRAGMA table_xinfo({quoted(table)})")}
             chosen, lacking, _ = chosen_of(list(columns), name, COLUMNS[name], names, f"layer {table}")
@@ -187,8 +189,8 @@ def read_package(path, names, wanted):
         if reasons:
             raise Trouble(*reasons)
         return layers
-    except sqlite3.Error as error:
-        raise Trouble(f"{path}: {error}") from None
+    except (sqlite3.Error, ValueError) as error:  # names that are no text are the second
+        raise Trouble(f"{path}: {databases.why(error)}") from None
     finally:
         connection.close()
 
@@ -210,8 +212,8 @@ def chosen_shape(shapes, name, names):
 def shapes_of(connection):
     """The columns of shapes of each table, by its name in small letters, with the numbers of their systems."""
     shapes = {}
-    for table, column, srs in connection.execute("SELECT table_name, column_name, srs_id FROM gpkg_geometry_columns ORDER BY rowid"):
-        shapes.setdefault(table.lower(), []).append((column, srs))
+    for table, column, srs in databases.rows(connection, "SELECT table_name, column_name, srs_id FROM gpkg_geometry_columns ORDER BY rowid"):
+        shapes.setdefault(str(table).lower(), []).append((str(column), srs))
     return shapes
 
 
@@ -220,7 +222,7 @@ def read_layer(connection, table, layer, chosen, shape, key):
         layer.system = system_of(connection, shape[1])
     layer.key = "fid" if key else "row"
     fields = [*([quoted(key)] if key else []), *map(quoted, chosen.values()), *([quoted(shape[0])] if shape else [])]
-    for number, values in enumerate(connection.execute(f"SELECT {', '.join(fields)} FROM {quoted(table)}"), 1):
+    for number, values in unforeseen.each(table, databases.rows(connection, f"SELECT {', '.join(fields)} FROM {quoted(table)}")):
         start = 1 if key else 0
         row = Row(values[0] if key else number, dict(zip(chosen, map(text_of, values[start:]))))
         if shape:

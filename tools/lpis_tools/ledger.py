@@ -38,7 +38,7 @@ def content_of(register):
             if table in there:
                 digest = hashlib.sha256()
                 for row in base.execute(f"SELECT {columns} FROM {table} ORDER BY {columns}"):
-                    digest.update((json.dumps(row, ensure_ascii=True) + "\n").encode())
+                    digest.update((json.dumps(row, ensure_ascii=True, default=bytes.hex) + "\n").encode())
                 digests[table] = digest.hexdigest()
         return digests
     finally:
@@ -61,7 +61,8 @@ def own_digest(entry):
 @contextmanager
 def held(register):
     """The log, open at its end, held by one process at a time."""
-    with open(path_of(register), "ab") as file:
+    mode = os.stat(register).st_mode & 0o666 if os.path.exists(register) else 0o666
+    with open(path_of(register), "ab", opener=lambda path, flags: os.open(path, flags, mode)) as file:
         fcntl.flock(file, fcntl.LOCK_EX)
         yield file
 
@@ -81,18 +82,26 @@ def entries_of(lines):
     """The lines as dictionaries, and what is wrong with the chain."""
     entries, faults, before = [], [], FIRST
     for number, line in enumerate(lines, 1):
-        try:
-            entry = json.loads(line)
-            is_whole = isinstance(entry, dict) and entry["own"] == own_digest(entry)
-        except (ValueError, KeyError):
-            entry, is_whole = {}, False
-        if not is_whole:
+        entry, own = entry_of(line)
+        if entry.get("own") != own:
             faults.append(f"line {number} was changed since it was written")
         elif entry["before"] != before:
             faults.append(f"line {number} does not follow the line before it: one was changed, taken out or put in")
         entries.append(entry)
         before = hashlib.sha256(line).hexdigest()
     return entries, faults
+
+
+def entry_of(line):
+    """What a line says, and its own digest; nothing, and a digest that no line has, where it lacks what a line has."""
+    try:
+        entry = json.loads(line)
+        wanted = (("before", str), ("own", str), ("year", int), ("content", dict))
+        if isinstance(entry, dict) and all(isinstance(entry.get(name), kind) for name, kind in wanted) and all(isinstance(value, str) for value in entry["content"].values()):
+            return entry, own_digest(entry)
+    except (ValueError, RecursionError):
+        pass  # told by who reads it, as a line that was changed
+    return {}, ""
 
 
 def faults_of(register):
@@ -104,9 +113,9 @@ def faults_of(register):
     known = entries[-1].get("content", {})
     now = content_of(register)
     changed = sorted(table for table in {*known, *now} if known.get(table) != now.get(table))
-    if changed:
-        faults.append(f"the register is not as the last line has it, by {entries[-1].get('year', '?')}: {', '.join(changed)} changed since")
-    rising = [entry.get("year", 0) for entry in entries]
+    if changed and entries[-1]:
+        faults.append(f"the register is not as the last line has it, by {entries[-1]['year']}: {', '.join(changed)} changed since")
+    rising = [entry["year"] for entry in entries if entry]
     if rising != sorted(set(rising)):
         faults.append("the years of the lines do not rise")
     return faults

@@ -4,7 +4,6 @@ tables alone, so it is the same for every recipe."""
 
 from __future__ import annotations
 
-import contextlib
 import csv
 import json
 import os
@@ -12,7 +11,7 @@ from collections import Counter
 
 from shapely.geometry import mapping
 
-from . import balance, land, outcome
+from . import balance, files, land, outcome
 from .conflicts import ORDER, Loss, Source, find_conflicts, find_names, number_of, parts_of, polygons_by
 from .findings import readable
 
@@ -47,21 +46,9 @@ def find_all(source, tables, say, whole, seen):
     return source.losses, found
 
 
-@contextlib.contextmanager
-def anew(path):
-    """A file that takes its place only when it is whole."""
-    try:
-        with open(path + ".new", "w", newline="", encoding="utf-8") as file:
-            yield file
-        os.replace(path + ".new", path)
-    finally:
-        with contextlib.suppress(FileNotFoundError):
-            os.remove(path + ".new")
-
-
 def write(losses, out, epsg=None):
     """report.csv and report.geojson in a folder: all rows, however many there are."""
-    with anew(os.path.join(out, "report.csv")) as file:
+    with files.anew(os.path.join(out, "report.csv"), newline="") as file:
         table = csv.writer(file, lineterminator="\n")
         table.writerow(COLUMNS)
         for loss in losses:
@@ -69,7 +56,7 @@ def write(losses, out, epsg=None):
             table.writerow([loss.kind, loss.layer, " ".join(map(str, loss.rows)), " ".join(loss.names), *(("" if value is None else f"{value:.4f}") for value in (loss.width, loss.area)),
                             *(("" if value is None else f"{value:.3f}") for value in (x, y)), int(loss.stops()), loss.words])
     system = f' "crs": {{"type": "name", "properties": {{"name": "urn:ogc:def:crs:EPSG::{epsg}"}}}},\n' if epsg else ""
-    with anew(os.path.join(out, "report.geojson")) as file:
+    with files.anew(os.path.join(out, "report.geojson")) as file:
         file.write(f'{{\n "type": "FeatureCollection",\n{system} "features": [')
         for number, loss in enumerate(losses):
             file.write((",\n" if number else "\n") + json.dumps(feature_of(loss)))

@@ -9,7 +9,7 @@ from collections import Counter
 from shapely import wkb as shapely_wkb
 from shapely.ops import unary_union
 
-from . import identifiers, sheets, wkb
+from . import files, identifiers, sheets, wkb
 from .conflicts import members_of
 from .findings import Finding
 
@@ -185,7 +185,7 @@ def given_identifiers(path):
 
 def write_identifiers(renamed, path):
     """The names that were changed, old and new, as they are in the tables."""
-    with open(path, "w", newline="", encoding="utf-8") as file:
+    with files.anew(path, newline="") as file:
         table = csv.writer(file, lineterminator="\n")
         table.writerow(["kind", "old", "new"])
         table.writerows([kind, old, names.get(new, new)] for kind, names in renamed.items() for old, new in names.items())

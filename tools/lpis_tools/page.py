@@ -11,6 +11,7 @@ import string
 from dataclasses import dataclass, field
 from decimal import Decimal
 
+from . import printing
 from .areas import hectares
 
 HERE = os.path.dirname(os.path.realpath(__file__))
@@ -27,7 +28,7 @@ LAYERS = ("parcels", "pieces", "old", "tiles")
 
 
 def escaped(text):
-    return html.escape(str(text), quote=True)
+    return html.escape(printing.escaped(str(text)), quote=True)
 
 
 @dataclass

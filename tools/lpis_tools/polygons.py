@@ -10,7 +10,9 @@ from .sentences import SENTENCES
 
 NUMBER = re.compile(rb"([+-]?)(\d*)(?:\.(\d*))?\Z")
 TOKEN = re.compile(rb"[(),]|[^ \t\r\n(),]+")
-POINT = rb"-?[0-9]+\.[0-9]{3} -?[0-9]+\.[0-9]{3}"
+MOST_DIGITS = 18  # of a number, without leading zeros: more are no coordinate, and no float either
+DEEPEST = 3  # brackets of a MULTIPOLYGON
+POINT = rb"-?[0-9]{1,15}\.[0-9]{3} -?[0-9]{1,15}\.[0-9]{3}"
 RING = rb"\(" + POINT + rb"(?:," + POINT + rb")*\)"
 BODY = rb"\(" + RING + rb"(?:," + RING + rb")*\)"
 WRITTEN = re.compile(rb"MULTIPOLYGON\(" + BODY + rb"(?:," + BODY + rb")*\)\Z")
@@ -19,7 +21,7 @@ WRITTEN = re.compile(rb"MULTIPOLYGON\(" + BODY + rb"(?:," + BODY + rb")*\)\Z")
 def millimetres(word):
     """The number in whole millimetres, or None where the word is none."""
     found = NUMBER.match(word)
-    if not found or not (found[2] or found[3]):
+    if not found or not (found[2] or found[3]) or len((found[2] or b"").lstrip(b"0")) > MOST_DIGITS:
         return None
     decimals = found[3] or b""
     if decimals[3:].strip(b"0"):
@@ -51,14 +53,14 @@ def ring_of(text):
     return list(zip(values[0::2], values[1::2]))
 
 
-def nest(tokens, at):
+def nest(tokens, at, depth=1):
     """What stands between the brackets that open at a token, and the place behind them."""
-    if tokens[at] != b"(":
+    if tokens[at] != b"(" or depth > DEEPEST:
         raise ValueError
     at, parts = at + 1, []
     while True:
         if tokens[at] == b"(":
-            part, at = nest(tokens, at)
+            part, at = nest(tokens, at, depth + 1)
         else:
             part, at = (millimetres(tokens[at]), millimetres(tokens[at + 1])), at + 2
             if None in part:

@@ -7,7 +7,7 @@ from collections import Counter
 from shapely import wkb as shapely_wkb
 from shapely.validation import explain_validity
 
-from . import land, systems, wkb
+from . import land, systems, unforeseen, wkb
 from .balance import area_of
 from .boxes import Boxes
 from .conflicts import members_of, polygons_by
@@ -113,7 +113,7 @@ class Preparation:
             self.say(f"testing {len(layer.rows)} rows of {name}")
             if len(layer.rows) > MOST_ROWS:
                 self.find("rows", name, None, f"{len(layer.rows)} rows, and a release has at most {MOST_ROWS}", "tools/country makes regions of them", True)
-            for row in layer.rows:
+            for row in unforeseen.numbered(name, layer.rows):
                 if row.found is None:
                     self.without_shape("shape", name, row, row.why)
                     continue
@@ -158,7 +158,7 @@ class Preparation:
         mended = []
         for name in KEYS:
             self.say(f"testing the shapes of {name}")
-            for row in self.layers[name].rows:
+            for row in unforeseen.numbered(name, self.layers[name].rows):
                 if row.found is None:
                     continue
                 shape = shapely_wkb.loads(row.found.blob)

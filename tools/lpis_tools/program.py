@@ -40,7 +40,7 @@ def command(words=""):
     """Named, installed beside the tools, that of the repository that the tools are in, or on the path. It starts here; nothing is built."""
     installed = os.path.join(HERE, "program", "lpis")
     if words:
-        return started(shlex.split(words))
+        return started(split(words))
     if is_program(installed):
         return started([installed])
     found, said = of_repository()
@@ -70,11 +70,22 @@ def needs():
         return re.search(r"(?m)^NEEDS='(.*)'$", file.read())[1]
 
 
+def split(words):
+    """The words of a command, as a shell takes them apart."""
+    try:
+        found = shlex.split(words)
+    except ValueError as error:
+        raise OSError(f"{words!r} is no command: {error}") from None
+    if not found:
+        raise OSError(f"{words!r} is no command")
+    return found
+
+
 def facts(words):
     """What was known when the program was built, as a dictionary: commit and kit, where they stand beside it."""
     path = os.path.join(os.path.dirname(os.path.realpath(shutil.which(words[0]) or words[0])), "facts")
     try:
-        with open(path, encoding="utf-8") as file:
+        with open(path, encoding="utf-8", errors="replace") as file:
             return dict(line.rstrip("\n").split(" ", 1) for line in file if " " in line)
     except OSError:
         return {}

@@ -8,7 +8,7 @@ import sys
 import tempfile
 from collections import Counter
 
-from . import ending, installed, land, shapely_there, sheets, words
+from . import ending, files, land, shapely_there, sheets, unforeseen, words
 
 TROUBLE = 64
 TABLES = ("parcels", "covers", "classes")
@@ -19,11 +19,13 @@ WORDS = f"""{REPORT}
 {CLASSES}
 
 status 0: the tables are written: {SOUND},
-or --accept. 1: there is something to look at, and no table is written. 64: trouble of its own. 128 and a signal's number: stopped."""
+or --accept. 1: there is something to look at, and no table is written. 64: trouble of its own. 128 and a signal's number: stopped.
+{words.FAILED}"""
 COMPARING = f"""{REPORT}
 
 status 0: {SOUND}, or --accept.
-1: there is something to look at. 64: trouble of its own."""
+1: there is something to look at. 64: trouble of its own.
+{words.FAILED}"""
 
 
 def parser(name, text, engine):
@@ -39,8 +41,12 @@ def parser(name, text, engine):
 
 
 def teller(name):
-    """Progress on standard error."""
-    return lambda words: print(f"{name}: {words}", file=sys.stderr, flush=True)
+    """Progress on standard error, which is also what the tool is doing where it fails."""
+    def say(told):
+        unforeseen.PLACE.step = str(told)
+        print(f"{name}: {told}", file=sys.stderr, flush=True)
+
+    return say
 
 
 def stop_at_once(name, *folders):
@@ -48,6 +54,7 @@ def stop_at_once(name, *folders):
     def last(stopped):
         for folder in folders:
             shutil.rmtree(folder, ignore_errors=True)
+        files.forget()
         os.write(sys.stderr.fileno(), f"{name}: {stopped}: no table is written\n".encode())
         os._exit(stopped.status)
 
@@ -55,8 +62,12 @@ def stop_at_once(name, *folders):
 
 
 def run(name, text, engine=None, more=None):
-    """A recipe from its words to its report. `engine` makes the tables of a source in a folder, and gives the conflicts that its map shows,
-    where it has one; none: the tables that stand are compared."""
+    """A recipe from its words to its report, and its status. `engine` makes the tables of a source in a folder, and gives the conflicts that its map
+    shows, where it has one; none: the tables that stand are compared."""
+    return words.ended(name, lambda: from_words(name, text, engine, more), land.Trouble)
+
+
+def from_words(name, text, engine, more):
     options = parser(name, text, engine)
     if more:
         more(options)
@@ -68,14 +79,8 @@ def run(name, text, engine=None, more=None):
 
     try:
         return made(said, engine, say)
-    except land.Trouble as trouble:
-        for reason in trouble.reasons:
-            say(installed.here(reason))
-    except BrokenPipeError:  # who reads standard output has gone away
-        os.dup2(os.open(os.devnull, os.O_WRONLY), sys.stdout.fileno())
-    except (OSError, rounding.Restless) as error:
-        say(error)
-    return TROUBLE
+    except rounding.Restless as error:
+        raise land.Trouble(str(error)) from None
 
 
 def made(said, engine, say):
@@ -129,7 +134,7 @@ def put(made, out, names):
             if os.path.exists(os.path.join(out, name)):
                 os.replace(os.path.join(out, name), os.path.join(aside, name))
         for name in names:
-            os.replace(os.path.join(made, name), os.path.join(out, name))
+            files.settle(os.path.join(made, name), os.path.join(out, name), files.mode_of(os.path.join(aside, name)))
     except OSError:
         for name in os.listdir(aside):
             os.replace(os.path.join(aside, name), os.path.join(out, name))
@@ -243,4 +248,8 @@ def lacking_classes(table, layers, path):
     wrong = [Loss("class", [name], f"{len(found)} pieces have this class, and {path} has not: lpis refuses it (36)", layer="covers", rows=found) for name, found in rows.items()]
     most = 100 if column == "percent" else 1
     return wrong + [Loss("class", [record.get("class") or ""], f"its {column} is {record.get(column)!r}, no whole number from 0 to {most}: lpis refuses it (3b)", layer="classes")
-                    for record in table if not (str(record.get(column) or "").isdecimal() and int(record[column]) <= most)]
+                    for record in table if not is_percent(str(record.get(column) or ""), most)]
+
+
+def is_percent(text, most):
+    return text.isdecimal() and len(text) <= len(str(most)) and int(text) <= most

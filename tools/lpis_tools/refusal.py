@@ -9,6 +9,10 @@ from .sentences import SENTENCES
 from .tables import COLUMNS
 
 
+MOST_DIGITS = 18
+FAR = 100_000_000_000  # millimetres: beyond every place
+
+
 @dataclass
 class Refusal:
     code: str
@@ -42,9 +46,9 @@ def read(line):
     refusal = Refusal(words[1])
     try:
         fill(refusal, without_region(refusal, words[2:]))
-    except (IndexError, ValueError):
+    except (IndexError, ValueError, ArithmeticError):
         return None
-    return refusal
+    return refusal if refusal.place is None or max(map(abs, refusal.place)) <= FAR else None
 
 
 def without_region(refusal, rest):
@@ -55,6 +59,13 @@ def without_region(refusal, rest):
         refusal.region = rest[-1]
         return rest[:-2]
     return rest
+
+
+def natural(word):
+    """A number of a row, a line or a triangle."""
+    if not word.isascii() or not word.isdigit() or len(word) > MOST_DIGITS:
+        raise ValueError
+    return int(word)
 
 
 def fill(refusal, rest):
@@ -68,18 +79,18 @@ def fill(refusal, rest):
         if rest[1] in ("75", "76", "77"):
             refusal.names, refusal.year = [rest[2]], rest[3] if len(rest) > 3 else ""
         else:
-            refusal.row = int(rest[3])
+            refusal.row = natural(rest[3])
     elif rest[0] == "exact" and code in ("45", "85"):
         refusal.kind, refusal.names = "exact", [rest[-1]]
         refusal.exact_code = rest[1] if code == "85" else ""
         if len(rest) != (3 if code == "85" else 2):
             raise ValueError
     elif rest[:2] in (["cert", "line"], ["country", "line"]):
-        refusal.cert_line = int(rest[2])
+        refusal.cert_line = natural(rest[2])
     elif rest[0] in COLUMNS and len(rest) > 2 and rest[1] == "row":
-        refusal.table, refusal.row = rest[0], int(rest[2])
+        refusal.table, refusal.row = rest[0], natural(rest[2])
         if code == "38":
-            refusal.text_code, refusal.offset = rest[4], int(rest[6])
+            refusal.text_code, refusal.offset = rest[4], natural(rest[6])
         if code == "3d":
             refusal.column, refusal.number_code = rest[3], rest[4]
     else:
@@ -87,6 +98,8 @@ def fill(refusal, rest):
         refusal.kind, refusal.names = rest[0], rest[1 : 1 + count]
         if len(refusal.names) != count or rest[0] not in ("parcel", "parcels", "piece", "pieces", "pair"):
             raise ValueError
+        if rest[0] == "pair":
+            [natural(name) for name in refusal.names]
         if rest[1 + count : 2 + count] == ["at"]:
             x, y, d = map(int, rest[2 + count : 5 + count])
             refusal.place = Fraction(x, d), Fraction(y, d)

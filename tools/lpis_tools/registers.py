@@ -5,7 +5,7 @@ from __future__ import annotations
 import pathlib
 import sqlite3
 
-from . import polygons
+from . import databases, polygons, unforeseen
 
 SECONDS = 60  # to wait for a publish that holds the register
 
@@ -17,18 +17,19 @@ class Unreadable(Exception):
 def opened(path):
     """A connection that reads alone. Where the register's folder can't be written, and nobody holds the register, the file is read as one that does
     not change."""
+    unforeseen.at(path)
     name = pathlib.Path(path).resolve().as_uri()
     connection = sqlite3.connect(f"{name}?mode=ro", uri=True, timeout=SECONDS)
     try:
         connection.execute("SELECT 1 FROM sqlite_schema").fetchone()
-        return connection
+        return databases.guarded(connection)
     except sqlite3.OperationalError:
         if not pathlib.Path(path).is_file() or pathlib.Path(f"{path}-wal").exists():
             raise
     connection.close()
     connection = sqlite3.connect(f"{name}?immutable=1", uri=True)
     connection.execute("SELECT 1 FROM sqlite_schema").fetchone()
-    return connection
+    return databases.guarded(connection)
 
 
 def facts(path):
@@ -36,14 +37,14 @@ def facts(path):
     try:
         connection = opened(path)
         try:
-            years = [year for (year,) in connection.execute("SELECT year FROM lpis_release ORDER BY year")]
+            years = [int(year) for (year,) in connection.execute("SELECT year FROM lpis_release ORDER BY year")]
             (live,), (all_of_them,) = connection.execute("SELECT count(*) FROM lpis_span WHERE until = 0 UNION ALL SELECT count(*) FROM lpis_span")
             has_texts = connection.execute("SELECT 1 FROM sqlite_schema WHERE name = 'lpis_text'").fetchone()
             shapes = connection.execute("SELECT count(*) FROM lpis_text").fetchone()[0] if has_texts else 0
         finally:
             connection.close()
-    except sqlite3.Error as error:
-        raise Unreadable(f"{path} is no register of version 2 or 3 that can be read: {error}") from None
+    except (sqlite3.Error, ValueError, TypeError) as error:  # a year that is no number, text that is none
+        raise Unreadable(f"{path} is no register of version 2 or 3 that can be read: {databases.why(error)}") from None
     return {"path": path, "years": years, "live": live, "identifiers": all_of_them, "shapes": shapes}
 
 

@@ -6,7 +6,7 @@ import datetime
 import os
 from collections import Counter
 
-from . import origin, page, polygons, registers
+from . import files, origin, page, polygons, registers
 from . import report as reports
 from .areas import AREA, both, decimal
 
@@ -81,7 +81,7 @@ def write_release(path, report):
 
 
 def write(path, text):
-    with open(path, "w", encoding="utf-8") as file:
+    with files.anew(path) as file:
         file.write(text)
 
 

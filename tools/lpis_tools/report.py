@@ -13,6 +13,7 @@ from .areas import AREA, ELIGIBLE, decimal
 from .tables import Table, path_of, shown
 
 TABLES = ("parcels", "covers", "classes")
+MOST_DIGITS = 9  # of a percentage that is shown; more are refused as it is
 
 
 class Trouble(Exception):
@@ -62,7 +63,7 @@ def read(folder):
         column, factor = ("percent", 1) if "percent" in table.names else ("eligible", 100)
         for _, record in table.rows():
             text = table.field(record, column)
-            land.percents[shown(table.field(record, "class"))] = int(text) * factor if text.isdigit() else None
+            land.percents[shown(table.field(record, "class"))] = int(text) * factor if text.isdigit() and len(text) <= MOST_DIGITS else None
     return land
 
 

@@ -9,6 +9,7 @@ import re
 from dataclasses import dataclass
 from itertools import islice
 
+from . import unforeseen
 from .wkt import read as polygons_of
 
 __all__ = ["Fault", "Sheet", "encoding_of", "polygons_of", "read"]
@@ -63,7 +64,7 @@ class Sheet:
         self.faults, self.blank = [], 0
         lines, width = self.lines(), len(self.columns)
         next(lines, None)
-        for number, (line, fields) in enumerate(lines, 1):
+        for number, (line, fields) in unforeseen.each("", lines, self.path):
             if not any(field.strip() for field in fields):
                 self.blank += 1
             elif len(fields) != width:

@@ -1,6 +1,7 @@
 """Tables of any size, record by record, each with its lines as they are written; of a folder, or of a database with PostGIS."""
 
 import csv
+import io
 import itertools
 import operator
 import os
@@ -9,7 +10,8 @@ import tempfile
 from itertools import islice
 from operator import mul
 
-from . import ending, psql
+from . import ending, psql, unforeseen
+from .printing import escaped
 from .tables import COLUMNS, FREE, INSTEAD
 
 csv.field_size_limit(1 << 30)
@@ -91,20 +93,20 @@ class Postgis:
                 raise Trouble(f"{self.connection}: psql ended with status {run.returncode} at the table {name}", *psql.reasons(told.read()))
 
     def ask(self, statement):
-        """The rows of an answer."""
-        status, text, told = psql.run("-t", "-A", "-F", "\t", *self.words(statement))
+        """The rows of an answer: a field may have any letters."""
+        status, text, told = psql.run("-t", "--csv", *self.words(statement))
         if status:
             raise Trouble(f"{self.connection}: psql ended with status {status}", *told)
-        return [line.split("\t") for line in text.splitlines()]
+        return list(csv.reader(io.StringIO(text, newline="")))
 
     def test(self, say):
         """Shapes that the texts would change are faults; columns that no table takes are named."""
         faults = []
         for table, key in (("rel_parcels", "parcel"), ("rel_covers", "piece")):
-            faults += [f"{table}: {key} {name}: {why}" for name, why in self.ask(UNEVEN.format(key=key, table=table))]
+            faults += [f"{table}: {key} {escaped(name)}: {why}" for name, why in self.ask(UNEVEN.format(key=key, table=table))]
         for table, known in TABLES.items():
             for (column,) in self.ask(UNUSED.format(table=table, known=", ".join(f"'{name}'" for name in known))):
-                say(f"column {column} of {table} is in no table of the country")
+                say(f"column {escaped(column)} of {table} is in no table of the country")
         if faults:
             raise Trouble(*faults[:MOST_TOLD], *([f"and {len(faults) - MOST_TOLD} more"] if len(faults) > MOST_TOLD else []))
 
@@ -138,7 +140,7 @@ class Stream:
 
     def __iter__(self):
         width, fields = self.width, operator.itemgetter(*self.places)
-        for row, (record, raw) in enumerate(self.records, 1):
+        for row, (record, raw) in unforeseen.each("", self.records, f"{self.name}.csv"):
             if len(record) != width:
                 raise Trouble(f"{self.name}.csv row {row}: {len(record)} fields, and the header has {width}")
             yield row, fields(record), raw
@@ -151,7 +153,7 @@ def columns_of(name, names):
 
 def shown(name):
     """An identifier, whose bytes are letters here, for people to read."""
-    return name.encode("latin-1").decode("utf-8", "replace")[:60]
+    return escaped(name.encode("latin-1").decode("utf-8", "replace"))[:60]
 
 
 def ended(raw):

@@ -71,21 +71,34 @@ def nodes_of(text):
     return [part for part in stack[0][1] if isinstance(part, list)]
 
 
+def every(node):
+    """A node and all that are in it, depth first."""
+    waiting = [node]
+    while waiting:
+        found = waiting.pop()
+        yield found
+        waiting += [part for part in reversed(found[1]) if isinstance(part, list)]
+
+
 def within(node, *words):
     """The first node of one of some words, the node itself or in it, depth first."""
-    if node[0] in words:
-        return node
-    return next((found for part in node[1] if isinstance(part, list) and (found := within(part, *words))), None)
+    return next((found for found in every(node) if found[0] in words), None)
+
+
+def number_of(part):
+    """A part of a node as a finite number, or None."""
+    try:
+        value = float(part) if isinstance(part, str) else math.nan
+    except ValueError:
+        return None
+    return value if math.isfinite(value) else None
 
 
 def unit_of(node):
     """Metres of the unit that stands in a node itself, or at its axes."""
     own = [part for part in node[1] if isinstance(part, list)]
     units = [part for part in own if part[0] in ("UNIT", "LENGTHUNIT")] or [unit for part in own if part[0] == "AXIS" and (unit := within(part, "LENGTHUNIT", "UNIT"))]
-    try:
-        return float(units[0][1][1]) if units else None
-    except (IndexError, ValueError):
-        return None
+    return number_of(units[0][1][1]) if units and len(units[0][1]) > 1 else None
 
 
 def method_of(node):
@@ -95,20 +108,16 @@ def method_of(node):
 
 
 def parallels_of(node):
-    """How many degrees the two parallels of a conic projection are apart."""
+    """How many degrees the two parallels of a conic projection are apart; None where one of them is no number."""
     found = {}
-
-    def walk(part):
+    for part in every(node):
         if part[0] == "PARAMETER" and len(part[1]) > 1:
             name = re.sub(r"[^a-z0-9]+", " ", str(part[1][0]).lower())
             for number in ("1", "2"):
                 if name.startswith("standard parallel " + number) or name.startswith(f"latitude of {number}"):
-                    found[number] = float(part[1][1])
-        for inner in part[1]:
-            if isinstance(inner, list):
-                walk(inner)
-
-    walk(node)
+                    found[number] = number_of(part[1][1])
+    if None in found.values():
+        return None
     return abs(found.get("1", 0.0) - found.get("2", found.get("1", 0.0)))
 
 
@@ -125,8 +134,8 @@ def of_definition(number, text):
             system.why = f"units of {unit} m"
         elif not any(name in method for name in TRUE) or "pseudo mercator" in method:
             system.why = f"its unit is the metre, but areas in its projection ({method or 'none is named'}) are not those of the land"
-        elif "conic" in method and "equal area" not in method and "albers" not in method and parallels_of(plane) > APART:
-            system.why = f"its unit is the metre, but areas in its projection ({method}, with parallels {parallels_of(plane):.0f} degrees apart) are not those of the land"
+        elif "conic" in method and "equal area" not in method and "albers" not in method:
+            system.why = why_not_conic(method, parallels_of(plane))
         return system
     if any(within(node, "GEOCCS") or is_geocentric(node) for node in nodes):
         return System(number, False, 1.0, "", "metres from the middle of the earth, no plane")
@@ -137,6 +146,13 @@ def of_definition(number, text):
         unit = unit_of(local)
         return System(number, False, unit or 1.0, "", "" if unit in (None, 1.0) else f"units of {unit} m")
     return of_number(number)
+
+
+def why_not_conic(method, apart):
+    """Why a conic projection does not suit, by how many degrees its parallels are apart."""
+    if apart is None:
+        return f"a system whose parallels ({method}) are no numbers"
+    return f"its unit is the metre, but areas in its projection ({method}, with parallels {apart:.0f} degrees apart) are not those of the land" if apart > APART else ""
 
 
 def is_geocentric(node):

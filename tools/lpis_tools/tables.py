@@ -7,6 +7,9 @@ import csv
 import io
 import os
 
+from . import unforeseen
+from .printing import escaped
+
 COLUMNS = {
     "area": ["wkt"],
     "parcels": ["parcel", "wkt"],
@@ -24,10 +27,18 @@ LETTERS = frozenset(b"ABCDEFGHIJKLMNOPQRSTUVWXYZabcdefghijklmnopqrstuvwxyz012345
 csv.field_size_limit(1 << 30)
 
 
+def cut(text, most):
+    return text if len(text) <= most else text[: most - 3] + "..."
+
+
 def shown(field, most=60):
     """A field for people to read."""
-    text = field.decode("utf-8", "replace")
-    return text if len(text) <= most else text[: most - 3] + "..."
+    return cut(escaped(field.decode("utf-8", "replace")), most)
+
+
+def quoted(field, most=60):
+    """The same in quotation marks."""
+    return repr(cut(field.decode("utf-8", "replace"), most))
 
 
 def is_identifier(field):
@@ -39,6 +50,7 @@ class Table:
 
     def __init__(self, path, name):
         self.path, self.name = path, name
+        unforeseen.at(path)
         with open(path, "rb") as file:
             self.start = file.read(64)
             file.seek(0)
@@ -62,7 +74,7 @@ class Table:
 
     def rows(self):
         """The rows with their numbers, from 1."""
-        return enumerate(self.records[1:], 1)
+        return unforeseen.each("", self.records[1:], self.path)
 
     def missing(self):
         """The columns that the table lacks, the first name where one of two is wanted."""

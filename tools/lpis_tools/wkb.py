@@ -169,19 +169,19 @@ class Reader:
         numbers = self.take(f"{count * size}d", order)
         return list(zip(numbers[0::size], numbers[1::size]))
 
-    def way(self):
-        """The points of a line, an arc or a curve of both."""
+    def way(self, depth=0):
+        """The points of a line, an arc or a curve of both; a curve has none in it."""
         order, kind, size = self.head()
         if kind == 2:
             return self.points(order, size)
         self.notes.add("curve")
         if kind == 8:
             return straightened(self.points(order, size))
-        if kind != 9:
+        if kind != 9 or depth:
             raise Unreadable(f"a ring that is {NAMES.get(kind, f'a shape of kind {kind}')}")
         way = []
         for _ in range(self.take("I", order)[0]):
-            way = joined(way, self.way())
+            way = joined(way, self.way(1))
         return way
 
     def shape(self, depth=0):
@@ -219,7 +219,7 @@ def read(blob):
 
 def of_package(blob):
     """The polygons of a GeoPackage's field, or None where it says that it is empty. With the number that the field has for its system."""
-    if blob[:2] != b"GP" or len(blob) < 8:
+    if not isinstance(blob, bytes) or blob[:2] != b"GP" or len(blob) < 8:
         raise Unreadable("the field is no shape of a GeoPackage")
     flags = blob[3]
     size = {0: 0, 1: 32, 2: 48, 3: 48, 4: 64}.get(flags >> 1 & 7)

@@ -1,14 +1,16 @@
 """The words of a tool's command line: --help, --version, and status 64 for words that it does not know."""
 
 import argparse
+import contextlib
 import os
 import re
 import subprocess
 import sys
 
-from . import ending, installed, program
+from . import ending, installed, printing, program, unforeseen
 
 TROUBLE = 64
+FAILED = f"status {unforeseen.STATUS}: this tool failed; the sentence names where, and a file with the traceback."
 SOURCE = os.path.join("crates", "lpis_commands", "src", "command_line.rt")  # has the version where no program is built
 
 
@@ -24,7 +26,7 @@ class Parser(Line):
     """Of the tool `lpis-NAME`; its description is the text at the head of the script."""
 
     def __init__(self, name, description):
-        super().__init__(prog=name, description=installed.here(description), formatter_class=argparse.RawDescriptionHelpFormatter)
+        super().__init__(prog=name, description=installed.here(description), formatter_class=argparse.RawDescriptionHelpFormatter, epilog=FAILED)
         self.add_argument("--version", action=Version, help="print the version of lpis that this tool belongs to")
 
     def add_lpis(self):
@@ -59,20 +61,61 @@ def version_of_sources():
 
 
 def run(name, main, *troubles):
-    """Ends with the status of a tool, with 64 and the reason in a line (70 where there is no lpis), or with 128 and the number of the signal that
-    stopped it."""
+    """Ends with the status of a tool, or of what kept it from its end."""
+    sys.exit(ended(name, main, *troubles))
+
+
+def ended(name, main, *troubles):
+    """The status of a tool: its own; 64 and the reason in a line; 70 where it failed or there is no lpis; 128 and the number of the signal that stopped
+    it."""
+    printing.begin()
     ending.listen()
     try:
-        sys.exit(main())
-    except ending.Stopped as stopped:
-        print(f"{name}: {stopped}", file=sys.stderr)
-        sys.exit(stopped.status)
-    except BrokenPipeError:  # who reads standard output has gone away
-        os.dup2(os.open(os.devnull, os.O_WRONLY), sys.stdout.fileno())
-        sys.exit(TROUBLE)
-    except program.Absent as error:
-        print(f"{name}: {error}", file=sys.stderr)
-        sys.exit(program.ABSENT)
-    except (OSError, subprocess.CalledProcessError, *troubles) as error:
-        print(f"{name}: {error}", file=sys.stderr)
-        sys.exit(TROUBLE)
+        status = outcome(main)
+        printing.finish()
+        return status
+    except Exception as error:
+        status = told(name, error, (OSError, subprocess.CalledProcessError, *troubles))
+    except KeyboardInterrupt as stopped:
+        say(name, stopped)
+        status = getattr(stopped, "status", 130)
+    with contextlib.suppress(OSError, ValueError):
+        printing.finish()
+    return status
+
+
+def outcome(main):
+    """The status of a tool that ends in its own way, in the middle too."""
+    try:
+        return main()
+    except SystemExit as leaving:
+        if isinstance(leaving.code, str):
+            print(leaving.code, file=sys.stderr)
+        return leaving.code if isinstance(leaving.code, int) else int(leaving.code is not None)
+
+
+def told(name, error, troubles):
+    """Tells what an exception means, and answers the status."""
+    if ending.stopped():  # the exception of the signal may have been lost on its way
+        say(name, ending.stopped())
+        return ending.stopped().status
+    if isinstance(error, BrokenPipeError):  # who reads standard output has gone away
+        return TROUBLE
+    if isinstance(error, program.Absent):
+        say(name, error)
+        return program.ABSENT
+    if isinstance(error, MemoryError):
+        error.__traceback__ = None
+        say(name, f"there is not enough memory{unforeseen.PLACE.words()}")
+        return TROUBLE
+    if isinstance(error, troubles):
+        for reason in getattr(error, "reasons", [error]):
+            say(name, installed.here(str(reason)))
+        return TROUBLE
+    say(name, unforeseen.sentence(name, error))
+    return unforeseen.STATUS
+
+
+def say(name, words):
+    with contextlib.suppress(OSError, ValueError):
+        print(f"{name}: {words}", file=sys.stderr, flush=True)

@@ -4,10 +4,11 @@ import datetime
 import getpass
 import os
 import sqlite3
+import stat
 import subprocess
 import sys
 
-from . import ending, ledger, program, registers, words, years
+from . import ending, files, ledger, program, registers, words, years
 
 STOPPED = 1
 MOST_STEP = 3  # years after the last one
@@ -55,14 +56,15 @@ def last_year(said):
 
 
 def back_up(register, year):
-    """A copy of the register, whole also while it is used, and its digest beside it."""
-    path = f"{register}.before-{year}"
-    with sqlite3.connect(register, timeout=registers.SECONDS) as source, sqlite3.connect(path) as copy:
-        source.backup(copy)
-    copy.close()
-    source.close()
+    """A copy of the register, whole also while it is used, and open to nobody else than the register is; its digest beside it."""
+    path, mode = f"{register}.before-{year}", stat.S_IMODE(os.stat(register).st_mode)
+    with files.beside(path, mode) as name:
+        with sqlite3.connect(register, timeout=registers.SECONDS) as source, sqlite3.connect(name) as copy:
+            source.backup(copy)
+        copy.close()
+        source.close()
     digest = ledger.digest_of(path)
-    with open(f"{path}.sha256", "w", encoding="utf-8") as file:
+    with files.anew(f"{path}.sha256") as file:
         file.write(f"{digest}  {os.path.basename(path)}\n")
     print(f"backup {path} sha256 {digest}")
 
@@ -82,7 +84,7 @@ def told(command, *said):
 
 
 def write(path, text):
-    with open(path, "wb") as file:
+    with files.anew(path, "wb") as file:
         file.write(text)
     return path
 

@@ -4,7 +4,7 @@ import pathlib
 import sqlite3
 from dataclasses import dataclass, field
 
-from . import polygons, registers
+from . import databases, polygons, registers
 from .tables import Table, is_identifier, path_of, shown
 
 
@@ -60,14 +60,9 @@ def of_register(path):
     except sqlite3.Error as error:
         raise Trouble(f"{path}: {error}") from None
     try:
-        tables = {name for (name,) in base.execute("SELECT name FROM sqlite_schema WHERE type = 'table'")}
-        if not {"lpis_release", "lpis_span"} <= tables:
-            raise Trouble(f"{path} is no register of version 2 or 3: `lpis trace` opens and moves an older one")
-        last = base.execute("SELECT max(year) FROM lpis_release").fetchone()[0]
-        texts = dict(base.execute("SELECT id, wkt FROM lpis_text")) if "lpis_text" in tables else {}
-        spans = base.execute("SELECT id, until FROM lpis_span").fetchall()
-    except sqlite3.Error as error:
-        raise Trouble(f"{path}: {error}") from None
+        last, texts, spans = content_of(base, path)
+    except (sqlite3.Error, UnicodeError) as error:
+        raise Trouble(f"{path}: {databases.why(error)}") from None
     finally:
         base.close()
     year = Year(path, year=last or 0, is_first=last is None)
@@ -77,6 +72,20 @@ def of_register(path):
         else:
             year.shapes[name] = polygons.read(texts[name].encode()) if name in texts else None
     return year
+
+
+def content_of(base, path):
+    """The last year, the kept texts by identifier, and the identifiers with their last years. All of them are of the kinds that `lpis` writes."""
+    tables = {name for (name,) in base.execute("SELECT name FROM sqlite_schema WHERE type = 'table'")}
+    if not {"lpis_release", "lpis_span"} <= tables:
+        raise Trouble(f"{path} is no register of version 2 or 3: `lpis trace` opens and moves an older one")
+    last = base.execute("SELECT max(year) FROM lpis_release").fetchone()[0]
+    texts = dict(base.execute("SELECT id, wkt FROM lpis_text")) if "lpis_text" in tables else {}
+    spans = base.execute("SELECT id, until FROM lpis_span").fetchall()
+    are_numbers = isinstance(last, (int, type(None))) and all(isinstance(until, int) for _, until in spans)
+    if not are_numbers or not all(isinstance(text, str) for text in [*texts, *texts.values(), *(name for name, _ in spans)]):
+        raise Trouble(f"{path}: it has texts where years are wanted, or the other way round: `lpis` did not write it so")
+    return last, texts, spans
 
 
 def rows_of(path):

@@ -1,0 +1,63 @@
+"""What a tool prints. A stranger's text is made fit for people: letters that nobody sees, that move the cursor or turn a line round are written out."""
+
+import contextlib
+import io
+import os
+import re
+import sys
+
+# Of what is printed: all but line ends, tabs, and the return before a line that is printed anew.
+UNSEEN = re.compile("(?!^\r)[\x00-\x08\x0b-\x1f\x7f-\x9f\u061c\u200e\u200f\u2028-\u202e\u2066-\u2069\ud800-\udfff]")
+SHORT = {"\n": "\\n", "\r": "\\r", "\t": "\\t"}
+
+
+def escaped(text):
+    """A text as it stands in a line: nothing in it ends the line."""
+    return text if text.isprintable() else "".join(letter if letter.isprintable() else written_out(letter) for letter in text)
+
+
+def readable(name):
+    """A name in a line, in quotation marks where letters of it are written out."""
+    return name if name.isprintable() else f"'{escaped(name)}'"
+
+
+def written_out(letter):
+    code = ord(letter)
+    if 0xDC80 <= code <= 0xDCFF:  # a byte that is no letter
+        code -= 0xDC00
+    return SHORT.get(letter) or (f"\\x{code:02x}" if code < 256 else f"\\u{code:04x}" if code < 65536 else f"\\U{code:08x}")
+
+
+class Printed(io.TextIOWrapper):
+    """Standard output or standard error, whatever letters come."""
+
+    def write(self, text):
+        return super().write(UNSEEN.sub(lambda found: written_out(found[0]), text) if UNSEEN.search(text) else text)
+
+
+_closed = []  # streams that the caller closed
+
+
+def begin():
+    """From now on what is printed is fit for a terminal. A stream that the caller closed takes everything and keeps nothing."""
+    for name in ("stdout", "stderr"):
+        stream = getattr(sys, name)
+        if stream is None:
+            _closed.append(name)
+            setattr(sys, name, open(os.devnull, "w", encoding="utf-8", errors="backslashreplace"))
+        elif type(stream) is io.TextIOWrapper:
+            more = {"encoding": stream.encoding, "line_buffering": stream.line_buffering, "write_through": stream.write_through}
+            setattr(sys, name, Printed(stream.detach(), errors="backslashreplace", **more))
+
+
+def finish():
+    """Writes what waits. Where that fails, the rest goes nowhere, and the exception is raised once."""
+    if "stdout" in _closed:
+        _closed.clear()
+        raise OSError("standard output is closed")
+    try:
+        sys.stdout.flush()
+    except (OSError, ValueError):
+        with contextlib.suppress(OSError, ValueError):
+            os.dup2(os.open(os.devnull, os.O_WRONLY), sys.stdout.fileno())
+        raise
