@@ -1,5 +1,5 @@
-"""Edges in whole millimetres that meet at corners alone: each edge takes the corners that lie in its pixel, and is cut wherever it meets another, until
-nothing changes. By numpy, in whole numbers; no shape is made."""
+"""Rings, edges and corners in arrays: the edges of shapes, the cells that they lie in, and a network of edges in whole millimetres between numbered
+corners, with who lies beside them. By numpy; no shape is made."""
 
 from __future__ import annotations
 
@@ -7,7 +7,6 @@ import numpy
 
 from . import wkb
 
-PIXEL = 0.7072  # millimetres from an edge to a corner that it takes
 PART = 1 << 16  # edges or shapes at once
 MOST_PASSES = 100
 WIDE = 1 << 31  # differences below it have products that fit a number of 64 bits
@@ -131,33 +130,7 @@ def key_of(column, row):
     return (column << 32) + row
 
 
-def with_corners(edges):
-    """The edges rounded, each going over the rounded corners that lie within its pixel: else junctions open. The corners, and the ways: the edge and
-    the corners at both ends of each part."""
-    scaled = edges * 1000
-    ends = numpy.rint(scaled).astype(int)
-    corners = Corners(ends.reshape(-1, 2))
-    side = size_of_cells(scaled)
-    keys = key_of(corners.points[:, 0] // side, corners.points[:, 1] // side)
-    order = numpy.argsort(keys, kind="stable")
-    sorted_keys, ways = keys[order], []
-    for start in range(0, len(edges), PART):
-        part = scaled[start : start + PART]
-        edge, column, row = cells_along(part, side)
-        key = key_of(column, row)
-        low = numpy.searchsorted(sorted_keys, key)
-        entry, step = expanded(numpy.searchsorted(sorted_keys, key, "right") - low)
-        corner, edge = order[low[entry] + step], edge[entry]
-        x, y = (corners.points[corner] - part[edge, :2]).T
-        dx, dy = (part[edge, 2:] - part[edge, :2]).T
-        square = dx * dx + dy * dy
-        along = numpy.divide(x * dx + y * dy, square, out=numpy.zeros(len(x)), where=square > 0)
-        on = (along > 0) & (along < 1) & (numpy.abs(x * dy - y * dx) <= PIXEL * numpy.sqrt(square))
-        ways.append(ways_of(corners.numbers(ends[start : start + PART, :2]), corners.numbers(ends[start : start + PART, 2:]), edge[on], along[on], corner[on], start))
-    return corners, tuple(map(numpy.concatenate, zip(*ways))) if ways else (numpy.zeros(0, int),) * 3
-
-
-def ways_of(first, last, edge, along, corner, start=0):
+def ways_of(first, last, edge, along, corner):
     """The parts of each edge from its first corner over those along it to its last: the edge's number, and both ends. Parts without length go."""
     count = len(first)
     edges = numpy.concatenate([numpy.arange(count), edge, numpy.arange(count)])
@@ -165,7 +138,7 @@ def ways_of(first, last, edge, along, corner, start=0):
     order = numpy.lexsort((places, edges))
     edges, corners = edges[order], numpy.concatenate([first, corner, last])[order]
     inner = (edges[1:] == edges[:-1]) & (corners[1:] != corners[:-1])
-    return edges[:-1][inner] + start, corners[:-1][inner], corners[1:][inner]
+    return edges[:-1][inner], corners[:-1][inner], corners[1:][inner]
 
 
 class Network:
@@ -191,7 +164,7 @@ class Network:
         self.starts = numpy.searchsorted(self.edge, numpy.arange(len(self.first) + 1))  # of the sides of each edge
 
     def cut(self, say):
-        """Cuts the edges wherever they meet, until nothing changes."""
+        """Cuts edges that were moved by hand wherever they meet others, until nothing changes."""
         fresh = numpy.ones(len(self.first), bool)
         for number in range(1, MOST_PASSES + 1):
             say(f"borders: {len(self.first)} edges, pass {number}")
@@ -305,24 +278,3 @@ def is_within(lines, points):
         inside &= ((points[:, axis] >= low) & (points[:, axis] <= high)).astype(bool)
     ends = [((points[:, 0] == lines[:, k]) & (points[:, 1] == lines[:, k + 1])).astype(bool) for k in (0, 2)]
     return inside & ~ends[0] & ~ends[1]
-
-
-def network_of(founds, say, previous=None):
-    """The borders of shapes as edges in whole millimetres that meet at corners alone; owners are the shapes' numbers. `previous` are last year's borders, which
-    stay where they did not change."""
-    edges, owners = edges_of(founds)
-    edges, number, backwards = unique_edges(edges)
-    say(f"borders: {len(edges)} edges, taking corners")
-    corners, (edge, first, last) = with_corners(edges)
-    counts = numpy.bincount(edge, minlength=len(edges))
-    starts = numpy.cumsum(counts) - counts
-    side, step = expanded(counts[number])
-    parts = starts[number[side]] + step
-    network = Network(corners, first, last, (parts, owners[side], numpy.where(backwards, -1, 1)[side]))
-    if previous:
-        say(f"borders: taking those of {previous.folder}")
-        previous.take(network, edges.reshape(-1, 2) * 1000)
-    network.cut(say)
-    if previous:
-        previous.count(network)
-    return network

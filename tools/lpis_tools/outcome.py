@@ -11,6 +11,7 @@ from shapely.geometry import Point
 
 from . import land, polygons
 from .conflicts import Loss, Source, by_geos, number_of, polygons_by
+from .snapping import pixel_of
 
 ROUNDED = 0.001  # metres: what a border moves by rounding, at most
 PIXEL = 0.75  # millimetres from an edge to a corner that it takes
@@ -198,10 +199,9 @@ def walks(ring, ways):
     """Whether one of the ways goes along a ring, from the ring's first corner on and either way round."""
     corners = []
     for x, y in ring[:-1]:
-        x, y = x * 1000, y * 1000
-        point = round(x), round(y)
+        point = pixel_of(x), pixel_of(y)
         if not corners or corners[-1][0] != point:
-            corners.append((point, (x, y)))
+            corners.append((point, (x * 1000, y * 1000)))
     while len(corners) > 1 and corners[-1][0] == corners[0][0]:
         corners.pop()
     for way in ways if len(corners) > 2 else ():

@@ -10,7 +10,7 @@ from dataclasses import dataclass
 
 import numpy
 
-from . import land, outcome
+from . import land, outcome, snapping
 from .noding import Corners, Rings, unique_edges
 
 NEAR = 1.0  # millimetres from a corner of the source to the corner of last year that it is
@@ -56,61 +56,56 @@ class Previous:
         if work.epsg and self.system and work.epsg != self.system:
             return f"its tables are in EPSG:{self.system}, and this release is in EPSG:{work.epsg}"
         points = Rings([row.found for name in ("parcels", "covers") for row in work.layers[name].rows if row.found]).points
-        rounded = Corners(numpy.rint(points * 1000).astype(int)).points
+        rounded = Corners(snapping.pixels_of(points)).points
         if not len(rounded) or len(Corners(numpy.concatenate([self.points, rounded])).points) < len(self.points) + len(rounded):
             return ""
         return f"no corner of its tables, {extent(self.points)}, is one of this source, {extent(rounded)}: is it of another place, or of another system?"
 
-    def take(self, network, sources):
-        """Draws the edges of a network along these borders, where they are the same. `sources` are this year's points in millimetres, not rounded."""
-        before, first, last = network.points.copy(), network.first, network.last
-        moved = self.moved(network, sources)
-        for corner, place in moved.items():
-            network.points[corner] = place
-        ways, is_moved = self.ways(network), numpy.zeros(len(before), bool)
-        is_moved[list(moved)] = True
-        for edge in sorted({*ways, *numpy.nonzero(is_moved[first] | is_moved[last])[0].tolist()}):
-            after = [tuple(network.points[first[edge]].tolist()), *ways.get(edge, ()), tuple(network.points[last[edge]].tolist())]
-            self.keep([tuple(before[corner].tolist()) for corner in (first[edge], last[edge])], after, network.owner[network.starts[edge] : network.starts[edge + 1]].tolist())
-        pairs = [(edge, place) for edge, places in ways.items() for place in places]
-        network.cut_at(numpy.array([edge for edge, _ in pairs], int), numpy.array([place for _, place in pairs], int).reshape(-1, 2))
+    def network(self, edges, corners, edge, corner, say):
+        """The network of this year's edges, along these borders where they are the same. Pairs of an edge and a corner are the ways that this year's rounding
+        alone gives the edges."""
+        moved = self.moved(corners.points, edges.ends.reshape(-1, 2))
+        both = Corners(numpy.concatenate([corners.points, self.points]))
+        same = both.numbers(corners.points)
+        number, borders = same.copy(), self.numbered(both)
+        if moved:
+            number[corners.numbers(numpy.array([*moved]))] = both.numbers(numpy.array([*moved.values()]))
+        around, over, is_moved = Around(both.points, borders), number[corner], (number != same)[corner]
+        starts, owners, ways, told = numpy.searchsorted(edge, numpy.arange(len(edges.ends) + 1)), owners_of(edges), {}, {}
+        for one in others(edge, over, is_moved, borders):
+            part = slice(starts[one], starts[one + 1])
+            way = Way(around, corners.points[corner[part]].tolist(), over[part].tolist(), is_moved[part].tolist())
+            ways[one] = way.numbers()
+            for before, after in way.changes():
+                told.setdefault((before, after), set()).update(owners(one))
+        self.drawn = len(told)
+        for (before, after), found in told.items():
+            self.keep(before, after, sorted(found))
+        network = edges.network(both, *with_ways(edge, over, ways))
+        network.cut(say)
+        self.count(network)
+        return network
 
     def keep(self, before, after, owners):
-        self.drawn += 1
-        beside = max(length(before[0], after[0]), length(before[1], after[-1]), *(aside(before, point) for point in after[1:-1]), 0.0)
+        """Keeps a border that this year alone would have by more than half a millimetre elsewhere."""
+        beside = max(length(before[0], after[0]), length(before[-1], after[-1]), *(aside((before[0], before[-1]), point) for point in after[1:-1]),
+                     *(aside((after[0], after[-1]), point) for point in before[1:-1]), 0.0)
         if beside > LOOK:
             self.taken.append(Taken(before, after, owners, beside))
 
-    def moved(self, network, sources):
-        """Corners that are none of last year's, with the place of one beside them that this year has no longer: the nearest first, each once."""
-        corners = Corners(numpy.concatenate([network.points, self.points]))
-        now, then = (numpy.isin(numpy.arange(len(corners.points)), corners.numbers(points)) for points in (network.points, self.points))
-        gone, origins, found = set(map(tuple, corners.points[then & ~now].tolist())), {}, []
-        rounded = numpy.rint(sources).astype(int)
-        is_loose = ~then[corners.numbers(rounded)]
-        for point, source in zip(Corners(network.points).numbers(rounded[is_loose]).tolist(), sources[is_loose].tolist()):
-            origins.setdefault(point, set()).add(tuple(source))
-        for point, sources_of in origins.items():
-            places = [place for x, y in AROUND if (place := (int(network.points[point, 0]) + x, int(network.points[point, 1]) + y)) in gone]
-            found += [(far, point, place) for place in places if (far := max(length(source, place) for source in sources_of)) <= NEAR]
-        used, moved = set(), {}
-        for _, point, place in sorted(found):
-            if point not in moved and place not in used:
-                moved[point] = place
-                used.add(place)
+    def moved(self, points, ends):
+        """Corners that are none of last year's, with the nearest of last year's that is beside all that is rounded to them. `ends` are those of the source's
+        edges, in parts; a corner that has none, where two edges cross, is at its own place."""
+        then, origins, moved = set(map(tuple, self.points.tolist())), {}, {}
+        for point, source in zip(map(tuple, snapping.pixel(ends).tolist()), (ends / snapping.WHOLE).tolist()):
+            if point not in then:
+                origins.setdefault(point, set()).add(tuple(source))
+        for x, y in map(tuple, points.tolist()):
+            places = [place for right, up in AROUND if (place := (x + right, y + up)) in then] if (x, y) not in then else []
+            found = [(far, place) for place in places if (far := max(length(source, place) for source in origins.get((x, y), {(x, y)}))) <= NEAR]
+            if found:
+                moved[x, y] = min(found)[1]
         return moved
-
-    def ways(self, network):
-        """The edges that last year's tables have by a way over other corners, and these corners."""
-        corners = Corners(numpy.concatenate([network.points, self.points]))
-        number, edges = corners.numbers(network.points), self.numbered(corners)
-        ends = numpy.sort(numpy.stack([number[network.first], number[network.last]], axis=1), axis=1)
-        known = numpy.zeros(len(corners.points), bool)
-        known[edges] = True
-        wanted = known[ends].all(axis=1) & ~numpy.isin(key_of(ends), key_of(edges))
-        around = Around(corners.points, edges)
-        ways = ((edge, around.way(number[network.first[edge]], number[network.last[edge]])) for edge in numpy.nonzero(wanted)[0].tolist())
-        return {edge: way for edge, way in ways if way}
 
     def numbered(self, corners):
         return numpy.sort(numpy.stack([corners.numbers(self.edges[:, :2]), corners.numbers(self.edges[:, 2:])], axis=1), axis=1)
@@ -128,6 +123,55 @@ class Previous:
         return f"{told}; this year's rounding has {self.drawn} of them otherwise, {len(self.taken)} by more than half a millimetre (kept, in report.csv)"
 
 
+def others(edge, over, is_moved, borders):
+    """The edges of whose ways a part is no border of last year's, or a corner was moved, by pairs of an edge and a corner."""
+    inner = edge[1:] == edge[:-1]
+    parts = numpy.sort(numpy.stack([over[:-1][inner], over[1:][inner]], axis=1), axis=1)
+    is_other = ~numpy.isin(key_of(parts), key_of(borders)) | (is_moved[:-1] | is_moved[1:])[inner]
+    return numpy.unique(edge[:-1][inner][is_other]).tolist()
+
+
+def owners_of(edges):
+    """The shapes beside an edge, by its number."""
+    order = numpy.argsort(edges.number, kind="stable")
+    starts = numpy.searchsorted(edges.number[order], numpy.arange(len(edges.ends) + 1))
+    return lambda one: edges.owner[order[starts[one] : starts[one + 1]]].tolist()
+
+
+def with_ways(edge, over, ways):
+    """Pairs of an edge and a corner, with other ways of some edges."""
+    kept = ~numpy.isin(edge, numpy.array([*ways], int))
+    edge = numpy.concatenate([edge[kept], *(numpy.full(len(way), one) for one, way in ways.items())])
+    corner = numpy.concatenate([over[kept], *(numpy.array(way, int) for way in ways.values())])
+    order = numpy.argsort(edge, kind="stable")
+    return edge[order], corner[order]
+
+
+class Way:
+    """An edge's way over corners, parted at those that last year had, with last year's borders between these. `before` are the corners of this year alone,
+    `over` their numbers where they were moved."""
+
+    def __init__(self, around, before, over, is_moved):
+        self.around, self.before, self.over, self.is_moved = around, before, over, is_moved
+        stops = [0, *(place for place in range(1, len(over) - 1) if around.has(over[place])), len(over) - 1]
+        self.parts = [(first, last, around.between(over[first], over[last])) for first, last in zip(stops, stops[1:])]
+
+    def over_part(self, first, last, between):
+        return [self.over[first], *between, self.over[last]] if between is not None else self.over[first : last + 1]
+
+    def numbers(self):
+        """The corners that it has in the end."""
+        return [self.over[0], *(number for part in self.parts for number in self.over_part(*part)[1:])]
+
+    def changes(self):
+        """The parts that come to lie elsewhere: before and after, each from the lesser end to the greater."""
+        for first, last, between in self.parts:
+            before = tuple(map(tuple, self.before[first : last + 1]))
+            after = tuple(map(tuple, self.around.points[self.over_part(first, last, between)].tolist()))
+            if before != after:
+                yield (before, after) if before[0] <= before[-1] else (before[::-1], after[::-1])
+
+
 class Around:
     """The edges around each corner of last year."""
 
@@ -136,8 +180,14 @@ class Around:
         both = both[numpy.argsort(both[:, 0], kind="stable")]
         self.points, self.others, self.starts = points, both[:, 1], numpy.searchsorted(both[:, 0], numpy.arange(len(points) + 1))
 
-    def way(self, first, last):
-        """The corners between two on a way along the line from the one to the other, that which is nearest to the line at each step; None where no way is."""
+    def has(self, corner):
+        return self.starts[corner] < self.starts[corner + 1]
+
+    def between(self, first, last):
+        """The corners between two of last year's on a way along the line from the one to the other, that which is nearest to the line at each step; None
+        where no way is."""
+        if last in self.others[self.starts[first] : self.starts[first + 1]]:
+            return []
         a, b = self.points[first].tolist(), self.points[last].tolist()
         waiting, steps = [(first, [])], 0
         while waiting and steps < MOST_STEPS:
@@ -145,7 +195,7 @@ class Around:
             here, way = waiting.pop()
             others = self.others[self.starts[here] : self.starts[here + 1]].tolist()
             if last in others and way:
-                return [tuple(self.points[corner].tolist()) for corner in way]
+                return way
             on = [(aside((a, b), point), corner) for corner in others if self.leads(a, b, self.points[here].tolist(), point := self.points[corner].tolist())]
             waiting += [(corner, [*way, corner]) for far, corner in sorted(on, reverse=True) if far <= ASIDE]
         return None

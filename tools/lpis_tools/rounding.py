@@ -1,5 +1,5 @@
-"""An exactly consistent map from one in doubles: all borders are rounded to millimetres together, each edge taking the corners that lie in its pixel, and
-cut and rounded again until nothing changes. Each face between them goes to the piece that has it, and parcels become the unions of their pieces."""
+"""An exactly consistent map from one in doubles: all borders are rounded to millimetres together, in one pass. Each face between them goes to the piece
+that has it, and parcels become the unions of their pieces. What a parcel becomes depends on the rows beside it alone."""
 
 from __future__ import annotations
 
@@ -12,7 +12,7 @@ from itertools import combinations
 import numpy
 from shapely import wkb as shapely_wkb
 
-from . import faces, noding
+from . import faces, snapping
 from .noding import Restless
 
 __all__ = ["Conflicts", "Map", "Restless", "release", "shape_of"]
@@ -46,7 +46,8 @@ class Map:
 
     def __init__(self, parcels, covers, say, previous=None):
         self.parcels, self.covers, self.previous = parcels, covers, previous
-        self.network = noding.network_of([row.found for row in parcels + covers], say, previous)
+        say(f"borders, as those of {previous.folder} where they are the same" if previous else "borders")
+        self.network = snapping.network_of([row.found for row in parcels + covers], say, previous)
         say("faces")
         self.faces = faces.Faces(self.network)
         self.windings = self.faces.windings()
