@@ -154,4 +154,5 @@ def main():
         out.write(picture.text())
 
 
-main()
+if __name__ == "__main__":
+    main()
