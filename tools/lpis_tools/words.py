@@ -11,7 +11,7 @@ from . import ending, installed, printing, program, unforeseen
 
 TROUBLE = 64
 FAILED = f"status {unforeseen.STATUS}: this tool failed; the sentence names where, and a file with the traceback."
-SOURCE = os.path.join("crates", "lpis_commands", "src", "command_line.rt")  # has the version where no program is built
+SOURCE = os.path.join("crates", "lpis_command_line", "src", "command_line.rt")  # has the version where no program is built
 
 
 class Line(argparse.ArgumentParser):

@@ -4,11 +4,12 @@
 use crate::created::Created;
 use crate::folders::Folders;
 use crate::open;
-use lpis_commands::{Detail, FAILED, Failure, NamedFile};
+use lpis_command_line::NamedFile;
 use lpis_country_run::{CountryFailure, print_country_failure, run_country};
 use lpis_locate_country::run_locate_country;
 use lpis_publish_country::{run_exact_country, run_publish_country};
 use lpis_register::Register;
+use lpis_run::{Detail, FAILED, Failure};
 use sqlite::Alter;
 use std::fs::File;
 

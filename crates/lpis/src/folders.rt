@@ -4,11 +4,10 @@ ghost use Rattle.std.specs.Prelude.{IfErr, None, true};
 ghost use Rattle.lpis_country_run.specs.CountryFailures.{IsUnopened};
 
 use crate::open_at;
-use lpis_commands::{
-    Failure, Folder, Name, RegionFiles, TableReaders, region_files, region_lineage,
-};
+use lpis_command_line::{RegionFiles, region_files, region_lineage};
 use lpis_country_run::Regions;
 use lpis_publish_country::Lineages;
+use lpis_run::{Failure, Folder, Name, TableReaders};
 use std::fs::File;
 
 /// The folder of a country, in which each region has one.

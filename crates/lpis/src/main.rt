@@ -9,19 +9,20 @@ mod created;
 mod folders;
 
 ghost use Rattle.std.specs.Prelude.{◌≡◌, IfErr};
-ghost use Rattle.lpis_commands.specs.declared.failure.Failure.TheVariants.{Read};
+ghost use Rattle.lpis_run.specs.declared.failure.Failure.TheVariants.{Read};
 
 use clap::error::ErrorKind;
 use countries::{check_country, fill_country, locate_in_country, publish_country};
 use created::Created;
-use lpis_commands::{
-    Cmd, CommandFiles, Detail, Failure, Folder, Name, NamedFile, SubmissionFiles, TableFiles,
-    TableReaders, command_of, matches_of, named_files, print_failure, run_area, run_check, run_cut,
-    status_of, usage_ends,
+use lpis_command_line::{
+    Cmd, CommandFiles, NamedFile, SubmissionFiles, TableFiles, command_of, matches_of, named_files,
+    usage_ends,
 };
 use lpis_locate::run_locate;
 use lpis_publishing::{SubmissionReaders, refuse_register, run_exact, run_publish, run_trace};
 use lpis_register::Register;
+use lpis_run::{Detail, Failure, Folder, Name, TableReaders, print_failure, status_of};
+use lpis_run_check::{run_area, run_check, run_cut};
 use sqlite::{Alter, Unknown};
 use std::alloc::Global;
 use std::env::Args;

@@ -4,8 +4,8 @@ use Rattle.std.proofs.lemmas.List.{length-map}
 use Rattle.std.specs.String.{string_bytes}
 use Rattle.lpis_parcels.specs.declared.parcel.Parcel.{Parcel}
 use Rattle.lpis_parcels.specs.Release.{Contents}
-use Rattle.lpis_commands.specs.declared.command.Detail.{Detail}
-use Rattle.lpis_commands.specs.declared.failure.Failure.TheVariants.{Memory}
+use Rattle.lpis_run.specs.declared.detail.Detail.{Detail}
+use Rattle.lpis_run.specs.declared.failure.Failure.TheVariants.{Memory}
 use Rattle.lpis_country.specs.Country.{country_of}
 use Rattle.lpis_country_seam.specs.Joined.{HasEnded}
 use Rattle.lpis_country_seam.specs.Laws.{JoinedCountryIsSound, JoinedCountryIsUnion}

@@ -6,24 +6,24 @@ use Rattle.std.proofs.lemmas.List.{append-nil, drop_more, length-append, length-
 use Rattle.std.proofs.lemmas.List.Elements.{All-head, All-tail}
 use Rattle.std.specs.Io.KnownBytes.{Appends, Keeps}
 use Rattle.std.specs.declared.alloc.Global.{Global}
-use Rattle.lpis_commands.proofs.Shared.{appends-more, refused-more}
+use Rattle.lpis_run.proofs.Shared.{appends-more, refused-more}
 use Rattle.lpis_parcels.specs.Release.{Contents}
-use Rattle.lpis_commands.specs.declared.failure.Failure.{Failure}
-use Rattle.lpis_commands.specs.declared.failure.Failure.TheVariants.{Memory, Read, Write, Store, StoreMemory}
-use Rattle.lpis_commands.specs.declared.failure.Name.{Name}
-use Rattle.lpis_commands.specs.declared.failure.Name.TheVariants.{Cert, Classes, Covers, Out, Parcels}
-use Rattle.lpis_commands.specs.CheckAnswer.{Answer, Inputs, IsProvedOf, IsRefusal}
-use Rattle.lpis_commands.specs.Refusals.{line_in_region}
-use Rattle.lpis_commands.specs.declared.answer.Answer.{Answer as Printed}
-use Rattle.lpis_commands.specs.Status.{done}
-use Rattle.lpis_commands.specs.Stops.{IsRefusedAs}
-use Rattle.lpis_commands.specs.Streams.{Begins}
-use Rattle.lpis_commands.specs.declared.stop.Stop.{Stop}
-use Rattle.lpis_commands.specs.declared.stop.Stop.TheVariants.{Refused}
+use Rattle.lpis_run.specs.declared.failure.Failure.{Failure}
+use Rattle.lpis_run.specs.declared.failure.Failure.TheVariants.{Memory, Read, Write, Store, StoreMemory}
+use Rattle.lpis_run.specs.declared.failure.Name.{Name}
+use Rattle.lpis_run.specs.declared.failure.Name.TheVariants.{Cert, Classes, Covers, Out, Parcels}
+use Rattle.lpis_run.specs.CheckAnswer.{Answer, Inputs, IsProvedOf, IsRefusal}
+use Rattle.lpis_run.specs.Refusals.{line_in_region}
+use Rattle.lpis_run.specs.declared.answer.Answer.{Answer as Printed}
+use Rattle.lpis_run.specs.Status.{done}
+use Rattle.lpis_run.specs.Stops.{IsRefusedAs}
+use Rattle.lpis_run.specs.Streams.{Begins}
+use Rattle.lpis_run.specs.declared.stop.Stop.{Stop}
+use Rattle.lpis_run.specs.declared.stop.Stop.TheVariants.{Refused}
 use Rattle.lpis_parcels.specs.declared.parcel.Parcel.{Parcel}
 use Rattle.lpis_country.specs.Country.{country_of, new_parcels}
 use Rattle.lpis_country.proofs.Shared.{country_is_region, country_snoc}
-use Rattle.lpis_commands.specs.declared.command.Detail.{Detail}
+use Rattle.lpis_run.specs.declared.detail.Detail.{Detail}
 use Rattle.lpis_country_seam.specs.Faults.{IsFirstSeamFault}
 use Rattle.lpis_country_seam.specs.Open.{IsSeamOf}
 use Rattle.lpis_country_seam.specs.declared.fault.SeamFault.{SeamFault}

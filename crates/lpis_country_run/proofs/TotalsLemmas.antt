@@ -13,8 +13,8 @@ use Rattle.lpis_covers.specs.Table.{most_rows}
 use Rattle.lpis_parcels.specs.declared.parcel.Parcel.{Parcel}
 use Rattle.lpis_parcels.specs.Release.{Contents, names_parcel, pieces_named}
 use Rattle.lpis_parcels.specs.Weighted.{most_weighted, piece_weight, weighted2}
-use Rattle.lpis_commands.specs.Area.{most_printed}
-use Rattle.lpis_commands.specs.Areas.{AreasOf}
+use Rattle.lpis_run.specs.Area.{most_printed}
+use Rattle.lpis_run.specs.Areas.{AreasOf}
 use Rattle.lpis_country.specs.Country.{IsRegion, country_of, is_new, new_parcels, with_region, with_regions}
 use Rattle.lpis_country.proofs.Shared.{country_is_region, country_snoc, fresh_pieces, old_pieces, pieces_add}
 use Rattle.lpis_country_run.specs.CountryLines.{country_lines, sums_text}

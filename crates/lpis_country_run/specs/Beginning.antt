@@ -3,8 +3,8 @@ use Rattle.std.specs.Prelude.{◌≡◌, ◌≤◌, ◌⊎◌, ℕ, List, Ok, So
 use Rattle.std.specs.String.{string_bytes}
 use Rattle.lpis_covers.specs.Classes.{classes_table}
 use Rattle.lpis_covers.specs.Faults.{rows_of}
-use Rattle.lpis_commands.specs.CheckAnswer.{Answer, IsTableAnswer}
-use Rattle.lpis_commands.specs.Status.{unreadable}
+use Rattle.lpis_run.specs.CheckAnswer.{Answer, IsTableAnswer}
+use Rattle.lpis_run.specs.Status.{unreadable}
 use Rattle.lpis_country.specs.Tiling.{frame, rectangles}
 use Rattle.lpis_country_plan.specs.CountryText.{IsCountryText}
 use Rattle.lpis_country_plan.specs.Faults.{plan_fault}

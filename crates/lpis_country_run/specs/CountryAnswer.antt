@@ -6,10 +6,10 @@ use Rattle.lpis_covers.specs.declared.class.Class.{Class}
 use Rattle.lpis_covers.specs.Classes.{classes_table}
 use Rattle.lpis_covers.specs.Faults.{rows_of}
 use Rattle.lpis_parcels.specs.Release.{Contents}
-use Rattle.lpis_commands.specs.CheckAnswer.{Answer, Inputs, IsProvedOf, IsRefusal, IsTableAnswer}
-use Rattle.lpis_commands.specs.Refusals.{line_in_region}
-use Rattle.lpis_commands.specs.declared.command.Detail.{Detail}
-use Rattle.lpis_commands.specs.Status.{done, refused, unreadable}
+use Rattle.lpis_run.specs.CheckAnswer.{Answer, Inputs, IsProvedOf, IsRefusal, IsTableAnswer}
+use Rattle.lpis_run.specs.Refusals.{line_in_region}
+use Rattle.lpis_run.specs.declared.detail.Detail.{Detail}
+use Rattle.lpis_run.specs.Status.{done, refused, unreadable}
 use Rattle.lpis_country.specs.Country.{country_of}
 use Rattle.lpis_country.specs.Tiling.{frame, rectangles}
 use Rattle.lpis_country_plan.specs.CountryText.{IsCountryText}
@@ -17,8 +17,8 @@ use Rattle.lpis_country_plan.specs.Faults.{plan_fault}
 use Rattle.lpis_country_plan.specs.Tree.{Tree, folders, tiling_of}
 use Rattle.lpis_country_seam.specs.declared.fault.SeamFault.{SeamFault}
 use Rattle.lpis_country_seam.specs.Faults.{IsFirstSeamFault, seam_faults}
-use Rattle.lpis_country_run.specs.CountryLines.{country_lines, plan_refusal_text}
-use Rattle.lpis_country_run.specs.CountryLines.{region_report, seam_refusal_text}
+use Rattle.lpis_country_run.specs.CountryLines.{country_lines, plan_refusal_text, region_report}
+use Rattle.lpis_country_run.specs.CountryLines.{seam_refusal_text}
 use Rattle.lpis_country_run.specs.Regions.{AreOfFolder, CountryInputs, IsCountry, Texts}
 
 -- what is known before the first region is read: the bytes of each folder's files, as far as they

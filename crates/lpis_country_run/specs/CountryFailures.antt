@@ -7,14 +7,14 @@ use Rattle.lpis_covers.specs.declared.class.Class.{Class}
 use Rattle.lpis_covers.specs.Classes.{classes_table}
 use Rattle.lpis_covers.specs.Faults.{rows_of}
 use Rattle.lpis_parcels.specs.Release.{Contents}
-use Rattle.lpis_commands.specs.declared.command.Detail.{Detail}
-use Rattle.lpis_commands.specs.declared.failure.Failure.{Failure}
-use Rattle.lpis_commands.specs.declared.failure.Failure.TheVariants.{Memory, Read, Write}
-use Rattle.lpis_commands.specs.declared.failure.Name.{Name}
-use Rattle.lpis_commands.specs.declared.failure.Name.TheVariants.{Cert, Classes, Country, Covers}
-use Rattle.lpis_commands.specs.declared.failure.Name.TheVariants.{Out, Parcels}
-use Rattle.lpis_commands.specs.Failures.{IsUnchecked}
-use Rattle.lpis_commands.specs.Streams.{Begins, IsWithin}
+use Rattle.lpis_run.specs.declared.detail.Detail.{Detail}
+use Rattle.lpis_run.specs.declared.failure.Failure.{Failure}
+use Rattle.lpis_run.specs.declared.failure.Failure.TheVariants.{Memory, Read, Write}
+use Rattle.lpis_run.specs.declared.failure.Name.{Name}
+use Rattle.lpis_run.specs.declared.failure.Name.TheVariants.{Cert, Classes, Country, Covers, Out}
+use Rattle.lpis_run.specs.declared.failure.Name.TheVariants.{Parcels}
+use Rattle.lpis_run.specs.Failures.{IsUnchecked}
+use Rattle.lpis_run.specs.Streams.{Begins, IsWithin}
 use Rattle.lpis_country_plan.specs.CountryText.{IsCountryText}
 use Rattle.lpis_country_plan.specs.Tree.{Tree}
 use Rattle.lpis_country_run.specs.declared.failure.CountryFailure.{CountryFailure}

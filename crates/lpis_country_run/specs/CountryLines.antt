@@ -1,6 +1,5 @@
 -- The lines that are printed of a country.
-use Rattle.std.specs.Prelude.{◌++◌, [], ℕ, List, Option, Some, codes, get_or}
-use Rattle.std.specs.Prelude.{length}
+use Rattle.std.specs.Prelude.{◌++◌, [], ℕ, List, Option, Some, codes, get_or, length}
 use Rattle.std.specs.Fmt.{decimal}
 use Rattle.std.specs.List.{flat_map}
 use Rattle.std.specs.Option.{option_map}
@@ -9,13 +8,13 @@ use Rattle.lpis_points.specs.Sums.{int_sum_by}
 use Rattle.lpis_rings.specs.Area.{area2}
 use Rattle.lpis_parcels.specs.Release.{Contents}
 use Rattle.lpis_parcels.specs.Weighted.{weighted2}
-use Rattle.lpis_commands.specs.declared.command.Detail.{Detail}
-use Rattle.lpis_commands.specs.declared.command.Detail.TheVariants.{Regions, Parcels}
-use Rattle.lpis_commands.specs.declared.failure.Failure.{Failure}
-use Rattle.lpis_commands.specs.declared.failure.Failure.TheVariants.{Read}
-use Rattle.lpis_commands.specs.Failures.{failure_text, name_text}
-use Rattle.lpis_commands.specs.Refusals.{region_end}
-use Rattle.lpis_commands.specs.Report.{areas_text, parcel_line}
+use Rattle.lpis_run.specs.declared.detail.Detail.{Detail}
+use Rattle.lpis_run.specs.declared.detail.Detail.TheVariants.{Regions, Parcels}
+use Rattle.lpis_run.specs.declared.failure.Failure.{Failure}
+use Rattle.lpis_run.specs.declared.failure.Failure.TheVariants.{Read}
+use Rattle.lpis_run.specs.Failures.{failure_text, name_text}
+use Rattle.lpis_run.specs.Refusals.{region_end}
+use Rattle.lpis_run.specs.Report.{areas_text, parcel_line}
 use Rattle.lpis_country.specs.Country.{new_parcels}
 use Rattle.lpis_country_seam.specs.declared.fault.SeamFault.{SeamFault}
 use Rattle.lpis_country_seam.specs.declared.fault.SeamFault.TheVariants as seam

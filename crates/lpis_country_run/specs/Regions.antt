@@ -5,11 +5,11 @@ use Rattle.lpis_covers.specs.Classes.{classes_table}
 use Rattle.lpis_covers.specs.Faults.{rows_of}
 use Rattle.lpis_parcels.specs.Release.{Contents}
 use Rattle.lpis_checker.specs.SoundMap.{IsSoundMap}
-use Rattle.lpis_commands.specs.CheckAnswer.{AreRead, Inputs, IsProvedOf}
-use Rattle.lpis_commands.specs.Folders.{folder_texts}
-use Rattle.lpis_commands.specs.Streams.{FolderTexts, IsRead}
-use Rattle.lpis_commands.specs.declared.failure.Name.{Name}
-use Rattle.lpis_commands.specs.declared.folder.Folder.{Folder}
+use Rattle.lpis_run.specs.CheckAnswer.{AreRead, Inputs, IsProvedOf}
+use Rattle.lpis_run.specs.Folders.{folder_texts}
+use Rattle.lpis_run.specs.Streams.{FolderTexts, IsRead}
+use Rattle.lpis_run.specs.declared.failure.Name.{Name}
+use Rattle.lpis_run.specs.declared.folder.Folder.{Folder}
 use Rattle.lpis_country.specs.Country.{country_of}
 use Rattle.lpis_country.specs.Union.{IsUnion}
 use Rattle.lpis_country_plan.specs.CountryText.{IsCountryText}

@@ -4,11 +4,11 @@ use Rattle.std.specs.Io.KnownBytes.{Appends}
 use Rattle.std.specs.String.{string_bytes}
 use Rattle.lpis_parcels.specs.Release.{Contents}
 use Rattle.lpis_checker.specs.SoundMap.{IsSoundMap}
-use Rattle.lpis_commands.specs.declared.command.Detail.{Detail}
-use Rattle.lpis_commands.specs.declared.failure.Failure.TheVariants.{Write}
-use Rattle.lpis_commands.specs.declared.failure.Name.TheVariants.{Out}
-use Rattle.lpis_commands.specs.Status.{done}
-use Rattle.lpis_commands.specs.Streams.{Begins}
+use Rattle.lpis_run.specs.declared.detail.Detail.{Detail}
+use Rattle.lpis_run.specs.declared.failure.Failure.TheVariants.{Write}
+use Rattle.lpis_run.specs.declared.failure.Name.TheVariants.{Out}
+use Rattle.lpis_run.specs.Status.{done}
+use Rattle.lpis_run.specs.Streams.{Begins}
 use Rattle.lpis_country.specs.Country.{country_of}
 use Rattle.lpis_country.specs.Tiling.{Tiling, frame, rectangles}
 use Rattle.lpis_country.specs.Union.{IsUnion}
@@ -19,8 +19,7 @@ use Rattle.lpis_country_run.specs.declared.failure.CountryFailure.{CountryFailur
 use Rattle.lpis_country_run.specs.declared.joining.JoinedCountry.{JoinedCountry}
 use Rattle.lpis_country_run.specs.declared.joining.Joining.{Joining}
 use Rattle.lpis_country_run.specs.declared.joining.Joining.TheVariants.{Joined, Refused}
-use Rattle.lpis_country_run.specs.CountryAnswer.{HavePassed, IsReachedBy, IsRegionsAnswer}
-use Rattle.lpis_country_run.specs.CountryAnswer.{Setting}
+use Rattle.lpis_country_run.specs.CountryAnswer.{HavePassed, IsReachedBy, IsRegionsAnswer, Setting}
 use Rattle.lpis_country_run.specs.CountryFailures.{IsOfNone, IsStoppedBefore}
 use Rattle.lpis_country_run.specs.CountryLines.{country_lines}
 use Rattle.lpis_country_run.specs.Regions.{Texts}

@@ -1,7 +1,7 @@
 //! What is read before the first region: the plan of the country, and its table of classes.
 
 ghost use Rattle.std.specs.Prelude.{◌≡◌, IfErr, IfOk, Ok};
-ghost use Rattle.lpis_commands.specs.Stops.{IsRefusedAs};
+ghost use Rattle.lpis_run.specs.Stops.{IsRefusedAs};
 ghost use Rattle.lpis_covers.specs.Classes.{classes_table};
 ghost use Rattle.lpis_covers.specs.Faults.{rows_of};
 ghost use Rattle.lpis_country_run.specs.Beginning.{IsBegun, IsClassesRefusal, IsPlanRefusal};
@@ -12,10 +12,10 @@ ghost use Rattle.lpis_country_run.specs.private.Beginning.{IsPlanIn};
 
 use crate::failure::CountryFailure;
 use crate::refusals::refuse_plan;
-use lpis_commands::{Answer, Name, Stop, read_named};
 use lpis_country_plan::{Plan, PlanFault, read_plan};
 use lpis_covers::{Class, Classes, TableFault, read_classes};
 use lpis_points::Box4;
+use lpis_run::{Answer, Name, Stop, read_named};
 use std::alloc::Global;
 use std::io::Read;
 

@@ -3,8 +3,8 @@
 ghost use Rattle.std.specs.Prelude.{◌≡◌, IfErr, IfOk, List, length, map, ℕ};
 ghost use Rattle.std.specs.String.{string_bytes};
 ghost use Rattle.lpis_parcels.specs.Release.{Contents};
-ghost use Rattle.lpis_commands.specs.Status.{done};
-ghost use Rattle.lpis_commands.specs.declared.command.Detail.{Detail};
+ghost use Rattle.lpis_run.specs.Status.{done};
+ghost use Rattle.lpis_run.specs.declared.detail.Detail.{Detail};
 ghost use Rattle.lpis_country_run.specs.CountryAnswer.{CountryEnds, Setting};
 ghost use Rattle.lpis_country_run.specs.CountryFailures.{CountryBreaksOff, CountryHalts};
 ghost use Rattle.lpis_country_run.specs.Regions.{AreCountryRead, CountryInputs, Texts};
@@ -23,9 +23,9 @@ use crate::lines::report_country;
 use crate::passing::pass_regions;
 use crate::progress::Progress;
 use crate::totals::Totals;
-use lpis_commands::{Answer, Detail, Failure};
 use lpis_country_seam::OpenSeam;
 use lpis_country_seam::laws::a_country_of_joined_regions_is_sound;
+use lpis_run::{Answer, Detail, Failure};
 use std::alloc::Global;
 use std::io::{Read, Write};
 

@@ -2,11 +2,11 @@
 
 ghost use Rattle.std.specs.Prelude.{◌≡◌, None, OnOk};
 ghost use Rattle.std.specs.Io.KnownBytes.{Appends};
-ghost use Rattle.lpis_commands.specs.declared.failure.Failure.{Failure};
+ghost use Rattle.lpis_run.specs.declared.failure.Failure.{Failure};
 ghost use Rattle.lpis_country_run.specs.CountryFailures.{IsOfNone};
 ghost use Rattle.lpis_country_run.specs.CountryLines.{country_failure_text};
 
-use lpis_commands::{Failure, PrintFault, print_failure};
+use lpis_run::{Failure, PrintFault, print_failure};
 use std::alloc::AllocError;
 use std::io::Write;
 

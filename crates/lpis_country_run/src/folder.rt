@@ -3,15 +3,15 @@
 ghost use Rattle.std.specs.Prelude.{◌≡◌, ◌<◌, ◌∷◌, [], IfErr, IfOk, List, OnOk, get_or, length};
 ghost use Rattle.std.specs.Prelude.{map, ℕ};
 ghost use Rattle.std.specs.String.{string_bytes};
-ghost use Rattle.lpis_commands.specs.Failures.{IsUnchecked};
-ghost use Rattle.lpis_commands.specs.Inputs.{inputs_of};
+ghost use Rattle.lpis_run.specs.Failures.{IsUnchecked};
+ghost use Rattle.lpis_run.specs.Inputs.{inputs_of};
 ghost use Rattle.lpis_country_run.specs.CountryFailures.{IsStoppedBefore, IsUnopened};
 ghost use Rattle.lpis_country_run.specs.CountryFailures.{IsUnreadFolder};
 ghost use Rattle.lpis_country_run.specs.Regions.{AreGiven, AreOfFolder, Texts};
 ghost use Rattle.lpis_country_run.specs.private.Progressing.{IsFailureOf};
 
 use crate::failure::CountryFailure;
-use lpis_commands::{Failure, Folder, InputBytes, read_folder};
+use lpis_run::{Failure, Folder, InputBytes, read_folder};
 use std::alloc::Global;
 use std::io::Read;
 

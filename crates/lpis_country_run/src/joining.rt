@@ -4,8 +4,8 @@ ghost use Rattle.std.specs.Prelude.{◌≡◌, IfErr, IfOk, List, length, map, �
 ghost use Rattle.std.specs.String.{string_bytes};
 ghost use Rattle.lpis_parcels.specs.Release.{Contents};
 ghost use Rattle.lpis_country_run.specs.CountryAnswer.{Setting};
-ghost use Rattle.lpis_country_run.specs.RegionsOutcome.{IsCountryJoined, IsSettingOf};
-ghost use Rattle.lpis_country_run.specs.RegionsOutcome.{RegionsJoin, RegionsStop};
+ghost use Rattle.lpis_country_run.specs.RegionsOutcome.{IsCountryJoined, IsSettingOf, RegionsJoin};
+ghost use Rattle.lpis_country_run.specs.RegionsOutcome.{RegionsStop};
 ghost use Rattle.lpis_country_run.specs.private.Progressing.{IsEnded};
 
 use crate::beginning::Begun;
@@ -16,9 +16,9 @@ use crate::lines::report_country;
 use crate::passing::pass_regions;
 use crate::progress::Progress;
 use crate::totals::Totals;
-use lpis_commands::Detail;
 use lpis_country_seam::laws::a_country_of_joined_regions_is_sound;
 use lpis_country_seam::{Joined, OpenSeam};
+use lpis_run::Detail;
 use std::alloc::{AllocError, Global};
 use std::io::Write;
 

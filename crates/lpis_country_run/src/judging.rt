@@ -3,7 +3,7 @@
 ghost use Rattle.std.specs.Prelude.{◌≡◌, IfErr, IfOk, List, map, ℕ};
 ghost use Rattle.std.specs.String.{string_bytes};
 ghost use Rattle.lpis_parcels.specs.Release.{Contents};
-ghost use Rattle.lpis_commands.specs.Inputs.{inputs_of};
+ghost use Rattle.lpis_run.specs.Inputs.{inputs_of};
 ghost use Rattle.lpis_country_run.specs.CountryAnswer.{Setting};
 ghost use Rattle.lpis_country_run.specs.Regions.{AreOfFolder};
 ghost use Rattle.lpis_country_run.specs.declared.progress.Progress.{Progress};
@@ -13,7 +13,7 @@ ghost use Rattle.lpis_country_run.specs.private.Progressing.{gathers};
 
 use crate::folder::{Regions, read_region_files};
 use crate::progress::{Progress, follow};
-use lpis_commands::{Detail, Failure, InputBytes, Name, Stop, checked_release, write_text};
+use lpis_run::{Detail, Failure, InputBytes, Name, Stop, checked_release, write_text};
 use std::alloc::Global;
 use std::io::Write;
 

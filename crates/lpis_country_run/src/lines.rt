@@ -6,18 +6,18 @@ ghost use Rattle.std.specs.List.{flat_map};
 ghost use Rattle.lpis_checker.specs.SoundMap.{AreasAdd};
 ghost use Rattle.lpis_parcels.specs.declared.parcel.Parcel.{Parcel};
 ghost use Rattle.lpis_parcels.specs.Release.{Contents};
-ghost use Rattle.lpis_commands.specs.Report.{parcel_line};
-ghost use Rattle.lpis_commands.specs.Status.{done};
+ghost use Rattle.lpis_run.specs.Report.{parcel_line};
+ghost use Rattle.lpis_run.specs.Status.{done};
 ghost use Rattle.lpis_country.specs.Country.{new_parcels};
 ghost use Rattle.lpis_country_run.specs.CountryLines.{detail_lines, region_report};
 ghost use Rattle.lpis_country_run.specs.CountryLines.{region_sums_line, sums_text};
-ghost use Rattle.lpis_country_run.specs.private.Totals.{AreAt, ArePlaces, IsPrintable};
-ghost use Rattle.lpis_country_run.specs.private.Totals.{count_text, last_lines, totals_text};
+ghost use Rattle.lpis_country_run.specs.private.Totals.{AreAt, ArePlaces, IsPrintable, count_text};
+ghost use Rattle.lpis_country_run.specs.private.Totals.{last_lines, totals_text};
 
 use crate::totals::{Totals, release_totals};
-use lpis_commands::{Answer, DONE, Detail, PrintFault, print_areas, print_parcel};
 use lpis_country::is_region;
 use lpis_parcels::Release;
+use lpis_run::{Answer, DONE, Detail, PrintFault, print_areas, print_parcel};
 use std::alloc::{AllocError, Global};
 use std::io::Write;
 

@@ -13,7 +13,7 @@ use crate::failure::CountryFailure;
 use crate::folder::{Regions, of_region};
 use crate::judging::pass;
 use crate::progress::Progress;
-use lpis_commands::Detail;
+use lpis_run::Detail;
 use std::alloc::Global;
 use std::io::Write;
 

@@ -12,10 +12,10 @@ use crate::gathering::Gathered;
 use crate::lines::report_region;
 use crate::refusals::refuse_seam;
 use crate::totals::{Totals, totals_at};
-use lpis_commands::{Detail, Stop};
 use lpis_country::is_region;
 use lpis_country_seam::OpenSeam;
 use lpis_parcels::Release;
+use lpis_run::{Detail, Stop};
 use std::alloc::Global;
 
 /// What is kept of the regions that passed, what their country has, and its parcels if they are

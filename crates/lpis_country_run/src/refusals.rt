@@ -3,12 +3,12 @@
 ghost use Rattle.std.specs.Prelude.{◌≡◌, ◌≢◌, [], IfOk, List, OnOk, get_or, map, ℕ};
 ghost use Rattle.std.specs.Io.KnownBytes.{Appends};
 ghost use Rattle.std.specs.String.{string_bytes};
-ghost use Rattle.lpis_commands.specs.Status.{refused, unreadable};
+ghost use Rattle.lpis_run.specs.Status.{refused, unreadable};
 ghost use Rattle.lpis_country_run.specs.CountryLines.{plan_refusal_text, seam_refusal_text};
 ghost use Rattle.lpis_country_seam.specs.declared.fault.SeamFault.TheVariants.{Classes, Memory};
 
-use lpis_commands::{Answer, PrintFault, REFUSED, UNREADABLE, print_region};
 use lpis_country_seam::SeamFault;
+use lpis_run::{Answer, PrintFault, REFUSED, UNREADABLE, print_region};
 use std::alloc::{AllocError, Global};
 use std::io::Write;
 

@@ -1,16 +1,14 @@
 //! Counts and areas of parcels, added up.
 
-ghost use Rattle.std.specs.Prelude.{◌≡◌, ◌≤◌, ◌<◌, ◌∷◌, ◌++◌, [], List, Some, length};
-ghost use Rattle.std.specs.Prelude.{slice_get};
+ghost use Rattle.std.specs.Prelude.{◌≡◌, ◌≤◌, ◌<◌, ◌∷◌, ◌++◌, [], List, Some, length, slice_get};
 ghost use Rattle.lpis_checker.specs.SoundMap.{AreasAdd};
 ghost use Rattle.lpis_covers.specs.Table.{most_rows};
 ghost use Rattle.lpis_parcels.specs.declared.parcel.Parcel.{Parcel};
 ghost use Rattle.lpis_parcels.specs.Release.{Contents, pieces_named};
-ghost use Rattle.lpis_country_run.specs.private.Totals.{AreAddable, AreAt, ArePlaces};
-ghost use Rattle.lpis_country_run.specs.private.Totals.{AreTotalsOf};
+ghost use Rattle.lpis_country_run.specs.private.Totals.{AreAddable, AreAt, ArePlaces, AreTotalsOf};
 
-use lpis_commands::{Areas, areas_at};
 use lpis_parcels::{Release, pieces_at};
+use lpis_run::{Areas, areas_at};
 
 /// How many parcels and pieces there are, the area of all parcels, and how much of it is eligible.
 #[derive(Clone, Copy, Debug, PartialEq, Eq)]

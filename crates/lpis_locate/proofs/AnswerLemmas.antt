@@ -1,8 +1,8 @@
 -- The answer to points in a release.
 use Rattle.std.proofs.Common.{◌≡◌, inl, inr, ℕ, List, Result, Ok, Err, ap, refl, arith}
 use Rattle.lpis_parcels.specs.Release.{Contents}
-use Rattle.lpis_commands.specs.CheckAnswer.{IsProvedOf}
-use Rattle.lpis_commands.specs.Status.{done}
+use Rattle.lpis_run.specs.CheckAnswer.{IsProvedOf}
+use Rattle.lpis_run.specs.Status.{done}
 use Rattle.lpis_locating.specs.declared.fault.PointsFault.{PointsFault}
 use Rattle.lpis_locating.specs.Points.{Given, points_of}
 use Rattle.lpis_locate.specs.LocateAnswer.{IsLocateAnswer, IsLocatedText, IsPointsAnswer, LocateInputs}

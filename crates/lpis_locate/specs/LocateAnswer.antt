@@ -3,17 +3,15 @@
 use Rattle.std.specs.Prelude.{◌≡◌, ◌⊎◌, ◌++◌, ℕ, List, Option, Result, Ok, Err, codes}
 use Rattle.std.specs.Io.KnownBytes.{Appends, Keeps}
 use Rattle.lpis_parcels.specs.Release.{Contents}
-use Rattle.lpis_commands.specs.CheckAnswer.{Answer, AreRead, Inputs, IsProvedOf}
-use Rattle.lpis_commands.specs.CheckAnswer.{IsRefusal}
-use Rattle.lpis_commands.specs.Failures.{AreWithin, IsUnchecked}
-use Rattle.lpis_commands.specs.Folders.{IsFolderUntouched, IsUntouched, folder_names}
-use Rattle.lpis_commands.specs.Folders.{folder_texts}
-use Rattle.lpis_commands.specs.Status.{done, unreadable}
-use Rattle.lpis_commands.specs.Streams.{Begins, FolderTexts, IsRead, IsWithin}
-use Rattle.lpis_commands.specs.declared.failure.Failure.{Failure}
-use Rattle.lpis_commands.specs.declared.failure.Failure.TheVariants.{Read, Write}
-use Rattle.lpis_commands.specs.declared.failure.Name.TheVariants.{Out, Points}
-use Rattle.lpis_commands.specs.declared.folder.Folder.{Folder}
+use Rattle.lpis_run.specs.CheckAnswer.{Answer, AreRead, Inputs, IsProvedOf, IsRefusal}
+use Rattle.lpis_run.specs.Failures.{AreWithin, IsUnchecked}
+use Rattle.lpis_run.specs.Folders.{IsFolderUntouched, IsUntouched, folder_names, folder_texts}
+use Rattle.lpis_run.specs.Status.{done, unreadable}
+use Rattle.lpis_run.specs.Streams.{Begins, FolderTexts, IsRead, IsWithin}
+use Rattle.lpis_run.specs.declared.failure.Failure.{Failure}
+use Rattle.lpis_run.specs.declared.failure.Failure.TheVariants.{Read, Write}
+use Rattle.lpis_run.specs.declared.failure.Name.TheVariants.{Out, Points}
+use Rattle.lpis_run.specs.declared.folder.Folder.{Folder}
 use Rattle.lpis_locating.specs.declared.fault.PointsFault.{PointsFault}
 use Rattle.lpis_locating.specs.Points.{Given, points_of}
 use Rattle.lpis_locate.specs.LocateLines.{AreLines, points_refusal_text}

@@ -2,23 +2,23 @@
 
 ghost use Rattle.std.specs.Prelude.{◌≡◌, All, IfErr, IfOk, None, Ok, Option, length};
 ghost use Rattle.lpis_checker.specs.SoundMap.{IsSoundMap};
-ghost use Rattle.lpis_commands.specs.Folders.{folder_texts};
-ghost use Rattle.lpis_commands.specs.Inputs.{inputs_of};
-ghost use Rattle.lpis_commands.specs.Status.{done};
+ghost use Rattle.lpis_run.specs.Folders.{folder_texts};
+ghost use Rattle.lpis_run.specs.Inputs.{inputs_of};
+ghost use Rattle.lpis_run.specs.Status.{done};
 ghost use Rattle.lpis_locating.specs.Points.{points_of};
 ghost use Rattle.lpis_locating.specs.declared.place.Place.{Place};
-ghost use Rattle.lpis_locate.specs.LocateAnswer.{AreLocateRead, AreLocateUntouched};
-ghost use Rattle.lpis_locate.specs.LocateAnswer.{IsLocateAnswer, IsLocatedText, IsPointsAnswer};
-ghost use Rattle.lpis_locate.specs.LocateAnswer.{IsUnlocated, LocateEnds, LocateHalts};
-ghost use Rattle.lpis_locate.specs.LocateAnswer.{LocateInputs, locate_texts};
+ghost use Rattle.lpis_locate.specs.LocateAnswer.{AreLocateRead, AreLocateUntouched, IsLocateAnswer};
+ghost use Rattle.lpis_locate.specs.LocateAnswer.{IsLocatedText, IsPointsAnswer, IsUnlocated};
+ghost use Rattle.lpis_locate.specs.LocateAnswer.{LocateEnds, LocateHalts, LocateInputs};
+ghost use Rattle.lpis_locate.specs.LocateAnswer.{locate_texts};
 ghost use Rattle.lpis_locate.specs.private.LocateRuns.{locate_inputs_of};
 
 use crate::printing::{refuse_points, report_points};
-use lpis_commands::{
-    Answer, Failure, Folder, InputBytes, Name, checked_release, read_folder, read_lent,
-};
 use lpis_locating::{Place, Points, PointsFault, locate_in, no_places, read_points};
 use lpis_parcels::Release;
+use lpis_run::{
+    Answer, Failure, Folder, InputBytes, Name, checked_release, read_folder, read_lent,
+};
 use std::alloc::{AllocError, Global};
 use std::io::{Read, Write};
 

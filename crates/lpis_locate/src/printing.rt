@@ -3,16 +3,16 @@
 ghost use Rattle.std.specs.Prelude.{◌≡◌, ◌++◌, IfOk, Ok, OnOk, codes, length};
 ghost use Rattle.std.specs.Io.KnownBytes.{Appends};
 ghost use Rattle.lpis_parcels.specs.Release.{Contents};
-ghost use Rattle.lpis_commands.specs.Status.{done, unreadable};
+ghost use Rattle.lpis_run.specs.Status.{done, unreadable};
 ghost use Rattle.lpis_locating.specs.declared.fault.PointsFault.TheVariants.{Number, Table};
 ghost use Rattle.lpis_locate.specs.LocateAnswer.{IsPointsAnswer};
 ghost use Rattle.lpis_locate.specs.LocateLines.{AreFound, place_text, point_line};
 ghost use Rattle.lpis_locate.specs.LocateLines.{points_refusal_text};
 ghost use Rattle.lpis_locate.specs.private.Lines.{lines_of};
 
-use lpis_commands::{Answer, DONE, PrintFault, UNREADABLE};
 use lpis_covers::{Id, TableCode};
 use lpis_locating::{Axis, GivenPoint, Place, PointsFault};
+use lpis_run::{Answer, DONE, PrintFault, UNREADABLE};
 use lpis_wkt::WktCode;
 use std::alloc::{AllocError, Global};
 use std::io::Write;

@@ -8,14 +8,14 @@ use Rattle.lpis_covers.specs.Faults.{rows_of}
 use Rattle.lpis_covers.specs.declared.class.Class.{Class}
 use Rattle.lpis_covers.specs.declared.fault.TableFault.{TableFault}
 use Rattle.lpis_parcels.specs.Release.{Contents}
-use Rattle.lpis_commands.proofs.Shared.{table-more}
-use Rattle.lpis_commands.specs.CheckAnswer.{Answer as TextStatus, IsTableAnswer}
-use Rattle.lpis_commands.specs.Stops.{IsRefusedAs}
-use Rattle.lpis_commands.specs.declared.answer.Answer.{Answer}
-use Rattle.lpis_commands.specs.declared.command.Detail.TheVariants.{Regions}
-use Rattle.lpis_commands.specs.Status.{done}
-use Rattle.lpis_commands.specs.declared.stop.Stop.{Stop}
-use Rattle.lpis_commands.specs.declared.stop.Stop.TheVariants.{Refused}
+use Rattle.lpis_run.proofs.Shared.{table-more}
+use Rattle.lpis_run.specs.CheckAnswer.{Answer as TextStatus, IsTableAnswer}
+use Rattle.lpis_run.specs.Stops.{IsRefusedAs}
+use Rattle.lpis_run.specs.declared.answer.Answer.{Answer}
+use Rattle.lpis_run.specs.declared.detail.Detail.TheVariants.{Regions}
+use Rattle.lpis_run.specs.Status.{done}
+use Rattle.lpis_run.specs.declared.stop.Stop.{Stop}
+use Rattle.lpis_run.specs.declared.stop.Stop.TheVariants.{Refused}
 use Rattle.lpis_country.specs.Country.{country_of}
 use Rattle.lpis_country.specs.Tiling.{frame, rectangles}
 use Rattle.lpis_country.specs.Union.{IsUnion}

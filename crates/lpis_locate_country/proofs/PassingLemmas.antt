@@ -2,15 +2,15 @@
 use Rattle.std.proofs.Common.{◌≡◌, ◌<◌, ◌≤◌, ◌∙◌, ◌++◌, ◌∷◌, ◌+◌, [], refl, sym, ap, ap₂, subst, arith, inl, inr, ℕ, List, Option, None, Some, drop, get_or, length, map}
 use Rattle.std.proofs.lemmas.List.{drop_more, length-append, length-map, take_all}
 use Rattle.lpis_parcels.specs.Release.{Contents}
-use Rattle.lpis_commands.proofs.Shared.{refused-more}
-use Rattle.lpis_commands.specs.CheckAnswer.{Inputs, IsProvedOf, IsRefusal}
-use Rattle.lpis_commands.specs.Inputs.{inputs_of}
-use Rattle.lpis_commands.specs.Refusals.{line_in_region}
-use Rattle.lpis_commands.specs.Stops.{IsRefusedAs}
-use Rattle.lpis_commands.specs.declared.answer.Answer.{Answer as Printed}
-use Rattle.lpis_commands.specs.declared.folder.InputBytes.{InputBytes}
-use Rattle.lpis_commands.specs.declared.stop.Stop.{Stop}
-use Rattle.lpis_commands.specs.declared.stop.Stop.TheVariants.{Refused}
+use Rattle.lpis_run.proofs.Shared.{refused-more}
+use Rattle.lpis_run.specs.CheckAnswer.{Inputs, IsProvedOf, IsRefusal}
+use Rattle.lpis_run.specs.Inputs.{inputs_of}
+use Rattle.lpis_run.specs.Refusals.{line_in_region}
+use Rattle.lpis_run.specs.Stops.{IsRefusedAs}
+use Rattle.lpis_run.specs.declared.answer.Answer.{Answer as Printed}
+use Rattle.lpis_run.specs.declared.folder.InputBytes.{InputBytes}
+use Rattle.lpis_run.specs.declared.stop.Stop.{Stop}
+use Rattle.lpis_run.specs.declared.stop.Stop.TheVariants.{Refused}
 use Rattle.lpis_country_run.specs.declared.failure.CountryFailure.{CountryFailure}
 use Rattle.lpis_country_run.specs.CountryAnswer.{HavePassed, None as NonePassed, IsReachedBy, IsRefusedRegion, Setting}
 use Rattle.lpis_country_run.specs.CountryFailures.{IsStoppedBefore}

@@ -5,12 +5,12 @@ use Rattle.std.specs.Io.KnownBytes.{Appends, Keeps}
 use Rattle.lpis_covers.specs.Classes.{classes_table}
 use Rattle.lpis_covers.specs.Faults.{rows_of}
 use Rattle.lpis_parcels.specs.Release.{Contents}
-use Rattle.lpis_commands.specs.CheckAnswer.{Answer, IsTableAnswer}
-use Rattle.lpis_commands.specs.Status.{done}
-use Rattle.lpis_commands.specs.Streams.{Begins, IsRead, IsWithin}
-use Rattle.lpis_commands.specs.declared.command.Detail.TheVariants.{Regions}
-use Rattle.lpis_commands.specs.declared.failure.Failure.TheVariants.{Read, Write}
-use Rattle.lpis_commands.specs.declared.failure.Name.TheVariants.{Out, Points}
+use Rattle.lpis_run.specs.CheckAnswer.{Answer, IsTableAnswer}
+use Rattle.lpis_run.specs.Status.{done}
+use Rattle.lpis_run.specs.Streams.{Begins, IsRead, IsWithin}
+use Rattle.lpis_run.specs.declared.detail.Detail.TheVariants.{Regions}
+use Rattle.lpis_run.specs.declared.failure.Failure.TheVariants.{Read, Write}
+use Rattle.lpis_run.specs.declared.failure.Name.TheVariants.{Out, Points}
 use Rattle.lpis_country.specs.Country.{country_of}
 use Rattle.lpis_country_run.specs.CountryAnswer.{IsPlanAnswer, IsReachedBy, IsRefusedRegion}
 use Rattle.lpis_country_run.specs.CountryAnswer.{Setting, setting_of}

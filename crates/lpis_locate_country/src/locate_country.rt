@@ -1,7 +1,7 @@
 //! The run of `locate-country`, over any readers, folders and writer.
 
 ghost use Rattle.std.specs.Prelude.{◌≡◌, IfErr, IfOk};
-ghost use Rattle.lpis_commands.specs.Status.{done};
+ghost use Rattle.lpis_run.specs.Status.{done};
 ghost use Rattle.lpis_locate_country.specs.LocateCountryAnswer.{AreLocateCountryRead};
 ghost use Rattle.lpis_locate_country.specs.LocateCountryAnswer.{IsLocateCountryAnswer};
 ghost use Rattle.lpis_locate_country.specs.LocateCountryAnswer.{IsLocatedInCountry, IsUnreadInput};
@@ -13,8 +13,8 @@ ghost use Rattle.lpis_locate_country.specs.private.Searching.{locate_country_inp
 
 use crate::search::begin_search;
 use crate::searching::search_regions;
-use lpis_commands::{Answer, Name, read_named};
 use lpis_country_run::{CountryBytes, CountryFailure, Regions, begin, read_top};
+use lpis_run::{Answer, Name, read_named};
 use std::alloc::Global;
 use std::io::{Read, Write};
 

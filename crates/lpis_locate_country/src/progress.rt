@@ -3,8 +3,8 @@
 ghost use Rattle.std.specs.Prelude.{◌≡◌, IfErr, IfOk, List, map, ℕ};
 ghost use Rattle.std.specs.String.{string_bytes};
 ghost use Rattle.lpis_checker.specs.SoundMap.{IsSoundMap};
-ghost use Rattle.lpis_commands.specs.Inputs.{inputs_of};
-ghost use Rattle.lpis_commands.specs.Stops.{IsRefusedAs};
+ghost use Rattle.lpis_run.specs.Inputs.{inputs_of};
+ghost use Rattle.lpis_run.specs.Stops.{IsRefusedAs};
 ghost use Rattle.lpis_country_run.specs.CountryAnswer.{IsRefusedRegion, Setting};
 ghost use Rattle.lpis_country_run.specs.Regions.{AreOfFolder};
 ghost use Rattle.lpis_parcels.specs.Release.{Contents};
@@ -12,10 +12,10 @@ ghost use Rattle.lpis_locate_country.specs.private.Searching.{Follows, HasPassed
 ghost use Rattle.lpis_locate_country.specs.private.Searching.{IsSeamRefusal};
 
 use crate::search::{Sought, search_in};
-use lpis_commands::{InputBytes, Stop, checked_release};
 use lpis_country_run::refuse_seam;
 use lpis_country_seam::OpenSeam;
 use lpis_parcels::Release;
+use lpis_run::{InputBytes, Stop, checked_release};
 use std::alloc::Global;
 
 /// What is kept of the regions that passed, and what is looked for, with what was found of it there.

@@ -9,10 +9,10 @@ ghost use Rattle.lpis_parcels.specs.Release.{Contents};
 ghost use Rattle.lpis_locate_country.specs.declared.search.Sought.{Sought};
 ghost use Rattle.lpis_locate_country.specs.private.Found.{IsSearched};
 
-use lpis_commands::Answer;
 use lpis_locate::{refuse_points, report_points};
 use lpis_locating::{Place, Points, PointsFault, locate_in, no_places, read_points};
 use lpis_parcels::Release;
+use lpis_run::Answer;
 use std::alloc::{AllocError, Global};
 
 /// The points of a table, and what was found of them so far.

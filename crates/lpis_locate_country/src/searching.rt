@@ -3,7 +3,7 @@
 ghost use Rattle.std.specs.Prelude.{◌≡◌, ◌<◌, ◌∷◌, [], IfErr, IfOk, List, OnOk, get_or, length};
 ghost use Rattle.std.specs.Prelude.{map, ℕ};
 ghost use Rattle.std.specs.String.{string_bytes};
-ghost use Rattle.lpis_commands.specs.Status.{done};
+ghost use Rattle.lpis_run.specs.Status.{done};
 ghost use Rattle.lpis_country_run.specs.Beginning.{IsBegun};
 ghost use Rattle.lpis_country_run.specs.CountryAnswer.{Setting};
 ghost use Rattle.lpis_country_run.specs.CountryFailures.{IsStoppedBefore};
@@ -17,10 +17,10 @@ ghost use Rattle.lpis_locate_country.specs.private.Searching.{IsStopped, IsUnans
 
 use crate::progress::{Progress, judge_inputs};
 use crate::search::{Sought, report_search};
-use lpis_commands::Answer;
 use lpis_country_run::{Begun, CountryFailure, Regions, read_region};
 use lpis_country_seam::OpenSeam;
 use lpis_country_seam::laws::a_country_of_joined_regions_is_sound;
+use lpis_run::Answer;
 use std::alloc::Global;
 
 /// Reads and judges the region of this number, and looks for the points in it. Some is the answer

@@ -1,7 +1,7 @@
 //! Inputs that fail in mid-stream.
 
 use crate::releases::{halves, run};
-use lpis_commands::{Failure, Name};
+use lpis_run::{Failure, Name};
 use std::test::Fail;
 
 static POINTS: &str = "point,x,y\na,1,2\n";

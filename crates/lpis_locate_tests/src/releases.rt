@@ -2,8 +2,8 @@
 
 use crate::expecting::expect_answer;
 use crate::halting::Halting;
-use lpis_commands::{Failure, Folder, TableReaders};
 use lpis_locate::run_locate;
+use lpis_run::{Failure, Folder, TableReaders};
 use std::test::Fail;
 
 /// The halves of a square of ten metres as two parcels, of one piece each.

@@ -1,11 +1,11 @@
 -- What a call of the library hands over for the bytes that it was handed.
 use Rattle.std.specs.Prelude.{◌≡◌, ◌<◌, ◌⊎◌, ℕ, List, MatchOption, [], length}
 use Rattle.lpis_parcels.specs.Release.{release_of}
-use Rattle.lpis_commands.specs.AreaAnswer.{area_answer}
-use Rattle.lpis_commands.specs.CheckAnswer.{Inputs, IsAnswer, IsProved}
-use Rattle.lpis_commands.specs.CutAnswer.{IsCutAnswer}
-use Rattle.lpis_commands.specs.Outputs.{Outputs}
-use Rattle.lpis_commands.specs.Status.{done}
+use Rattle.lpis_run_check.specs.AreaAnswer.{area_answer}
+use Rattle.lpis_run.specs.CheckAnswer.{Inputs, IsAnswer, IsProved}
+use Rattle.lpis_run_check.specs.CutAnswer.{IsCutAnswer}
+use Rattle.lpis_run.specs.Outputs.{Outputs}
+use Rattle.lpis_run.specs.Status.{done}
 
 -- the inputs of a check, by the bytes of the four files
 abbrev pub inputs : (parcels covers classes cert : List ℕ) → Inputs

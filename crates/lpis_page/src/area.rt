@@ -4,7 +4,8 @@ ghost use Rattle.std.specs.Prelude.{◌≡◌, IfOk, IsFalse, IsTrue, length, ta
 ghost use Rattle.lpis_page.specs.Calls.{IsAreaOf, IsUnansweredOr};
 
 use crate::reply::Reply;
-use lpis_commands::{Answer, Failure, run_area};
+use lpis_run::{Answer, Failure};
+use lpis_run_check::run_area;
 use std::alloc::Global;
 
 /// The areas of a table, or the line of its first fault.

@@ -4,7 +4,8 @@ ghost use Rattle.std.specs.Prelude.{◌≡◌, IfOk, IsFalse, IsTrue, length, ta
 ghost use Rattle.lpis_page.specs.Calls.{IsCheckOf, IsUnansweredOr, inputs};
 
 use crate::reply::Reply;
-use lpis_commands::{Answer, Failure, Folder, TableReaders, run_check};
+use lpis_run::{Answer, Failure, Folder, TableReaders};
+use lpis_run_check::run_check;
 use std::alloc::Global;
 
 /// The answer to the bytes of three tables and a certificate.

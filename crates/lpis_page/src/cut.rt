@@ -4,7 +4,8 @@ ghost use Rattle.std.specs.Prelude.{◌≡◌, IfOk, IsFalse, IsTrue, length, ta
 ghost use Rattle.lpis_page.specs.Calls.{IsCutOf, IsUncutOr};
 
 use crate::reply::{Reply, put};
-use lpis_commands::{Answer, Failure, TableReaders, run_cut};
+use lpis_run::{Answer, Failure, TableReaders};
+use lpis_run_check::run_cut;
 use std::alloc::Global;
 
 /// A certificate's text, or nothing, and the line that is printed.

@@ -1,9 +1,9 @@
 //! How an answer is handed over.
 
 ghost use Rattle.std.specs.Prelude.{◌≡◌, ◌<◌, IsFalse, IsTrue, length, take};
-ghost use Rattle.lpis_commands.specs.Status.{failed};
+ghost use Rattle.lpis_run.specs.Status.{failed};
 
-use lpis_commands::{Answer, FAILED};
+use lpis_run::{Answer, FAILED};
 
 /// What a call hands over beside the text.
 #[repr(C)]

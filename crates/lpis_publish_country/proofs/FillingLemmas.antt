@@ -20,16 +20,16 @@ use Rattle.lpis_lineage.specs.Faults.{faults, first}
 use Rattle.lpis_lineage.specs.Lineage.{last_live}
 use Rattle.lpis_register.specs.Holdings.{Holdings, holdings}
 use Rattle.lpis_register.specs.declared.fault.PublishFault.TheVariants.{Lineage}
-use Rattle.lpis_commands.specs.CheckAnswer.{Answer}
-use Rattle.lpis_commands.specs.Outputs.{BreaksOff, Held, Outputs, Writes, held, outputs_of}
-use Rattle.lpis_commands.specs.Status.{done, refused}
-use Rattle.lpis_commands.specs.Streams.{Begins}
-use Rattle.lpis_commands.specs.declared.answer.Answer.{Answer as Printed}
-use Rattle.lpis_commands.specs.declared.command.Detail.TheVariants.{Regions}
-use Rattle.lpis_commands.specs.declared.failure.Failure.{Failure}
-use Rattle.lpis_commands.specs.declared.failure.Failure.TheVariants.{Memory, Write}
-use Rattle.lpis_commands.specs.declared.failure.Name.TheVariants.{Out}
-use Rattle.lpis_commands.specs.declared.outcome.Outcome.{Outcome}
+use Rattle.lpis_run.specs.CheckAnswer.{Answer}
+use Rattle.lpis_run.specs.Outputs.{BreaksOff, Held, Outputs, Writes, held, outputs_of}
+use Rattle.lpis_run.specs.Status.{done, refused}
+use Rattle.lpis_run.specs.Streams.{Begins}
+use Rattle.lpis_run.specs.declared.answer.Answer.{Answer as Printed}
+use Rattle.lpis_run.specs.declared.detail.Detail.TheVariants.{Regions}
+use Rattle.lpis_run.specs.declared.failure.Failure.{Failure}
+use Rattle.lpis_run.specs.declared.failure.Failure.TheVariants.{Memory, Write}
+use Rattle.lpis_run.specs.declared.failure.Name.TheVariants.{Out}
+use Rattle.lpis_run.specs.declared.outcome.Outcome.{Outcome}
 use Rattle.lpis_country_run.proofs.Shared.{setting_begun}
 use Rattle.lpis_country_run.specs.CountryAnswer.{IsEnd, IsReachedBy, IsRegionsAnswer, Setting}
 use Rattle.lpis_country_run.specs.CountryFailures.{IsOfNone, IsUnreadTop}

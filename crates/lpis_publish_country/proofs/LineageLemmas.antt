@@ -7,14 +7,14 @@ use Rattle.lpis_lineage.specs.declared.row.Row.{Row}
 use Rattle.lpis_lineage.specs.LineageTable.{lineage_table}
 use Rattle.lpis_covers.specs.declared.fault.TableFault.{TableFault}
 use Rattle.lpis_covers.specs.Faults.{rows_of}
-use Rattle.lpis_commands.proofs.Shared.{refused-as, refused-more}
-use Rattle.lpis_commands.specs.CheckAnswer.{Answer, IsTableAnswer}
-use Rattle.lpis_commands.specs.Refusals.{line_in_region}
-use Rattle.lpis_commands.specs.Stops.{IsRefusedAs}
-use Rattle.lpis_commands.specs.Streams.{IsRead}
-use Rattle.lpis_commands.specs.declared.answer.Answer.{Answer as Printed}
-use Rattle.lpis_commands.specs.declared.stop.Stop.{Stop}
-use Rattle.lpis_commands.specs.declared.stop.Stop.TheVariants.{Refused}
+use Rattle.lpis_run.proofs.Shared.{refused-as, refused-more}
+use Rattle.lpis_run.specs.CheckAnswer.{Answer, IsTableAnswer}
+use Rattle.lpis_run.specs.Refusals.{line_in_region}
+use Rattle.lpis_run.specs.Stops.{IsRefusedAs}
+use Rattle.lpis_run.specs.Streams.{IsRead}
+use Rattle.lpis_run.specs.declared.answer.Answer.{Answer as Printed}
+use Rattle.lpis_run.specs.declared.stop.Stop.{Stop}
+use Rattle.lpis_run.specs.declared.stop.Stop.TheVariants.{Refused}
 use Rattle.lpis_country_run.specs.declared.failure.CountryFailure.{CountryFailure}
 use Rattle.lpis_publish_country.specs.CountryLineage.{AreTablesRefused, AreTablesUnread, IsTableOf, IsUnreadTable, rows_in}
 use Rattle.lpis_publish_country.specs.declared.lineage.CountryLineage.{CountryLineage}

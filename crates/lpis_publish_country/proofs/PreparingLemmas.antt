@@ -11,11 +11,11 @@ use Rattle.lpis_cert.specs.Contents.{IsCertText}
 use Rattle.lpis_cert.specs.Faults.{verdict}
 use Rattle.lpis_cert.specs.declared.cert.Cert.{Cert}
 use Rattle.lpis_cert.specs.declared.part.ExactBlock.{ExactBlock}
-use Rattle.lpis_commands.specs.CheckAnswer.{Answer, IsCertAnswer, IsTableAnswer}
-use Rattle.lpis_commands.specs.Stops.{IsRefusedAs}
-use Rattle.lpis_commands.specs.declared.failure.Failure.TheVariants.{Memory}
-use Rattle.lpis_commands.specs.declared.stop.Stop.{Stop}
-use Rattle.lpis_commands.proofs.Shared.{answer-of-text, cert-more, refused-more, table-more}
+use Rattle.lpis_run.specs.CheckAnswer.{Answer, IsCertAnswer, IsTableAnswer}
+use Rattle.lpis_run.specs.Stops.{IsRefusedAs}
+use Rattle.lpis_run.specs.declared.failure.Failure.TheVariants.{Memory}
+use Rattle.lpis_run.specs.declared.stop.Stop.{Stop}
+use Rattle.lpis_run.proofs.Shared.{answer-of-text, cert-more, refused-more, table-more}
 use Rattle.lpis_country_plan.specs.Tree.{folders}
 use Rattle.lpis_country_run.specs.Beginning.{IsBegun, IsUnbegun}
 use Rattle.lpis_country_run.specs.CountryFailures.{IsOfNone}

@@ -6,11 +6,11 @@ use Rattle.sqlite_trees.specs.declared.store.Store.{Ghosts}
 use Rattle.lpis_lineage.specs.Lineage.{last_year}
 use Rattle.lpis_register.specs.Holdings.{RegisterState}
 use Rattle.lpis_register.specs.declared.fault.PublishFault.TheVariants.{Year}
-use Rattle.lpis_commands.specs.Streams.{Begins}
-use Rattle.lpis_commands.specs.declared.answer.Answer.{Answer as Printed}
-use Rattle.lpis_commands.specs.declared.failure.Failure.{Failure}
-use Rattle.lpis_commands.specs.declared.failure.Failure.TheVariants.{Memory, Write}
-use Rattle.lpis_commands.specs.declared.failure.Name.TheVariants.{Cert, Classes, Country, Lineage, Out}
+use Rattle.lpis_run.specs.Streams.{Begins}
+use Rattle.lpis_run.specs.declared.answer.Answer.{Answer as Printed}
+use Rattle.lpis_run.specs.declared.failure.Failure.{Failure}
+use Rattle.lpis_run.specs.declared.failure.Failure.TheVariants.{Memory, Write}
+use Rattle.lpis_run.specs.declared.failure.Name.TheVariants.{Cert, Classes, Country, Lineage, Out}
 use Rattle.lpis_country_run.specs.CountryFailures.{IsOfNone}
 use Rattle.lpis_country_run.specs.declared.failure.CountryFailure.{CountryFailure}
 use Rattle.lpis_publishing.specs.LineageLines.{publish_refusal_text}

@@ -9,11 +9,11 @@ use Rattle.lpis_register.specs.Holdings.{Candidate, Holdings, RegisterState}
 use Rattle.lpis_register.specs.declared.accepting.Accepted.{Accepted}
 use Rattle.lpis_register.specs.declared.fault.PublishFault.{PublishFault}
 use Rattle.lpis_register.specs.declared.fault.PublishFault.TheVariants as publish
-use Rattle.lpis_commands.specs.CheckAnswer.{Answer}
-use Rattle.lpis_commands.specs.declared.answer.Answer.{Answer as Printed}
-use Rattle.lpis_commands.specs.Status.{done, refused}
-use Rattle.lpis_commands.specs.declared.failure.Failure.{Failure}
-use Rattle.lpis_commands.specs.declared.failure.Failure.TheVariants.{Store}
+use Rattle.lpis_run.specs.CheckAnswer.{Answer}
+use Rattle.lpis_run.specs.declared.answer.Answer.{Answer as Printed}
+use Rattle.lpis_run.specs.Status.{done, refused}
+use Rattle.lpis_run.specs.declared.failure.Failure.{Failure}
+use Rattle.lpis_run.specs.declared.failure.Failure.TheVariants.{Store}
 use Rattle.lpis_country_run.specs.CountryLines.{country_lines}
 use Rattle.lpis_country_run.specs.RegionsOutcome.{JoinsAll}
 use Rattle.lpis_country_run.proofs.Shared.{passed_regions}

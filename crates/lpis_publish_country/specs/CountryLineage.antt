@@ -12,12 +12,12 @@ use Rattle.lpis_lineage.specs.declared.row.Row.{Row}
 use Rattle.lpis_lineage.specs.LineageTable.{lineage_table}
 use Rattle.lpis_register.specs.declared.fault.PublishFault.{PublishFault}
 use Rattle.lpis_register.specs.declared.fault.PublishFault.TheVariants as publish
-use Rattle.lpis_commands.specs.CheckAnswer.{Answer}
-use Rattle.lpis_commands.specs.Refusals.{line_in_region, refusal_text}
-use Rattle.lpis_commands.specs.Status.{unreadable}
-use Rattle.lpis_commands.specs.Streams.{IsRead}
-use Rattle.lpis_commands.specs.declared.failure.Failure.TheVariants.{Memory, Read}
-use Rattle.lpis_commands.specs.declared.failure.Name.TheVariants.{Lineage}
+use Rattle.lpis_run.specs.CheckAnswer.{Answer}
+use Rattle.lpis_run.specs.Refusals.{line_in_region, refusal_text}
+use Rattle.lpis_run.specs.Status.{unreadable}
+use Rattle.lpis_run.specs.Streams.{IsRead}
+use Rattle.lpis_run.specs.declared.failure.Failure.TheVariants.{Memory, Read}
+use Rattle.lpis_run.specs.declared.failure.Name.TheVariants.{Lineage}
 use Rattle.lpis_country_run.specs.CountryFailures.{IsOfNone}
 use Rattle.lpis_country_run.specs.declared.failure.CountryFailure.{CountryFailure}
 use Rattle.lpis_publishing.specs.LineageLines.{publish_refusal_text}

@@ -1,7 +1,7 @@
 -- The answer to a country that is asked for the blocks of its marked rows: the certificate with
 -- them, or the line that says why there is none; and the status.
-use Rattle.std.specs.Prelude.{◌≡◌, ◌≢◌, ◌⊎◌, ◌++◌, ◌∷◌, [], ℕ, List, Option, None, Some}
-use Rattle.std.specs.Prelude.{IfErr, IfOk, Result}
+use Rattle.std.specs.Prelude.{◌≡◌, ◌≢◌, ◌⊎◌, ◌++◌, ◌∷◌, [], ℕ, List, Option, None, Some, IfErr}
+use Rattle.std.specs.Prelude.{IfOk, Result}
 use Rattle.std.specs.Io.KnownBytes.{Appends, Keeps}
 use Rattle.lpis_parcels.specs.Release.{Contents, parcel_ids}
 use Rattle.lpis_cert.specs.declared.cert.Cert.{Cert}
@@ -12,13 +12,13 @@ use Rattle.lpis_lineage.specs.Faults.{faults, first}
 use Rattle.lpis_exact_lineage.specs.Asking.{IsUnkept}
 use Rattle.lpis_register.specs.Holdings.{Holdings}
 use Rattle.lpis_register.specs.declared.fault.PublishFault.TheVariants.{Lineage, NotKept}
-use Rattle.lpis_commands.specs.CheckAnswer.{Answer}
-use Rattle.lpis_commands.specs.Outputs.{BreaksOff, Held, Outputs, Writes}
-use Rattle.lpis_commands.specs.Status.{done, refused}
-use Rattle.lpis_commands.specs.Streams.{Begins}
-use Rattle.lpis_commands.specs.declared.command.Detail.TheVariants.{Regions}
-use Rattle.lpis_commands.specs.declared.failure.Failure.TheVariants.{Write}
-use Rattle.lpis_commands.specs.declared.failure.Name.TheVariants.{Out}
+use Rattle.lpis_run.specs.CheckAnswer.{Answer}
+use Rattle.lpis_run.specs.Outputs.{BreaksOff, Held, Outputs, Writes}
+use Rattle.lpis_run.specs.Status.{done, refused}
+use Rattle.lpis_run.specs.Streams.{Begins}
+use Rattle.lpis_run.specs.declared.detail.Detail.TheVariants.{Regions}
+use Rattle.lpis_run.specs.declared.failure.Failure.TheVariants.{Write}
+use Rattle.lpis_run.specs.declared.failure.Name.TheVariants.{Out}
 use Rattle.lpis_country_run.specs.CountryAnswer.{IsReachedBy, IsRefusedRegion, Setting}
 use Rattle.lpis_country_run.specs.CountryFailures.{IsOfNone, IsUnreadTop}
 use Rattle.lpis_country_run.specs.declared.failure.CountryFailure.{CountryFailure}

@@ -1,7 +1,6 @@
 -- The answer to a country that is to be published: text and status, of the bytes of its files, the
 -- year, and what the register holds before; and what it holds after.
-use Rattle.std.specs.Prelude.{◌≡◌, ◌⊎◌, ◌++◌, ◌∷◌, [], ℕ, List, Option, None, Some, Ok, All}
-use Rattle.std.specs.Prelude.{length}
+use Rattle.std.specs.Prelude.{◌≡◌, ◌⊎◌, ◌++◌, ◌∷◌, [], ℕ, List, Option, None, Some, Ok, All, length}
 use Rattle.lpis_covers.specs.declared.class.Class.{Class}
 use Rattle.lpis_covers.specs.Classes.{classes_table}
 use Rattle.lpis_covers.specs.Faults.{rows_of}
@@ -20,10 +19,10 @@ use Rattle.lpis_exact_lineage.specs.Asking.{IsShown}
 use Rattle.lpis_register.specs.Faults.{IsRefused, IsSetAside}
 use Rattle.lpis_register.specs.Holdings.{Candidate, Holdings, candidate}
 use Rattle.lpis_register.specs.declared.fault.PublishFault.{PublishFault}
-use Rattle.lpis_commands.specs.CheckAnswer.{Answer, IsCertAnswer, IsTableAnswer}
-use Rattle.lpis_commands.specs.Status.{done, refused}
-use Rattle.lpis_commands.specs.Streams.{IsRead}
-use Rattle.lpis_commands.specs.declared.command.Detail.{Detail}
+use Rattle.lpis_run.specs.CheckAnswer.{Answer, IsCertAnswer, IsTableAnswer}
+use Rattle.lpis_run.specs.Status.{done, refused}
+use Rattle.lpis_run.specs.Streams.{IsRead}
+use Rattle.lpis_run.specs.declared.detail.Detail.{Detail}
 use Rattle.lpis_country_run.specs.CountryAnswer.{IsPlanAnswer, IsReachedBy, IsRefusedRegion}
 use Rattle.lpis_country_run.specs.CountryAnswer.{Setting, setting_of}
 use Rattle.lpis_country_run.specs.CountryLines.{country_lines}

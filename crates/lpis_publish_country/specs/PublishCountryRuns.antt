@@ -1,6 +1,6 @@
 -- The run of `publish-country`: what it ends with, and what it leaves of the register.
-use Rattle.std.specs.Prelude.{◌≡◌, ◌≢◌, ◌<◌, ◌≤◌, ◌⊎◌, ◌∷◌, [], ℕ, List, Option, None}
-use Rattle.std.specs.Prelude.{IfErr, IfOk, Ok, Err, Result}
+use Rattle.std.specs.Prelude.{◌≡◌, ◌≢◌, ◌<◌, ◌≤◌, ◌⊎◌, ◌∷◌, [], ℕ, List, Option, None, IfErr, IfOk}
+use Rattle.std.specs.Prelude.{Ok, Err, Result}
 use Rattle.std.specs.Io.KnownBytes.{Appends, Keeps}
 use Rattle.sqlite_trees.specs.declared.store.Store.{Ghosts}
 use Rattle.lpis_covers.specs.declared.class.Class.{Class}
@@ -14,13 +14,13 @@ use Rattle.lpis_lineage.specs.Lineage.{last_year}
 use Rattle.lpis_register.specs.Failing.{FailsToStore}
 use Rattle.lpis_register.specs.Holdings.{Holdings, RegisterState}
 use Rattle.lpis_register.specs.declared.fault.PublishFault.TheVariants.{Year}
-use Rattle.lpis_commands.specs.Status.{done, refused}
-use Rattle.lpis_commands.specs.Streams.{Begins, IsWithin}
-use Rattle.lpis_commands.specs.CheckAnswer.{Answer}
-use Rattle.lpis_commands.specs.declared.command.Detail.{Detail}
-use Rattle.lpis_commands.specs.declared.failure.Failure.{Failure}
-use Rattle.lpis_commands.specs.declared.failure.Failure.TheVariants.{Memory, Read, Store, Write}
-use Rattle.lpis_commands.specs.declared.failure.Name.TheVariants.{Cert, Out}
+use Rattle.lpis_run.specs.Status.{done, refused}
+use Rattle.lpis_run.specs.Streams.{Begins, IsWithin}
+use Rattle.lpis_run.specs.CheckAnswer.{Answer}
+use Rattle.lpis_run.specs.declared.detail.Detail.{Detail}
+use Rattle.lpis_run.specs.declared.failure.Failure.{Failure}
+use Rattle.lpis_run.specs.declared.failure.Failure.TheVariants.{Memory, Read, Store, Write}
+use Rattle.lpis_run.specs.declared.failure.Name.TheVariants.{Cert, Out}
 use Rattle.lpis_country_run.specs.CountryAnswer.{HavePassed, IsReachedBy}
 use Rattle.lpis_country_run.specs.CountryFailures.{IsOfNone, IsStoppedBefore, IsUnreadTop}
 use Rattle.lpis_country_run.specs.declared.failure.CountryFailure.{CountryFailure}

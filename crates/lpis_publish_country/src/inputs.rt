@@ -2,8 +2,8 @@
 
 ghost use Rattle.std.specs.Prelude.{◌≡◌, ◌≢◌, ◌⊎◌, IfErr, IfOk, None};
 ghost use Rattle.std.specs.Option.{option_map};
-ghost use Rattle.lpis_commands.specs.Stops.{IsRefusedAs};
-ghost use Rattle.lpis_commands.specs.declared.failure.Failure.TheVariants.{Memory};
+ghost use Rattle.lpis_run.specs.Stops.{IsRefusedAs};
+ghost use Rattle.lpis_run.specs.declared.failure.Failure.TheVariants.{Memory};
 ghost use Rattle.lpis_country_run.specs.Beginning.{IsBegun};
 ghost use Rattle.lpis_country_run.specs.CountryFailures.{IsOfNone, IsUnreadTop};
 ghost use Rattle.lpis_publish_country.specs.ExactCountryAnswer.{HasNoParts};
@@ -17,9 +17,9 @@ ghost use Rattle.lpis_publish_country.specs.private.Unprepared.{IsUnprepared};
 use crate::lineage::{CountryLineage, Lineages, read_lineage};
 use crate::unprepared::Unprepared;
 use lpis_cert::Cert;
-use lpis_commands::{Failure, Name, Stop, certificate_in, read_named};
 use lpis_country_run::{Begun, CountryBytes, CountryFailure, begin, read_top};
 use lpis_memory::Sequence;
+use lpis_run::{Failure, Name, Stop, certificate_in, read_named};
 use std::alloc::Global;
 use std::io::Read;
 

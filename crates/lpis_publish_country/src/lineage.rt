@@ -5,10 +5,10 @@ ghost use Rattle.std.specs.Prelude.{Ok, Option};
 ghost use Rattle.std.specs.String.{string_bytes};
 ghost use Rattle.lpis_covers.specs.Faults.{rows_of};
 ghost use Rattle.lpis_lineage.specs.LineageTable.{lineage_table};
-ghost use Rattle.lpis_commands.specs.Failures.{IsUnread};
-ghost use Rattle.lpis_commands.specs.Stops.{IsRefusedAs};
-ghost use Rattle.lpis_commands.specs.Streams.{IsRead};
-ghost use Rattle.lpis_commands.specs.declared.failure.Name.TheVariants.{Lineage};
+ghost use Rattle.lpis_run.specs.Failures.{IsUnread};
+ghost use Rattle.lpis_run.specs.Stops.{IsRefusedAs};
+ghost use Rattle.lpis_run.specs.Streams.{IsRead};
+ghost use Rattle.lpis_run.specs.declared.failure.Name.TheVariants.{Lineage};
 ghost use Rattle.lpis_publish_country.specs.CountryLineage.{AreTablesRefused, AreTablesUnread};
 ghost use Rattle.lpis_publish_country.specs.CountryLineage.{IsUnreadTable};
 ghost use Rattle.lpis_publish_country.specs.private.Preparing.{AddsTable, AreRowsOf, HasTables};
@@ -17,10 +17,10 @@ ghost use Rattle.lpis_publish_country.specs.private.Preparing.{IsTableRefused};
 ghost use Rattle.lpis_publish_country.specs.private.Unprepared.{IsUnprepared};
 
 use crate::unprepared::Unprepared;
-use lpis_commands::{Failure, Name, Stop, read_named};
 use lpis_country_run::CountryFailure;
 use lpis_lineage::Row;
 use lpis_publishing::rows_in;
+use lpis_run::{Failure, Name, Stop, read_named};
 use std::alloc::{AllocError, Global};
 use std::io::Read;
 

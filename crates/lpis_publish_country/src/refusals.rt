@@ -4,15 +4,15 @@ ghost use Rattle.std.specs.Prelude.{◌≡◌, IfOk, List, length, map};
 ghost use Rattle.std.specs.Option.{option_map};
 ghost use Rattle.std.specs.String.{string_bytes};
 ghost use Rattle.lpis_lineage.specs.declared.row.Row.{Row};
-ghost use Rattle.lpis_commands.specs.Status.{refused};
+ghost use Rattle.lpis_run.specs.Status.{refused};
 ghost use Rattle.lpis_publish_country.specs.CountryLineage.{at_row, country_refusal_text};
 ghost use Rattle.lpis_publish_country.specs.CountryLineage.{faulty_row, row_place};
 ghost use Rattle.lpis_register.specs.declared.fault.PublishFault.TheVariants.{Lineage};
 
-use lpis_commands::{Answer, REFUSED};
 use lpis_lineage::LineageFault;
 use lpis_publishing::refuse;
 use lpis_register::PublishFault;
+use lpis_run::{Answer, REFUSED};
 use std::alloc::{AllocError, Global};
 
 /// The row for which a lineage is refused, where it is for one.

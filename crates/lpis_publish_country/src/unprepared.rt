@@ -1,13 +1,13 @@
 //! Why the files before the regions are not prepared.
 
 ghost use Rattle.std.specs.Prelude.{◌≡◌};
-ghost use Rattle.lpis_commands.specs.declared.failure.Failure.TheVariants.{Memory};
+ghost use Rattle.lpis_run.specs.declared.failure.Failure.TheVariants.{Memory};
 ghost use Rattle.lpis_country_run.specs.CountryFailures.{IsOfNone};
 ghost use Rattle.lpis_publish_country.specs.declared.unprepared.Unprepared.{Unprepared};
 ghost use Rattle.lpis_publish_country.specs.private.Unprepared.{IsFailed, IsOfStop};
 
-use lpis_commands::{Answer, Stop};
 use lpis_country_run::CountryFailure;
+use lpis_run::{Answer, Stop};
 use std::alloc::AllocError;
 
 /// Why the files before the regions are not prepared.

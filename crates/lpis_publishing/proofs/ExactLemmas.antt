@@ -10,8 +10,8 @@ use Rattle.lpis_exact_lineage.specs.Shapes.{shape_named, shapes_in}
 use Rattle.lpis_lineage.specs.declared.exact.Group.{Group}
 use Rattle.lpis_lineage.specs.ExactGroups.{group_name}
 use Rattle.lpis_rings.specs.declared.polygon.Member.{Member}
-use Rattle.lpis_commands.specs.Outputs.{Outputs}
-use Rattle.lpis_commands.specs.Status.{done}
+use Rattle.lpis_run.specs.Outputs.{Outputs}
+use Rattle.lpis_run.specs.Status.{done}
 use Rattle.lpis_publishing.specs.ExactAnswer.{HasBlocks, IsBlocksAnswer, IsBlocksOutcome, IsExactAnswer, blocks_line, unfilled_line}
 use Rattle.lpis_register.specs.Holdings.{Holdings}
 use Rattle.lpis_publishing.specs.Submission.{IsSubmitted, Submission, Submitted}

@@ -25,14 +25,14 @@ use Rattle.lpis_lineage.proofs.Shared.{follows-from-clean, mono, counted-ended}
 use Rattle.lpis_checker.specs.GoodCertificate.{IsGood}
 use Rattle.lpis_checker.specs.SoundMap.{IsSoundMap}
 use Rattle.lpis_publishing.specs.LineageLines.{is_left_exactly, dropped_lines, published_line}
-use Rattle.lpis_commands.specs.declared.answer.Answer.{Answer as Answered}
-use Rattle.lpis_commands.specs.declared.failure.Failure.{Failure}
-use Rattle.lpis_commands.specs.declared.failure.Failure.TheVariants.{Store, StoreMemory}
+use Rattle.lpis_run.specs.declared.answer.Answer.{Answer as Answered}
+use Rattle.lpis_run.specs.declared.failure.Failure.{Failure}
+use Rattle.lpis_run.specs.declared.failure.Failure.TheVariants.{Store, StoreMemory}
 use Rattle.lpis_publishing.specs.Publication.{IsContinued, IsMemoryOrStore, IsPublicationAnswer, IsReleasePublished, PublishLeaves}
 use Rattle.lpis_publishing.specs.PublishAnswer.{IsSoundSubmission, candidate_of}
 use Rattle.lpis_publishing.specs.Stored.{IsStoreFailure}
 use Rattle.lpis_publishing.specs.Submission.{IsSubmitted, Submission, Submitted}
-use Rattle.lpis_commands.specs.Status.{done}
+use Rattle.lpis_run.specs.Status.{done}
 use Rattle.lpis_publishing.specs.private.Marked.{is_marked}
 use Rattle.lpis_publishing.proofs.MarkedLemmas.{left-exactly}
 use Rattle.lpis_register.specs.Accepting.{IsAccepted}

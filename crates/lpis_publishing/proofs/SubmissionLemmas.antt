@@ -4,12 +4,12 @@ use Rattle.lpis_publishing.proofs.Common.{Answer, Cert}
 use Rattle.lpis_parcels.specs.Release.{Contents}
 use Rattle.lpis_covers.specs.Faults.{rows_of}
 use Rattle.lpis_lineage.specs.LineageTable.{lineage_table}
-use Rattle.lpis_commands.specs.CheckAnswer.{IsCheckAnswer, IsInputAnswer, IsTableAnswer}
-use Rattle.lpis_commands.specs.Inputs.{Say}
-use Rattle.lpis_commands.specs.Status.{done, unreadable}
-use Rattle.lpis_commands.specs.Stops.{IsRefusedAs}
-use Rattle.lpis_commands.specs.declared.stop.Stop.{Stop}
-use Rattle.lpis_commands.proofs.Shared.{answer-said, input-more, input-status, refused-more, table-more, table-status}
+use Rattle.lpis_run.specs.CheckAnswer.{IsCheckAnswer, IsInputAnswer, IsTableAnswer}
+use Rattle.lpis_run.specs.Inputs.{Say}
+use Rattle.lpis_run.specs.Status.{done, unreadable}
+use Rattle.lpis_run.specs.Stops.{IsRefusedAs}
+use Rattle.lpis_run.specs.declared.stop.Stop.{Stop}
+use Rattle.lpis_run.proofs.Shared.{answer-said, input-more, input-status, refused-more, table-more, table-status}
 use Rattle.lpis_publishing.specs.Submission.{IsSubmissionAnswer, IsSubmitted, Submission, Submitted, submitted}
 use Rattle.lpis_publishing.specs.private.Submitting.{IsFaultAnswer}
 

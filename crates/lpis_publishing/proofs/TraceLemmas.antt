@@ -3,7 +3,7 @@ use Rattle.std.proofs.Common.{◌≡◌, ◌∙◌, ◌++◌, ◌∷◌, ◌+◌
 use Rattle.std.proofs.Math.Dec.{eqb-suc-zero}
 use Rattle.std.proofs.lemmas.List.{append-nil}
 use Rattle.lpis_publishing.proofs.Common.{Answer}
-use Rattle.lpis_commands.specs.Status.{done}
+use Rattle.lpis_run.specs.Status.{done}
 use Rattle.lpis_lineage.specs.declared.row.Entry.{Entry}
 use Rattle.lpis_publishing.specs.TraceAnswer.{AreTraceAnswers, IsTraceAnswer, status_of_both, trace_line}
 

@@ -1,7 +1,7 @@
 -- The answer to what is asked for the blocks of marked rows: the certificate with them, or the line
 -- that says why there is none; and the status.
-use Rattle.std.specs.Prelude.{◌≡◌, ◌≢◌, ◌⊎◌, ◌++◌, Bool, true, ℕ, List, codes, length, map}
-use Rattle.std.specs.Prelude.{Option, None, Some, IfErr, IfOk, Result}
+use Rattle.std.specs.Prelude.{◌≡◌, ◌≢◌, ◌⊎◌, ◌++◌, Bool, true, ℕ, List, codes, length, map, Option}
+use Rattle.std.specs.Prelude.{None, Some, IfErr, IfOk, Result}
 use Rattle.std.specs.Fmt.{decimal}
 use Rattle.std.specs.Io.KnownBytes.{Keeps}
 use Rattle.lpis_covers.specs.Ids.{has_id}
@@ -17,10 +17,10 @@ use Rattle.lpis_lineage.specs.Faults.{faults, first}
 use Rattle.lpis_exact_lineage.specs.Asking.{AsksFor, IsUnkept}
 use Rattle.lpis_register.specs.Holdings.{Holdings}
 use Rattle.lpis_register.specs.declared.fault.PublishFault.TheVariants.{Lineage, NotKept}
-use Rattle.lpis_commands.specs.CheckAnswer.{Answer}
-use Rattle.lpis_commands.specs.Outputs.{BreaksOff, Held, Outputs, Writes}
-use Rattle.lpis_commands.specs.Status.{done, refused}
-use Rattle.lpis_commands.specs.declared.failure.Failure.{Failure}
+use Rattle.lpis_run.specs.CheckAnswer.{Answer}
+use Rattle.lpis_run.specs.Outputs.{BreaksOff, Held, Outputs, Writes}
+use Rattle.lpis_run.specs.Status.{done, refused}
+use Rattle.lpis_run.specs.declared.failure.Failure.{Failure}
 use Rattle.lpis_publishing.specs.LineageLines.{publish_refusal_text}
 use Rattle.lpis_publishing.specs.Submission.{AreAllRead, IsSubmissionAnswer, IsUnreadSubmission}
 use Rattle.lpis_publishing.specs.Submission.{Submission, SubmissionTexts, Submitted}

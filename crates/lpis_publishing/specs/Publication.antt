@@ -15,11 +15,11 @@ use Rattle.lpis_exact_lineage.specs.Shapes.{shape_named}
 use Rattle.lpis_register.specs.Accepting.{HasExactLineage}
 use Rattle.lpis_register.specs.Holdings.{Candidate, Holdings, RegisterState, candidate_ids}
 use Rattle.lpis_register.specs.Publishing.{FollowsHistory}
-use Rattle.lpis_commands.specs.CheckAnswer.{Answer}
-use Rattle.lpis_commands.specs.declared.answer.Answer.{Answer as Printed}
-use Rattle.lpis_commands.specs.declared.failure.Failure.{Failure}
-use Rattle.lpis_commands.specs.declared.failure.Failure.TheVariants.{Memory}
-use Rattle.lpis_commands.specs.Status.{done}
+use Rattle.lpis_run.specs.CheckAnswer.{Answer}
+use Rattle.lpis_run.specs.declared.answer.Answer.{Answer as Printed}
+use Rattle.lpis_run.specs.declared.failure.Failure.{Failure}
+use Rattle.lpis_run.specs.declared.failure.Failure.TheVariants.{Memory}
+use Rattle.lpis_run.specs.Status.{done}
 use Rattle.lpis_publishing.specs.LineageLines.{dropped_lines, published_line}
 use Rattle.lpis_publishing.specs.Stored.{IsStoreFailure, Stays}
 

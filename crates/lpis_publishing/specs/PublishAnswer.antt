@@ -9,13 +9,13 @@ use Rattle.lpis_register.specs.Failing.{FailsToStore}
 use Rattle.lpis_register.specs.Faults.{IsRefused, IsSetAside}
 use Rattle.lpis_register.specs.Holdings.{Candidate, Holdings, RegisterState, candidate}
 use Rattle.lpis_register.specs.declared.fault.PublishFault.{PublishFault}
-use Rattle.lpis_commands.specs.CheckAnswer.{Answer, IsCheckAnswer}
-use Rattle.lpis_commands.specs.declared.failure.Failure.{Failure}
-use Rattle.lpis_commands.specs.declared.failure.Failure.TheVariants.{Store, Write}
-use Rattle.lpis_commands.specs.declared.failure.Name.TheVariants.{Out}
-use Rattle.lpis_commands.specs.Report.{report_text}
-use Rattle.lpis_commands.specs.Status.{done, refused}
-use Rattle.lpis_commands.specs.Streams.{Begins}
+use Rattle.lpis_run.specs.CheckAnswer.{Answer, IsCheckAnswer}
+use Rattle.lpis_run.specs.declared.failure.Failure.{Failure}
+use Rattle.lpis_run.specs.declared.failure.Failure.TheVariants.{Store, Write}
+use Rattle.lpis_run.specs.declared.failure.Name.TheVariants.{Out}
+use Rattle.lpis_run.specs.Report.{report_text}
+use Rattle.lpis_run.specs.Status.{done, refused}
+use Rattle.lpis_run.specs.Streams.{Begins}
 use Rattle.lpis_publishing.specs.LineageLines.{publish_refusal_text}
 use Rattle.lpis_publishing.specs.Output.{Output}
 use Rattle.lpis_publishing.specs.Publication.{IsPublicationAnswer, IsReleasePublished}

@@ -6,12 +6,12 @@ use Rattle.lpis_parcels.specs.Release.{Contents}
 use Rattle.lpis_cert.specs.declared.cert.Cert.{Cert}
 use Rattle.lpis_lineage.specs.declared.row.Row.{Row}
 use Rattle.lpis_lineage.specs.LineageTable.{lineage_table}
-use Rattle.lpis_commands.specs.CheckAnswer.{Answer, AreRead, Inputs, IsInputAnswer, IsTableAnswer}
-use Rattle.lpis_commands.specs.Failures.{IsUnpublished}
-use Rattle.lpis_commands.specs.Folders.{IsFolderUntouched, IsUntouched, folder_names, folder_texts}
-use Rattle.lpis_commands.specs.Inputs.{Say}
-use Rattle.lpis_commands.specs.Streams.{FolderTexts, IsRead}
-use Rattle.lpis_commands.specs.declared.failure.Failure.{Failure}
+use Rattle.lpis_run.specs.CheckAnswer.{Answer, AreRead, Inputs, IsInputAnswer, IsTableAnswer}
+use Rattle.lpis_run.specs.Failures.{IsUnpublished}
+use Rattle.lpis_run.specs.Folders.{IsFolderUntouched, IsUntouched, folder_names, folder_texts}
+use Rattle.lpis_run.specs.Inputs.{Say}
+use Rattle.lpis_run.specs.Streams.{FolderTexts, IsRead}
+use Rattle.lpis_run.specs.declared.failure.Failure.{Failure}
 use Rattle.lpis_publishing.specs.declared.inputs.SubmissionReaders.{SubmissionReaders}
 
 -- ---- what is read

@@ -1,20 +1,19 @@
 -- The answer to words that are followed through a history: text and status.
-use Rattle.std.specs.Prelude.{◌≡◌, ◌⊎◌, ◌++◌, ◌∷◌, ◌==◌, [], false, ℕ, List, codes}
-use Rattle.std.specs.Prelude.{if◌then◌else◌}
+use Rattle.std.specs.Prelude.{◌≡◌, ◌⊎◌, ◌++◌, ◌∷◌, ◌==◌, [], false, ℕ, List, codes, if◌then◌else◌}
 use Rattle.std.specs.List.{flat_map}
 use Rattle.std.specs.Io.KnownBytes.{Appends, Keeps}
 use Rattle.lpis_covers.specs.Ids.{is_id}
 use Rattle.lpis_lineage.specs.declared.row.Entry.{Entry}
 use Rattle.lpis_register.specs.Histories.{IsTrace, IsUnknown}
 use Rattle.lpis_register.specs.declared.fault.PublishFault.TheVariants as publish
-use Rattle.lpis_commands.specs.CheckAnswer.{Answer}
+use Rattle.lpis_run.specs.CheckAnswer.{Answer}
 use Rattle.lpis_publishing.specs.LineageLines.{publish_refusal_text}
 use Rattle.lpis_publishing.specs.Output.{Output}
-use Rattle.lpis_commands.specs.declared.failure.Failure.{Failure}
-use Rattle.lpis_commands.specs.declared.failure.Failure.TheVariants.{Memory, Write}
-use Rattle.lpis_commands.specs.declared.failure.Name.TheVariants.{Out}
-use Rattle.lpis_commands.specs.Status.{done, refused}
-use Rattle.lpis_commands.specs.Streams.{Begins}
+use Rattle.lpis_run.specs.declared.failure.Failure.{Failure}
+use Rattle.lpis_run.specs.declared.failure.Failure.TheVariants.{Memory, Write}
+use Rattle.lpis_run.specs.declared.failure.Name.TheVariants.{Out}
+use Rattle.lpis_run.specs.Status.{done, refused}
+use Rattle.lpis_run.specs.Streams.{Begins}
 
 -- an identifier on a line of its own
 abbrev pub id_line : List ℕ → List ℕ

@@ -1,11 +1,11 @@
 -- The answer to a register that is not opened.
 use Rattle.std.specs.Prelude.{◌≡◌, ◌⊎◌, ℕ}
 use Rattle.std.specs.Io.KnownBytes.{Appends, Keeps}
-use Rattle.lpis_commands.specs.Status.{unreadable}
-use Rattle.lpis_commands.specs.Streams.{Begins}
-use Rattle.lpis_commands.specs.declared.failure.Failure.{Failure}
-use Rattle.lpis_commands.specs.declared.failure.Failure.TheVariants as failure
-use Rattle.lpis_commands.specs.declared.failure.Name.TheVariants.{Out}
+use Rattle.lpis_run.specs.Status.{unreadable}
+use Rattle.lpis_run.specs.Streams.{Begins}
+use Rattle.lpis_run.specs.declared.failure.Failure.{Failure}
+use Rattle.lpis_run.specs.declared.failure.Failure.TheVariants as failure
+use Rattle.lpis_run.specs.declared.failure.Name.TheVariants.{Out}
 use Rattle.lpis_publishing.specs.LineageLines.{publish_refusal_text}
 use Rattle.lpis_publishing.specs.Output.{Output}
 use Rattle.lpis_register.specs.declared.fault.PublishFault.{PublishFault}

@@ -5,7 +5,7 @@ ghost use Rattle.lpis_publishing.specs.Submission.{AreAllRead, IsSubmissionUntou
 ghost use Rattle.lpis_publishing.specs.Submission.{IsUnreadSubmission, submission_texts};
 ghost use Rattle.lpis_publishing.specs.private.Submitting.{submission_of};
 
-use lpis_commands::{Failure, Folder, InputBytes, Name, read_folder, read_lent};
+use lpis_run::{Failure, Folder, InputBytes, Name, read_folder, read_lent};
 use std::alloc::Global;
 use std::io::Read;
 

@@ -14,10 +14,10 @@ ghost use Rattle.lpis_publishing.specs.LineageLines.{published_line};
 ghost use Rattle.lpis_publishing.specs.private.Marked.{is_marked};
 
 use lpis_checker::ExactFault;
-use lpis_commands::{Answer, PrintFault};
 use lpis_covers::Id;
 use lpis_lineage::{Change, Kind, LineageFault, Row};
 use lpis_register::PublishFault;
+use lpis_run::{Answer, PrintFault};
 use std::alloc::{AllocError, Global};
 use std::collections::HashSet;
 use std::io::Write;

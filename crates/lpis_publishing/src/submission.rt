@@ -3,18 +3,18 @@
 ghost use Rattle.std.specs.Prelude.{◌≡◌, IfErr, IfOk, Ok};
 ghost use Rattle.lpis_covers.specs.Faults.{rows_of};
 ghost use Rattle.lpis_lineage.specs.LineageTable.{lineage_table};
-ghost use Rattle.lpis_commands.specs.CheckAnswer.{IsTableAnswer};
-ghost use Rattle.lpis_commands.specs.Stops.{IsRefusedAs};
+ghost use Rattle.lpis_run.specs.CheckAnswer.{IsTableAnswer};
+ghost use Rattle.lpis_run.specs.Stops.{IsRefusedAs};
 ghost use Rattle.lpis_publishing.specs.Submission.{IsSubmitted};
-ghost use Rattle.lpis_publishing.specs.private.Submitting.{IsFaultAnswer};
-ghost use Rattle.lpis_publishing.specs.private.Submitting.{submission_of, submitted_of};
+ghost use Rattle.lpis_publishing.specs.private.Submitting.{IsFaultAnswer, submission_of};
+ghost use Rattle.lpis_publishing.specs.private.Submitting.{submitted_of};
 
 use crate::inputs::SubmissionBytes;
 use lpis_cert::Cert;
-use lpis_commands::{Answer, ReadInputs, Stop, understand};
 use lpis_covers::TableFault;
 use lpis_lineage::{Row, read_rows};
 use lpis_parcels::Release;
+use lpis_run::{Answer, ReadInputs, Stop, understand};
 use std::alloc::Global;
 
 /// The release, the certificate and the rows of lineage that they say.

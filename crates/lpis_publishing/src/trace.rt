@@ -3,16 +3,16 @@
 ghost use Rattle.std.specs.Prelude.{◌≡◌, ◌++◌, IfErr, IfOk, List, OnOk, map, ℕ};
 ghost use Rattle.std.specs.Io.KnownBytes.{Appends};
 ghost use Rattle.std.specs.List.{flat_map};
-ghost use Rattle.lpis_commands.specs.Status.{done};
+ghost use Rattle.lpis_run.specs.Status.{done};
 ghost use Rattle.lpis_publishing.specs.Output.{output};
 ghost use Rattle.lpis_publishing.specs.TraceAnswer.{AreTraceAnswers, IsTraceAnswer, IsWholeTrace};
 ghost use Rattle.lpis_publishing.specs.TraceAnswer.{TraceHalts, Traces, id_line, status_of_both};
 ghost use Rattle.lpis_publishing.specs.TraceAnswer.{trace_line};
 
 use crate::lineage_lines::refuse;
-use lpis_commands::{Answer, DONE, Failure, PrintFault, REFUSED};
 use lpis_covers::Id;
 use lpis_register::{PublishFault, Register};
+use lpis_run::{Answer, DONE, Failure, PrintFault, REFUSED};
 use sqlite::Alter;
 use std::alloc::{AllocError, Global};
 use std::io::Write;

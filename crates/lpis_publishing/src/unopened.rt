@@ -5,8 +5,8 @@ ghost use Rattle.lpis_publishing.specs.Output.{output};
 ghost use Rattle.lpis_publishing.specs.Unopened.{HaltsUnopened, RefusesRegister};
 
 use crate::lineage_lines::refuse;
-use lpis_commands::{Failure, UNREADABLE};
 use lpis_register::PublishFault;
+use lpis_run::{Failure, UNREADABLE};
 use std::alloc::Global;
 use std::io::Write;
 

@@ -1,15 +1,15 @@
 -- Counts and areas of parcels.
-use Rattle.std.specs.Prelude.{◌≡◌, ◌≤◌, ◌+◌, ◌*◌, ℕ, List, ◌++◌, Some, codes, length, map}
-use Rattle.std.specs.Prelude.{nat_abs, slice_get, sum_by}
+use Rattle.std.specs.Prelude.{◌≡◌, ◌≤◌, ◌+◌, ◌*◌, ℕ, List, ◌++◌, Some, codes, length, map, nat_abs}
+use Rattle.std.specs.Prelude.{slice_get, sum_by}
 use Rattle.std.specs.Fmt.{decimal}
 use Rattle.lpis_rings.specs.AreaBounds.{most_area}
 use Rattle.lpis_covers.specs.Table.{most_rows}
 use Rattle.lpis_parcels.specs.declared.parcel.Parcel.{Parcel}
 use Rattle.lpis_parcels.specs.Release.{Contents, pieces_named}
 use Rattle.lpis_parcels.specs.Weighted.{most_weighted}
-use Rattle.lpis_commands.specs.Area.{most_printed}
-use Rattle.lpis_commands.specs.Report.{areas_text}
-use Rattle.lpis_commands.specs.Areas.{AreasOf}
+use Rattle.lpis_run.specs.Area.{most_printed}
+use Rattle.lpis_run.specs.Report.{areas_text}
+use Rattle.lpis_run.specs.Areas.{AreasOf}
 use Rattle.lpis_country_plan.specs.Limits.{most_regions}
 use Rattle.lpis_country_run.specs.declared.totals.Totals.{Totals}
 

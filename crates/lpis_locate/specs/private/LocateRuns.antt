@@ -1,5 +1,5 @@
 -- The bytes that a run has read.
-use Rattle.lpis_commands.specs.Inputs.{inputs_of}
+use Rattle.lpis_run.specs.Inputs.{inputs_of}
 use Rattle.lpis_locate.specs.LocateAnswer.{LocateInputs}
 use Rattle.lpis_locate.specs.declared.locate.LocateBytes.{LocateBytes}
 

@@ -1,17 +1,17 @@
 -- How far a search through regions has come, and what the next region came to.
 use Rattle.std.specs.Prelude.{◌≡◌, ◌⊎◌, ◌++◌, ◌∷◌, [], ℕ, List, Option, Some, None, length, take}
 use Rattle.lpis_parcels.specs.Release.{Contents}
-use Rattle.lpis_commands.specs.CheckAnswer.{Answer}
-use Rattle.lpis_commands.specs.declared.answer.Answer.{Answer as Printed}
-use Rattle.lpis_commands.specs.declared.command.Detail.TheVariants.{Regions}
-use Rattle.lpis_commands.specs.declared.failure.Failure.TheVariants.{Memory}
-use Rattle.lpis_commands.specs.Status.{refused}
+use Rattle.lpis_run.specs.CheckAnswer.{Answer}
+use Rattle.lpis_run.specs.declared.answer.Answer.{Answer as Printed}
+use Rattle.lpis_run.specs.declared.detail.Detail.TheVariants.{Regions}
+use Rattle.lpis_run.specs.declared.failure.Failure.TheVariants.{Memory}
+use Rattle.lpis_run.specs.Status.{refused}
 use Rattle.lpis_country_seam.specs.declared.fault.SeamFault.{SeamFault}
 use Rattle.lpis_country_seam.specs.Faults.{IsFirstSeamFault, seam_faults}
 use Rattle.lpis_country_seam.specs.Open.{HasNext, IsSeamOf}
 use Rattle.lpis_country_run.specs.Beginning.{country_inputs_of}
-use Rattle.lpis_country_run.specs.CountryAnswer.{HavePassed, IsReachedBy, IsRefusedRegion}
-use Rattle.lpis_country_run.specs.CountryAnswer.{Passes, Setting}
+use Rattle.lpis_country_run.specs.CountryAnswer.{HavePassed, IsReachedBy, IsRefusedRegion, Passes}
+use Rattle.lpis_country_run.specs.CountryAnswer.{Setting}
 use Rattle.lpis_country_run.specs.CountryFailures.{IsCountryPart, IsOfNone, IsStoppedBefore}
 use Rattle.lpis_country_run.specs.CountryLines.{seam_refusal_text}
 use Rattle.lpis_country_run.specs.Regions.{Texts}

@@ -6,11 +6,11 @@ use Rattle.lpis_parcels.specs.Release.{Contents}
 use Rattle.lpis_register.specs.Failing.{FailsToStore}
 use Rattle.lpis_register.specs.Holdings.{Holdings, RegisterState}
 use Rattle.lpis_register.specs.declared.fault.PublishFault.TheVariants.{Year}
-use Rattle.lpis_commands.specs.CheckAnswer.{Answer}
-use Rattle.lpis_commands.specs.Status.{done, refused}
-use Rattle.lpis_commands.specs.Streams.{Begins}
-use Rattle.lpis_commands.specs.declared.failure.Failure.TheVariants.{Memory, Store, Write}
-use Rattle.lpis_commands.specs.declared.failure.Name.TheVariants.{Out}
+use Rattle.lpis_run.specs.CheckAnswer.{Answer}
+use Rattle.lpis_run.specs.Status.{done, refused}
+use Rattle.lpis_run.specs.Streams.{Begins}
+use Rattle.lpis_run.specs.declared.failure.Failure.TheVariants.{Memory, Store, Write}
+use Rattle.lpis_run.specs.declared.failure.Name.TheVariants.{Out}
 use Rattle.lpis_country_run.specs.CountryFailures.{IsOfNone}
 use Rattle.lpis_country_run.specs.declared.failure.CountryFailure.{CountryFailure}
 use Rattle.lpis_publishing.specs.LineageLines.{publish_refusal_text}

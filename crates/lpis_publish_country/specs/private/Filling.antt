@@ -1,7 +1,7 @@
 -- What a run that asks for blocks came to, of what was read.
 use Rattle.std.specs.Prelude.{ℕ, IfErr, IfOk, Result}
 use Rattle.lpis_register.specs.Holdings.{Holdings}
-use Rattle.lpis_commands.specs.Outputs.{Held}
+use Rattle.lpis_run.specs.Outputs.{Held}
 use Rattle.lpis_country_run.specs.declared.failure.CountryFailure.{CountryFailure}
 use Rattle.lpis_publish_country.specs.ExactCountryAnswer.{FillHalts, FillsCountry}
 use Rattle.lpis_publish_country.specs.PublishCountryAnswer.{CountryFiles, PublishCountryInputs}

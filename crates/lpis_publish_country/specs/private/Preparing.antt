@@ -5,15 +5,15 @@ use Rattle.lpis_covers.specs.declared.fault.TableFault.{TableFault}
 use Rattle.lpis_covers.specs.Faults.{rows_of}
 use Rattle.lpis_lineage.specs.declared.row.Row.{Row}
 use Rattle.lpis_lineage.specs.LineageTable.{lineage_table}
-use Rattle.lpis_commands.specs.CheckAnswer.{Answer}
-use Rattle.lpis_commands.specs.Refusals.{line_in_region, refusal_text}
-use Rattle.lpis_commands.specs.Status.{unreadable}
-use Rattle.lpis_commands.specs.Streams.{IsRead}
+use Rattle.lpis_run.specs.CheckAnswer.{Answer}
+use Rattle.lpis_run.specs.Refusals.{line_in_region, refusal_text}
+use Rattle.lpis_run.specs.Status.{unreadable}
+use Rattle.lpis_run.specs.Streams.{IsRead}
 use Rattle.lpis_country_plan.specs.Tree.{Tree}
 use Rattle.lpis_country_run.specs.Beginning.{IsBegun, country_inputs_of}
 use Rattle.lpis_publish_country.specs.CountryLineage.{AreTablesOf, IsTableOf, rows_in}
-use Rattle.lpis_publish_country.specs.PublishCountryAnswer.{AreSaid, CountryFiles}
-use Rattle.lpis_publish_country.specs.PublishCountryAnswer.{CountrySaid, PublishCountryInputs}
+use Rattle.lpis_publish_country.specs.PublishCountryAnswer.{AreSaid, CountryFiles, CountrySaid}
+use Rattle.lpis_publish_country.specs.PublishCountryAnswer.{PublishCountryInputs}
 use Rattle.lpis_publish_country.specs.declared.inputs.Prepared.{Prepared}
 use Rattle.lpis_publish_country.specs.declared.inputs.PublishCountryBytes.{PublishCountryBytes}
 use Rattle.lpis_publish_country.specs.declared.lineage.CountryLineage.{CountryLineage}

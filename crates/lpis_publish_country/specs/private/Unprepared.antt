@@ -1,9 +1,9 @@
 -- Why the files before the regions are not prepared.
 use Rattle.std.specs.Prelude.{◌≡◌}
-use Rattle.lpis_commands.specs.CheckAnswer.{Answer}
-use Rattle.lpis_commands.specs.declared.failure.Failure.TheVariants.{Memory as NoMemory}
-use Rattle.lpis_commands.specs.declared.stop.Stop.{Stop}
-use Rattle.lpis_commands.specs.declared.stop.Stop.TheVariants as stop
+use Rattle.lpis_run.specs.CheckAnswer.{Answer}
+use Rattle.lpis_run.specs.declared.failure.Failure.TheVariants.{Memory as NoMemory}
+use Rattle.lpis_run.specs.declared.stop.Stop.{Stop}
+use Rattle.lpis_run.specs.declared.stop.Stop.TheVariants as stop
 use Rattle.lpis_country_run.specs.CountryFailures.{IsOfNone}
 use Rattle.lpis_country_run.specs.declared.failure.CountryFailure.{CountryFailure}
 use Rattle.lpis_publish_country.specs.declared.unprepared.Unprepared.{Unprepared}

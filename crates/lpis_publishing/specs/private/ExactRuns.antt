@@ -2,8 +2,8 @@
 use Rattle.std.specs.Prelude.{ℕ, List, None, Some, length}
 use Rattle.lpis_cert.specs.declared.cert.Cert.{Cert}
 use Rattle.lpis_cert.specs.Contents.{cert_text}
-use Rattle.lpis_commands.specs.Outputs.{Outputs}
-use Rattle.lpis_commands.specs.Status.{done, refused}
+use Rattle.lpis_run.specs.Outputs.{Outputs}
+use Rattle.lpis_run.specs.Status.{done, refused}
 use Rattle.lpis_publishing.specs.ExactAnswer.{blocks_line}
 
 -- a line alone

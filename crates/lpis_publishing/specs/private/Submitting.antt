@@ -1,6 +1,6 @@
 -- What a submission says, or the answer where it says nothing.
-use Rattle.lpis_commands.specs.CheckAnswer.{Answer}
-use Rattle.lpis_commands.specs.Inputs.{inputs_of}
+use Rattle.lpis_run.specs.CheckAnswer.{Answer}
+use Rattle.lpis_run.specs.Inputs.{inputs_of}
 use Rattle.lpis_publishing.specs.Submission.{IsSubmissionAnswer, Submission, Submitted, submitted}
 use Rattle.lpis_publishing.specs.declared.inputs.SubmissionBytes.{SubmissionBytes}
 use Rattle.lpis_publishing.specs.declared.submission.ReadSubmission.{ReadSubmission}

@@ -1,5 +1,5 @@
 use Rattle.std.proofs.Common.{subst}
-use Rattle.lpis_commands.specs.Stops.{IsRefusedAs}
+use Rattle.lpis_run.specs.Stops.{IsRefusedAs}
 use Rattle.lpis_country_run.specs.Beginning.{IsUnbegun, country_inputs_of}
 use Rattle.lpis_country_run.proofs.BegunLemmas.{ends_read, halts_read}
 use Rattle.lpis_country_run.proofs.country.run_country.Goals as goal

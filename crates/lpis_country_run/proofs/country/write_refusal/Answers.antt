@@ -1,5 +1,5 @@
 use Rattle.std.proofs.Common.{◌∙◌, inr, subst, sym, ℕ}
-use Rattle.lpis_commands.specs.CheckAnswer.{Answer}
+use Rattle.lpis_run.specs.CheckAnswer.{Answer}
 use Rattle.lpis_country_run.specs.CountryAnswer.{IsCountryAnswer}
 use Rattle.lpis_country_run.specs.CountryFailures.{IsOfNone}
 use Rattle.lpis_country_run.proofs.BegunLemmas.{unbegun_answer, unbegun_no}

@@ -1,7 +1,7 @@
 use Rattle.std.proofs.Common.{◌∙◌, [], ap, subst, sym}
 use Rattle.std.proofs.lemmas.List.{get_or-map}
 use Rattle.std.specs.String.{string_bytes}
-use Rattle.lpis_commands.specs.Inputs.{inputs_of}
+use Rattle.lpis_run.specs.Inputs.{inputs_of}
 use Rattle.lpis_country_run.specs.CountryFailures.{IsUnreadFolder}
 use Rattle.lpis_country_run.specs.Regions.{AreOfFolder}
 use Rattle.lpis_country_run.proofs.RunLemmas.{is_stopped}

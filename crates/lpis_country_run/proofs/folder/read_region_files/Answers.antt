@@ -1,6 +1,6 @@
 use Rattle.std.proofs.Common.{inr}
 use Rattle.std.proofs.lemmas.Result.{IfErr-weaker}
-use Rattle.lpis_commands.specs.Failures.{IsUnchecked}
+use Rattle.lpis_run.specs.Failures.{IsUnchecked}
 use Rattle.lpis_country_run.specs.CountryFailures.{IsUnreadFolder}
 use Rattle.lpis_country_run.proofs.folder.read_region_files.Goals as goal
 

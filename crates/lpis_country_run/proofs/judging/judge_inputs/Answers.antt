@@ -1,4 +1,4 @@
-use Rattle.lpis_commands.specs.Inputs.{inputs_of}
+use Rattle.lpis_run.specs.Inputs.{inputs_of}
 use Rattle.lpis_country_run.proofs.RunLemmas.{check_refused, judged}
 use Rattle.lpis_country_run.proofs.judging.judge_inputs.Goals as goal
 

@@ -1,5 +1,5 @@
 use Rattle.std.proofs.Common.{subst, sym}
-use Rattle.lpis_commands.specs.Inputs.{inputs_of}
+use Rattle.lpis_run.specs.Inputs.{inputs_of}
 use Rattle.lpis_country_run.specs.Regions.{AreOfFolder}
 use Rattle.lpis_country_run.proofs.judging.pass.Goals as goal
 

@@ -1,6 +1,6 @@
 use Rattle.std.proofs.Common.{arith}
-use Rattle.lpis_commands.proofs.Shared.{text-goes-on}
-use Rattle.lpis_commands.specs.Report.{parcel_line}
+use Rattle.lpis_run.proofs.Shared.{text-goes-on}
+use Rattle.lpis_run.specs.Report.{parcel_line}
 use Rattle.lpis_country_run.proofs.PlaceLemmas.{as_many_places, parcel_there, place_there}
 use Rattle.lpis_country_run.proofs.lines.print_parcels.Goals as goal
 

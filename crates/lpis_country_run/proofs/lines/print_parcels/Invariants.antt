@@ -1,7 +1,7 @@
 use Rattle.std.proofs.Common.{List, flat_map, take}
 use Rattle.std.specs.Io.KnownBytes.{Appends}
 use Rattle.lpis_parcels.specs.declared.parcel.Parcel.{Parcel}
-use Rattle.lpis_commands.specs.Report.{parcel_line}
+use Rattle.lpis_run.specs.Report.{parcel_line}
 use Rattle.lpis_country_run.specs.private.Totals.{AreAt}
 use Rattle.lpis_country_run.proofs.lines.print_parcels.Given as goal
 

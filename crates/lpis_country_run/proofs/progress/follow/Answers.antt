@@ -1,5 +1,5 @@
 use Rattle.std.proofs.Common.{◌∙◌, ap, ap₂, sym, List, ℕ}
-use Rattle.lpis_commands.specs.declared.command.Detail.{Detail}
+use Rattle.lpis_run.specs.declared.detail.Detail.{Detail}
 use Rattle.lpis_country.specs.Country.{country_of, new_parcels}
 use Rattle.lpis_country_seam.specs.Faults.{seam_faults}
 use Rattle.lpis_country_run.specs.CountryLines.{region_report, seam_refusal_text}

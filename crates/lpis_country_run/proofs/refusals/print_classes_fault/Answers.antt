@@ -1,7 +1,7 @@
 use Rattle.std.proofs.Common.{◌++◌, codes, decimal, subst}
 use Rattle.std.proofs.lemmas.List.{append_assoc}
-use Rattle.lpis_commands.proofs.Shared.{appends-more}
-use Rattle.lpis_commands.specs.Refusals.{region_end}
+use Rattle.lpis_run.proofs.Shared.{appends-more}
+use Rattle.lpis_run.specs.Refusals.{region_end}
 use Rattle.std.specs.Io.KnownBytes.{Appends}
 use Rattle.lpis_country_run.proofs.refusals.print_classes_fault.Goals as goal
 

@@ -1,6 +1,6 @@
 use Rattle.std.proofs.Common.{IfOk, List, Ok, subst, sym}
 use Rattle.lpis_locating.specs.Points.{Given}
-use Rattle.lpis_commands.specs.declared.answer.Answer.{Answer}
+use Rattle.lpis_run.specs.declared.answer.Answer.{Answer}
 use Rattle.lpis_locate.specs.LocateAnswer.{IsPointsAnswer}
 use Rattle.lpis_locate.specs.LocateLines.{AreFound}
 use Rattle.lpis_locate.proofs.LineLemmas.{first_found}

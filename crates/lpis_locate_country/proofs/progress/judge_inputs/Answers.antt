@@ -1,5 +1,5 @@
 use Rattle.std.proofs.lemmas.Result.{IfErr-weaker, IfOk-weaker}
-use Rattle.lpis_commands.specs.Inputs.{inputs_of}
+use Rattle.lpis_run.specs.Inputs.{inputs_of}
 use Rattle.lpis_locate_country.proofs.PassingLemmas.{check_refused, judged, seam_refused}
 use Rattle.lpis_locate_country.proofs.progress.judge_inputs.Goals as goal
 

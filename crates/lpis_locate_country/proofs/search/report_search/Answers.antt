@@ -1,6 +1,6 @@
 use Rattle.std.proofs.Common.{◌∙◌, ap, subst, sym, IfOk, List, Ok, Result}
 use Rattle.std.proofs.lemmas.Result.{IfOk-weaker}
-use Rattle.lpis_commands.specs.declared.answer.Answer.{Answer}
+use Rattle.lpis_run.specs.declared.answer.Answer.{Answer}
 use Rattle.lpis_locate.specs.LocateAnswer.{IsPointsAnswer}
 use Rattle.lpis_locate.specs.LocateLines.{AreFound}
 use Rattle.lpis_locating.specs.Points.{Given}

@@ -1,7 +1,7 @@
 use Rattle.std.proofs.Common.{subst}
 use Rattle.std.proofs.lemmas.Result.{err_from_is_err_and}
-use Rattle.lpis_commands.specs.Outputs.{held, outputs_of}
-use Rattle.lpis_commands.specs.declared.command.Detail.TheVariants.{Regions}
+use Rattle.lpis_run.specs.Outputs.{held, outputs_of}
+use Rattle.lpis_run.specs.declared.detail.Detail.TheVariants.{Regions}
 use Rattle.lpis_country_run.specs.CountryAnswer.{setting_of}
 use Rattle.lpis_country_run.specs.RegionsOutcome.{RegionsJoin}
 use Rattle.lpis_country_run.proofs.Shared.{setting_begun}

@@ -1,7 +1,7 @@
 use Rattle.std.proofs.Common.{◌⊎◌, Err, refl, subst}
 use Rattle.std.proofs.lemmas.Result.{err_from_is_err_and}
-use Rattle.lpis_commands.specs.declared.failure.Failure.{Failure}
-use Rattle.lpis_commands.specs.declared.failure.Failure.TheVariants.{Memory}
+use Rattle.lpis_run.specs.declared.failure.Failure.{Failure}
+use Rattle.lpis_run.specs.declared.failure.Failure.TheVariants.{Memory}
 use Rattle.lpis_country_run.specs.CountryFailures.{IsOfNone}
 use Rattle.lpis_publish_country.specs.PublishCountryAnswer.{IsRefusedBefore}
 use Rattle.lpis_publish_country.specs.PublishCountryRuns.{IsUnreadLineage}

@@ -1,5 +1,5 @@
 use Rattle.std.proofs.Common.{◌⊎◌, inl, refl}
-use Rattle.lpis_commands.specs.declared.failure.Failure.TheVariants.{Memory}
+use Rattle.lpis_run.specs.declared.failure.Failure.TheVariants.{Memory}
 use Rattle.lpis_country_run.specs.CountryFailures.{IsOfNone}
 use Rattle.lpis_publish_country.specs.PublishCountryAnswer.{IsRefusedBefore}
 use Rattle.lpis_publish_country.specs.PublishCountryRuns.{IsUnreadLineage}

@@ -1,5 +1,5 @@
 use Rattle.std.proofs.Common.{subst, sym}
-use Rattle.lpis_commands.specs.Stops.{IsRefusedAs}
+use Rattle.lpis_run.specs.Stops.{IsRefusedAs}
 use Rattle.lpis_country_run.proofs.Shared.{err_is}
 use Rattle.lpis_publish_country.specs.PublishCountryAnswer.{IsRefusedBefore}
 use Rattle.lpis_publish_country.specs.private.Preparing.{inputs_of}

@@ -1,5 +1,5 @@
 use Rattle.std.proofs.Common.{◌⊎◌, None, Err, refl}
-use Rattle.lpis_commands.specs.declared.failure.Failure.TheVariants.{Memory}
+use Rattle.lpis_run.specs.declared.failure.Failure.TheVariants.{Memory}
 use Rattle.lpis_country_run.specs.CountryFailures.{IsOfNone}
 use Rattle.lpis_publish_country.specs.PublishCountryAnswer.{CountryFiles, CountryRequest, IsRefusedBefore}
 use Rattle.lpis_publish_country.specs.PublishCountryRuns.{IsUnreadLineage}

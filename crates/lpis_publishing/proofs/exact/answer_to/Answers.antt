@@ -1,7 +1,7 @@
 use Rattle.std.proofs.Common.{refl, subst}
 use Rattle.lpis_publishing.proofs.Common.{IfOk-weaker}
-use Rattle.lpis_commands.specs.Outputs.{outputs_of}
-use Rattle.lpis_commands.specs.Stops.{IsRefusedAs}
+use Rattle.lpis_run.specs.Outputs.{outputs_of}
+use Rattle.lpis_run.specs.Stops.{IsRefusedAs}
 use Rattle.lpis_publishing.specs.private.Submitting.{IsFaultAnswer, submission_of, submitted_of}
 use Rattle.lpis_publishing.proofs.ExactLemmas.{answered-said, answered-refused}
 use Rattle.lpis_publishing.proofs.exact.answer_to.Goals as goal

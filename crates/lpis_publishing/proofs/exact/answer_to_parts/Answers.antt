@@ -1,5 +1,5 @@
 use Rattle.lpis_publishing.proofs.Common.{IfOk-weaker}
-use Rattle.lpis_commands.specs.Outputs.{outputs_of}
+use Rattle.lpis_run.specs.Outputs.{outputs_of}
 use Rattle.lpis_publishing.specs.Submission.{submitted}
 use Rattle.lpis_publishing.proofs.ExactLemmas.{outcome-filled, outcome-unfilled}
 use Rattle.lpis_publishing.proofs.exact.answer_to_parts.Goals as goal

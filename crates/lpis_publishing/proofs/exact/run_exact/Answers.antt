@@ -1,7 +1,7 @@
 use Rattle.std.proofs.Common.{inl, inr, refl}
 use Rattle.std.proofs.KnownBytes.{Keeps-refl}
 use Rattle.std.proofs.lemmas.Result.{IfErr-weaker, err_from_is_err_and}
-use Rattle.lpis_commands.specs.Outputs.{outputs_of}
+use Rattle.lpis_run.specs.Outputs.{outputs_of}
 use Rattle.lpis_publishing.proofs.Common.{IfOk-weaker}
 use Rattle.lpis_publishing.specs.ExactAnswer.{Fills}
 use Rattle.lpis_publishing.specs.private.Submitting.{submission_of}

@@ -1,6 +1,6 @@
 use Rattle.lpis_covers.specs.Ids.{has_id}
 use Rattle.lpis_publishing.proofs.Common.{kind_at, lineage_line}
-use Rattle.lpis_commands.proofs.Shared.{text-goes-on}
+use Rattle.lpis_run.proofs.Shared.{text-goes-on}
 use Rattle.lpis_publishing.proofs.lineage_lines.print_lineage.Goals as goal
 
 pub loop-id-preserved : goal.loop-id-preserved

@@ -1,5 +1,5 @@
 use Rattle.std.proofs.Common.{◌++◌, codes}
-use Rattle.lpis_commands.proofs.Shared.{appends-more}
+use Rattle.lpis_run.proofs.Shared.{appends-more}
 use Rattle.lpis_publishing.specs.LineageLines.{lineage_fault_text}
 use Rattle.lpis_publishing.proofs.lineage_lines.print_lineage_refusal.Goals as goal
 

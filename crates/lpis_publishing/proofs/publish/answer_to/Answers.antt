@@ -3,8 +3,8 @@ use Rattle.lpis_publishing.proofs.Common.{IfOk-weaker}
 use Rattle.lpis_publishing.proofs.PublishLemmas.{both-ok, fails-submitted}
 use Rattle.lpis_publishing.proofs.SubmissionLemmas.{submission-more, submission-said, submission-status}
 use Rattle.lpis_publishing.specs.private.Submitting.{IsFaultAnswer, submission_of, submitted_of}
-use Rattle.lpis_commands.specs.CheckAnswer.{Answer, IsCheckAnswer}
-use Rattle.lpis_commands.specs.Stops.{IsRefusedAs}
+use Rattle.lpis_run.specs.CheckAnswer.{Answer, IsCheckAnswer}
+use Rattle.lpis_run.specs.Stops.{IsRefusedAs}
 use Rattle.lpis_register.specs.Holdings.{Holdings}
 use Rattle.lpis_publishing.specs.PublishAnswer.{IsHistoryAnswer, candidate_of}
 use Rattle.lpis_publishing.specs.Submission.{Submitted}

@@ -1,8 +1,8 @@
 use Rattle.std.proofs.Common.{ap₂, inl, subst, List}
 use Rattle.lpis_parcels.specs.Release.{Contents}
 use Rattle.lpis_lineage.specs.declared.row.Row.{Row}
-use Rattle.lpis_commands.specs.CheckAnswer.{IsCheckAnswer}
-use Rattle.lpis_commands.specs.Stops.{IsRefusedAs}
+use Rattle.lpis_run.specs.CheckAnswer.{IsCheckAnswer}
+use Rattle.lpis_run.specs.Stops.{IsRefusedAs}
 use Rattle.lpis_publishing.proofs.Common.{IfOk-weaker}
 use Rattle.lpis_publishing.proofs.PublishLemmas.{fails-said}
 use Rattle.lpis_publishing.proofs.SubmissionLemmas.{check-more, refused-is-not-done}

@@ -1,5 +1,5 @@
 use Rattle.lpis_publishing.specs.TraceAnswer.{id_line}
-use Rattle.lpis_commands.proofs.Shared.{text-goes-on}
+use Rattle.lpis_run.proofs.Shared.{text-goes-on}
 use Rattle.lpis_publishing.proofs.trace.print_ids.Goals as goal
 
 pub loop-id-preserved : goal.loop-id-preserved

@@ -1,0 +1,4 @@
+pub mod Command
+pub mod Files
+pub mod Usage
+pub mod private

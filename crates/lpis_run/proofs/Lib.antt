@@ -1,0 +1,9 @@
+pub mod Common
+pub mod AreaLemmas
+pub mod AreasLemmas
+pub mod CheckLemmas
+pub mod ReadLemmas
+pub mod RefusalLemmas
+pub mod ReportLemmas
+pub mod Shared
+pub mod WriteLemmas

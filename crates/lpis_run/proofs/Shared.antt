@@ -1,0 +1,4 @@
+-- The lemmas that the crates above cite, passed on from one place. Declares nothing.
+pub use Rattle.csv.proofs.WriteFacts.{appends-more}
+pub use Rattle.lpis_run.proofs.CheckLemmas.{IsReport, answer-of-proved, answer-of-text, answer-said, cert-more, input-more, input-status, refused-as, refused-more, table-more, table-status}
+pub use Rattle.lpis_run.proofs.ReportLemmas.{flat_map-push, text-goes-on}

@@ -1,0 +1,13 @@
+pub mod Area
+pub mod Areas
+pub mod CheckAnswer
+pub mod Failures
+pub mod Folders
+pub mod Inputs
+pub mod Outputs
+pub mod Refusals
+pub mod Report
+pub mod Status
+pub mod Stops
+pub mod Streams
+pub mod private

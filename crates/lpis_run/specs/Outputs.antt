@@ -1,0 +1,51 @@
+-- What a run that writes a certificate has decided, and what its two writers got of it.
+use Rattle.std.specs.Prelude.{◌≡◌, ◌⊎◌, ℕ, List, Option, MatchOption}
+use Rattle.std.specs.Option.{option_map}
+use Rattle.std.specs.Io.KnownBytes.{Appends, Keeps}
+use Rattle.lpis_run.specs.declared.failure.Failure.{Failure}
+use Rattle.lpis_run.specs.declared.failure.Failure.TheVariants.{Write}
+use Rattle.lpis_run.specs.declared.failure.Name.TheVariants.{Cert, Out}
+use Rattle.lpis_run.specs.declared.outcome.Outcome.{Outcome}
+use Rattle.lpis_run.specs.Streams.{Begins}
+
+-- the certificate's text, if there is one; the line that is printed; the status
+pub record Outputs : Type 0 where
+  pub cert : Option (List ℕ)
+  pub line : List ℕ
+  pub status : ℕ
+
+abbrev pub outputs_of : Outcome → Outputs
+outputs_of o = record {
+  cert = option_map (λ v. v.items) o.cert;
+  line = o.printed.text.items;
+  status = o.printed.status;
+}
+
+-- a writer got a text where there is one, else nothing
+abbrev pub Gets : Option (List ℕ) → Option (List ℕ) → Option (List ℕ) → Type 0
+Gets old new text = MatchOption text (Keeps old new) (Appends old new)
+
+-- it got a beginning of a text that there is
+abbrev pub GetsPart : Option (List ℕ) → Option (List ℕ) → Option (List ℕ) → Type 0
+GetsPart old new text = MatchOption text ⊥ (Begins old new)
+
+-- what a run's two writers hold, the certificate's and the other: before, and after
+pub record Held : Type 0 where
+  pub cert : Option (List ℕ)
+  pub out : Option (List ℕ)
+
+abbrev pub held : Option (List ℕ) → Option (List ℕ) → Held
+held cert out = record { cert = cert; out = out }
+
+-- the run answered with this status, and wrote the certificate, if there is one, and the line
+pub record Writes (a : Outputs) (status : ℕ) (old new : Held) : Type 0 where
+  pub status_told : status ≡ a.status
+  pub certificate : Gets old.cert new.cert a.cert
+  pub line : Appends old.out new.out a.line
+
+-- the run broke off: the certificate's file failed, and the line was not written; or the output
+-- failed, after all of the certificate
+abbrev pub BreaksOff : Outputs → Failure → Held → Held → Type 0
+BreaksOff a failure old new =
+    ((failure ≡ Write Cert) × GetsPart old.cert new.cert a.cert × Keeps old.out new.out)
+    ⊎ ((failure ≡ Write Out) × Gets old.cert new.cert a.cert × Begins old.out new.out a.line)

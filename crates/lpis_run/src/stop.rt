@@ -1,0 +1,37 @@
+//! Why a step of a run gives nothing.
+
+ghost use Rattle.std.specs.Prelude.{◌≡◌, IfOk};
+ghost use Rattle.lpis_run.specs.declared.stop.Stop.{Stop};
+
+use crate::answer::Answer;
+use std::alloc::AllocError;
+
+/// Why a step of a run gives nothing: the run ends with an answer that refuses what it was handed,
+/// or memory ran out.
+#[derive(Drop)]
+pub enum Stop {
+    /// Memory ran out.
+    Memory,
+    /// The line of the first fault, and its status.
+    Refused(Answer),
+}
+
+impl From<AllocError> for Stop {
+    ghost from_gives = { λ _ e. e ≡ Stop.Memory };
+
+    fn from(_e: AllocError) -> Stop {
+        Stop::Memory
+    }
+}
+
+impl Stop {
+    /// The answer that refuses. Out of memory has none.
+    pub fn into_answer(self) -> Result<Answer, AllocError>
+        ensures { IfOk result (λ a. self ≡ Stop.Refused a) }
+    {
+        match self {
+            Stop::Memory => Err(AllocError),
+            Stop::Refused(answer) => Ok(answer),
+        }
+    }
+}

@@ -1,0 +1,4 @@
+pub mod AreaAnswer
+pub mod CheckRun
+pub mod CutAnswer
+pub mod CutRefusals

@@ -1,0 +1,65 @@
+//! The run of `check`, over any readers and writer.
+
+ghost use Rattle.std.specs.Prelude.{◌≡◌, IfErr, IfOk};
+ghost use Rattle.lpis_checker.specs.SoundMap.{IsSoundMap};
+ghost use Rattle.lpis_run.specs.CheckAnswer.{AreRead, Inputs, IsAnswer, IsProved};
+ghost use Rattle.lpis_run.specs.Folders.{IsFolderUntouched, folder_texts};
+ghost use Rattle.lpis_run.specs.Inputs.{inputs_of};
+ghost use Rattle.lpis_run.specs.Report.{report_text};
+ghost use Rattle.lpis_run.specs.Status.{done};
+ghost use Rattle.lpis_run_check.specs.CheckRun.{CheckEnds, CheckHalts};
+
+use lpis_parcels::Release;
+use lpis_run::{
+    Answer, DONE, Failure, Folder, InputBytes, checked_release, print_report, read_folder,
+};
+use std::alloc::{AllocError, Global};
+use std::io::{Read, Write};
+
+/// The report of a release that is a sound map.
+fn report(alloc: Global, release: &Release) -> Result<Answer, AllocError>
+    requires { IsSoundMap release.now }
+    ensures { IfOk result (λ a. (a.text.items ≡ report_text release.now) × (a.status ≡ done)) }
+{
+    let mut text = Vec::new(alloc);
+    let printed = print_report(release, &mut text);
+    Answer::of(text, DONE, printed)
+}
+
+/// The answer to three tables and a certificate.
+fn answer_to(alloc: Global, inputs: InputBytes) -> Result<Answer, AllocError>
+    ensures answer { IfOk result (λ a. IsAnswer (inputs_of inputs) (a.text.items, a.status)) }
+    ensures proved { IfOk result (λ a. a.status ≡ done → IsProved (inputs_of inputs)) }
+{
+    match checked_release(alloc, inputs) {
+        Ok(release) => report(alloc, &release),
+        Err(stop) => stop.into_answer(),
+    }
+}
+
+/// Checks the release of three tables against a certificate, and prints the report of a release
+/// that is a sound map, or the line of the first fault: of the tables, then of the certificate's
+/// text, then of the certificate.
+///
+/// All inputs are read to their ends, in the order in which they stand in the folder, before
+/// anything is decided, and everything is decided before anything is written. Ok is the status:
+/// `DONE`, `REFUSED` or `UNREADABLE`. A failed read names the input that failed; the readers behind
+/// it are as they were.
+pub fn run_check<R: Read + Drop, W: Write>(
+    alloc: Global,
+    folder: &mut Folder<R>,
+    out: &mut W,
+) -> Result<u8, Failure>
+    ensures answer { IfOk result (λ status. (x : Inputs)
+        × AreRead x (folder_texts R.remaining folder.old)
+        × CheckEnds x status (W.contents out.old) (W.contents out.new)) }
+    // A beginning of the answer was written, or nothing.
+    ensures failure { IfErr result
+        (λ failure. CheckHalts failure (folder_texts R.remaining folder.old) (W.contents out.old)
+        (W.contents out.new)) }
+    ensures untouched { IfErr result (IsFolderUntouched folder.old folder.new) }
+{
+    let inputs = read_folder(alloc, folder)?;
+    let answer = answer_to(alloc, inputs)?;
+    answer.write_to(out)
+}

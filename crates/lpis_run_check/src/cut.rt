@@ -1,0 +1,113 @@
+//! The run of `cut`, over any readers and writers.
+
+ghost use Rattle.std.specs.Prelude.{◌≡◌, IfErr, IfOk, Ok};
+ghost use Rattle.lpis_run.specs.CheckAnswer.{release_in};
+ghost use Rattle.lpis_run_check.specs.CutAnswer.{Cuts, CutHalts, CertIsCut, IsCutAnswer};
+ghost use Rattle.lpis_run_check.specs.CutAnswer.{counts_text};
+ghost use Rattle.lpis_run_check.specs.CutRefusals.{cut_refusal_text};
+ghost use Rattle.lpis_run.specs.Failures.{IsUnreadRelease};
+ghost use Rattle.lpis_run.specs.Folders.{AreTablesUntouched, table_texts};
+ghost use Rattle.lpis_run.specs.Inputs.{tables_of};
+ghost use Rattle.lpis_run.specs.Outputs.{Outputs, Writes, held, outputs_of};
+ghost use Rattle.lpis_run.specs.Status.{done, refused};
+
+use crate::cut_line::{print_counts, print_refusal};
+use lpis_cert::Cert;
+use lpis_cutter::{CutFault, Refusal, cut};
+use lpis_parcels::Release;
+use lpis_run::{
+    Answer, DONE, Failure, Outcome, REFUSED, TableBytes, TableReaders, read_tables, release_in,
+};
+use std::alloc::{AllocError, Global};
+use std::io::{Read, Write};
+
+/// The line of a release that gets no certificate.
+fn refuse_release(alloc: Global, refusal: &Refusal) -> Result<Answer, AllocError>
+    ensures { IfOk result (λ a. (a.text.items ≡ cut_refusal_text refusal.now)
+        × (a.status ≡ refused)) }
+{
+    let mut text = Vec::new(alloc);
+    let printed = print_refusal(refusal, &mut text);
+    Answer::of(text, REFUSED, printed)
+}
+
+/// The line of a certificate's counts.
+fn count_cert(alloc: Global, cert: &Cert) -> Result<Answer, AllocError>
+    ensures { IfOk result (λ a. (a.text.items ≡ counts_text cert.now) × (a.status ≡ done)) }
+{
+    let mut text = Vec::new(alloc);
+    let printed = print_counts(cert, &mut text);
+    Answer::of(text, DONE, printed)
+}
+
+/// The outcome of a certificate that was cut.
+fn outcome_of(alloc: Global, cert: &Cert) -> Result<Outcome, AllocError>
+    ensures { IfOk result (λ o. CertIsCut (outputs_of o)) }
+{
+    let printed = count_cert(alloc, cert)?;
+    Outcome::with_cert(alloc, cert, printed)
+}
+
+/// The answer to a release.
+fn answer_to_release(alloc: Global, release: &Release) -> Result<Outcome, AllocError>
+    ensures { IfOk result (λ o. IsCutAnswer (Ok release.now) (outputs_of o)) }
+{
+    match cut(alloc, release) {
+        Ok(cert) => outcome_of(alloc, &cert),
+        Err(CutFault::Memory) => Err(AllocError),
+        Err(CutFault::Refused(refusal)) => {
+            let printed = refuse_release(alloc, &refusal)?;
+            Ok(Outcome::without_cert(printed))
+        }
+    }
+}
+
+/// The answer to three tables.
+fn answer_to(alloc: Global, tables: TableBytes) -> Result<Outcome, AllocError>
+    ensures { IfOk result (λ o. IsCutAnswer (release_in (tables_of tables)) (outputs_of o)) }
+{
+    match release_in(alloc, tables) {
+        Ok(release) => answer_to_release(alloc, &release),
+        Err(stop) => Ok(Outcome::without_cert(stop.into_answer()?)),
+    }
+}
+
+/// The answer to what three readers give.
+fn decide<R: Read + Drop>(alloc: Global, tables: &mut TableReaders<R>) -> Result<Outcome, Failure>
+    ensures cuts { IfOk result (λ o. Cuts (table_texts R.remaining tables.old) (outputs_of o)) }
+    ensures unread { IfErr result (IsUnreadRelease (table_texts R.remaining tables.old)) }
+    ensures untouched { IfErr result (AreTablesUntouched tables.old tables.new) }
+{
+    let tables = read_tables(alloc, tables)?;
+    let outcome = answer_to(alloc, tables)?;
+    Ok(outcome)
+}
+
+/// Cuts the release of three tables: writes a certificate of triangles and prints its counts, or
+/// prints the line of the tables' first fault or of the cutter's refusal.
+///
+/// The tables are read to their ends, in the order in which they stand here, and everything is
+/// decided before anything is written. The certificate is written first, then the line; where there
+/// is no certificate, `cert_out` is not written to at all. Ok is the status: `DONE`, `REFUSED` or
+/// `UNREADABLE`. A failed read names the table that failed; the readers behind it are as they were.
+pub fn run_cut<R: Read + Drop, E: Write, W: Write>(
+    alloc: Global,
+    tables: &mut TableReaders<R>,
+    cert_out: &mut E,
+    out: &mut W,
+) -> Result<u8, Failure>
+    ensures answer { IfOk result (λ status. (a : Outputs)
+        × Cuts (table_texts R.remaining tables.old) a
+        × Writes a status (held (E.contents cert_out.old) (W.contents out.old))
+        (held (E.contents cert_out.new) (W.contents out.new))) }
+    // A beginning of the certificate was written, or the certificate and a beginning of the line,
+    // or nothing.
+    ensures failure { IfErr result
+        (λ failure. CutHalts failure (table_texts R.remaining tables.old)
+        (held (E.contents cert_out.old) (W.contents out.old))
+        (held (E.contents cert_out.new) (W.contents out.new))) }
+    ensures untouched { IfErr result (AreTablesUntouched tables.old tables.new) }
+{
+    let outcome = decide(alloc, tables)?;
+    outcome.write_to(cert_out, out)
+}
