@@ -1,0 +1,166 @@
+"""The way from a source to tables: all tests first, what they find, and then the rounding, the report and the tables, of which all are written or none."""
+
+from __future__ import annotations
+
+import csv
+import os
+import shutil
+import tempfile
+
+from . import balance, findings, land, losses, naming, preparing, previous, recipe, rounding
+
+TABLES = ("parcels.csv", "covers.csv", "classes.csv")
+
+
+class Run:
+    """A run from a source to tables: what it was asked, and the folder beside the tables where they are made. `close` ends it."""
+
+    NAME = "prepare"
+
+    def __init__(self, words, names, say):
+        self.words, self.names, self.say, self.previous = words, names, say, None
+        land.apart(words.land, words.out)
+        self.table = self.read_table(words.classes) if words.classes else None
+        self.given = naming.given_identifiers(words.identifiers)
+        os.makedirs(words.out, exist_ok=True)
+        self.made, self.spare = tempfile.mkdtemp(prefix=".prepare-", dir=words.out), tempfile.mkdtemp()
+        recipe.stop_at_once(self.NAME, self.made, self.spare)
+
+    def close(self):
+        for folder in (self.made, self.spare):
+            shutil.rmtree(folder, ignore_errors=True)
+
+    def path(self, name):
+        return os.path.join(self.words.out, name)
+
+    @staticmethod
+    def read_table(path):
+        records, faults = naming.table_of(path)
+        if faults:
+            raise land.Trouble(*(f"{path}: {words}" for words in faults))
+        if records and "class" not in records[0]:
+            raise land.Trouble(f"{path}: no column class: there are {', '.join(records[0])}")
+        return records
+
+    def classes(self, layers):
+        """The table of classes that is there: named, of the land, or beside the tables."""
+        if self.table is not None:
+            return self.table
+        if "classes" in layers:
+            return [row.fields for row in layers["classes"].rows]
+        return self.read_table(self.path("classes.csv")) if os.path.exists(self.path("classes.csv")) else None
+
+    def tested(self):
+        """The source after all tests: the work, its balance, the names and the rows of the table of classes."""
+        self.say(f"reading {self.words.land}")
+        layers = land.read(self.words.land, self.names, ("parcels", "covers", "classes"), self.spare)
+        work = preparing.Preparation(layers, self.words.epsg, self.say)
+        work.tables()
+        if work.hopeless():
+            return work, None, None, None
+        work.systems(self.transformed)
+        whole = balance.Balance(layers)
+        work.shapes()
+        work.validity()
+        names = naming.Names(work, self.given)
+        names.run()
+        naming.join(work, whole)
+        work.tell_shapeless()
+        classes = naming.classes(work, names, self.classes(layers))
+        if classes is not None:
+            self.keep_classes(work, classes)
+        self.last_year(work)
+        return work, whole, names, classes
+
+    def last_year(self, work):
+        """Reads last year's borders; where that is not possible, or none of them is here, it is a finding."""
+        if self.words.previous is None:
+            return
+        try:
+            self.previous = previous.Previous(self.words.previous)
+            why = self.previous.why_not(work)
+        except land.Trouble as trouble:
+            why = str(trouble)
+        if why:
+            work.find("previous", "", None, f"{self.words.previous}: {why}", "")
+
+    def keep_classes(self, work, classes):
+        """A table of classes that stands beside the tables is written over where it is the one that was read, or was named, alone."""
+        if self.words.classes or "classes" not in work.layers or not os.path.exists(self.path("classes.csv")):
+            return
+        there = {(record.get("class") or "").strip(): (record.get("percent") or "").strip() for record in self.read_table(self.path("classes.csv"))}
+        if there != {name: str(value) for name, value in classes.items()}:
+            work.find("classes", "classes", None, f"{self.path('classes.csv')} has other rows than the table classes of the source: remove it, or name it by --classes", "")
+
+    def transformed(self, name, epsg):
+        made, _ = land.as_package(self.words.land, self.spare, self.names.get(name, name), "-t_srs", f"EPSG:{epsg}")
+        return land.read(made, self.names, (name,), self.spare)[name]
+
+    def write_findings(self, work, names):
+        self.put_findings(work)
+        files = []
+        if names and (any(names.renamed.values()) or os.path.exists(self.path("identifiers.csv"))):
+            naming.write_identifiers(names.renamed, os.path.join(self.made, "identifiers.csv"))
+            files.append("identifiers.csv")
+        recipe.put(self.made, self.words.out, files)
+        for line in findings.lines_of(work.findings, self.words.accept):
+            print(line)
+
+    def put_findings(self, work):
+        findings.write(work.findings, os.path.join(self.made, "prepared.csv"), self.words.accept)
+        recipe.put(self.made, self.words.out, ["prepared.csv"])
+
+    def refused(self, work, whole):
+        """The end of a run whose findings are not accepted, or cannot be."""
+        if whole:
+            conflicts = losses.conflicts_alone(work.layers, self.say)
+            print(*map(losses.line_of, conflicts), *whole.source_words(work.layers), sep="\n")
+            work.conflicts(conflicts)
+            self.put_findings(work)
+        remedy = "" if work.hopeless() else ", or mend and leave out by --accept"
+        return self.unwritten(f"to look at: {len(work.grave())}, no table is written; see {self.path('prepared.csv')}: mend the source{remedy}")
+
+    def unwritten(self, words):
+        if os.path.exists(self.path("parcels.csv")):
+            print(f"the tables that stand in {self.words.out} are those of an earlier run")
+        print(words)
+        return 1
+
+    def go(self):
+        work, whole, names, classes = self.tested()
+        self.write_findings(work, names)
+        if work.hopeless() or (work.grave() and not self.words.accept):
+            return self.refused(work, whole)
+        seen = self.rounded(work)
+        self.make_classes(work, classes)
+        status = losses.report(work.layers, self.words.out, self.words.accept, self.say, work.epsg, work.counts, whole, self.made, seen=seen)
+        if status:
+            return self.unwritten("no table is written")
+        self.put(whole)
+        return 0
+
+    def rounded(self, work):
+        """Writes the tables of parcels and pieces, and gives the conflicts that the map of them shows."""
+        seen = rounding.release(work.layers, self.made, self.say, self.previous)
+        if self.previous:
+            print(self.previous.words())
+        return seen
+
+    def make_classes(self, work, classes):
+        """Writes the table of classes, or says which rows it would have."""
+        if classes is None:
+            used = sorted({row["class"] for row in work.layers["covers"].rows})
+            print(f"classes: write {self.path('classes.csv')}, a row class,percent for each of: {' '.join(used)}")
+        else:
+            write_classes(classes, os.path.join(self.made, "classes.csv"))
+
+    def put(self, _whole):
+        """Puts the tables in their place; the balance stands there."""
+        recipe.put(self.made, self.words.out, [name for name in TABLES if os.path.exists(os.path.join(self.made, name))])
+
+
+def write_classes(classes, path):
+    with open(path, "w", newline="", encoding="utf-8") as file:
+        table = csv.writer(file, lineterminator="\n")
+        table.writerow(["class", "percent"])
+        table.writerows(sorted(classes.items()))
