@@ -2,6 +2,7 @@
 this process: it only has loaded what every run loads, and forks, so that a run does not begin with a second of imports."""
 
 import atexit
+import gc
 import importlib
 import io
 import os
@@ -43,6 +44,8 @@ def preload():
             importlib.import_module(name)
         except ImportError:
             continue  # a run that needs it will tell
+    gc.collect()
+    gc.freeze()
 
 
 class Runner:
