@@ -71,6 +71,7 @@ class Runner:
             sys.stderr.flush()
             pid = os.fork()
             if pid == 0:
+                os.environ["TMPDIR"], tempfile.tempdir = self.folder, None
                 in_child(code, words, out.fileno(), err.fileno(), seconds, room)
             status, usage = waited(pid, WALL * seconds)
             texts = []

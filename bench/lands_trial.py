@@ -11,6 +11,7 @@ from common import answer, lpis
 from lands_judge import Judge, Written, records
 
 STATUSES = {0, 1, 64}
+UNFORESEEN = 70  # the status of an error that nobody foresaw
 PROGRESS = re.compile(r"(prepare|compare|country): (reading|testing|borders|faces|tables|conflicts|comparing)")
 NO_CUT = "no cut parts them"
 TABLES = ("parcels.csv", "covers.csv", "classes.csv")
@@ -50,9 +51,9 @@ class Trial:
         run = self.runner.run(tool, *words, points=self.points)
         self.runs.append(run)
         where = f"{tool} {'--accept ' * ('--accept' in words)}"
-        if run.status is None:
+        if run.status in (None, -9):
             self.say("time", f"{where}took more than {run.seconds:.0f} s, of {self.points} points")
-        elif "Traceback" in run.told + run.text:
+        elif "Traceback" in run.told + run.text or run.status == UNFORESEEN:
             self.say("crash", f"{where}{place_of(run.told + run.text)}: {last_line(run.told)}")
         elif run.status not in statuses:
             self.say("status", f"{where}ended with {run.status}: {last_line(run.told, run.text)}")
@@ -159,7 +160,11 @@ def last_line(*texts):
 
 
 def place_of(text):
-    """Where a traceback says that it happened: the innermost function of the tools."""
+    """Where a traceback, here or in the file that is named, says that it happened: the innermost function of the tools."""
+    named = re.search(r"the traceback is in (\S+)", text)
+    if named and os.path.exists(named[1]):
+        with open(named[1], encoding="utf-8") as file:
+            text = file.read()
     places = re.findall(r'File "[^"]*/tools/([^"]*)", line \d+, in (\S+)', text)
     return " ".join(places[-1]) if places else "somewhere"
 
