@@ -46,6 +46,8 @@ function showMap(drawing) {
 }
 
 const csvField = field => (/[",\r\n]/.test(field) ? `"${field.replaceAll('"', '""')}"` : field);
+/** A text that a spreadsheet would take for a formula has an apostrophe before it, as in the tables of the tools. */
+const csvText = field => csvField(/^'*[=+\-@\t\r]/.test(field) ? `'${field}` : field);
 
 /** A table of texts that a click on a heading sorts, of which the first rows are shown. A column whose key begins with # has numbers. */
 class SortedTable {
@@ -81,8 +83,9 @@ class SortedTable {
   }
 
   csv() {
+    const forms = this.columns.map(key => (key.startsWith('#') ? csvField : csvText));
     const lines = [this.columns.map(key => key.replace('#', '')), ...this.rows.map(row => row.cells)];
-    return lines.map(cells => cells.map(csvField).join(',') + '\r\n').join('');
+    return lines.map(cells => cells.map((cell, column) => forms[column](cell)).join(',') + '\r\n').join('');
   }
 }
 

@@ -8,11 +8,10 @@ out from the others, so land for which nobody accounts shows. Python's standard 
 
 from __future__ import annotations
 
-import csv
 import math
 import os
 
-from . import files
+from . import cells, files
 
 SHAPED = ("parcels", "covers")
 COLUMNS = ("source", "mended", "left out", "settled", "tables")
@@ -116,9 +115,9 @@ class Balance:
     def write(self, out):
         """balance.csv in a folder."""
         with files.anew(os.path.join(out, FILE), newline="") as file:
-            table = csv.writer(file, lineterminator="\n")
+            table = cells.Writer(file)
             table.writerow(["layer", "class", *(f"{column.replace(' ', '_')}_m2" for column in COLUMNS), "unaccounted_m2"])
-            table.writerows([layer, land_class, *(f"{value:.3f}" for value in (*found.values(), missing(found)))] for (layer, land_class), found in self.lines())
+            table.writerows([layer, cells.text(land_class), *(f"{value:.3f}" for value in (*found.values(), missing(found)))] for (layer, land_class), found in self.lines())
 
     def lines(self):
         """Each class, then all pieces, then the parcels."""

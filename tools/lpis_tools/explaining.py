@@ -68,7 +68,11 @@ class Explained(OfGroups, OfCountry):
 
     def say_source_names(self):
         """What the identifiers of the refusal are called in the source, where tools/prepare changed them."""
-        source = SourceNames(self.folder)
+        try:
+            source = SourceNames(self.folder)
+        except OSError as error:
+            self.say(str(error))
+            return
         for identifier in dict.fromkeys([*self.refusal.names, *self.named]):
             for kind, old in source.of(identifier):
                 self.say(f"{kind} {identifier} is {old!r} in the source (identifiers.csv)")

@@ -2,10 +2,9 @@
 
 from __future__ import annotations
 
-import csv
 from collections import Counter
 
-from . import files
+from . import cells, files
 from .printing import readable
 
 MOST_SHOWN = 20
@@ -39,13 +38,13 @@ class Finding:
         done = (self.done or NOTES.get(self.kind, "")) if self.is_mended or accept else ""
         area = "" if self.area is None else f"{self.area:.3f}"
         x, y = (f"{value:.3f}" for value in self.place) if self.place else ("", "")
-        return [self.kind, self.layer, "" if self.row is None else self.row, self.name, area, x, y, self.words, done]
+        return [self.kind, self.layer, "" if self.row is None else self.row, cells.text(self.name), area, x, y, cells.text(self.words), cells.text(done)]
 
 
 def write(findings, path, accept):
     """The table prepared.csv."""
     with files.anew(path, newline="") as file:
-        table = csv.writer(file, lineterminator="\n")
+        table = cells.Writer(file)
         table.writerow(COLUMNS)
         table.writerows(finding.record(accept) for finding in findings)
 

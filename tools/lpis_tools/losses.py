@@ -4,14 +4,13 @@ tables alone, so it is the same for every recipe."""
 
 from __future__ import annotations
 
-import csv
 import json
 import os
 from collections import Counter
 
 from shapely.geometry import mapping
 
-from . import balance, files, land, outcome
+from . import balance, cells, files, land, outcome
 from .conflicts import ORDER, Loss, Source, find_conflicts, find_names, number_of, parts_of, polygons_by
 from .findings import readable
 
@@ -49,12 +48,12 @@ def find_all(source, tables, say, whole, seen):
 def write(losses, out, epsg=None):
     """report.csv and report.geojson in a folder: all rows, however many there are."""
     with files.anew(os.path.join(out, "report.csv"), newline="") as file:
-        table = csv.writer(file, lineterminator="\n")
+        table = cells.Writer(file)
         table.writerow(COLUMNS)
         for loss in losses:
             x, y = loss.place() or (None, None)
-            table.writerow([loss.kind, loss.layer, " ".join(map(str, loss.rows)), " ".join(loss.names), *(("" if value is None else f"{value:.4f}") for value in (loss.width, loss.area)),
-                            *(("" if value is None else f"{value:.3f}") for value in (x, y)), int(loss.stops()), loss.words])
+            table.writerow([loss.kind, loss.layer, " ".join(map(str, loss.rows)), cells.text(" ".join(loss.names)), *(("" if value is None else f"{value:.4f}") for value in (loss.width, loss.area)),
+                            *(("" if value is None else f"{value:.3f}") for value in (x, y)), int(loss.stops()), cells.text(loss.words)])
     system = f' "crs": {{"type": "name", "properties": {{"name": "urn:ogc:def:crs:EPSG::{epsg}"}}}},\n' if epsg else ""
     with files.anew(os.path.join(out, "report.geojson")) as file:
         file.write(f'{{\n "type": "FeatureCollection",\n{system} "features": [')

@@ -5,19 +5,25 @@ from __future__ import annotations
 import csv
 import os
 
-from . import identifiers
+from . import cells, identifiers
+
+
+class Unreadable(OSError):
+    """The table of names is there, and is none."""
 
 
 class SourceNames:
     """The names that tools/prepare changed, by kind: parcel, piece and class."""
 
     def __init__(self, folder):
-        self.rows = []
+        self.rows, path = [], os.path.join(folder, "identifiers.csv")
         try:
-            with open(os.path.join(folder, "identifiers.csv"), encoding="utf-8-sig", newline="") as file:
-                self.rows = [(row.get("kind") or "", row.get("old") or "", row.get("new") or "") for row in csv.DictReader(file)]
-        except (OSError, UnicodeDecodeError, csv.Error):
-            pass
+            with open(path, encoding="utf-8-sig", newline="") as file:
+                self.rows = [tuple(cells.plain(row.get(name) or "") for name in ("kind", "old", "new")) for row in csv.DictReader(file)]
+        except FileNotFoundError:
+            pass  # nothing was changed
+        except (UnicodeDecodeError, csv.Error) as error:
+            raise Unreadable(f"{path} cannot be read: {error}") from None
 
     def of(self, identifier):
         """What identifiers.csv has of an identifier of the tables, as (kind, old)."""

@@ -2,14 +2,13 @@
 
 from __future__ import annotations
 
-import csv
 import unicodedata
 from collections import Counter
 
 from shapely import wkb as shapely_wkb
 from shapely.ops import unary_union
 
-from . import files, identifiers, sheets, wkb
+from . import cells, files, identifiers, land, sheets, wkb
 from .conflicts import members_of
 from .findings import Finding
 
@@ -23,12 +22,18 @@ def alike(name):
 
 
 class Names:
-    """Gives each name that is no identifier an identifier, the same in all tables."""
+    """Gives each name that is no identifier an identifier, the same in all tables. Names that differ in blanks before or behind alone are one name,
+    but where the table of an earlier year tells them apart."""
 
     def __init__(self, work, given):
         self.work, self.given = work, given
-        self.renamed = {kind: {} for kind in KINDS}
-        self.used = {kind: set() for kind in KINDS}
+        self.bare = {kind: {} for kind in KINDS}  # what is given, by names without blanks
+        for kind, names in given.items():
+            for old, new in names.items():
+                self.bare[kind].setdefault(old.strip(), new)
+        self.known = {kind: {} for kind in KINDS}  # the identifier of each name that was asked for
+        self.renamed = {kind: {} for kind in KINDS}  # what is written: each name that was changed or is given, and its identifier
+        self.owners = {kind: {} for kind in KINDS}  # whose an identifier is: a name without blanks
 
     def run(self):
         for name, columns in COLUMNS:
@@ -37,33 +42,42 @@ class Names:
         for name, columns in COLUMNS:
             for row in self.work.layers[name].rows:
                 for column in columns:
-                    if row[column] not in self.given[column] and identifiers.is_one(row[column]):
-                        self.used[column].add(row[column])
+                    if row[column].strip() and self.new_name(column, row[column]) == row[column]:
+                        self.owners[column][row[column]] = row[column]
         for name, columns in COLUMNS:
             kept = []
             for row in self.work.layers[name].rows:
                 if all([self.rename(name, row, column) for column in columns]):
                     kept.append(row)
             self.work.layers[name].rows = kept
+        for column, names in self.given.items():  # those that this year has not come back in another
+            for old, new in names.items():
+                self.renamed[column].setdefault(old, new)
         self.in_case_alone()
 
     def trim(self, name, column):
-        """Takes blanks off before and behind."""
+        """Takes blanks off before and behind, where the name is the same without them."""
         trimmed = []
         for row in self.work.layers[name].rows:
             old = row[column]
-            new = old.strip()
-            if new != old and new and old not in self.given[column]:
+            bare = old.strip()
+            if bare not in ("", old) and self.new_name(column, old) == self.new_name(column, bare):
                 trimmed.append((row, old))
-                row.fields[column] = new
-                self.renamed[column][old] = new
+                row.fields[column] = bare
+                self.renamed[column][old] = self.new_name(column, bare)
         if trimmed:
             row, old = trimmed[0]
             layer = self.work.layers[name]
             self.work.findings.append(Finding("blanks", name, row.number, row[column], f"{len(trimmed)} of the column {column} have blanks before or behind, such as {old!r}", "taken off, the same in all tables", True, key=layer.key))
 
     def new_name(self, column, old):
-        return self.given[column].get(old) or self.renamed[column].get(old) or (old if identifiers.is_one(old) else identifiers.made_of(old))
+        """The identifier of a name: that of an earlier year, or the name itself, or what is made of it."""
+        new = self.known[column].get(old)
+        if new is None:
+            given, bare = self.given[column], old.strip()
+            new = given.get(old) or given.get(bare) or (bare if identifiers.is_one(bare) else self.bare[column].get(bare) or identifiers.made_of(bare))
+            self.known[column][old] = new
+        return new
 
     def rename(self, layer, row, column):
         """Whether the row's field is an identifier at last."""
@@ -79,9 +93,8 @@ class Names:
         new = self.new_name(column, old)
         row.fields[column] = new
         if new != old and old not in self.renamed[column]:
-            is_taken = new in self.used[column]
+            is_taken = self.owners[column].setdefault(new, old.strip()) != old.strip()
             self.renamed[column][old] = new
-            self.used[column].add(new)
             key = work.layers[layer].key
             work.findings.append(Finding("identifier", layer, row.number, old, f"{column} {old!r} is no identifier" if not identifiers.is_one(old) else f"{column} {old!r}", f"now {new}", True, key=key))
             if is_taken or not identifiers.is_one(new):
@@ -175,20 +188,24 @@ def table_of(path):
 
 
 def given_identifiers(path):
-    """A table kind, old, new of an earlier year."""
+    """A table kind, old, new of an earlier year. What cannot be read of it is no name less."""
     given = {kind: {} for kind in KINDS}
-    for record in table_of(path)[0] if path else []:
-        if record.get("kind") in given and record.get("old"):
-            given[record["kind"]][record["old"]] = record.get("new") or ""
+    records, faults = table_of(path) if path else ([], [])
+    if faults:
+        raise land.Trouble(*(f"{path}: {words}" for words in faults))
+    for record in records:
+        kind, old, new = (cells.plain(record.get(name) or "") for name in ("kind", "old", "new"))
+        if kind in given and old and new:
+            given[kind][old] = new
     return given
 
 
 def write_identifiers(renamed, path):
     """The names that were changed, old and new, as they are in the tables."""
     with files.anew(path, newline="") as file:
-        table = csv.writer(file, lineterminator="\n")
+        table = cells.Writer(file)
         table.writerow(["kind", "old", "new"])
-        table.writerows([kind, old, names.get(new, new)] for kind, names in renamed.items() for old, new in names.items())
+        table.writerows([kind, cells.text(old), cells.text(new)] for kind, names in renamed.items() for old, new in names.items())
 
 
 def classes(work, names, table):

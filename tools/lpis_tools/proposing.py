@@ -4,6 +4,7 @@ import csv
 import warnings
 from dataclasses import dataclass
 
+from . import cells
 from .changes import Changes
 from .years import Row
 
@@ -123,13 +124,13 @@ def write_report(path, found, rows, changes):
     """All that dropped parcels share with new ones, and what is proposed of it."""
     proposed = {(row.old, row.new): row for row in rows}
     with open(path, "x", encoding="utf-8", newline="") as file:
-        writer = csv.writer(file, lineterminator="\n")
+        writer = cells.Writer(file)
         writer.writerow(REPORT)
         for fate in found:
             kind = changes.kind(fate.name) or ""
             for it in fate.shared:
                 row = proposed.get((it.old, it.new))
                 why = fate.doubt or ("proposed" if row else "a sliver")
-                writer.writerow([it.old, it.new, f"{it.area:.2f}", f"{100 * it.of_old:.1f}", f"{100 * it.of_new:.1f}", kind, int(row.is_marked) if row else "", why])
+                writer.writerow([cells.text(it.old), cells.text(it.new), f"{it.area:.2f}", f"{100 * it.of_old:.1f}", f"{100 * it.of_new:.1f}", kind, int(row.is_marked) if row else "", why])
             if not fate.shared or (fate.name, "") in proposed:
-                writer.writerow([fate.name, "", "0.00" if not fate.shared else "", "", "", kind, "", fate.doubt or "proposed"])
+                writer.writerow([cells.text(fate.name), "", "0.00" if not fate.shared else "", "", "", kind, "", fate.doubt or "proposed"])

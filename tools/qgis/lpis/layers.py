@@ -15,6 +15,7 @@ from qgis.PyQt.QtCore import QVariant
 TEXT, NUMBER, WHOLE = QVariant.String, QVariant.Double, QVariant.Int
 POINTS, LINES, POLYGONS = QgsWkbTypes.Point, QgsWkbTypes.MultiLineString, QgsWkbTypes.MultiPolygon
 LEAST = 50.0  # metres: a fifth of it is shown around a fault that is a point
+MARKED = re.compile("'+[=+\\-@\t\r]")  # a text that a spreadsheet would take for a formula has an apostrophe before it in tables for people
 csv.field_size_limit(1 << 30)
 
 
@@ -114,7 +115,8 @@ def rows_of(path):
     with open(path, encoding="utf-8-sig", newline="") as file:
         reader = csv.DictReader(file)
         reader.fieldnames = [name.lower() for name in reader.fieldnames or []]
-        yield from reader
+        for row in reader:
+            yield {name: value[1:] if isinstance(value, str) and MARKED.match(value) else value for name, value in row.items()}
 
 
 def shapes_of(folder):

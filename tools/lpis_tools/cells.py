@@ -1,0 +1,40 @@
+"""Tables for people, which open them in spreadsheets: there a text that begins with =, +, -, @, a tab or a return is a formula. It gets an apostrophe,
+and who reads such a table takes it off: every text is read back as what it was. Tables for `lpis` have no apostrophes.
+
+    table = cells.Writer(file)
+    table.writerow([cells.text(name), area])        text: a stranger's; numbers stay as they are
+    name = cells.plain(field)
+"""
+
+import re
+
+FORMULA = re.compile("'*[=+\\-@\t\r]")
+QUOTED = re.compile('[",\r\n]')
+
+
+def text(field):
+    field = "" if field is None else str(field)
+    return "'" + field if FORMULA.match(field) else field
+
+
+def plain(field):
+    return field[1:] if field.startswith("'") and FORMULA.match(field) else field
+
+
+def quoted(field):
+    field = "" if field is None else str(field)
+    return '"' + field.replace('"', '""') + '"' if QUOTED.search(field) else field
+
+
+class Writer:
+    """As `csv.writer`, which leaves a return in a field without quotation marks, so that the record would end there."""
+
+    def __init__(self, file):
+        self.file = file
+
+    def writerow(self, fields):
+        self.file.write(",".join(map(quoted, fields)) + "\n")
+
+    def writerows(self, rows):
+        for fields in rows:
+            self.writerow(fields)
