@@ -12,6 +12,7 @@ import sys
 from draw_cut import triangles_of
 
 WIDTH, HEIGHT, MARGIN, TITLE = 300, 215, 16, 30
+ROOM = 60  # of a piece's name; one that has less has it below
 INK, GROUND, SIDE = "#333333", "#f3efe2", "#ffffff"
 FILLS = ("#cfe5b4", "#8fb98a", "#b9d3ea", "#e6c9a8")  # of the classes, in the table's order
 
@@ -63,6 +64,16 @@ def middle(triangles):
     return tuple(sum(point[k] for point in max(triangles, key=size)) / 3 for k in (0, 1))
 
 
+def name_class(picture, row, percent, triangles):
+    """The class of a piece, and its percentage."""
+    shell = [picture.place(point) for point in rings_of(row["wkt"])[0]]
+    x, y = picture.place(middle(triangles))
+    if max(x for x, _ in shell) - min(x for x, _ in shell) < ROOM:
+        x, y = sum(x for x, _ in shell) / len(shell), max(y for _, y in shell) + 14
+    for number, words in enumerate((row["class"], f"{percent} %")):
+        picture.words(words, x, y + 15 * number, text_anchor="middle")
+
+
 def draw(folder, cert, name):
     """The picture of one parcel of a release."""
     parcel = next(rings_of(row["wkt"]) for row in rows_of(folder, "parcels") if row["parcel"] == name)
@@ -75,11 +86,9 @@ def draw(folder, cert, name):
     picture.column = 1
     picture.title("Its pieces, each of a class")
     for row in pieces:
-        fill, percent = fills[row["class"]]
-        picture.shape(rings_of(row["wkt"]), fill)
-        x, y = picture.place(middle(cuts[row["piece"]]))
-        picture.words(row["class"], x, y, text_anchor="middle")
-        picture.words(f"{percent} %", x, y + 15, text_anchor="middle")
+        picture.shape(rings_of(row["wkt"]), fills[row["class"]][0])
+    for row in pieces:
+        name_class(picture, row, fills[row["class"]][1], cuts[row["piece"]])
     picture.column = 2
     picture.title(f"The certificate: {sum(map(len, cuts.values()))} triangles")
     for row in pieces:

@@ -3,6 +3,7 @@
 
 const KINDS = ['parcels', 'covers', 'classes', 'cert'];
 const FACTS = JSON.parse($('facts').textContent);
+const EXAMPLES = JSON.parse($('examples').textContent);
 const files = {};
 const known = { program: FACTS.program, module: '', page: '' }; // sha256s; of module and page those of what runs here
 let shown = null; // the last result, so that it can be shown in another language
@@ -88,18 +89,36 @@ async function add(list) {
   if (KINDS.every(kind => files[kind]) && KINDS.some(kind => found[kind])) await check();
 }
 
-/** An answer to other files is shown no more, and a certificate that was made of them is gone. */
+/** An answer to other files is shown no more; a certificate that was made of them is gone, and so are an example's tables. */
 function forget() {
-  if (files.cert?.isMadeHere) delete files.cert;
+  for (const kind of KINDS) if (files[kind]?.isMadeHere || files[kind]?.isExample) delete files[kind];
   shown = null;
   render();
+}
+
+/** Puts a small release in place of all files that are there, and tries it. */
+async function tryExample(name) {
+  for (const kind of KINDS) delete files[kind];
+  forget();
+  for (const [kind, text] of Object.entries(EXAMPLES[name])) {
+    files[kind] = new File([text], `${kind}.csv`);
+    files[kind].isExample = true;
+  }
+  showFiles();
+  await cut();
+}
+
+/** What is said of a file, or that it is missing. */
+function wordsOf(file) {
+  if (!file) return say('missing');
+  if (file.isMadeHere) return say('made here', { bytes: file.size });
+  return `${file.isExample ? say('of example', { name: file.name }) : file.name}, ${say('bytes', { bytes: file.size })}`;
 }
 
 function showFiles() {
   $('have').replaceChildren(...KINDS.map(kind => {
     const file = files[kind];
-    const words = !file ? say('missing') : file.isMadeHere ? say('made here', { bytes: file.size }) : `${file.name}, ${say('bytes', { bytes: file.size })}`;
-    return element('li', `${say(`file ${kind}`)}: ${words}`, file ? 'there' : '');
+    return element('li', `${say(`file ${kind}`)}: ${wordsOf(file)}`, file ? 'there' : '');
   }));
   $('check').disabled = !KINDS.every(kind => files[kind]);
   $('cut').disabled = !KINDS.slice(0, 3).every(kind => files[kind]);
@@ -252,6 +271,7 @@ function listenToFiles() {
     event.target.value = '';
     if (file) await area(file);
   });
+  for (const name of Object.keys(EXAMPLES)) $(name).addEventListener('click', () => tryExample(name));
   $('check').addEventListener('click', check);
   $('cut').addEventListener('click', cut);
   $('save-cert').addEventListener('click', () => save([files.cert], 'release.cert'));
@@ -273,7 +293,7 @@ async function begin() {
   const begun = await ask('begin', { module }, [module.buffer]);
   if (begun.error) showWords('no', 'no module', { error: begun.error });
   known.module = begun.digest ?? '';
-  known.page = (await ask('digest', { text: ['style', 'words', 'work', 'script'].map(id => $(id).textContent).join('') })).digest ?? '';
+  known.page = (await ask('digest', { text: ['style', 'words', 'examples', 'work', 'script'].map(id => $(id).textContent).join('') })).digest ?? '';
   document.body.dataset.state = 'ready';
   render();
 }
