@@ -3,9 +3,10 @@
 from pathlib import Path
 
 TOP = Path(__file__).resolve().parent.parent
-ALL_WORDS = 44_500
+ALL_WORDS = 45_650
 PAGE_WORDS = {
     "README.md": 1_150,
+    "docs/IDEA.md": 1_150,
     "docs/GUIDE.md": 7_300,
     "docs/FORMATS.md": 8_300,
     "docs/PROOF.md": 6_800,
