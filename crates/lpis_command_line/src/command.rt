@@ -156,6 +156,35 @@ fn detail_of(matches: &ArgMatches<'_>) -> Option<Detail>
     }
 }
 
+/// `area` with its words.
+fn area_named<'a>(matches: &ArgMatches<'a>) -> Option<Cmd<'a>>
+    ensures { IfSome result (λ c. IsNamedCommand c (codes "area")
+        (rows_of (found_of matches.now))) }
+{
+    let file = word_of(matches, "file")?;
+    Some(Cmd::Area { file })
+}
+
+/// `cut` with its words.
+fn cut_named<'a>(matches: &ArgMatches<'a>) -> Option<Cmd<'a>>
+    ensures { IfSome result (λ c. IsNamedCommand c (codes "cut")
+        (rows_of (found_of matches.now))) }
+{
+    let dir = word_of(matches, "dir")?;
+    let cert = word_of(matches, "cert")?;
+    Some(Cmd::Cut { dir, cert })
+}
+
+/// `check` with its words.
+fn check_named<'a>(matches: &ArgMatches<'a>) -> Option<Cmd<'a>>
+    ensures { IfSome result (λ c. IsNamedCommand c (codes "check")
+        (rows_of (found_of matches.now))) }
+{
+    let dir = word_of(matches, "dir")?;
+    let cert = word_of(matches, "cert")?;
+    Some(Cmd::Check { dir, cert })
+}
+
 /// `country` with its words.
 fn country_named<'a>(matches: &ArgMatches<'a>) -> Option<Cmd<'a>>
     ensures { IfSome result (λ c. IsNamedCommand c (codes "country")
@@ -262,20 +291,9 @@ fn command_named<'m, 'a>(name: &str, matches: &'m ArgMatches<'a>) -> Option<Cmd<
         (rows_of (found_of matches.now))) }
 {
     match name {
-        "area" => {
-            let file = word_of(matches, "file")?;
-            Some(Cmd::Area { file })
-        }
-        "cut" => {
-            let dir = word_of(matches, "dir")?;
-            let cert = word_of(matches, "cert")?;
-            Some(Cmd::Cut { dir, cert })
-        }
-        "check" => {
-            let dir = word_of(matches, "dir")?;
-            let cert = word_of(matches, "cert")?;
-            Some(Cmd::Check { dir, cert })
-        }
+        "area" => area_named(matches),
+        "cut" => cut_named(matches),
+        "check" => check_named(matches),
         "country" => country_named(matches),
         "locate" => locate_named(matches),
         "locate-country" => locate_country_named(matches),

@@ -4,7 +4,7 @@ ghost use Rattle.std.specs.Prelude.{◌≡◌, ◌++◌, [], ℕ, List, IfErr, I
 ghost use Rattle.lpis_rings.specs.declared.polygon.Member.{Member};
 ghost use Rattle.lpis_covers.specs.declared.fault.Table.TheVariants.{Area};
 ghost use Rattle.lpis_covers.specs.Faults.{rows_of, unless_faulty, values_of};
-ghost use Rattle.lpis_covers.specs.Table.{Answers, AnswersBy};
+ghost use Rattle.lpis_covers.specs.Table.{Answers};
 ghost use Rattle.lpis_run_check.specs.AreaAnswer.{AnswersArea, AreaHalts, answer_from, area_answer};
 ghost use Rattle.lpis_run_check.specs.AreaAnswer.{area_table, polygon_area_line};
 ghost use Rattle.lpis_run.specs.Status.{done};
@@ -52,24 +52,25 @@ fn add_lines(
     Ok(())
 }
 
-/// The area of each row of a table, on a line of its own.
-fn area_lines(alloc: Global, bytes: &[u8]) -> Result<Vec<u8>, TableFault>
-    ensures { AnswersBy (λ v said. answer_from said ≡ (v.items, done)) result
-        (rows_of area_table bytes.now) }
+/// Adds the area of each row of a table, on a line of its own, to a list without lines.
+fn area_lines(alloc: Global, bytes: &[u8], lines: &mut Vec<u8>) -> Result<(), TableFault>
+    requires empty { lines.old.items ≡ [] }
+    ensures { MatchResult result
+        (λ _. answer_from (rows_of area_table bytes.now) ≡ (lines.new.items, done))
+        (λ fault. Answers (Err fault) (rows_of area_table bytes.now)) }
 {
     let columns = [b"wkt".as_slice()];
     let mut reader = TableReader::open(alloc, bytes, Table::Area, columns.as_slice(), &[])?;
-    let mut lines = Vec::new(alloc);
-    add_lines(alloc, &mut reader, &mut lines)?;
-    Ok(lines)
+    add_lines(alloc, &mut reader, lines)
 }
 
 /// The answer to a table: the area of each row, or the line of its first fault.
 fn answer_to(alloc: Global, bytes: &[u8]) -> Result<Answer, AllocError>
     ensures { IfOk result (λ a. (a.text.items, a.status) ≡ area_answer bytes.now) }
 {
-    match area_lines(alloc, bytes) {
-        Ok(text) => Ok(Answer { text, status: DONE }),
+    let mut text = Vec::new(alloc);
+    match area_lines(alloc, bytes, &mut text) {
+        Ok(()) => Ok(Answer { text, status: DONE }),
         Err(TableFault::Memory) => Err(AllocError),
         Err(fault) => Answer::refuse_table(alloc, &fault),
     }

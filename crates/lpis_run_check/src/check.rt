@@ -3,11 +3,13 @@
 ghost use Rattle.std.specs.Prelude.{◌≡◌, IfErr, IfOk};
 ghost use Rattle.lpis_checker.specs.SoundMap.{IsSoundMap};
 ghost use Rattle.lpis_run.specs.CheckAnswer.{AreRead, Inputs, IsAnswer, IsProved};
+ghost use Rattle.lpis_run.specs.Failures.{IsUnchecked};
 ghost use Rattle.lpis_run.specs.Folders.{IsFolderUntouched, folder_texts};
 ghost use Rattle.lpis_run.specs.Inputs.{inputs_of};
 ghost use Rattle.lpis_run.specs.Report.{report_text};
 ghost use Rattle.lpis_run.specs.Status.{done};
 ghost use Rattle.lpis_run_check.specs.CheckRun.{CheckEnds, CheckHalts};
+ghost use Rattle.lpis_run_check.specs.private.Deciding.{IsDecided};
 
 use lpis_parcels::Release;
 use lpis_run::{
@@ -37,6 +39,17 @@ fn answer_to(alloc: Global, inputs: InputBytes) -> Result<Answer, AllocError>
     }
 }
 
+/// The answer to what four readers give.
+fn decide<R: Read + Drop>(alloc: Global, folder: &mut Folder<R>) -> Result<Answer, Failure>
+    ensures answers { IfOk result (IsDecided (folder_texts R.remaining folder.old)) }
+    ensures unread { IfErr result (IsUnchecked (folder_texts R.remaining folder.old)) }
+    ensures untouched { IfErr result (IsFolderUntouched folder.old folder.new) }
+{
+    let inputs = read_folder(alloc, folder)?;
+    let answer = answer_to(alloc, inputs)?;
+    Ok(answer)
+}
+
 /// Checks the release of three tables against a certificate, and prints the report of a release
 /// that is a sound map, or the line of the first fault: of the tables, then of the certificate's
 /// text, then of the certificate.
@@ -59,7 +72,6 @@ pub fn run_check<R: Read + Drop, W: Write>(
         (W.contents out.new)) }
     ensures untouched { IfErr result (IsFolderUntouched folder.old folder.new) }
 {
-    let inputs = read_folder(alloc, folder)?;
-    let answer = answer_to(alloc, inputs)?;
+    let answer = decide(alloc, folder)?;
     answer.write_to(out)
 }
