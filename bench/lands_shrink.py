@@ -4,7 +4,7 @@ import time
 
 from lands_shapes import Shape
 
-TRIES, SECONDS = 100, 120.0
+TRIES, SECONDS = 100, 90.0
 
 
 class Shrinking:
