@@ -302,6 +302,21 @@ say_cause() {
   fi
 }
 
+# Says what was left out before the tables of a folder that passed, and what was accepted: a yes is about the tables alone.
+say_origin() {
+  local folder found
+  [[ ${1-} == check || ${1-} == publish ]] || return 0
+  folder=$(path_of read parcels "$@")
+  folder=${folder%/*}
+  [[ -f $folder/prepared.csv || -f $folder/report.csv ]] || return 0
+  found=$(python3 -B -c 'import sys
+sys.path.insert(0, sys.argv[1])
+from lpis_tools import origin
+print(origin.brief(sys.argv[2]))' "${BASH_SOURCE[0]%/*}" "$folder" 2>/dev/null) ||
+    found='prepared.csv and report.csv have what was left out of the source, and could not be summed'
+  [[ -z $found ]] || say "$folder: $found"
+}
+
 # Hands a signal on to the program, or keeps it until the program is begun.
 hand_on() {
   signal=$1
@@ -348,6 +363,7 @@ run_program() {
   run_and_hear "$out" "$program" "$@"
   printf '%s' "$told" >&2
   [[ $status -ne 0 || $# -ne 1 || ($1 != --version && $1 != -V) ]] || say_facts "$home_of_program"
+  [[ $status -ne 0 ]] || say_origin "$@"
   [[ $status -ne 3 ]] || say_cause "${told%$'\n'}" "$out" "$@"
   # A caller sees that a signal ended it, as it would of the program itself.
   [[ -z $signal || $status -le 128 ]] || kill -s "$signal" "$$"

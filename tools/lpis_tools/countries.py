@@ -38,8 +38,8 @@ class Together:
         for region in self.folders:
             try:
                 yield region, self.of(region)
-            except OSError:
-                continue
+            except FileNotFoundError:
+                continue  # a region without this table, which lpis says
 
     def rows(self):
         for region, table in self.tables():
@@ -145,7 +145,8 @@ class OfCountry:
         for folder in tiling.folders:
             try:
                 found = rows_of(os.path.join(self.top, folder), name)
-            except OSError:
+            except OSError as error:
+                self.say(f"region {folder} cannot be looked at: {error}")
                 continue
             if folder == self.refusal.region:
                 here = found

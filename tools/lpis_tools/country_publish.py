@@ -4,7 +4,7 @@ import os
 import subprocess
 import sys
 
-from . import ending, engines, ledger, program, words, yearly
+from . import ending, engines, ledger, origin, program, words, yearly
 from .tables import Table
 from .yearly import Stop
 
@@ -78,4 +78,6 @@ def publish(command, said, say):
         files = [*TOP_FILES, *(os.path.join(region, name) for region in regions for name in REGION_FILES)]
         digest = ledger.add(log, said.register, yearly.entry_of(said, command, files, cert, printed, before))
     print(f"what was printed is in {printed}\nlog {ledger.path_of(said.register)} line sha256 {digest}")
+    for line in origin.balance_lines(origin.facts(said.folder, None)):
+        print(line)
     return 0

@@ -158,14 +158,15 @@ def cut(command, words, say):
 def counts_of(folder):
     """The counts and the area of the source, as the split wrote them, or None."""
     try:
-        with open(os.path.join(folder, COUNTS), encoding="utf-8") as file:
+        with open(os.path.join(folder, COUNTS), encoding="utf-8", errors="replace") as file:
             return file.read().split()
-    except OSError:
+    except FileNotFoundError:
         return None
 
 
 def check(command, words, say):
-    """`lpis country`, line by line as it comes; after a yes the counts of the country beside those of the source."""
+    """`lpis country`, line by line as it comes; after a yes the counts of the country beside those of the source. A country without these is not
+    compared, and that is no success: who has no source calls `lpis country`."""
     options = ["--parcels"] if words.parcels else []
     told = []
     with ending.start([*command, "country", *options, words.folder], stdout=subprocess.PIPE, text=True) as lpis:
@@ -174,7 +175,10 @@ def check(command, words, say):
             if line.startswith("country regions "):
                 told = line.split()
     wanted = counts_of(words.folder)
-    if lpis.returncode == 0 and wanted and told[3 : 3 + len(wanted)] != wanted:
+    if lpis.returncode == 0 and not wanted:
+        say(f"nothing was compared with a source: {os.path.join(words.folder, COUNTS)}, which `country split` writes, is not there (`lpis country` alone compares nothing)")
+        return 1
+    if lpis.returncode == 0 and told[3 : 3 + len(wanted)] != wanted:
         say(f"the source had {' '.join(wanted)}: {UNLIKE}")
         return 1
     return lpis.returncode

@@ -254,8 +254,8 @@ class Explained(OfGroups, OfCountry):
                         if count in numbers:
                             owners[count] = (piece, [unit * int(w) for w in line.split()[1:]])
                         count += 1
-        except (OSError, ValueError, IndexError):
-            pass
+        except (OSError, ValueError, IndexError) as error:
+            self.say(f"{self.cert} cannot be read to its end: {error}")
         pieces = []
         for number in numbers:
             piece, corners = owners.get(number, ("", []))

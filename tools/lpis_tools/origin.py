@@ -6,10 +6,18 @@ from __future__ import annotations
 import csv
 import os
 
+from . import balance, cells
+from .printing import escaped
+
+csv.field_size_limit(1 << 30)
 FILES = ("prepared.csv", "report.csv", "balance.csv", "identifiers.csv")
 GONE = ("lost", "left out")
 NEAR = 0.001  # square metres: the last digit of balance.csv
 LAYERS = {"parcels": "parcels", "covers": "pieces"}
+
+
+class Unreadable(OSError):
+    """A file of a run before is there, and is no table."""
 
 
 def paths(folder):
@@ -22,7 +30,11 @@ def records(folder, name):
     if not os.path.isfile(path):
         return []
     with open(path, newline="", encoding="utf-8", errors="replace") as file:
-        yield from csv.DictReader(file)
+        try:
+            for row in csv.DictReader(file):
+                yield {name: cells.plain(value) for name, value in row.items() if isinstance(value, str)}
+        except csv.Error as error:
+            raise Unreadable(f"{path} cannot be read to its end: {error}") from None
 
 
 def number(text):
@@ -44,7 +56,7 @@ def by_kind(rows, counted):
 
 
 def facts(folder, classes):
-    """What stands beside the tables of a folder, or None. `classes` are the sums of the tables by class."""
+    """What stands beside the tables of a folder, or None. `classes` are the sums of the tables by class, where they are known."""
     if not paths(folder):
         return None
     prepared = by_kind(records(folder, "prepared.csv"), lambda row: bool(row.get("done")))
@@ -58,12 +70,12 @@ def facts(folder, classes):
     return found
 
 
-def faults(balance, classes):
+def faults(table, classes):
     """Why a balance does not add up, or is none of these tables."""
-    if not balance:
-        return []
-    wrong = [f"balance.csv does not add up: {row.get('class') or row.get('layer')} by {row.get('unaccounted_m2')} m2" for row in balance if abs(number(row.get("unaccounted_m2"))) >= 0.5]
-    of_balance = {row.get("class"): number(row.get("tables_m2")) for row in balance if row.get("layer") == "covers" and row.get("class")}
+    wrong = [f"balance.csv does not add up: {row.get('class') or row.get('layer')} by {row.get('unaccounted_m2')} m2" for row in table if abs(number(row.get("unaccounted_m2"))) >= 0.5]
+    if not table or classes is None:
+        return wrong
+    of_balance = {row.get("class"): number(row.get("tables_m2")) for row in table if row.get("layer") == "covers" and row.get("class")}
     of_tables = {row["class"]: float(row["area"]) for row in classes if float(row["area"])}
     wrong += [f"balance.csv, report.csv and prepared.csv are of other tables: {name} has {of_balance.get(name, 0.0):.3f} m2 there, and {of_tables.get(name, 0.0):.3f} here"
               for name in sorted({*of_balance, *of_tables}) if abs(of_balance.get(name, 0.0) - of_tables.get(name, 0.0)) > NEAR]
@@ -87,6 +99,24 @@ def lines(found):
     if accepted:
         told.append(f"accepted by --accept: {accepted} rows of report.csv")
     return [*told, *found["faults"]] or ["nothing of the source was left out or changed by more than rounding"]
+
+
+def brief(folder):
+    """One line about what was left out, changed and accepted; nothing where nothing was."""
+    found = facts(folder, None)
+    return "" if found is None or not (found["gone"] or found["faults"] or any(row["stopping"] for row in found["report"])) else escaped("; ".join(lines(found)))
+
+
+def balance_lines(found):
+    """The last lines of the balance beside the tables, as its run printed them."""
+    whole = balance.Balance({})
+    for row in found["balance"] if found else ():
+        layer, land_class = row.get("layer"), row.get("class") or ""
+        if layer in LAYERS and (layer == "parcels") != bool(land_class):
+            for column in balance.COLUMNS:
+                whole.add((layer, land_class), column, number(row.get(f"{column.replace(' ', '_')}_m2")))
+    words = whole.words() if whole.sums else []
+    return [*words[:1], *words[-3:]]
 
 
 def rows(found):

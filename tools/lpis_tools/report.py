@@ -44,8 +44,8 @@ def read(folder):
     for name in TABLES:
         try:
             tables[name] = Table(path_of(folder, name), name)
-        except OSError:
-            continue
+        except FileNotFoundError:
+            continue  # lpis says so
     if "parcels" in tables:
         table = tables["parcels"]
         for _, record in table.rows():

@@ -115,11 +115,14 @@ def records(lines):
     """Each record that is not blank, with its lines."""
     lines, again = itertools.tee(lines)
     reader, before = csv.reader(lines), 0
-    for record in reader:
-        count, before = reader.line_num - before, reader.line_num
-        raw = next(again) if count == 1 else "".join(itertools.islice(again, count))
-        if record:
-            yield record, raw
+    try:
+        for record in reader:
+            count, before = reader.line_num - before, reader.line_num
+            raw = next(again) if count == 1 else "".join(itertools.islice(again, count))
+            if record:
+                yield record, raw
+    except csv.Error as error:
+        raise Trouble(f"it cannot be read behind line {before}: {error}") from None
 
 
 class Stream:

@@ -4,6 +4,7 @@ Fields are kept as bytes, so that the offsets that `lpis` reports fit.
 """
 
 import csv
+import errno
 import io
 import os
 
@@ -45,6 +46,10 @@ def is_identifier(field):
     return 1 <= len(field) <= 40 and LETTERS.issuperset(field)
 
 
+class Unreadable(OSError):
+    """A table that is there, and cannot be read to its end: it is no shorter table."""
+
+
 class Table:
     """A table's header and records, with the line on which each record begins."""
 
@@ -67,8 +72,8 @@ class Table:
                     self.records.append([field.encode("latin-1") for field in record])
                     self.lines.append(line)
                 line = reader.line_num + 1
-        except csv.Error:
-            pass
+        except csv.Error as error:
+            raise Unreadable(errno.EBADMSG, f"it cannot be read behind line {line} ({error})", path) from None
         self.header = self.records[0] if self.records else []
         self.names = [field.decode("latin-1").lower() for field in self.header]
 
