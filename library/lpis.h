@@ -5,8 +5,8 @@
  *
  *     true    The text, the first `length` bytes of the room, and `status` are what the program prints of files with these bytes, and ends with. Of
  *             `lpis_check` the status is 0 only if the release is a sound map and the certificate is good for it.
- *     false   There is no answer. If `length` is 0, memory ran out or an input is over 1 GiB. Else the text is longer than the room, which is left as
- *             it was: `length` is what is needed, and the same call with such a room gives the answer.
+ *     false   There is no answer, and each room is left as it was. If `length` is 0, memory ran out or an input is over 1 GiB. Else the text is longer
+ *             than its room: `length` is what is needed, and the same call with such a room gives the answer.
  *
  * What the caller owes, which nothing checks: no pointer is null, also where a length is 0. Inputs, rooms and replies do not overlap, and nobody else
  * writes to them during the call. `malloc`, `realloc` and `free` are those of one allocator, and align by 16. No call is made from a signal handler.

@@ -30,15 +30,18 @@ IsCutOf parcels covers classes status cert line =
     (a : Outputs) × IsCutAnswer (release_of parcels covers classes) a × (status ≡ a.status)
     × (line ≡ a.line) × MatchOption a.cert (cert ≡ []) (λ text. cert ≡ text)
 
--- no length was given, or it is that of a text of which this holds, which a room is too small for
-abbrev pub IsUnansweredOr : (List ℕ → Type 0) → (room given : ℕ) → Type 0
-IsUnansweredOr IsText room given =
-    (given ≡ 0) ⊎ ((text : List ℕ) × IsText text × (given ≡ length text) × (room < given))
+-- no length was given, or it is that of the text of an answer, which a room is too small for
+abbrev pub IsUnansweredOr : (ℕ → List ℕ → Type 0) → (room given : ℕ) → Type 0
+IsUnansweredOr IsAnswered room given =
+    (given ≡ 0)
+    ⊎ ((status : ℕ) × (text : List ℕ) × IsAnswered status text × (given ≡ length text)
+    × (room < given))
 
 -- the same of a certificate and a line, of which one is longer than its room
-abbrev pub IsUncutOr : ((cert line : List ℕ) → Type 0) → (cert_room room cert_given given : ℕ)
+abbrev pub IsUncutOr : (ℕ → (cert line : List ℕ) → Type 0) → (cert_room room cert_given given : ℕ)
     → Type 0
-IsUncutOr AreTexts cert_room room cert_given given =
+IsUncutOr IsAnswered cert_room room cert_given given =
     ((cert_given ≡ 0) × (given ≡ 0))
-    ⊎ ((cert line : List ℕ) × AreTexts cert line × (cert_given ≡ length cert)
-    × (given ≡ length line) × ((cert_room < cert_given) ⊎ (room < given)))
+    ⊎ ((status : ℕ) × (cert line : List ℕ) × IsAnswered status cert line
+    × (cert_given ≡ length cert) × (given ≡ length line)
+    × ((cert_room < cert_given) ⊎ (room < given)))

@@ -2,6 +2,7 @@
 
 ghost use Rattle.std.specs.Prelude.{◌≡◌, IfOk, IsFalse, IsTrue, length, take};
 ghost use Rattle.lpis_page.specs.Calls.{IsAreaOf, IsUnansweredOr};
+ghost use Rattle.lpis_run.specs.Status.{failed};
 
 use crate::reply::Reply;
 use lpis_run::{Answer, Failure};
@@ -22,8 +23,9 @@ fn areas_of(alloc: Global, table: &[u8]) -> Result<Answer, Failure>
 pub extern "C" fn lpis_area(alloc: Global, table: &[u8], room: &mut [u8], reply: &mut Reply) -> bool
     ensures answer { IsTrue result → IsAreaOf table.now reply.new.status
         (take reply.new.length room.new) }
-    ensures needed { IsFalse result → IsUnansweredOr (IsAreaOf table.now reply.new.status)
-        (length room.old) reply.new.length }
+    ensures needed { IsFalse result → IsUnansweredOr (IsAreaOf table.now) (length room.old)
+        reply.new.length }
+    ensures unanswered { IsFalse result → reply.new.status ≡ failed }
     ensures kept { IsFalse result → room.new ≡ room.old }
 {
     match areas_of(alloc, table) {

@@ -2,6 +2,7 @@
 
 ghost use Rattle.std.specs.Prelude.{◌≡◌, IfOk, IsFalse, IsTrue, length, take};
 ghost use Rattle.lpis_page.specs.Calls.{IsCheckOf, IsUnansweredOr, inputs};
+ghost use Rattle.lpis_run.specs.Status.{failed};
 
 use crate::reply::Reply;
 use lpis_run::{Answer, Failure, Folder, TableReaders};
@@ -46,8 +47,9 @@ pub extern "C" fn lpis_check(
     ensures answer { IsTrue result → IsCheckOf (inputs parcels.now covers.now classes.now cert.now)
         reply.new.status (take reply.new.length room.new) }
     ensures needed { IsFalse result → IsUnansweredOr
-        (IsCheckOf (inputs parcels.now covers.now classes.now cert.now) reply.new.status)
-        (length room.old) reply.new.length }
+        (IsCheckOf (inputs parcels.now covers.now classes.now cert.now)) (length room.old)
+        reply.new.length }
+    ensures unanswered { IsFalse result → reply.new.status ≡ failed }
     ensures kept { IsFalse result → room.new ≡ room.old }
 {
     match answer_to(alloc, parcels, covers, classes, cert) {

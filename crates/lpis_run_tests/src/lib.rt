@@ -1,5 +1,5 @@
-//! Tests of `locate`: worked points, points beside `Yes::locate`, tables that are refused, and
-//! inputs that fail.
+//! Tests of runs over readers: worked points of `locate`, points beside `Yes::locate`, tables that
+//! are refused, inputs that fail, and readers that never end.
 //!
 //! No crate stands on it: it has tests alone.
 //! Begin at `src/worked.rt`.
@@ -13,6 +13,8 @@ mod expecting;
 mod failures;
 #[cfg(test)]
 mod halting;
+#[cfg(test)]
+mod reading;
 #[cfg(test)]
 mod releases;
 #[cfg(test)]
