@@ -17,6 +17,7 @@ PAGE_WORDS = {
     "bench/RESULTS.md": 1_650,
     "docs/*.1": 4_500,  # the pages of the manual together
 }
+RELEASE_BYTES = 7_000_000  # of release/ together
 PAGE_LINES = {"docs/DECISIONS.md": 260, "docs/PROOF.md": 350, "bench/RESULTS.md": 250}
 
 
