@@ -81,7 +81,7 @@ class OfCountry:
         """Goes to the region's folder, where there is one: its tables are those that the line is about. A line about lineage names none where it is
         about the whole country."""
         self.top = folder
-        if not region and self.refusal.code in ("45", "81", "85") and (tiling := self.tiling()):
+        if not region and self.refusal.row is None and self.refusal.code in ("45", "81", "85") and (tiling := self.tiling()):
             self.tables.update({name: Together(folder, tiling.folders, name) for name in ("parcels", "lineage")})
         inner = os.path.join(folder, region)
         if not region or not os.path.isdir(inner):

@@ -15,7 +15,15 @@ class Unreadable(Exception):
 
 
 def opened(path):
-    """A connection that reads alone. Where the register's folder can't be written, and nobody holds the register, the file is read as one that does
+    """A connection that reads alone, or an error of SQLite: texts of the schema that are no letters are one too."""
+    try:
+        return connected(path)
+    except UnicodeDecodeError as error:
+        raise sqlite3.DatabaseError(f"its schema is damaged: {error}") from None
+
+
+def connected(path):
+    """Reads alone. Where the register's folder can't be written, and nobody holds the register, the file is read as one that does
     not change."""
     unforeseen.at(path)
     name = pathlib.Path(path).resolve().as_uri()
@@ -70,7 +78,7 @@ class Kept:
         if not self.has_texts:
             return None
         found = self.connection.execute("SELECT wkt FROM lpis_text WHERE id = ?", (name.decode("utf-8", "replace"),)).fetchone()
-        return found[0].encode() if found else None
+        return found[0].encode() if found and isinstance(found[0], str) else None
 
     def shape(self, name):
         text = self.text(name)

@@ -4,10 +4,12 @@ import argparse
 import contextlib
 import os
 import re
+import sqlite3
 import subprocess
 import sys
 
-from . import ending, installed, printing, program, unforeseen
+from . import databases, ending, installed, printing, program, unforeseen
+from .printing import readable
 
 TROUBLE = 64
 FAILED = f"status {unforeseen.STATUS}: this tool failed; the sentence names where, and a file with the traceback."
@@ -107,6 +109,9 @@ def told(name, error, troubles):
     if isinstance(error, MemoryError):
         error.__traceback__ = None
         say(name, f"there is not enough memory{unforeseen.PLACE.words()}")
+        return TROUBLE
+    if isinstance(error, sqlite3.Error):
+        say(name, f"{readable(str(unforeseen.PLACE.file or 'a database'))} cannot be read: {databases.why(error)}")
         return TROUBLE
     if isinstance(error, troubles):
         for reason in getattr(error, "reasons", [error]):
