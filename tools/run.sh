@@ -9,7 +9,11 @@
 
 NEEDS='Linux on x86-64 with glibc 2.34 or later (Debian 12, Ubuntu 22.04, RHEL 9)'
 
-say() { printf 'lpis: %s\n' "$*" >&2; }
+# Says a line. Names of tables and views of a stranger's file stand in some: letters that move the cursor do not reach the terminal.
+say() {
+  local text=$*
+  printf 'lpis: %s\n' "${text//[[:cntrl:]]/?}" >&2
+}
 
 # The value of the line `$1 VALUE` of a file of facts; nothing where it has none.
 fact() {

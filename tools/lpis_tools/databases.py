@@ -24,8 +24,13 @@ def guarded(connection):
 
 
 def size_of(connection):
-    paths = [path for _, name, path in connection.execute("PRAGMA database_list") if name == "main" and path]
-    return sum(os.path.getsize(path + end) for path in paths for end in ("", "-wal") if os.path.exists(path + end))
+    """The bytes of a connection's file and of what was written beside it. Its name may be bytes that are no letters."""
+    usual, connection.text_factory = connection.text_factory, bytes
+    try:
+        paths = [path for _, name, path in connection.execute("PRAGMA database_list") if name == b"main" and path]
+    finally:
+        connection.text_factory = usual
+    return sum(os.path.getsize(path + end) for path in paths for end in (b"", b"-wal") if os.path.exists(path + end))
 
 
 def rows(connection, statement):
