@@ -1,9 +1,12 @@
 """The text of docs/BELIEVE.md between its marks: definitions, types and clauses as they stand in the sources. Imported by `dev/trust`."""
 
 import re
+import textwrap
 
 from definitions import TOP, Definition, closing, lies_in
 
+WIDTH = 120
+A_MINUTE = 120  # words of definitions that are read in a minute
 MARK = re.compile(r"(?ms)^<!-- trust: (?!end)(.*?) -->\n.*?^<!-- trust: end -->$")
 TYPE = r"(?m)^(?:[ \t]*(?:///|#\[)[^\n]*\n)*pub (?:struct|enum|trait) {name}\b"
 FUNCTION = r"(?m)^(?:[ \t]*(?:///|#\[)[^\n]*\n)*[ \t]*pub fn {name}\b"
@@ -68,12 +71,52 @@ def model_of(crate, name, has_fields):
     return ""
 
 
+def in_sequence(nodes, uses, group_of):
+    """The nodes in runs of one group, each (group, members), each node after those that it uses; of a circle the first as they stand.
+
+    A run goes on as long as its group has a node whose turn it is; then that group follows that has the fewest nodes left behind by its run."""
+    left = dict.fromkeys(nodes)
+    groups = {}
+    for node in nodes:
+        groups.setdefault(group_of(node), []).append(node)
+
+    def run_of(group):
+        members, taken = [], set()
+        while True:
+            ready = [node for node in groups[group] if node in left and node not in taken and not any(other in left and other not in taken for other in uses(node))]
+            if not ready:
+                return members
+            members += ready
+            taken |= set(ready)
+
+    while left:
+        runs = [(len([node for node in members if node in left]) - len(run), place, group, run)
+                for place, (group, members) in enumerate(groups.items()) if (run := run_of(group))]
+        _, _, group, run = min(runs, key=lambda found: found[:2]) if runs else (0, 0, group_of(next(iter(left))), [next(iter(left))])
+        yield group, run
+        for node in run:
+            del left[node]
+
+
+def contents_of(text):
+    """A row for each chapter, with its words and the minutes that they take; of those with a star together too."""
+    rows, sums = ["| Chapter | Words | Minutes |", "|---|---|---|"], [0, 0]
+    for chapter in re.split(r"(?m)^## ", text)[1:]:
+        title, words = chapter.split("\n", 1)[0], len(chapter.split())
+        sums = [sums[0] + words, sums[1] + words * title.endswith("*")]
+        place = re.sub(r"[^\w -]", "", title.lower()).replace(" ", "-")
+        rows.append(f"| [{title}](#{place}) | {words:,} | {max(1, round(words / A_MINUTE))} |")
+    told = [(f"{name} | {words:,} | {round(words / A_MINUTE)} |") for name, words in (("with a star", sums[1]), ("all", sums[0]))]
+    return rows + [f"| *{row.split(' | ', 1)[0]}* | {row.split(' | ', 1)[1]}" for row in told]
+
+
 class Page:
-    """The page, written chapter by chapter: what stands in one is not repeated in the next."""
+    """The page, written chapter by chapter: what stands in one is not repeated in the next, and each stands after those that it uses."""
 
     def __init__(self, trust):
-        self.trust, self.done = trust, set()
-        self.places = {spec.module and spec.key: place for place, spec in enumerate(self.in_order())}
+        self.trust, self.done, self.printed, self.used, self.cycles = trust, set(), set(), {}, {}
+        self.places = {spec.key: place for place, spec in enumerate(self.in_order())}
+        self.types = {node: name for crate in trust.crates.values() for (kind, name, _), node in crate.nodes.items() if kind == "type" and node.is_promise}
 
     def in_order(self):
         """All files of specs/, each after those that it imports."""
@@ -97,27 +140,66 @@ class Page:
         crate = self.trust.crates.get(parts[1]) if len(parts) > 3 and parts[2] == "specs" else None
         return crate and crate.specs.get(".".join(parts[3:]))
 
-    def chapter(self, nodes):
-        """The text of definitions and types, each file after those that it imports; and how many lines it has."""
-        new = [node for node in nodes if node not in self.done and not getattr(getattr(node, "spec", None), "is_private", False)]
-        self.done |= set(new)
-        types, files = {}, {}
-        for node in new:
-            if isinstance(node, Definition):
-                files.setdefault(node.spec, []).append(node)
-            elif node.label.split("'s ")[0] in self.trust.crates:
-                types.setdefault(node.crate, []).append(node)
-        lines = []
-        for crate in [name for name in self.trust.crates if name in types]:
-            lines += self.types_of(crate, types[crate])
-        for spec in sorted(files, key=lambda spec: self.places[spec.key]):
-            lines += self.file_of(spec, files[spec])
-        return lines[1:]
+    def chapter(self, nodes, without=()):
+        """The text of definitions and types, each after those that it uses; what lies elsewhere may come later, and is named."""
+        new = [node for node in self.closed(nodes, without) if node not in self.done and not getattr(getattr(node, "spec", None), "is_private", False)]
+        lines, later = [], set()
+        for group, members in in_sequence(new, self.uses, self.group_of):
+            for node in members:
+                unmet = {other for other in self.uses(node) if other not in self.done and other is not node and other not in members}
+                later |= {other for other in unmet if lies_in(without, other)}
+                early = unmet - later
+                for other in early - self.cycle_of(node, new) if early else ():
+                    self.trust.faults.append(f"docs/BELIEVE.md: {node.label} stands before {other.label}, which it uses")
+            self.done |= set(members)
+            lines += self.types_of(group, members) if isinstance(group, str) else self.file_of(group, members)
+        names = sorted({node.label.split("'s ")[-1].rpartition(".")[2] for node in later})
+        words = f"Named here and defined further down: {', '.join(f'`{name}`' for name in names)}."
+        told = [*textwrap.wrap(words, WIDTH, break_long_words=False, break_on_hyphens=False), ""] if names else []
+        return told + lines[1:]
+
+    def group_of(self, node):
+        """What it stands with: the file of a definition, the crate of a type."""
+        return node.spec if isinstance(node, Definition) else node.crate
+
+    def uses(self, node):
+        """What it names that is to stand on the page too: in its clauses, and of a type in what callers see of it."""
+        if node not in self.used:
+            found = {other for other in self.trust.names_in(node) if other in self.trust.reached}
+            if node in self.types:
+                text = re.sub(r"//[^\n]*|\buse [^\n]*", "", type_of(self.trust.crates[node.crate], self.types[node]))
+                found |= {other for word in re.findall(r"\b[A-Z]\w+", text) if (other := self.type_named(node.crate, word))}
+            self.used[node] = found - {node}
+        return self.used[node]
+
+    def type_named(self, crate, name):
+        """The type of a name in a crate's sources: its own, or one that they import."""
+        crates = [crate, *(other for other, imported in self.trust.crates[crate].imported() if imported == name)]
+        return next((node for other in crates if other in self.trust.crates and (node := self.trust.crates[other].type_of(name)) in self.types), None)
+
+    def closed(self, nodes, without):
+        """The nodes with all that they use, but for what lies elsewhere."""
+        found = dict.fromkeys(nodes)
+        todo = list(found)
+        for node in todo:
+            for other in self.uses(node):
+                if other not in found and not lies_in(without, other):
+                    found[other] = None
+                    todo.append(other)
+        return todo
+
+    def cycle_of(self, node, nodes):
+        """Those of the nodes that it uses, by others or itself, and that use it too."""
+        if node not in self.cycles:
+            found = self.trust.follow([node])
+            self.cycles[node] = {other for other in nodes if other in found and node in self.trust.follow([other])}
+        return self.cycles[node]
 
     def types_of(self, crate, nodes):
-        names = sorted({node.label.split("'s ")[1] for node in nodes})
-        texts = [text for name in names if (text := type_of(self.trust.crates[crate], name))]
-        return ["", f"### Types of `{crate}`", "", "```rust", "\n\n".join(texts), "```"] if texts else []
+        names = dict.fromkeys(node.label.split("'s ")[1] for node in nodes)
+        texts = [text for name in names if (crate, name) not in self.printed and (text := type_of(self.trust.crates[crate], name))]
+        self.printed |= {(crate, name) for name in names}
+        return ["", f"### Types of `{crate}`", "```rust", "\n\n".join(texts), "```"] if texts else []
 
     def file_of(self, spec, nodes):
         lines, head, wanted = [], "", set(nodes)
@@ -131,7 +213,7 @@ class Page:
         laws = [text for node in nodes if node.law() and (text := promise_of(self.trust.crates[spec.crate], node.law()))]
         place = spec.path.relative_to(TOP / "crates")
         tied = ["", "```rust", "\n\n".join(laws), "```"] if laws else []
-        return ["", f"### {spec.sentence()}", "", f"`{place}`", "", "```text", *lines, "```", *tied]
+        return ["", f"### {spec.sentence()} (`{place}`)", "```text", *lines, "```", *tied]
 
     def resting(self, words):
         """What items rest on: CRATE/FILE.NAME, without what lies elsewhere."""
@@ -159,14 +241,15 @@ class Page:
 
     def written(self, match):
         kind, *words = match.group(1).split()
+        at = words.index("without") if "without" in words else len(words)
         if kind == "define":
-            lines = self.chapter(self.resting(words))
+            lines = self.chapter(self.resting(words), words[at + 1 :])
         elif kind == "files":
-            lines = self.chapter([node for node in self.trust.reached if lies_in(words, node)])
+            lines = self.chapter(self.trust.follow([node for node in self.trust.reached if lies_in(words[:at], node)], words[at + 1 :]), words[at + 1 :])
         elif kind == "rest":
-            at = words.index("and")
-            later = {*self.resting(words[:at]), *map(self.trust.find, words[at + 1 :])}
-            lines = self.chapter([node for node in self.trust.reached if node not in later])
+            lines = self.chapter(self.trust.reached)
+        elif kind == "contents":
+            return match.group(0)
         elif kind == "lines":
             lines = self.capped(words)
         elif kind == "promise":
@@ -176,4 +259,6 @@ class Page:
         return "\n".join([f"<!-- trust: {match.group(1)} -->", "", *lines, "", "<!-- trust: end -->"])
 
     def text(self, old):
-        return MARK.sub(self.written, old)
+        new = MARK.sub(self.written, old)
+        table = [f"<!-- trust: contents -->", "", *contents_of(new), "", "<!-- trust: end -->"]
+        return MARK.sub(lambda match: "\n".join(table) if match.group(1) == "contents" else match.group(0), new)

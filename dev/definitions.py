@@ -1,7 +1,11 @@
-"""The definitions of specs/, and what the contracts of public functions and types lead to: imported by `dev/trust`."""
+"""The definitions of specs/, and what the contracts of public functions and types lead to: imported by `dev/trust`.
+
+What the promises of the program (roots.py) lead to is to be believed. What only other promises lead to is between crates: it is proved, and in no page."""
 
 import re
 from pathlib import Path
+
+import roots
 
 TOP = Path(__file__).resolve().parent.parent
 NAME = r"[^\W\d][\w']*(?:-[^\W\d][\w']*)*"
@@ -221,6 +225,11 @@ class Crate:
         found = (re.match(r"pub\s+(?:const\s+|extern\s+)?(?:fn|struct|enum|trait|type)\s+(\w+)", head) for head, _, _ in module.items)
         return [match.group(1) for match in found if match]
 
+    def imported(self):
+        """What its sources import of other crates: crate and name."""
+        found = ((path[0], name) for module in self.modules.values() for _, path, names in module.uses if path for name in names)
+        return {(crate, name) for crate, name in found if crate.startswith("lpis_")}
+
     def node(self, kind, name, place=None):
         return self.nodes.setdefault((kind, name, place), Node(self.name, f"{self.name}'s {name}"))
 
@@ -276,6 +285,10 @@ class Crate:
         calls.is_promise = kind.is_promise
         hidden = self.type_of(trait) is not None and not self.type_of(trait).is_promise
         self.members(calls, body, [module.scope], lambda head: not hidden if trait else re.match(r"pub\s", head))
+        for head, _, _ in [] if trait else items(body):
+            if found := re.match(r"pub\s+(?:extern\s+)?fn\s+(\w+)", head):
+                method = self.node("method", f"{name}::{found.group(1)}")
+                self.members(method, body, [module.scope], lambda other, head=head: other == head)
 
 
 class Trust:
@@ -288,7 +301,8 @@ class Trust:
                 self.crates[match.group(1)] = Crate(match.group(1))
         self.faults = []
         promises = [node for crate in self.crates.values() for node in crate.nodes.values() if node.is_promise]
-        self.reached = self.follow(promises)
+        self.proved = self.follow(promises)
+        self.reached = self.follow(list(roots.of(self.crates)))
 
     def at(self, module, name):
         """What a name of a module is: a definition, a type, or nothing of these crates."""
@@ -349,10 +363,11 @@ class Trust:
         return reached
 
     def chain(self, node):
-        labels = []
+        """What leads to something: from a root, else from another promise."""
+        labels, reached = [], self.reached if node in self.reached else self.proved
         while node is not None:
             labels.append(node.label)
-            node = self.reached[node]
+            node = reached[node]
         return " <- ".join(labels)
 
     def specs(self):
@@ -375,12 +390,12 @@ class Trust:
             if not spec.sentence():
                 self.faults.append(f"{spec.key} does not begin with a sentence that says what it says")
             for node in spec.definitions.values():
-                if spec.is_private and node in self.reached:
+                if spec.is_private and node in self.proved:
                     self.faults.append(f"{self.chain(node)}: a promise rests on a private definition")
-                if not spec.is_private and node not in self.reached:
+                if not spec.is_private and node not in self.proved:
                     self.faults.append(f"{node.label}: no promise rests on it, so it is one for specs/private/")
 
 
 def lies_in(wheres, node):
     spec = getattr(node, "spec", None)
-    return bool({node.crate, node.label, spec and spec.key} & set(wheres))
+    return bool({node.crate, node.label.replace("'s ", "/"), spec and spec.key} & set(wheres))
