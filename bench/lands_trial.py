@@ -63,7 +63,7 @@ class Trial:
 
     def prepared(self, source, out, *words):
         """A run of prepare, and whether what it left is whole."""
-        before = digests_of(source)
+        before, is_fresh = digests_of(source), not os.path.isdir(out)
         run = self.run("prepare", source, out, *words)
         if digests_of(source) != before:
             self.say("source", "prepare changed its source")
@@ -75,8 +75,10 @@ class Trial:
             self.say("tables", f"status 0 without {' '.join(sorted(set(TABLES[:2]) - set(there)))}")
         elif run.status == 0 and not all(records(out, name) for name in TABLES[:2]):
             self.say("nothing", "status 0 and a table without a row")
-        elif run.status and there and out == self.path("accepted"):
+        elif run.status and there and is_fresh:
             self.say("tables", f"status {run.status} with {' '.join(there)}")
+        if run.status == 1 and "no table is written" not in run.text:
+            self.say("mute", "status 1, and no word that no table is written")
         return run
 
     # What follows the tables.
@@ -190,8 +192,6 @@ def try_land(trial, land, folder):
         trial.say("status", f"prepare ended with 64: {last_line(run.told)}")
     if land.is_clean and land.classes_given != "none" and first.status != 0:
         trial.say("clean", f"a clean land has something to look at: {last_line(first.text)}")
-    if run.status == 1 and "no table is written" not in run.text:
-        trial.say("mute", "status 1, and no word that no table is written")
     if run.status not in (0, 1) or any(kind == "crash" for kind, _ in trial.faults):
         return
     again(trial, land, source, words, run)
