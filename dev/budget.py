@@ -9,7 +9,7 @@ PAGE_WORDS = {
     "docs/IDEA.md": 1_150,
     "docs/GUIDE.md": 7_300,
     "docs/FORMATS.md": 8_300,
-    "docs/PROOF.md": 6_800,
+    "docs/PROOF.md": 6_900,
     "docs/ARCHITECTURE.md": 4_450,
     "docs/DECISIONS.md": 4_300,
     "CONTRIBUTING.md": 3_650,
@@ -18,7 +18,7 @@ PAGE_WORDS = {
     "docs/*.1": 4_500,  # the pages of the manual together
 }
 RELEASE_BYTES = 7_000_000  # of release/ together
-PAGE_LINES = {"docs/DECISIONS.md": 264, "docs/PROOF.md": 350, "bench/RESULTS.md": 250}
+PAGE_LINES = {"docs/DECISIONS.md": 264, "docs/PROOF.md": 360, "bench/RESULTS.md": 250}
 
 
 def sizes():
