@@ -5,12 +5,14 @@ from __future__ import annotations
 
 import csv
 import os
+import re
 
 from . import balance, cells
 from .printing import escaped
 
 csv.field_size_limit(1 << 30)
 FILES = ("prepared.csv", "report.csv", "balance.csv", "identifiers.csv")
+NUMBER = re.compile(r"[+-]?[0-9]{1,18}(\.[0-9]{1,9})?", re.ASCII)
 GONE = ("lost", "left out")
 NEAR = 0.001  # square metres: the last digit of balance.csv
 LAYERS = {"parcels": "parcels", "covers": "pieces"}
@@ -38,10 +40,8 @@ def records(folder, name):
 
 
 def number(text):
-    try:
-        return float(text or 0)
-    except ValueError:
-        return 0.0
+    """A number as a run writes it; 0 in place of anything else."""
+    return float(text) if text and NUMBER.fullmatch(text) else 0.0
 
 
 def by_kind(rows, counted):
@@ -131,4 +131,4 @@ BALANCE = ["layer", "class", "#source m\u00b2", "#mended", "#left out", "#settle
 
 def balance_rows(found):
     names = ("layer", "class", "source_m2", "mended_m2", "left_out_m2", "settled_m2", "tables_m2", "unaccounted_m2")
-    return [[row.get(name) or "" for name in names] for row in found["balance"]]
+    return [[text if name in names[:2] or NUMBER.fullmatch(text) else "" for name in names for text in [row.get(name) or ""]] for row in found["balance"]]
