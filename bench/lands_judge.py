@@ -117,8 +117,11 @@ class Judge:
                 after[layer, land_class] += doubled / 2_000_000
         for areas in (source, after):
             areas["covers", ""] = math.fsum(value for (layer, _), value in areas.items() if layer == "covers")
-        for group in sorted({*source, *after, *found}):
+        for group in sorted({*source, *after, *found} - {("between", "")}):
             self.line(group, found.get(group), source[group], after[group], slack)
+        gaps = found.get(("between", ""))
+        if gaps and (gaps["source_m2"] != gaps["tables_m2"] or any(float(gaps[f"{name}_m2"]) for name in ("mended", "left_out", "settled", "unaccounted"))):
+            self.say("balance", f"land between parcels is none of the tables: {gaps}")
         if ("parcels", "") not in found:
             self.say("balance", "there is no balance of parcels")
 

@@ -13,7 +13,7 @@ PAGE_WORDS = {
     "docs/ARCHITECTURE.md": 4_450,
     "docs/DECISIONS.md": 4_300,
     "CONTRIBUTING.md": 3_650,
-    "CHANGELOG.md": 1_500,
+    "CHANGELOG.md": 1_600,
     "bench/RESULTS.md": 1_650,
     "docs/*.1": 4_500,  # the pages of the manual together
 }

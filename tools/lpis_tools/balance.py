@@ -1,5 +1,5 @@
 """A balance of land: the square metres of a source and of the tables made of it, by class, and what became of the difference. No column is worked
-out from the others, so land for which nobody accounts shows. Python's standard library alone.
+out from the others, so land for which nobody accounts shows.
 
     whole = balance.Balance(layers)     what was read, in the tables' system of coordinates and before any repair
     whole.join(into, rows)              where rows' land goes on in another row
@@ -59,9 +59,13 @@ class Balance:
 
     def __init__(self, layers):
         self.sums, self.entries = {}, {}
-        for name in SHAPED:
-            for row in layers[name].rows if name in layers else ():
-                self.entries[id(row)] = Entry(name, row, area_of(row.found.members if row.found else ()))
+        self.between = 0.0  # square metres between parcels that nobody has
+        for name in SHAPED if layers else ():
+            from .sizes import areas_of  # by numpy, which not all who use this module have
+
+            rows = layers[name].rows if name in layers else []
+            for row, area in zip(rows, areas_of([row.found for row in rows])):
+                self.entries[id(row)] = Entry(name, row, area)
 
     def join(self, into, rows):
         """The land of rows goes on in another row of their layer."""
@@ -74,11 +78,16 @@ class Balance:
     def area_of(self, row):
         return self.entries[id(row)].area
 
+    def is_as_read(self, row):
+        """Whether a row has the polygons that were read of it."""
+        founds = self.entries[id(row)].founds
+        return len(founds) == 1 and founds[0] is row.found
+
     def source_of(self, row):
         """The polygons of a row as they were read; None where it has them still. A zone's number that was taken off is taken off here too."""
-        founds = self.entries[id(row)].founds
-        if len(founds) == 1 and founds[0] is row.found:
+        if self.is_as_read(row):
             return None
+        founds = self.entries[id(row)].founds
         members, now = [member for found in founds for member in found.members], row.found.members
         away = round((members[0][0][0][0] - now[0][0][0][0]) / ZONE) * ZONE if members and now else 0
         return [[[(x - away, y) for x, y in ring] for ring in member] for member in members] if away else members
@@ -117,6 +126,8 @@ class Balance:
         with files.anew(os.path.join(out, FILE), newline="") as file:
             table = cells.Writer(file)
             table.writerow(["layer", "class", *(f"{column.replace(' ', '_')}_m2" for column in COLUMNS), "unaccounted_m2"])
+            if self.between:
+                table.writerow(["between", "", *(f"{value:.3f}" for value in (self.between, 0, 0, 0, self.between, 0))])
             table.writerows([layer, cells.text(land_class), *(f"{value:.3f}" for value in (*found.values(), missing(found)))] for (layer, land_class), found in self.lines())
 
     def lines(self):
@@ -127,22 +138,30 @@ class Balance:
 
     def words(self):
         """The balance for people, in hectares, and whether it adds up."""
-        lines, wrong = [f"{'balance of land in hectares':30}" + "".join(f"{column:>15}" for column in COLUMNS)], []
+        rows, wrong = [["balance of land in hectares", *COLUMNS]], []
         for (layer, land_class), found in self.lines():
             name = {"covers": "all pieces", "parcels": "parcels"}[layer] if not land_class else land_class
-            lines.append(f"  {name:28}" + "".join(f"{hectares(value, sign=0 < number < 4):>15}" for number, value in enumerate(found.values())))
+            rows.append([f"  {name}", *(hectares(value, sign=0 < number < 4) for number, value in enumerate(found.values()))])
             if abs(missing(found)) >= NEAR:
                 wrong.append(f"{name} by {missing(found):+.3f} m2")
-        return [*lines, "the balance does not add up: " + ", ".join(wrong) if wrong else "the balance adds up to the square metre"]
+        if self.between:
+            rows.append(["  between parcels, nobody", hectares(self.between), "", "", "", hectares(self.between)])
+        return [*aligned(rows), "the balance does not add up: " + ", ".join(wrong) if wrong else "the balance adds up to the square metre"]
 
     def source_words(self, layers):
         """The land of the source for people, where no table is written."""
         self.begin(layers)
-        lines = ["land of the source in hectares"]
-        return lines + [f"  {land_class or {'covers': 'all pieces', 'parcels': 'parcels'}[layer]:28}{hectares(found['source']):>15}" for (layer, land_class), found in self.lines()]
+        rows = [[f"  {land_class or {'covers': 'all pieces', 'parcels': 'parcels'}[layer]}", hectares(found["source"])] for (layer, land_class), found in self.lines()]
+        return ["land of the source in hectares", *aligned(rows)]
 
     def is_even(self):
         return all(abs(missing(found)) < NEAR for _, found in self.lines())
+
+
+def aligned(rows):
+    """Rows of cells as lines, a name and columns to the right, with a blank before each cell, however long it is."""
+    widths = [max(least, *(len(cell) + 1 for cell in column)) for least, column in zip((30, *[15] * len(rows[0])), zip(*rows))]
+    return ["".join([f"{row[0]:{widths[0]}}", *(f"{cell:>{width}}" for cell, width in zip(row[1:], widths[1:]))]).rstrip() for row in rows]
 
 
 def missing(found):

@@ -11,6 +11,7 @@ from shapely.ops import unary_union
 from shapely.validation import explain_validity, make_valid
 
 from . import identifiers, land, wkb
+from .between import width_of
 from .boxes import Boxes
 from .rounding import Map, shape_of
 
@@ -20,7 +21,7 @@ LEAST = 0.001  # metres: conflicts that are narrower are rounding, and no rows
 SPIKE = 0.0005  # metres: narrower than twice that, a part of a shape is no place to show it
 FAR = 20_000_000.0  # metres: the range of the tables
 MANY = 100  # pieces of one name, from which on they are asked for by their boxes
-ORDER = ("lost", "left out", "made", "doubled", "identifier", "stranger", "added", "class", "invalid", "overlap", "gap", "outside", "changed", "kept", "column")
+ORDER = ("lost", "left out", "made", "doubled", "identifier", "stranger", "added", "class", "invalid", "overlap", "gap", "outside", "between", "spike", "changed", "kept", "column")
 STOPPING = frozenset(ORDER[:9])
 
 
@@ -37,14 +38,28 @@ class Loss:
     layer: str = ""
     rows: list = field(default_factory=list)  # their numbers in the layer
     is_grave: bool = False
+    known_place: tuple | None = None  # once it was looked for; empty where there is none
 
     def is_wide(self):
-        return self.width is not None and self.width >= WIDE - ROUNDING
+        return self.kind != "between" and self.width is not None and self.width >= WIDE - ROUNDING
 
     def stops(self):
         return self.kind in STOPPING or self.is_wide() or self.is_grave
 
+    def key_words(self):
+        """What a row of its table is known by: the kind, the layer, the row and the identifiers."""
+        return self.kind, self.layer, " ".join(map(str, self.rows)), " ".join(self.names)
+
+    def at(self):
+        return self.place()
+
     def place(self):
+        """A place in it, well within where it is wide enough."""
+        if self.known_place is None:
+            self.known_place = self.place_of_shape() or ()
+        return self.known_place or None
+
+    def place_of_shape(self):
         parts = parts_of(self.shape)
         if not parts and (self.shape is None or self.shape.is_empty):
             return None
@@ -56,13 +71,6 @@ class Loss:
 def number_of(row):
     """By what a row is found in its layer."""
     return getattr(row, "fid", None) or row.number
-
-
-def width_of(part):
-    """The area over the length: the width of the rectangle that has the area and the border's length of a part."""
-    area, half = part.area, part.length / 2
-    root = half * half - 4 * area
-    return 2 * area / (half + root**0.5) if root > 0 else area**0.5
 
 
 def parts_of(shape):
@@ -113,6 +121,9 @@ class Shapes:
 
     def put(self, row):
         self.founds[id(row)] = row
+
+    def has(self, row):
+        return id(row) in self.founds
 
     def get(self, key):
         row = self.founds.get(key)
@@ -193,10 +204,10 @@ def find_names(source):
             source.losses.append(Loss("stranger", [row["piece"], row["parcel"]], "the piece names a parcel that is not there: lpis refuses it (35)", shape, None, shape.area if shape else None, "covers", [number_of(row)]))
 
 
-def find_conflicts(source, say, found=None):
+def find_conflicts(source, say, found=None, between=land.BETWEEN):
     """The places in conflict, by Shapely: of the rows that have one where all borders are rounded together (`found`). What the rounding closes by itself
     is none."""
-    found = found or Map(source.parcels, source.covers, say).conflicts()
+    found = found or Map(source.parcels, source.covers, say).conflicts(between)
     say(f"conflicts: {len(found.overlaps)} overlaps, {len(found.gaps)} gaps, {len(found.outsides)} pieces outside of their parcel to be measured")
     for first, second in found.overlaps:
         find_overlap(source, first, second)
@@ -205,6 +216,7 @@ def find_conflicts(source, say, found=None):
     for piece, row in found.outsides:
         find_outside(source, piece, row)
     source.losses += [kept_of(border, rows) for border, rows in found.kept]
+    source.losses += [loss for gap in found.between if (loss := between_of(gap)).width >= LEAST - ROUNDING]
 
 
 def find_overlap(source, row, other):
@@ -225,6 +237,11 @@ def find_outside(source, piece, row):
     named = [("parcels", row["parcel"], row), ("covers", piece["piece"], piece)]
     outside = by_geos("the outside", named, source.shapes.get(id(piece)).difference, source.shapes.get(id(row)))
     source.losses += pieces_found("outside", [piece["piece"], row["parcel"]], [number_of(piece), number_of(row)], outside, "the piece has this place, and its parcel has not")
+
+
+def between_of(gap):
+    more = f", with {len(gap.names) - 2} more parcels beside it" if len(gap.names) > 2 else ""
+    return Loss("between", gap.names[:2], f"nobody has this place between parcels{more}", gap.shape, width_of(gap.shape), gap.shape.area, "parcels")
 
 
 def kept_of(border, rows):

@@ -27,15 +27,22 @@ class Finding:
     def is_hopeless(self):
         return not self.is_mended and not self.done
 
+    def key_words(self):
+        """What a row of its table is known by: the kind, the layer, the row and the identifier."""
+        return self.kind, self.layer, "" if self.row is None else self.row, self.name
+
+    def at(self):
+        return self.place
+
     def line(self, accept):
         who = " ".join(word for word in (self.layer, readable(self.name), f"({self.key} {self.row})" if self.row is not None else "") if word)
         size = f" ({self.area:.3f} m2)" if self.area is not None else ""
         at = f" at {self.place[0]:.3f} {self.place[1]:.3f}" if self.place else ""
-        done = self.done if self.is_mended or (accept and self.done) else ""
+        done = self.done if self.is_mended or (self.done and accept.takes(self)) else ""
         return f"{self.kind}: {who}{size}{at}: {self.words}" + (f": {done}" if done else "")
 
     def record(self, accept):
-        done = (self.done or NOTES.get(self.kind, "")) if self.is_mended or accept else ""
+        done = (self.done or NOTES.get(self.kind, "")) if self.is_mended or accept.takes(self) else ""
         area = "" if self.area is None else f"{self.area:.3f}"
         x, y = (f"{value:.3f}" for value in self.place) if self.place else ("", "")
         return [self.kind, self.layer, "" if self.row is None else self.row, cells.text(self.name), area, x, y, cells.text(self.words), cells.text(done)]

@@ -16,6 +16,7 @@ from .printing import readable
 
 COLUMNS = {"parcels": ["parcel"], "covers": ["piece", "parcel", "class"], "classes": ["class", "percent"]}
 SHAPED = ("parcels", "covers")
+BETWEEN = 1.0  # metres: wider land that no parcel has is a road, or whatever else is none
 PACKAGE = b"SQLite format 3\0"
 
 
@@ -121,6 +122,16 @@ def as_package(path, spare, *words):
     if run.returncode or not os.path.exists(made):
         raise Trouble(f"{path}: ogr2ogr cannot read it: {next((line for line in told if line.startswith(('ERROR', 'FAILURE'))), told[-1] if told else run.returncode)}")
     return made, list(dict.fromkeys(told))
+
+
+def reads_as_metres(box):
+    """Whether a shape lies beyond what degrees can be."""
+    return max(abs(box[0]), abs(box[2])) > 180 or max(abs(box[1]), abs(box[3])) > 90
+
+
+def among_metres(box):
+    """What is said of a shape in degrees whose neighbours are in metres."""
+    return f"it lies at {box[0]:.4f} {box[1]:.4f}, which reads as degrees among metres"
 
 
 def quoted(name):

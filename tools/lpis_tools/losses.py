@@ -4,36 +4,43 @@ tables alone, so it is the same for every recipe."""
 
 from __future__ import annotations
 
+import contextlib
 import json
+import math
 import os
 from collections import Counter
 
 from shapely.geometry import mapping
 
 from . import balance, cells, files, land, outcome
+from .accepting import what_stops
 from .conflicts import ORDER, Loss, Source, find_conflicts, find_names, number_of, parts_of, polygons_by
 from .findings import readable
 
 __all__ = ["Loss", "conflicts_alone", "line_of", "number_of", "parts_of", "polygons_by", "report"]
 MOST_TOLD = 20
 MOST_REASONS = 3
+APART = ("between", "kept")  # kinds that have files of their own, where there are any
+COUNTED = (("between", "places between parcels that nobody has: see report.csv"), ("spike", "spikes and notches narrower than a millimetre that are not in the tables: see report.csv"),
+           ("kept", "borders kept as they were last year: see kept.csv"))
 COLUMNS = ["kind", "layer", "row", "identifiers", "width_m", "area_m2", "x", "y", "stops", "words"]
 
 
-def conflicts_alone(layers, say):
-    """The conflicts of a source that stop a recipe, before it is run."""
+def conflicts_alone(layers, say, seen=None):
+    """The conflicts of a source that stop a recipe, before it is run. `seen` are those that its rounded map shows, where that was made."""
     source = Source(layers)
-    find_conflicts(source, say)
+    find_conflicts(source, say, seen)
     return [loss for loss in source.losses if loss.is_wide()]
 
 
-def find_all(source, tables, say, whole, seen):
+def find_all(source, tables, say, whole, seen, between):
     """All losses, the gravest first, and how many rows the tables have."""
     layers = source.layers
     find_names(source)
-    find_conflicts(source, say, seen)
+    find_conflicts(source, say, seen, between)
     say("comparing the tables with the source")
     whole.begin(layers)
+    whole.between = math.fsum(loss.area for loss in source.losses if loss.kind == "between")
     for entry in whole.left_out(layers):
         name, members = entry.row[Source.KEYS[entry.layer]], [member for found in entry.founds for member in found.members]
         shape = polygons_by(members) if members else None
@@ -46,16 +53,42 @@ def find_all(source, tables, say, whole, seen):
 
 
 def write(losses, out, epsg=None):
-    """report.csv and report.geojson in a folder: all rows, however many there are."""
-    with files.anew(os.path.join(out, "report.csv"), newline="") as file:
+    """The report in a folder: all rows, however many there are; and as layers, those of some kinds apart. Which files there are."""
+    apart = {"report": [loss for loss in losses if loss.kind not in APART], **{kind: [loss for loss in losses if loss.kind == kind] for kind in APART}}
+    write_rows([loss for loss in losses if loss.kind != "kept"], os.path.join(out, "report.csv"))
+    written = ["report.csv"]
+    for name, found in apart.items():
+        written += write_apart(name, found, out, epsg)
+    return written
+
+
+def write_apart(name, losses, out, epsg):
+    """A layer, and the rows of borders that were kept, which are many; the files of an earlier run go where there are none."""
+    names = [f"{name}.geojson", *(["kept.csv"] if name == "kept" else [])]
+    if not losses and name in APART:
+        for one in names:
+            with contextlib.suppress(FileNotFoundError):
+                os.remove(os.path.join(out, one))
+        return []
+    write_layer(losses, os.path.join(out, names[0]), epsg)
+    if name == "kept":
+        write_rows(losses, os.path.join(out, names[1]))
+    return names
+
+
+def write_rows(losses, path):
+    with files.anew(path, newline="") as file:
         table = cells.Writer(file)
         table.writerow(COLUMNS)
         for loss in losses:
             x, y = loss.place() or (None, None)
             table.writerow([loss.kind, loss.layer, " ".join(map(str, loss.rows)), cells.text(" ".join(loss.names)), *(("" if value is None else f"{value:.4f}") for value in (loss.width, loss.area)),
                             *(("" if value is None else f"{value:.3f}") for value in (x, y)), int(loss.stops()), cells.text(loss.words)])
+
+
+def write_layer(losses, path, epsg):
     system = f' "crs": {{"type": "name", "properties": {{"name": "urn:ogc:def:crs:EPSG::{epsg}"}}}},\n' if epsg else ""
-    with files.anew(os.path.join(out, "report.geojson")) as file:
+    with files.anew(path) as file:
         file.write(f'{{\n "type": "FeatureCollection",\n{system} "features": [')
         for number, loss in enumerate(losses):
             file.write((",\n" if number else "\n") + json.dumps(feature_of(loss)))
@@ -69,7 +102,7 @@ def feature_of(loss):
         "words": loss.words}}
 
 
-def told(losses, layers, found, out, counts):
+def told(losses, layers, found, counts):
     """The report as lines for people."""
     counts = counts or {name: len(layers[name].rows) for name in ("parcels", "covers")}
     lines = [f"parcels {found[0]} of {counts['parcels']} pieces {found[1]} of {counts['covers']}"]
@@ -80,12 +113,12 @@ def told(losses, layers, found, out, counts):
             if shown[loss.kind] <= MOST_TOLD:
                 lines.append(line_of(loss))
     lines += [f"  and {count - MOST_TOLD} more of kind {kind}: see report.csv" for kind, count in shown.items() if count > MOST_TOLD]
-    narrow = [loss for loss in losses if loss.width is not None and not loss.stops()]
+    narrow = [loss for loss in losses if loss.width is not None and not loss.stops() and loss.kind != "between"]
     if narrow:
         lines.append(f"conflicts narrower than two centimetres: {len(narrow)}, together {sum(loss.area for loss in narrow):.3f} m2, the widest {max(loss.width for loss in narrow) * 1000:.1f} mm")
+    lines += [f"{count} {words}" for kind, words in COUNTED if (count := sum(loss.kind == kind for loss in losses))]
     lines += [f"the greatest change of a parcel: {loss.words} ({' '.join(map(readable, loss.names))})" for loss in losses if loss.kind == "changed" and not loss.stops()]
     lines += [line_of(loss) for loss in losses if loss.kind == "column"]
-    lines.append(f"written: {', '.join(os.path.join(out, name) for name in ('report.csv', 'report.geojson', balance.FILE))}")
     return lines
 
 
@@ -106,26 +139,30 @@ def why_nothing(losses, whole):
     return "; ".join(f"{count} row{'s' * (count > 1)}: {words}" for words, count in found.most_common(MOST_REASONS)) or "the tables have no row"
 
 
-def report(layers, out, accept, say, epsg=None, counts=None, whole=None, tables=None, source=None, seen=None):
-    """Finds, writes and prints. The status: 1 where something is lost, changed or in wide conflict, unless that is accepted. `counts` are the rows of
+def report(layers, out, accept, say, epsg=None, counts=None, whole=None, tables=None, source=None, seen=None, between=land.BETWEEN, refusal=""):
+    """Finds, writes and prints. The status: 1 where something is lost, changed or in wide conflict, unless `accept` takes it. `counts` are the rows of
     the source, where some were left out before; `whole` the balance of what was read, where that was mended; `tables` the folder of the tables,
     where that is another than `out`; `seen` the conflicts that the rounded map shows, where that was made."""
     if epsg is None:
         systems = [layer.system.number for layer in layers.values() if isinstance(layer, land.Layer) and layer.system]
         epsg = systems[0] if systems else None
     whole = whole or balance.Balance(layers)
-    losses, found = find_all(source or Source(layers), tables or out, say, whole, seen)
-    write(losses, out, epsg)
+    losses, found = find_all(source or Source(layers), tables or out, say, whole, seen, between)
+    written = write(losses, out, epsg)
     whole.write(out)
-    for line in [*told(losses, layers, found, out, counts), *whole.words()]:
+    for line in [*told(losses, layers, found, counts), f"written: {', '.join(os.path.join(out, name) for name in (*written, balance.FILE))}", *whole.words()]:
         print(line)
     if not all(found):
-        print(f"nothing is left: {why_nothing(losses, whole)}")
+        print(f"nothing is left: {why_nothing(losses, whole)}{refusal and '; ' + refusal}")
         return 1
-    stopping = sum(loss.stops() for loss in losses)
-    if not stopping and whole.is_even():
+    stopping = [loss for loss in losses if loss.stops()]
+    left = [loss for loss in stopping if not accept.takes(loss)]
+    uneven = "" if whole.is_even() else "the balance does not add up"
+    if not stopping and not uneven:
         return 0
     refused = any(loss.kind == "overlap" and loss.is_grave for loss in losses)
     remedy = ": mend the source" if refused else ": mend the source, or take the tables as they are by --accept"
-    print(f"to look at: {stopping + (not whole.is_even())}" + (", accepted" if accept else remedy) + ("; lpis refuses these tables" if refused else ""))
-    return 0 if accept else 1
+    is_accepted = not left and (not uneven or accept.is_all)
+    what = f"{len(stopping) + bool(uneven)}, accepted" if is_accepted else f"{what_stops(stopping, left)}{remedy}" if left else f"1 ({uneven}){remedy}"
+    print(f"to look at: {what}" + ("; lpis refuses these tables" if refused else "") + ("" if is_accepted or not refusal else f"; {refusal}"))
+    return 0 if is_accepted else 1

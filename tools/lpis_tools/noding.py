@@ -3,6 +3,8 @@ corners, with who lies beside them. By numpy; no shape is made."""
 
 from __future__ import annotations
 
+from fractions import Fraction
+
 import numpy
 
 from . import wkb
@@ -38,10 +40,21 @@ class Rings:
         first, second = self.points[inner], self.points[inner + 1]
         ring = ring[inner]
         about = self.points[self.starts][ring]
-        doubled = numpy.bincount(ring, (first[:, 0] - about[:, 0]) * (second[:, 1] - about[:, 1]) - (second[:, 0] - about[:, 0]) * (first[:, 1] - about[:, 1]), len(self.sizes))
+        one, other = (first[:, 0] - about[:, 0]) * (second[:, 1] - about[:, 1]), (second[:, 0] - about[:, 0]) * (first[:, 1] - about[:, 1])
+        doubled = numpy.bincount(ring, one - other, len(self.sizes))
+        room = numpy.bincount(ring, numpy.abs(one) + numpy.abs(other), len(self.sizes)) * (self.sizes + 8) * 2.0**-52  # what doubles may have wrong
+        for number in numpy.nonzero(numpy.abs(doubled) <= room)[0].tolist():
+            doubled[number] = self.sign_of(number)
         backwards = ((doubled < 0) != self.holes)[ring]
         edges = numpy.where(backwards[:, None], numpy.hstack([second, first]), numpy.hstack([first, second])) + 0.0
         return edges, self.owners[ring]
+
+    def sign_of(self, ring):
+        """Below 0 where a ring goes clockwise: exact."""
+        start = self.starts[ring]
+        way = [(Fraction(x), Fraction(y)) for x, y in self.points[start : start + self.sizes[ring]].tolist()]
+        area = sum(ax * by - bx * ay for (ax, ay), (bx, by) in zip(way, way[1:]))
+        return (area > 0) - (area < 0)
 
 
 def edges_of(founds):

@@ -10,7 +10,7 @@ from bisect import bisect_left, bisect_right
 from shapely.geometry import Point
 
 from . import land, polygons
-from .conflicts import Loss, Source, by_geos, number_of, polygons_by
+from .conflicts import LEAST, Loss, Source, by_geos, number_of, parts_of, polygons_by, width_of
 from .snapping import pixel_of
 
 ROUNDED = 0.001  # metres: what a border moves by rounding, at most
@@ -102,18 +102,18 @@ class Outcome:
         for other in OTHERS[name]:
             if record[other] != row[other]:
                 self.add("changed", name, [row[column]], f"its {other} is {row[other]} in the source and {record[other]} in the tables", [number_of(row)], None).is_grave = True
-        now = self.source.shapes.get(id(row))
-        if now is None:
+        if not self.source.shapes.has(row):
             after = self.valid(name, row[column], members)
             self.add("made", name, [row[column]], f"{row.why or 'it has no shape that can be used'}: it was made of its pieces", [number_of(row)], after)
             self.whole.book(row, after.area, 0.0)
             return
-        before = self.before(row, now)
-        if before is now and is_rounded(row.found.members, members):
-            self.whole.book(row, now.area, area - now.area)
+        if self.whole.is_as_read(row) and is_rounded(row.found.members, members):
+            before = self.whole.area_of(row)
+            self.whole.book(row, before, area - before)
             self.least(name, row, column, before, area)
             return
-        self.compare(name, row, column, before, now, self.valid(name, row[column], members))
+        now = self.source.shapes.get(id(row))
+        self.compare(name, row, column, self.before(row, now), now, self.valid(name, row[column], members))
 
     @staticmethod
     def valid(name, who, members):
@@ -139,15 +139,17 @@ class Outcome:
             loss.is_grave = True
             self.source.losses.append(loss)
         self.keep_greatest(name, change, loss)
+        self.source.losses += [Loss("spike", [row[column]], f"{what} of {part.length / 2:.3f} m, narrower than a millimetre, is not in the tables", part, None, part.area, name, [number_of(row)])
+                               for what, found in (("a spike", gone), ("a notch", come)) for part in spikes(found, after)]
 
     def least(self, name, row, column, before, area):
         """Of a row that was rounded alone the change is no more than its border has room for."""
         if name != "parcels":
             return
-        change = abs(area - before.area)
+        change = abs(area - before)
         if self.greatest is None or change > self.greatest[0]:
-            words = f"rounded alone, from {before.area:.3f} to {area:.3f} m2"
-            self.keep_greatest(name, change, Loss("changed", [row[column]], words, before, None, change, name, [number_of(row)]))
+            words = f"rounded alone, from {before:.3f} to {area:.3f} m2"
+            self.keep_greatest(name, change, Loss("changed", [row[column]], words, self.source.shapes.get(id(row)), None, change, name, [number_of(row)]))
 
     def keep_greatest(self, name, change, loss):
         if name == "parcels" and (self.greatest is None or change > self.greatest[0]):
@@ -166,6 +168,13 @@ class Outcome:
         if name == "parcels":
             return "narrower than a millimetre, or other parcels' pieces have its whole place" if row["parcel"] in self.source.pieces_of else "no piece names it"
         return "narrower than a millimetre, or other pieces have its whole place"
+
+
+def spikes(change, after):
+    """The parts of a change that are narrower than a millimetre and lead away from the border that a shape has afterwards."""
+    narrow = [part for part in parts_of(change) if width_of(part) < LEAST and part.length > 4 * ROUNDED]
+    near = after.boundary.buffer(1.5 * ROUNDED, resolution=1) if narrow else None
+    return [part for part in narrow if not near.contains(part)]
 
 
 def read_table(folder, name):
@@ -191,12 +200,19 @@ def read_table(folder, name):
 def is_rounded(before, after):
     """Whether polygons in millimetres are others with each point rounded, and with corners more that lie on their edges within a pixel: quick, and only a
     yes counts. What changed is then no more than the border's length has room for."""
-    rings, ways = [ring for member in before for ring in member], [ring[:-1] for member in after for ring in member]
-    return len(rings) == len(ways) and all(walks(ring, ways) for ring in rings)
+    rings, ways = [corners_of(ring) for member in before for ring in member], [ring[:-1] for member in after for ring in member]
+    if len(rings) != len(ways) or any(len(corners) < 3 for corners in rings):
+        return False
+    starts = {corners[0][0]: [] for corners in rings}
+    for way in ways:
+        for place, point in enumerate(way):
+            if point in starts:
+                starts[point].append((way, place))
+    return all(any(walks(corners, way, place) for way, place in starts[corners[0][0]]) for corners in rings)
 
 
-def walks(ring, ways):
-    """Whether one of the ways goes along a ring, from the ring's first corner on and either way round."""
+def corners_of(ring):
+    """The different corners of a ring one after the other, each rounded and in millimetres as it was."""
     corners = []
     for x, y in ring[:-1]:
         point = pixel_of(x), pixel_of(y)
@@ -204,13 +220,13 @@ def walks(ring, ways):
             corners.append((point, (x * 1000, y * 1000)))
     while len(corners) > 1 and corners[-1][0] == corners[0][0]:
         corners.pop()
-    for way in ways if len(corners) > 2 else ():
-        for place, point in enumerate(way):
-            if point == corners[0][0]:
-                turned = way[place:] + way[:place]
-                if goes_along(corners, turned) or goes_along(corners, turned[:1] + turned[:0:-1]):
-                    return True
-    return False
+    return corners
+
+
+def walks(corners, way, place):
+    """Whether a way goes along the corners, from a place in it on and either way round."""
+    turned = way[place:] + way[:place]
+    return goes_along(corners, turned) or goes_along(corners, turned[:1] + turned[:0:-1])
 
 
 def goes_along(corners, way):

@@ -7,7 +7,7 @@ import os
 import shutil
 import tempfile
 
-from . import balance, findings, land, losses, naming, preparing, previous, recipe, rounding
+from . import accepting, again, balance, findings, land, losses, naming, preparing, previous, recipe, rounding
 
 TABLES = ("parcels.csv", "covers.csv", "classes.csv")
 
@@ -20,6 +20,8 @@ class Run:
     def __init__(self, words, names, say):
         self.words, self.names, self.say, self.previous = words, names, say, None
         land.apart(words.land, words.out)
+        self.accept = accepting.Accepting(words.accept, words.accept_from, ("left out", "made"))
+        self.kept = again.Rounded(words.out, self.digest())
         self.table = self.read_table(words.classes) if words.classes else None
         self.given = naming.given_identifiers(words.identifiers)
         os.makedirs(words.out, exist_ok=True)
@@ -41,6 +43,12 @@ class Run:
         if records and "class" not in records[0]:
             raise land.Trouble(f"{path}: no column class: there are {', '.join(records[0])}")
         return records
+
+    def digest(self):
+        """Of all that the rounded borders come of; None where last year's tables are among it."""
+        words = self.words
+        files = [path for path in (words.land, words.classes, words.identifiers) if path]
+        return None if words.previous else again.digest_of(files, [words.epsg, words.between, sorted(self.names.items())])
 
     def classes(self, layers):
         """The table of classes that is there: named, of the land, or beside the tables."""
@@ -103,48 +111,52 @@ class Run:
             naming.write_identifiers(names.renamed, os.path.join(self.made, "identifiers.csv"))
             files.append("identifiers.csv")
         recipe.put(self.made, self.words.out, files)
-        for line in findings.lines_of(work.findings, self.words.accept):
+        for line in findings.lines_of(work.findings, self.accept):
             print(line)
 
     def put_findings(self, work):
-        findings.write(work.findings, os.path.join(self.made, "prepared.csv"), self.words.accept)
+        findings.write(work.findings, os.path.join(self.made, "prepared.csv"), self.accept)
         recipe.put(self.made, self.words.out, ["prepared.csv"])
 
     def refused(self, work, whole):
         """The end of a run whose findings are not accepted, or cannot be."""
         if whole:
-            conflicts = losses.conflicts_alone(work.layers, self.say)
+            seen = self.rounded(work)
+            conflicts = losses.conflicts_alone(work.layers, self.say, seen)
+            if not work.hopeless():
+                self.kept.keep(work.layers, self.made, seen)
             print(*map(losses.line_of, conflicts), *whole.source_words(work.layers), sep="\n")
             work.conflicts(conflicts)
             self.put_findings(work)
         remedy = "" if work.hopeless() else ", or mend and leave out by --accept"
-        return self.unwritten(f"to look at: {len(work.grave())}, no table is written; see {self.path('prepared.csv')}: mend the source{remedy}")
-
-    def unwritten(self, words):
-        if os.path.exists(self.path("parcels.csv")):
-            print(f"the tables that stand in {self.words.out} are those of an earlier run")
-        print(words)
+        left = [finding for finding in work.grave() if finding.is_hopeless() or not self.accept.takes(finding)]
+        print(f"to look at: {accepting.what_stops(work.grave(), left)}, {recipe.unwritten(self.words.out)}; see {self.path('prepared.csv')}: mend the source{remedy}")
         return 1
 
     def go(self):
         work, whole, names, classes = self.tested()
         self.write_findings(work, names)
-        if work.hopeless() or (work.grave() and not self.words.accept):
+        if work.hopeless() or not all(map(self.accept.takes, work.grave())):
             return self.refused(work, whole)
         seen = self.rounded(work)
+        if self.previous:
+            print(self.previous.words())
         self.make_classes(work, classes)
-        status = losses.report(work.layers, self.words.out, self.words.accept, self.say, work.epsg, work.counts, whole, self.made, seen=seen)
+        status = losses.report(work.layers, self.words.out, self.accept, self.say, work.epsg, work.counts, whole, self.made, seen=seen, between=self.words.between, refusal=recipe.unwritten(self.words.out))
         if status:
-            return self.unwritten("no table is written")
+            self.kept.keep(work.layers, self.made, seen)
+            return status
+        self.kept.forget()
         self.put(whole)
         return 0
 
     def rounded(self, work):
-        """Writes the tables of parcels and pieces, and gives the conflicts that the map of them shows."""
-        seen = rounding.release(work.layers, self.made, self.say, self.previous)
-        if self.previous:
-            print(self.previous.words())
-        return seen
+        """Makes the tables of parcels and pieces, and gives the conflicts that the map of them shows: those of the run before, where nothing changed since."""
+        seen = self.kept.take(work.layers, self.made)
+        if seen is not None:
+            self.say("the borders are those that the run before has rounded")
+            return seen
+        return rounding.release(work.layers, self.made, self.say, self.previous, self.words.between)
 
     def make_classes(self, work, classes):
         """Writes the table of classes, or says which rows it would have."""

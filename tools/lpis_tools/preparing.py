@@ -2,8 +2,6 @@
 
 from __future__ import annotations
 
-from collections import Counter
-
 from shapely import wkb as shapely_wkb
 from shapely.validation import explain_validity
 
@@ -107,9 +105,9 @@ class Preparation:
     # Shapes.
 
     def shapes(self):
-        least_metres = any(reads_as_metres(row.found.box()) for name in KEYS for row in self.layers[name].rows if row.found)
+        least_metres = any(land.reads_as_metres(row.found.box()) for name in KEYS for row in self.layers[name].rows if row.found)
         for name in KEYS:
-            layer, prefixes = self.layers[name], Counter()
+            layer = self.layers[name]
             self.say(f"testing {len(layer.rows)} rows of {name}")
             if len(layer.rows) > MOST_ROWS:
                 self.find("rows", name, None, f"{len(layer.rows)} rows, and a release has at most {MOST_ROWS}", "tools/country makes regions of them", True)
@@ -119,9 +117,7 @@ class Preparation:
                     continue
                 for note in sorted(row.found.notes):
                     self.find(note, name, row, NOTES[note], "", True)
-                self.place(name, row, least_metres, prefixes)
-            for prefix, count in sorted(prefixes.items()):
-                self.find("prefix", name, None, f"{count} shapes have eastings with the number {prefix} of a zone before them", "taken off", True)
+                self.place(name, row, least_metres)
             if not least_metres and any(row.found for row in layer.rows):
                 self.find("degrees", name, None, "the whole layer reads as degrees: transform it to a system in metres (or move it, where these are metres)", "")
 
@@ -138,18 +134,19 @@ class Preparation:
             if id(row) not in kept:
                 finding.done = "left out"
 
-    def place(self, name, row, are_metres, prefixes):
+    def place(self, name, row, are_metres):
         """Tests where a shape lies, and how many points it has."""
         box = row.found.box()
-        if 2 * ZONE < box[0] and FAR < box[2] < 61 * ZONE and box[0] // ZONE == box[2] // ZONE:
-            prefix = int(box[0] // ZONE)
-            prefixes[prefix] += 1
-            row.found = wkb.Found([[[(x - prefix * ZONE, y) for x, y in ring] for ring in member] for member in row.found.members])
+        zone = systems.ZONES.get(self.epsg)
+        if zone and box[2] > FAR and box[0] // ZONE == box[2] // ZONE == zone:
+            row.found = wkb.Found([[[(x - zone * ZONE, y) for x, y in ring] for ring in member] for member in row.found.members], row.found.notes)
+            self.find("prefix", name, row, f"its eastings have the number {zone} of their zone before them", f"taken off, {zone * ZONE:,.0f} m", True)
             box = row.found.box()
-        if are_metres and not reads_as_metres(box):
-            self.without_shape("degrees", name, row, f"it lies at {box[0]:.4f} {box[1]:.4f}, which reads as degrees among metres")
+        if are_metres and not land.reads_as_metres(box):
+            self.without_shape("degrees", name, row, land.among_metres(box))
         elif max(map(abs, box)) > FAR:
-            self.without_shape("far", name, row, f"a coordinate is beyond 20,000,000 m ({max(map(abs, box)):.10g})")
+            hint = "" if self.epsg or not FAR < box[2] < 61 * ZONE else "; where that is a zone's number before the eastings, name its system by --epsg, such as 25832"
+            self.without_shape("far", name, row, f"a coordinate is beyond 20,000,000 m ({max(map(abs, box)):.10g}){hint}")
         elif row.found.count() > MOST_POINTS:
             self.find("points", name, row, f"more than {MOST_POINTS} points: cut it into pieces", "")
 
@@ -205,8 +202,3 @@ def size_of(row):
     except ValueError:
         inner = None
     return area_of(row.found.members), (inner.x, inner.y) if inner else ((box[0] + box[2]) / 2, (box[1] + box[3]) / 2)
-
-
-def reads_as_metres(box):
-    """Whether a shape lies beyond what degrees can be."""
-    return max(abs(box[0]), abs(box[2])) > 180 or max(abs(box[1]), abs(box[3])) > 90

@@ -120,7 +120,7 @@ class Previous:
     def words(self):
         """How many borders stayed, for people."""
         told = f"borders as in {self.folder}: {self.stayed} of its {len(self.edges)}"
-        return f"{told}; this year's rounding has {self.drawn} of them otherwise, {len(self.taken)} by more than half a millimetre (kept, in report.csv)"
+        return f"{told}; this year's rounding has {self.drawn} of them otherwise, {len(self.taken)} by more than half a millimetre (kept, in kept.csv)"
 
 
 def others(edge, over, is_moved, borders):

@@ -8,9 +8,10 @@ import sys
 import tempfile
 from collections import Counter
 
-from . import ending, files, land, shapely_there, sheets, unforeseen, words
+from . import accepting, ending, files, land, shapely_there, sheets, unforeseen, words
 
 TROUBLE = 64
+MOST_WIDE = 100.0  # metres
 TABLES = ("parcels", "covers", "classes")
 REPORT = "OUT/report.csv, OUT/report.geojson and OUT/balance.csv have what was lost, settled and changed."
 CLASSES = "OUT/classes.csv is that of --classes FILE; else it stays as it is; where there is none it is the table classes of LAND."
@@ -36,8 +37,21 @@ def parser(name, text, engine):
     made.add_argument("--epsg", metavar="N", type=int, help="the coordinate system's number, where LAND does not name it")
     if engine:
         made.add_argument("--classes", metavar="FILE", help="the table class, percent: OUT/classes.csv is written anew from it")
-    made.add_argument("--accept", action="store_true", help="status 0 though something is lost, changed or in conflict" + ", and the tables are written" * bool(engine))
+    add_between(made)
+    accepting.add_to(made, "status 0 though something is lost, changed or in conflict" + ", and the tables are written" * bool(engine))
     return made
+
+
+def add_between(parser):
+    parser.add_argument("--between", metavar="METRES", type=width, default=land.BETWEEN, help="name land between parcels that nobody has, up to this width (default 1)")
+
+
+def width(text):
+    """A width in metres: above 0, and below what a parcel has."""
+    value = float(text)
+    if not 0 < value <= MOST_WIDE:
+        raise ValueError
+    return value
 
 
 def teller(name):
@@ -71,7 +85,7 @@ def from_words(name, text, engine, more):
     options = parser(name, text, engine)
     if more:
         more(options)
-    said, say = options.parse_args(), teller(name)
+    said, say = options.parse_args(accepting.arguments_of(sys.argv[1:])), teller(name)
     said.name = name
     shapely_there.go_on(name)
     stop_at_once(name)
@@ -86,6 +100,7 @@ def from_words(name, text, engine, more):
 def made(said, engine, say):
     from . import balance, conflicts, losses
 
+    accept = accepting.Accepting(said.accept, said.accept_from)
     asked = table_of(said.classes) if engine and said.classes else None
     land.apart(said.land, said.out)
     with tempfile.TemporaryDirectory() as spare:
@@ -99,7 +114,7 @@ def made(said, engine, say):
             stop_at_once(said.name, stage, spare)
             source.losses += classes(asked, layers, stage, said.out)
             seen = engine(source, stage, spare, say, said) if engine else None
-            status = losses.report(layers, said.out, said.accept, say, said.epsg, whole=whole, tables=stage if engine else said.out, source=source, seen=seen)
+            status = losses.report(layers, said.out, accept, say, said.epsg, whole=whole, tables=stage if engine else said.out, source=source, seen=seen, between=said.between, refusal=unwritten(said.out) if engine else "")
             if engine:
                 settle(stage, said.out, status)
     return status
@@ -121,9 +136,11 @@ def settle(stage, out, status):
     if status == 0:
         put(stage, out, [name for name in (f"{table}.csv" for table in TABLES) if os.path.exists(os.path.join(stage, name))])
         print(f"tables written in {out}")
-    else:
-        stand = os.path.exists(os.path.join(out, "parcels.csv"))
-        print(f"no table is written in {out}" + (": those that stand there are of an earlier run" if stand else ""))
+
+
+def unwritten(out):
+    """What is said where no table takes its place."""
+    return f"no table is written in {out}" + (" (those that stand there are of an earlier run)" if os.path.exists(os.path.join(out, "parcels.csv")) else "")
 
 
 def put(made, out, names):
@@ -157,11 +174,20 @@ def suited(layers):
         reasons.append("the layers are in " + " and ".join(f"EPSG:{number}" for number in numbers.values()) + ": tools/prepare transforms them")
     if reasons:
         raise land.Trouble(*reasons)
+    without_degrees([row for name in land.SHAPED for row in layers[name].rows if row.found])
 
 
 def is_in_degrees(layer):
     boxes = [row.found.box() for row in layer.rows[:1000] if row.found]
-    return bool(boxes) and all(max(abs(box[0]), abs(box[2])) <= 180 and max(abs(box[1]), abs(box[3])) <= 90 for box in boxes)
+    return bool(boxes) and not any(map(land.reads_as_metres, boxes))
+
+
+def without_degrees(rows):
+    """Takes the shapes away that read as degrees among metres: a row is not made of them."""
+    degrees = [row for row in rows if not land.reads_as_metres(row.found.box())]
+    for row in degrees if len(degrees) < len(rows) else ():
+        row.why = land.among_metres(row.found.box())
+        row.found = None
 
 
 def tell_notes(layers, say):

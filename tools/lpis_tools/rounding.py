@@ -7,12 +7,13 @@ import csv
 import os
 import warnings
 from dataclasses import dataclass
-from itertools import combinations
 
 import numpy
 from shapely import wkb as shapely_wkb
 
 from . import faces, snapping
+from .between import Between
+from .land import BETWEEN
 from .noding import Restless
 
 __all__ = ["Conflicts", "Map", "Restless", "release", "shape_of"]
@@ -33,6 +34,7 @@ class Conflicts:
     gaps: list
     outsides: list
     kept: list  # borders of last year's tables that this year's rounding has otherwise, each with its rows
+    between: list  # land that nobody has between parcels
 
 
 def metres(value):
@@ -62,9 +64,9 @@ class Map:
         least = [min((rank[who] for who, times in winding if who >= start and times > 0), default=None) for winding in self.windings]
         return numpy.array([faces.NOBODY if place is None else order[place] for place in least], int)
 
-    def conflicts(self):
+    def conflicts(self, between=BETWEEN):
         """The rows of which the rounded map says that they share a face, or do not share one that they should."""
-        start, parcels_of, overlaps, gaps, outsides = len(self.parcels), {}, {}, {}, {}
+        start, parcels_of, gaps, outsides = len(self.parcels), {}, {}, {}
         named = {row["parcel"] for row in self.covers}
         for number, row in enumerate(self.parcels):
             parcels_of.setdefault(row["parcel"], []).append(number)
@@ -72,12 +74,26 @@ class Map:
         for winding in set(self.windings):
             pieces = [who - start for who, times in winding if who >= start and times > 0]
             parcels = {who for who, times in winding if who < start and times > 0}
-            overlaps.update(dict.fromkeys(combinations(pieces, 2)))
             held = {self.covers[number]["parcel"] for number in pieces}
             gaps.update((number, None) for number in parcels if self.parcels[number]["parcel"] not in held and self.parcels[number]["parcel"] in named)
             outsides.update(((number, one), None) for number in pieces for one in asked.get(self.covers[number]["parcel"], ()) if one not in parcels)
-        return Conflicts([(self.covers[a], self.covers[b]) for a, b in sorted(overlaps)], [self.parcels[number] for number in sorted(gaps)],
-                         [(self.covers[piece], self.parcels[number]) for piece, number in sorted(outsides)], self.kept())
+        return Conflicts([(self.covers[a], self.covers[b]) for a, b in self.overlaps()], [self.parcels[number] for number in sorted(gaps)],
+                         [(self.covers[piece], self.parcels[number]) for piece, number in sorted(outsides)], self.kept(), Between(self.faces, self.held(), between).find())
+
+    def held(self):
+        """The parcel that has each cycle's face, by its piece or else by its own shape; None where nobody has it."""
+        own = [next((self.parcels[who]["parcel"] for who, times in winding if times > 0 and who < len(self.parcels)), None) for winding in self.windings]
+        return [mine if piece == faces.NOBODY else self.covers[piece]["parcel"] for piece, mine in zip(self.pieces.tolist(), own)]
+
+    def overlaps(self):
+        """Each two pieces that share a face, by their numbers: where what they share begins, one of them does."""
+        start, network, others = len(self.parcels), self.network, {}
+        held = [[who - start for who, times in winding if who >= start and times > 0] for winding in self.windings]
+        cycle = self.faces.cycle[2 * network.edge + (network.count < 0)]
+        begins = (network.owner >= start) & numpy.array([len(pieces) > 1 for pieces in held], bool)[cycle]
+        for key in numpy.unique((network.owner[begins] << 32) | cycle[begins]).tolist():
+            others.setdefault((key >> 32) - start, set()).update(held[key & 0xFFFFFFFF])
+        return sorted({(min(one, other), max(one, other)) for one, some in others.items() for other in some if one != other})
 
     def kept(self):
         """Borders that were taken from last year's tables, each with its pieces, or its parcels where it has no piece."""
@@ -117,7 +133,7 @@ class Map:
         return of_piece[self.pieces]
 
 
-def release(layers, out, say, previous=None):
+def release(layers, out, say, previous=None, between=BETWEEN):
     """Writes parcels.csv and covers.csv of a land into a folder, and gives the conflicts that its map shows. Rows without a shape are passed over. Borders of
     `previous` that did not change stay."""
     covers = [row for row in layers["covers"].rows if row.found]
@@ -127,7 +143,7 @@ def release(layers, out, say, previous=None):
     say("tables")
     write(out, "covers.csv", ["piece", "parcel", "class", "wkt"], ([covers[number]["piece"], covers[number]["parcel"], covers[number]["class"], text] for number, text in land.polygons(land.pieces)))
     write(out, "parcels.csv", ["parcel", "wkt"], ([rows[number]["parcel"], text] for number, text in land.polygons(land.parcels_of_faces(rows))))
-    return land.conflicts()
+    return land.conflicts(between)
 
 
 def write(out, name, header, records):

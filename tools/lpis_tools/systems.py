@@ -11,6 +11,7 @@ from dataclasses import dataclass
 from . import ending
 
 WITHOUT_PREFIX = {4647: 25832, 5649: 25831, 5650: 25833}
+ZONES = {**{number: number - 25800 for number in range(25828, 25839)}, **{first + zone: zone for first in (32600, 32700) for zone in range(1, 61)}}
 UTM = {*range(25828, 25839), *range(32601, 32661), *range(32701, 32761), *range(31466, 31470), *WITHOUT_PREFIX}
 TOKEN = re.compile(r'"((?:[^"]|"")*)"|([\[\](),])|([^\[\](),"\s]+)')
 DEGREES = ("GEOGCS", "GEOGCRS", "GEOGRAPHICCRS", "GEODCRS", "GEODETICCRS")

@@ -8,6 +8,8 @@ import math
 import struct
 
 ARC = 0.0005  # metres that a straightened arc may lie beside the arc: no more than rounding does
+MOST_POINTS = 100_000  # of a shape: what arcs would make beyond them is not made
+FAR = 100_000_000.0  # metres: no map has places beyond it, and its arcs stay as they are
 LISTS = {4, 5, 6, 7, 11, 12, 15, 16}
 NAMES = {1: "a point", 2: "a line", 4: "points", 5: "lines", 7: "a collection", 8: "an arc", 9: "a curve", 11: "curves", 15: "a surface of polygons", 16: "a net of triangles", 17: "a triangle"}
 HEAD = struct.Struct("<BII")
@@ -26,7 +28,7 @@ class Unreadable(Exception):
 class Found:
     """The polygons of a shape, kept as well-known binary, and what was met on the way."""
 
-    __slots__ = ("blob", "notes", "srid")
+    __slots__ = ("blob", "bounds", "notes", "srid")
 
     def __init__(self, members=(), notes=NO_NOTES, srid=None):
         self.members, self.notes, self.srid = members, notes, srid
@@ -35,7 +37,7 @@ class Found:
     def of_blob(cls, blob):
         """Of bytes that are a MultiPolygon of x and y, as `written` makes them."""
         found = cls.__new__(cls)
-        found.blob, found.notes, found.srid = blob, NO_NOTES, None
+        found.blob, found.bounds, found.notes, found.srid = blob, None, NO_NOTES, None
         return found
 
     @property
@@ -45,7 +47,7 @@ class Found:
 
     @members.setter
     def members(self, members):
-        self.blob = written(members)
+        self.blob, self.bounds = written(members), None
 
     def numbers(self):
         """All coordinates, x and y in turn."""
@@ -56,11 +58,10 @@ class Found:
 
     def box(self):
         """Least and greatest x and y, or None where there is no point."""
-        values = self.numbers()
-        if not values:
-            return None
-        xs, ys = values[0::2], values[1::2]
-        return min(xs), min(ys), max(xs), max(ys)
+        if self.bounds is None and (values := self.numbers()):
+            xs, ys = values[0::2], values[1::2]
+            self.bounds = min(xs), min(ys), max(xs), max(ys)
+        return self.bounds
 
     def is_finite(self):
         return all(map(math.isfinite, self.numbers()))
@@ -130,11 +131,24 @@ def judge_ring(ring):
         raise Unreadable(f"a ring is open: it begins at {start[0]} {start[1]} and ends at {end[0]} {end[1]}", start)
 
 
+class Made:
+    """The points that the arcs of one shape become: no more than a shape may have."""
+
+    def __init__(self):
+        self.count = 0
+
+    def straightened(self, points):
+        way = straightened(points)
+        self.count += len(way)
+        return way if self.count <= MOST_POINTS else too_many(way[0])
+
+
 class Reader:
     """Walks through a blob."""
 
     def __init__(self, blob):
         self.blob, self.at, self.notes, self.srid, self.members = blob, 0, set(), None, []
+        self.made = Made()
 
     def take(self, form, order):
         try:
@@ -176,12 +190,12 @@ class Reader:
             return self.points(order, size)
         self.notes.add("curve")
         if kind == 8:
-            return straightened(self.points(order, size))
+            return self.made.straightened(self.points(order, size))
         if kind != 9 or depth:
             raise Unreadable(f"a ring that is {NAMES.get(kind, f'a shape of kind {kind}')}")
         way = []
         for _ in range(self.take("I", order)[0]):
-            way = joined(way, self.way(1))
+            join(way, self.way(1))
         return way
 
     def shape(self, depth=0):
@@ -198,15 +212,43 @@ class Reader:
             raise Unreadable(f"no polygon but {NAMES.get(kind, f'a shape of kind {kind}')}")
 
 
-def joined(way, part):
-    """A curve and its next part, which begins where it ends."""
+def join(way, part):
+    """Puts the next part of a curve behind it, which begins where it ends."""
     if way and part and way[-1] != part[0]:
         raise Unreadable(f"the parts of a curve do not meet at {part[0][0]} {part[0][1]}", part[0])
-    return way + part[1:] if way else part
+    way += part[1:] if way else part
+
+
+def too_many(place):
+    raise Unreadable(f"arcs that would have more than {MOST_POINTS} points", place)
+
+
+def quick(blob):
+    """Polygons of x and y as most programs write them, without a look at each point; None where they are others, or where something is wrong."""
+    try:
+        (order, code, count), at = HEAD.unpack_from(blob), 9
+        if order != 1 or code not in (3, 6) or not count:
+            return None
+        for member in range(count if code == 6 else 1):
+            order, kind, rings = HEAD.unpack_from(blob, at if code == 6 else 0)
+            if order != 1 or kind != 3 or not rings:
+                return None
+            at += 9 if code == 6 else 0
+            for _ in range(rings):
+                (points,) = COUNT.unpack_from(blob, at)
+                start, at = at + 4, at + 4 + 16 * points
+                if points < 4 or blob[start : start + 16] != blob[at - 16 : at] or not math.isfinite(sum(struct.unpack_from(f"<{2 * points}d", blob, start))):
+                    return None
+    except struct.error:
+        return None
+    return None if at != len(blob) else Found.of_blob(blob if code == 6 else HEAD.pack(1, 6, 1) + blob)
 
 
 def read(blob):
     """The polygons of well-known binary; None where it is an empty one."""
+    found = quick(blob)
+    if found is not None:
+        return found
     reader = Reader(blob)
     reader.shape()
     if reader.at != len(blob):
@@ -242,24 +284,37 @@ def straightened(points):
     way = points[:1]
     for start, middle, end in zip(points[0::2], points[1::2], points[2::2]):
         way += arc(start, middle, end) if start <= end else arc(end, middle, start)[-2::-1] + [end]
+        if len(way) > MOST_POINTS:
+            too_many(start)
     return way
 
 
 def arc(start, middle, end):
-    """The points of an arc behind its first."""
+    """The points of an arc behind its first. What is no arc, or nearly straight, goes over its middle, and so does one beyond what any map has."""
     if start == end:
-        cx, cy, turn = (start[0] + middle[0]) / 2, (start[1] + middle[1]) / 2, 2 * math.pi
+        (cx, cy), turn = ((start[0] + middle[0]) / 2, (start[1] + middle[1]) / 2), 2 * math.pi
     else:
-        (ax, ay), (bx, by) = [(p[0] - start[0], p[1] - start[1]) for p in (middle, end)]
-        cross = 2 * (ax * by - ay * bx)
-        if cross == 0:
-            return [middle, end]
-        a, b = ax * ax + ay * ay, bx * bx + by * by
-        cx, cy = start[0] + (by * a - ay * b) / cross, start[1] + (ax * b - bx * a) / cross
-        turn = (math.atan2(end[1] - cy, end[0] - cx) - math.atan2(start[1] - cy, start[0] - cx)) % (2 * math.pi)
-        turn = turn if cross > 0 else turn - 2 * math.pi
+        cx, cy, turn = centre_of(start, middle, end)
     radius, first = math.hypot(start[0] - cx, start[1] - cy), math.atan2(start[1] - cy, start[0] - cx)
-    step = 2 * math.acos(1 - min(ARC / radius, 0.5))
-    count = max(2, math.ceil(abs(turn) / step))
-    inner = [(cx + radius * math.cos(first + turn * i / count), cy + radius * math.sin(first + turn * i / count)) for i in range(1, count)]
-    return [*inner, end]
+    if radius == 0 or not math.isfinite(radius) or max(map(abs, (*start, *middle, *end))) > FAR:
+        return [middle, end]
+    count = abs(turn) / (4 * math.asin(min(math.sqrt(ARC / (2 * radius)), 0.5)))
+    if count > MOST_POINTS:
+        too_many(start)
+    count = math.ceil(count)
+    if count < 2:
+        return [middle, end]
+    return [*((cx + radius * math.cos(first + turn * i / count), cy + radius * math.sin(first + turn * i / count)) for i in range(1, count)), end]
+
+
+def centre_of(start, middle, end):
+    """The centre of a circle through three points, and the angle from the first to the last, over the second: twice the bend there. Infinite where they lie
+    on a line."""
+    (ax, ay), (bx, by) = [(p[0] - start[0], p[1] - start[1]) for p in (middle, end)]
+    cross = 2 * (ax * by - ay * bx)
+    a, b = ax * ax + ay * ay, bx * bx + by * by
+    try:
+        cx, cy = start[0] + (by * a - ay * b) / cross, start[1] + (ax * b - bx * a) / cross
+    except ZeroDivisionError:
+        return math.inf, math.inf, 0.0
+    return cx, cy, 2 * math.atan2(ax * (by - ay) - ay * (bx - ax), ax * (bx - ax) + ay * (by - ay))

@@ -53,7 +53,7 @@ class Reader:
     def __init__(self, text, start):
         self.text, self.notes, self.members = text, set(), []
         self.tokens = [(word[0], word.start()) for word in TOKEN.finditer(text, start)] + [("", len(text))]
-        self.at, self.mark = 0, ""
+        self.at, self.mark, self.made = 0, "", wkb.Made()
 
     def wrong(self, wanted):
         word, offset = self.tokens[self.at]
@@ -153,7 +153,7 @@ class Reader:
 
     def arcs(self):
         self.notes.add("curve")
-        return wkb.straightened(self.points())
+        return self.made.straightened(self.points())
 
     def points(self):
         points = []

@@ -69,9 +69,9 @@ class Folder(Styled):
             source = {POINTS: QgsProcessing.TypeVectorPoint, LINES: QgsProcessing.TypeVectorLine}.get(form, QgsProcessing.TypeVectorPolygon)
             self.addParameter(QgsProcessingParameterFeatureSink(before + name, f"{words}: {kind}", source, optional=True, createByDefault=True))
 
-    def fill_shapes(self, place, path, columns, before=""):
-        """Writes the shapes of a GeoJSON file into the outputs of their kinds."""
-        rows = by_kind(features_of(path) if os.path.exists(path) else (), columns)
+    def fill_shapes(self, place, paths, columns, before=""):
+        """Writes the shapes of GeoJSON files, where they are there, into the outputs of their kinds."""
+        rows = by_kind((found for path in paths if os.path.exists(path) for found in features_of(path)), columns)
         return {before + name: self.fill(before + name, place, columns, form, rows[name]) for name, _, form, _ in KINDS}
 
     def explained(self, words, line, place, feedback):
@@ -80,7 +80,7 @@ class Folder(Styled):
             picture = os.path.join(spare, "fault.geojson")
             if line.startswith("refused"):
                 places.run([places.tool("explain"), *words, "--geojson", picture], feedback, given=line)
-            return self.fill_shapes(place, picture, SHAPE_COLUMNS, "FAULT_")
+            return self.fill_shapes(place, [picture], SHAPE_COLUMNS, "FAULT_")
 
 
 class CheckRelease(Folder):

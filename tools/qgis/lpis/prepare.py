@@ -10,10 +10,11 @@ from qgis.core import (
 )
 
 from . import places, styles
-from .check import Folder
-from .layers import POINTS, TEXT, rows_of, system_of
+from .check import Folder, by_kind
+from .layers import POINTS, POLYGONS, TEXT, features_of, rows_of, system_of
 
 LOOK = 1
+LAYERS = ("report", "kept", "between")  # what a run writes for QGIS; the last two only where there is something
 COLUMNS = {"PARCELS": {"parcel": "PARCEL_ID"}, "COVERS": {"piece": "PIECE_ID", "parcel": "PIECE_PARCEL", "class": "PIECE_CLASS"}}
 REPORT_COLUMNS = [(name, TEXT) for name in ("kind", "layer", "row", "identifiers", "width_m", "area_m2", "stops", "words")]
 FOUND_COLUMNS = [(name, TEXT) for name in ("kind", "layer", "row", "identifier", "area_m2", "words", "done")]
@@ -32,7 +33,7 @@ class PrepareRelease(Folder):
     NAME, TITLE = "preparerelease", "Prepare a release"
     HELP = ("From a layer of parcels and one of land cover to the tables of a release: all is tested first and each finding is named. What would change or lose land stops, unless "
             "'accept' is set. The findings are points, where they have a place; what was settled is layers too.")
-    STYLED = {"FINDINGS": styles.found, "REPORT_POINTS": styles.report, "REPORT_LINES": styles.report, "REPORT_POLYGONS": styles.report}
+    STYLED = {"FINDINGS": styles.found, "REPORT_POINTS": styles.report, "REPORT_LINES": styles.report, "REPORT_POLYGONS": styles.report, "BETWEEN": styles.between}
 
     def initAlgorithm(self, configuration=None):
         polygons = [QgsProcessing.TypeVectorAnyGeometry]
@@ -46,18 +47,20 @@ class PrepareRelease(Folder):
         self.addParameter(QgsProcessingParameterFile("IDENTIFIERS", "identifiers.csv of an earlier year", extension="csv", optional=True))
         self.addParameter(QgsProcessingParameterFile("PREVIOUS", "Last year's folder: borders that did not change stay as they are there", behavior=QgsProcessingParameterFile.Folder, optional=True))
         self.addParameter(QgsProcessingParameterNumber("EPSG", "EPSG number of the release, in metres", QgsProcessingParameterNumber.Integer, optional=True, minValue=1))
+        self.addParameter(QgsProcessingParameterFile("REVIEWED", "Copy of prepared.csv or report.csv with a column accepted: accept the rows that have 1 there", extension="csv", optional=True))
+        self.addParameter(QgsProcessingParameterNumber("WIDTH", "Name land between parcels up to this width, in metres", QgsProcessingParameterNumber.Double, defaultValue=1.0, minValue=0.001, maxValue=100.0))
         self.addParameter(QgsProcessingParameterBoolean("ACCEPT", "Accept: mend or leave out what is wrong, and name it", False))
         self.addParameter(QgsProcessingParameterFolderDestination("OUT", "Folder of the release"))
         self.addParameter(QgsProcessingParameterFeatureSink("FINDINGS", "Findings", QgsProcessing.TypeVectorPoint, optional=True, createByDefault=True))
         self.add_shapes("Report", "REPORT_")
+        self.addParameter(QgsProcessingParameterFeatureSink("BETWEEN", "Land between parcels that nobody has", QgsProcessing.TypeVectorPolygon, optional=True, createByDefault=True))
         self.addOutput(QgsProcessingOutputNumber("STATUS", "Status"))
         self.addOutput(QgsProcessingOutputString("SUMMARY", "Summary"))
 
     def processAlgorithm(self, parameters, context, feedback):
         self.out = out = self.parameterAsString(parameters, "OUT", context)
         os.makedirs(out, exist_ok=True)
-        report = os.path.join(out, "report.geojson")
-        before = stamp(report)
+        before = {path: stamp(path) for path in (os.path.join(out, f"{name}.geojson") for name in LAYERS)}
         with tempfile.TemporaryDirectory() as spare:
             package = os.path.join(spare, "land.gpkg")
             for number, layer in enumerate(COLUMNS):
@@ -65,8 +68,10 @@ class PrepareRelease(Folder):
             ran = places.done(places.run([places.tool("prepare"), package, out, *self.options(parameters, context)], feedback), "tools/prepare", (LOOK,))
         place = parameters, context
         rows = [([row[name] for name, _ in FOUND_COLUMNS], place_of(row)) for row in rows_of(os.path.join(out, "prepared.csv"))]
-        self.written = {"FINDINGS": self.fill("FINDINGS", place, FOUND_COLUMNS, POINTS, rows),
-                        **self.fill_shapes(place, report if stamp(report) != before else "", REPORT_COLUMNS, "REPORT_")}
+        *reports, between = [path if stamp(path) != old else "" for path, old in before.items()]
+        gaps = by_kind(features_of(between) if os.path.exists(between) else (), REPORT_COLUMNS)["POLYGONS"]
+        self.written = {"FINDINGS": self.fill("FINDINGS", place, FOUND_COLUMNS, POINTS, rows), "BETWEEN": self.fill("BETWEEN", place, REPORT_COLUMNS, POLYGONS, gaps),
+                        **self.fill_shapes(place, reports, REPORT_COLUMNS, "REPORT_")}
         return {**self.written, "OUT": out, "STATUS": ran.status, "SUMMARY": "\n".join(ran.lines)}
 
     def system(self, parameters, context):
@@ -74,11 +79,11 @@ class PrepareRelease(Folder):
 
     def options(self, parameters, context):
         words = ["--accept"] if self.parameterAsBool(parameters, "ACCEPT", context) else []
-        for name, option in (("CLASSES", "--classes"), ("IDENTIFIERS", "--identifiers"), ("PREVIOUS", "--previous")):
+        for name, option in (("CLASSES", "--classes"), ("IDENTIFIERS", "--identifiers"), ("PREVIOUS", "--previous"), ("REVIEWED", "--accept-from")):
             path = self.parameterAsFile(parameters, name, context)
             words += [option, path] if path else []
         epsg = self.parameterAsInt(parameters, "EPSG", context) if parameters.get("EPSG") else 0
-        return words + (["--epsg", str(epsg)] if epsg else [])
+        return [*words, "--between", str(self.parameterAsDouble(parameters, "WIDTH", context)), *(["--epsg", str(epsg)] if epsg else [])]
 
     def export(self, parameters, context, layer, package, is_first):
         """Writes a layer into the GeoPackage under the names that the tool reads. All of its features have to arrive."""

@@ -6,6 +6,7 @@ from qgis.core import (
 )
 
 SOUND, FAULT, OTHER, POINT = "#1a9641", "#d7191c", "#e7298a", "#2c7bb6"
+GAP = "#e66101"  # land that nobody has
 FAINT = 64  # of 255: how much a filled shape covers
 COLOURS = (FAULT, "#2c7bb6", "#fdae61", "#7b3294", SOUND, "#a6611a", "#e66101", "#404040")
 KINDS = {"split": "#1b9e77", "merged": "#7570b3", "replaced": "#66a61e", "redrawn": "#e6ab02", "ended": "#666666"}
@@ -53,6 +54,10 @@ def fault(layer):
 
 def report(layer):
     one_colour(layer, FAULT, "identifiers")
+
+
+def between(layer):
+    one_colour(layer, GAP, "identifiers")
 
 
 def found(layer):
