@@ -142,16 +142,21 @@ def sliver(land, a, b, c, d):
     land.parcel([closed(s, t, c, d)])
 
 
+def beside(land, corners, parts):
+    """Two parcels, or two pieces of one."""
+    if land.random.random() < 0.5:
+        for part in parts:
+            land.parcel(part)
+    else:
+        land.parcel([closed(*corners)], *parts)
+
+
 @nasty
 def gap(land, a, b, c, d):
     """A strip of a hair that nobody has: between two parcels, or between two pieces of one."""
     share = 0.5 + land.hair / max(1e-9, math.dist(a, d))
     parts = [closed(a, b, on(b, c, 0.5), on(a, d, 0.5))], [closed(on(a, d, share), on(b, c, share), c, d)]
-    if land.random.random() < 0.5:
-        for part in parts:
-            land.parcel(part)
-    else:
-        land.parcel([closed(a, b, c, d)], *parts)
+    beside(land, (a, b, c, d), parts)
 
 
 @nasty
@@ -160,11 +165,7 @@ def overlapping(land, a, b, c, d):
     low, high = sorted((land.random.random(), land.random.random()))
     low = high - land.hair / max(1e-9, math.dist(a, d)) if land.random.random() < 0.6 else low
     parts = [closed(a, b, on(b, c, high), on(a, d, high))], [closed(on(a, d, low), on(b, c, low), c, d)]
-    if land.random.random() < 0.5:
-        for part in parts:
-            land.parcel(part)
-    else:
-        land.parcel([closed(a, b, c, d)], *parts)
+    beside(land, (a, b, c, d), parts)
 
 
 @nasty
