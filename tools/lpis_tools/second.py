@@ -1,0 +1,46 @@
+"""The second checker, audit/: whether it answers as the program does."""
+
+import os
+import sys
+
+from . import ending
+
+TOOLS = os.path.dirname(os.path.dirname(os.path.realpath(__file__)))
+PLACES = (os.path.join(TOOLS, "audit"), os.path.join(os.path.dirname(TOOLS), "audit"))  # installed beside the tools, or of the repository
+
+
+class Disagree(Exception):
+    """Two programs do not agree: words."""
+
+
+def add_option(parser):
+    parser.add_argument("--audit", action="store_true", help="ask the second checker too, and stop where two programs do not agree")
+
+
+def asked(script, *words):
+    """Status and text of a script of the second checker."""
+    folder = next((place for place in PLACES if os.path.isdir(place)), None)
+    if folder is None:
+        raise Disagree(f"there is no second checker: {' and '.join(PLACES)} are not there")
+    ended = ending.run([sys.executable, "-B", os.path.join(folder, script), *words], capture_output=True)
+    return ended.returncode, ended.stdout.decode("utf-8", "replace") + ended.stderr.decode("utf-8", "replace")
+
+
+def agreement(command, folder, cert):
+    """What both programs say of a release and its certificate. A yes has to have the same report of both."""
+    first = ending.run([*command, "check", folder, cert], capture_output=True)
+    text, (status, other) = first.stdout.decode("utf-8", "replace"), asked("release.py", folder, cert)
+    last = (text + first.stderr.decode("utf-8", "replace")).rstrip("\n").rpartition("\n")[2]
+    if first.returncode == 0 and status == 0 and text == other:
+        return "two programs agree: yes, and their reports are equal"
+    if first.returncode in (1, 2) and status == 1:
+        return f"two programs agree: {last}; the second says: {other.rstrip()}"
+    raise Disagree(f"two programs do not agree: lpis says {last}, the second checker {other.rstrip().rpartition(chr(10))[2]}")
+
+
+def of_register(register, folder):
+    """What the second checker says of a register that keeps the shapes of a release."""
+    status, text = asked("register.py", register, "--shapes", folder)
+    if status != 0:
+        raise Disagree(f"the second checker says of {register}: {text.rstrip()}")
+    return f"the second checker says of {register}: {text.rstrip()}"
