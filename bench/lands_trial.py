@@ -204,7 +204,8 @@ def try_land(trial, land, folder):
         for fault in Judge(land, out).judge():
             trial.say(*fault)
         trial.proved(out)
-        trial.compared(source, out, first.status == 0 and not os.path.exists(os.path.join(out, "identifiers.csv")))
+        is_renamed = os.path.exists(os.path.join(out, "identifiers.csv")) or any(record["kind"] == "prefix" for record in records(out, "prepared.csv"))
+        trial.compared(source, out, first.status == 0 and not is_renamed)
         trial.split(out)
         next_year(trial, source, out, words)
 
