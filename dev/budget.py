@@ -11,7 +11,7 @@ PAGE_WORDS = {
     "docs/FORMATS.md": 8_300,
     "docs/PROOF.md": 6_900,
     "docs/ARCHITECTURE.md": 4_450,
-    "docs/DECISIONS.md": 4_300,
+    "docs/DECISIONS.md": 4_350,
     "CONTRIBUTING.md": 3_650,
     "CHANGELOG.md": 1_600,
     "bench/RESULTS.md": 1_650,
