@@ -97,13 +97,13 @@ class OfCountry:
 
     def say_country(self):
         refusal = self.refusal
-        if refusal.code == "90":
+        if refusal.code == "90" and refusal.cert_line is not None:
             self.say_country_line()
-        elif refusal.code == "96":
+        elif refusal.code == "96" and refusal.row is not None:
             self.say_classes()
         elif refusal.code in ("92", "93", "94", "95"):
             self.say_tile()
-            if refusal.code != "92":
+            if refusal.code != "92" and refusal.names:
                 self.say_copies(refusal.names[0].encode())
 
     def say_country_line(self):
@@ -174,7 +174,11 @@ class OfCountry:
 
     def say_classes(self):
         for folder in (self.top, self.folder):
-            table = Table(path_of(folder, "classes"), "classes")
+            try:
+                table = Table(path_of(folder, "classes"), "classes")
+            except OSError as error:
+                self.say(str(error))
+                continue
             record = table.record(self.refusal.row)
             fields = ", ".join(f"{name} {quoted(table.field(record, name))}" for name in COLUMNS["classes"] if name in table.names) if record else "there is no such row"
             self.say(f"{table.path}: row {self.refusal.row}: {fields}")

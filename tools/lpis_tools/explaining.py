@@ -157,7 +157,8 @@ class Explained(OfGroups, OfCountry):
             self.say(f"  {name} is {quoted(table.field(record, name))}")
         elif code == "3d":
             name, number = self.refusal.column, self.refusal.number_code
-            self.say(f"  {name} is {quoted(table.field(record, name))}; {number}: {codes.NUMBERS[number][0]}")
+            meaning = codes.NUMBERS[number][0] if number in codes.NUMBERS else "see docs/FORMATS.md"
+            self.say(f"  {name} is {quoted(table.field(record, name))}; {number}: {meaning}")
         elif code == "78":
             self.say_marks(table, record)
         elif code in ("73", "74"):

@@ -96,7 +96,7 @@ def connected(path):
         try:
             connection.execute("SELECT count(*) FROM sqlite_master")
             return databases.guarded(connection)
-        except sqlite3.Error as error:
+        except (sqlite3.Error, UnicodeDecodeError) as error:  # a schema that is no text is the second
             connection.close()
             if "locked" in str(error):
                 raise Trouble(f"{path}: another program is writing it ({error})") from None
