@@ -17,7 +17,7 @@ MOST_NAMED = 3
 
 def add_to(parser, done):
     """The words of the command line; `arguments_of` makes them readable for argparse."""
-    parser.add_argument("--accept", metavar="KIND,..", type=kinds_of, help=f"{done}: all that is wrong, or of these kinds alone, such as gap,spike")
+    parser.add_argument("--accept", metavar="KIND,..", type=kinds_of, help=f"{done}: all that is wrong, or of these kinds alone, such as gap,invalid")
     parser.add_argument("--accept-from", metavar="FILE", action="append", default=[], help="accept the rows of a copy of prepared.csv or report.csv that have 1 in a column accepted")
 
 
