@@ -15,7 +15,7 @@ PAGE_WORDS = {
     "CONTRIBUTING.md": 3_650,
     "CHANGELOG.md": 1_600,
     "bench/RESULTS.md": 1_650,
-    "docs/*.1": 4_500,  # the pages of the manual together
+    "docs/*.1": 4_600,  # the pages of the manual together
 }
 RELEASE_BYTES = 7_000_000  # of release/ together
 PAGE_LINES = {"docs/DECISIONS.md": 264, "docs/PROOF.md": 360, "bench/RESULTS.md": 250}

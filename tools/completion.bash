@@ -48,10 +48,11 @@ _lpis_options() {
 
 _lpis_country() {
   if [[ $COMP_CWORD -eq 1 ]]; then
-    _lpis_files -W 'split cut check publish --help'
+    _lpis_files -W 'prepare split cut check publish --help'
     return
   fi
   case ${COMP_WORDS[1]-} in
+    prepare) _lpis_options '--accept --accept-from --classes --epsg --name --identifiers --tables --workers --lineage --parcels --covers --points --anew --help' ;;
     split) _lpis_options '--postgis --lineage --parcels --covers --points --anew --help' -d ;;
     cut) _lpis_options '--jobs --snakemake --profile --lpis --help' -d ;;
     publish) _lpis_options '--new --year-anyway --jobs --snakemake --profile --lpis --help' ;;

@@ -65,7 +65,8 @@ class Map:
         return numpy.array([faces.NOBODY if place is None else order[place] for place in least], int)
 
     def conflicts(self, between=BETWEEN):
-        """The rows of which the rounded map says that they share a face, or do not share one that they should."""
+        """The rows of which the rounded map says that they share a face, or do not share one that they should; and land that nobody has, up to a width in metres,
+        unless that is None."""
         start, parcels_of, gaps, outsides = len(self.parcels), {}, {}, {}
         named = {row["parcel"] for row in self.covers}
         for number, row in enumerate(self.parcels):
@@ -78,7 +79,7 @@ class Map:
             gaps.update((number, None) for number in parcels if self.parcels[number]["parcel"] not in held and self.parcels[number]["parcel"] in named)
             outsides.update(((number, one), None) for number in pieces for one in asked.get(self.covers[number]["parcel"], ()) if one not in parcels)
         return Conflicts([(self.covers[a], self.covers[b]) for a, b in self.overlaps()], [self.parcels[number] for number in sorted(gaps)],
-                         [(self.covers[piece], self.parcels[number]) for piece, number in sorted(outsides)], self.kept(), Between(self.faces, self.held(), between).find())
+                         [(self.covers[piece], self.parcels[number]) for piece, number in sorted(outsides)], self.kept(), Between(self.faces, self.held(), between).find() if between else [])
 
     def held(self):
         """The parcel that has each cycle's face, by its piece or else by its own shape; None where nobody has it."""
