@@ -76,7 +76,7 @@ def part_zeroed(data, draw):
 def a_shape(base, draw):
     """A layer, a row and its bytes."""
     layer = draw.choice(["parcels", "covers"])
-    rows = [(number, blob) for number, blob in base.execute(f"SELECT rowid, geom FROM {layer}") if blob]
+    rows = [(number, blob) for number, blob in base.execute(f"SELECT rowid, geom FROM {layer}") if blob and isinstance(blob, bytes)]
     return (layer, *draw.choice(rows)) if rows else (layer, 0, b"GP\0\1" + bytes(20))
 
 
