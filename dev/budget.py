@@ -18,7 +18,7 @@ PAGE_WORDS = {
     "docs/*.1": 4_600,  # the pages of the manual together
 }
 RELEASE_BYTES = 7_000_000  # of release/ together
-PAGE_LINES = {"docs/DECISIONS.md": 264, "docs/PROOF.md": 360, "bench/RESULTS.md": 250}
+PAGE_LINES = {"docs/DECISIONS.md": 268, "docs/PROOF.md": 360, "bench/RESULTS.md": 250}
 
 
 def sizes():
