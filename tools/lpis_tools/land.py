@@ -71,7 +71,7 @@ def read(path, names=None, wanted=("parcels", "covers"), spare=None):
     if start == PACKAGE and is_package(path):
         return read_package(path, names, wanted)
     made, told = as_package(path, spare)
-    layers = read_package(made, names, wanted)
+    layers = read_package(made, of_made(names), wanted)
     for layer in layers.values():
         layer.notes += [f"ogr2ogr reports: {words}" for words in told]
     return layers
@@ -132,6 +132,11 @@ def reads_as_metres(box):
 def among_metres(box):
     """What is said of a shape in degrees whose neighbours are in metres."""
     return f"it lies at {box[0]:.4f} {box[1]:.4f}, which reads as degrees among metres"
+
+
+def of_made(names):
+    """What columns are called in a package that ogr2ogr made: shapes have its own name there."""
+    return {what: found for what, found in names.items() if not what.endswith(".wkt")}
 
 
 def quoted(name):

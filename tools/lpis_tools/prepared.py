@@ -102,7 +102,7 @@ class Run:
 
     def transformed(self, name, epsg):
         made, _ = land.as_package(self.words.land, self.spare, self.names.get(name, name), "-t_srs", f"EPSG:{epsg}")
-        return land.read(made, self.names, (name,), self.spare)[name]
+        return land.read(made, land.of_made(self.names), (name,), self.spare)[name]
 
     def write_findings(self, work, names):
         self.put_findings(work)
