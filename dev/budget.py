@@ -11,11 +11,11 @@ PAGE_WORDS = {
     "docs/FORMATS.md": 8_300,
     "docs/PROOF.md": 6_900,
     "docs/ARCHITECTURE.md": 4_450,
-    "docs/DECISIONS.md": 4_350,
+    "docs/DECISIONS.md": 4_400,
     "CONTRIBUTING.md": 3_650,
     "CHANGELOG.md": 1_600,
     "bench/RESULTS.md": 1_650,
-    "docs/*.1": 4_600,  # the pages of the manual together
+    "docs/*.1": 4_720,  # the pages of the manual together
 }
 RELEASE_BYTES = 7_000_000  # of release/ together
 PAGE_LINES = {"docs/DECISIONS.md": 268, "docs/PROOF.md": 360, "bench/RESULTS.md": 250}
