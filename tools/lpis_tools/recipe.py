@@ -109,7 +109,9 @@ def made(said, engine, say):
         layers = land.read(said.land, spare=spare, wanted=TABLES)
         suited(layers)
         tell_notes(layers, say)
-        whole, source = balance.Balance(layers), conflicts.Source(layers)
+        whole = balance.Balance(layers)
+        without_degrees([row for name in land.SHAPED for row in layers[name].rows if row.found])
+        source = conflicts.Source(layers)
         with staged(said.out) as stage:
             stop_at_once(said.name, stage, spare)
             source.losses += classes(asked, layers, stage, said.out)
@@ -174,7 +176,6 @@ def suited(layers):
         reasons.append("the layers are in " + " and ".join(f"EPSG:{number}" for number in numbers.values()) + ": tools/prepare transforms them")
     if reasons:
         raise land.Trouble(*reasons)
-    without_degrees([row for name in land.SHAPED for row in layers[name].rows if row.found])
 
 
 def is_in_degrees(layer):
