@@ -5,7 +5,7 @@ from pathlib import Path
 TOP = Path(__file__).resolve().parent.parent
 ALL_WORDS = 45_650
 PAGE_WORDS = {
-    "README.md": 1_150,
+    "README.md": 1_170,
     "docs/IDEA.md": 1_150,
     "docs/GUIDE.md": 7_300,
     "docs/FORMATS.md": 8_300,
