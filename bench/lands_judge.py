@@ -107,7 +107,7 @@ class Judge:
     # The balance.
 
     def balance(self):
-        found = {(record["layer"], record["class"]): record for record in records(self.out, "balance.csv")}
+        found = {(record["layer"], plain(record["class"])): record for record in records(self.out, "balance.csv")}
         source, slack, after = self.source_areas(), self.slack(), defaultdict(float)
         for layer, rows in self.tables.items():
             sums = defaultdict(int)
