@@ -83,14 +83,15 @@ def faults(table, classes):
 
 
 def hectares(area):
-    return f"{number(area) / 10_000:,.4f} ha"
+    """An area in square metres."""
+    return f"{area / 10_000:,.4f} ha"
 
 
 def lines(found):
     """In words, for the page and for the terminal."""
     if found is None:
         return ["nothing is beside the tables of what was left out or changed before them (prepared.csv, report.csv, balance.csv)"]
-    gone = [f"{one['rows']} {LAYERS[one['layer']]}, {hectares(one['area'])}" for one in found["gone"]]
+    gone = [f"{one['rows']} {LAYERS[one['layer']]}, {hectares(number(one['area']))}" for one in found["gone"]]
     told = ["left out of the source: " + "; ".join(gone)] if gone else []
     changed = [(row["rows"], row["area"]) for row in found["report"] if row["kind"] == "changed" and row["stopping"]]
     if changed:
