@@ -19,8 +19,9 @@ _unfinished = set()
 
 
 def is_device(path):
-    """Whether a path is no file but a terminal, a pipe or another thing that takes bytes and can't be renamed over."""
-    return os.path.abspath(path).startswith(("/dev/", "/proc/")) or (os.path.exists(path) and not os.path.isfile(path))
+    """Whether a path is no file but a terminal, a pipe or another thing that takes bytes and can't be renamed over. /dev/shm has files."""
+    whole = os.path.abspath(path)
+    return os.path.dirname(whole) in ("/dev", "/dev/fd") or whole.startswith("/proc/") or (os.path.exists(path) and not os.path.isfile(path))
 
 
 def mode_of(path):
