@@ -45,10 +45,12 @@ def answer(command, said, is_shown):
 
 
 def compare(folder, lines):
-    """The country's counts and area, which are to be those of the source."""
+    """The country's counts and area, which are to be those of the source. Where it has none, nothing can be compared, and that stops a publication too."""
     found = next((line.split()[3:] for line in lines if line.startswith("country regions ")), [])
     wanted = engines.counts_of(folder)
-    if wanted and found[: len(wanted)] != wanted:
+    if not wanted:
+        raise Stop(f"{engines.uncompared(folder)} (`lpis publish-country` alone compares nothing); nothing was published")
+    if found[: len(wanted)] != wanted:
         raise Stop(f"the source had {' '.join(wanted)}, and the regions have {' '.join(found[: len(wanted)])}: {engines.UNLIKE}; nothing was published")
     return wanted
 
@@ -62,7 +64,7 @@ def publish(command, said, say):
         return yearly.STOPPED
     say("checking the country")
     wanted = compare(said.folder, answer(command, ["country", said.folder], False))
-    print(f"the counts and the area are those of the source: {' '.join(wanted)}" if wanted else "there are no counts of a source, which `country split` writes: nothing was compared", flush=True)
+    print(f"the counts and the area are those of the source: {' '.join(wanted)}", flush=True)
     with ledger.held(said.register) as log:
         before = ledger.content_of(said.register) if last else {}
         if not said.new:

@@ -164,6 +164,11 @@ def counts_of(folder):
         return None
 
 
+def uncompared(folder):
+    """What is told of a country without them."""
+    return f"nothing was compared with a source: {os.path.join(folder, COUNTS)}, which `country split` writes, is not there or is empty"
+
+
 def check(command, words, say):
     """`lpis country`, line by line as it comes; after a yes the counts of the country beside those of the source. A country without these is not
     compared, and that is no success: who has no source calls `lpis country`."""
@@ -176,7 +181,7 @@ def check(command, words, say):
                 told = line.split()
     wanted = counts_of(words.folder)
     if lpis.returncode == 0 and not wanted:
-        say(f"nothing was compared with a source: {os.path.join(words.folder, COUNTS)}, which `country split` writes, is not there (`lpis country` alone compares nothing)")
+        say(f"{uncompared(words.folder)} (`lpis country` alone compares nothing)")
         return 1
     if lpis.returncode == 0 and told[3 : 3 + len(wanted)] != wanted:
         say(f"the source had {' '.join(wanted)}: {UNLIKE}")
