@@ -21,6 +21,7 @@ use lpis_command_line::{
 use lpis_locate::run_locate;
 use lpis_publishing::{SubmissionReaders, refuse_register, run_exact, run_publish, run_trace};
 use lpis_register::Register;
+use lpis_register_file::open_file;
 use lpis_run::{Detail, Failure, Folder, Name, TableReaders, print_failure, status_of};
 use lpis_run_check::{run_area, run_check, run_cut};
 use sqlite::{Alter, Unknown};
@@ -250,7 +251,7 @@ enum Job<'a> {
 /// Opens the register in the file at this path, does a job with it and closes it. No other function
 /// names a register over files: each that does is proved over all of the database engine.
 fn in_register(rt: &HostRuntime, db: &str, job: Job<'_>) -> Result<u8, Failure> {
-    match Register::open_file(rt, rt.alloc(), db, Unknown) {
+    match open_file(rt, rt.alloc(), db, Unknown) {
         Ok(mut register) => {
             let ran = work(rt, &mut register, job);
             // Its log goes into its file. What was published stands in the log, whether or not this
@@ -258,7 +259,7 @@ fn in_register(rt: &HostRuntime, db: &str, job: Job<'_>) -> Result<u8, Failure> 
             let _ = register.into_connection().close();
             ran
         }
-        Err(fault) => refuse_register(rt.alloc(), &fault, &mut rt.stdout()),
+        Err((fault, _files)) => refuse_register(rt.alloc(), &fault, &mut rt.stdout()),
     }
 }
 

@@ -1,9 +1,7 @@
-//! A register in the files at a path, or in memory.
+//! A register in files that were opened, or in memory.
 
 ghost use Rattle.std.specs.Prelude.{◌≡◌, [], false, IfErr, IfOk};
-ghost use Rattle.sqlite_wal.specs.Files.{image_at};
 ghost use Rattle.sqlite_wal.specs.Recovery.{Image};
-ghost use Rattle.sqlite.specs.Files.{file_state};
 ghost use Rattle.sqlite.specs.Start.{FindsIn};
 ghost use Rattle.sqlite.specs.State.{HasCleanDisk, IsLive, Opens, Survives};
 ghost use Rattle.sqlite.specs.Held.{state};
@@ -11,7 +9,7 @@ ghost use Rattle.sqlite.specs.Steps.{over_memory};
 ghost use Rattle.lpis_register_sql.specs.Beside.{nothing};
 ghost use Rattle.lpis_register_sql.specs.Layouts.{New};
 ghost use Rattle.lpis_register.specs.FailingToOpen.{HasOpeningCause};
-ghost use Rattle.lpis_register.specs.Faults.{IsFailure, IsOpeningFault};
+ghost use Rattle.lpis_register.specs.Faults.{IsFailure};
 ghost use Rattle.lpis_register.specs.FileOpening.{IsFileOpened, IsFileUnopened};
 ghost use Rattle.lpis_register.specs.Histories.{HoldsRegister};
 ghost use Rattle.lpis_register.specs.Holdings.{holdings};
@@ -20,12 +18,10 @@ ghost use Rattle.lpis_register.specs.declared.fault.PublishFault.TheVariants.{St
 
 use crate::fault::PublishFault;
 use crate::laws::a_crash_leaves_what_is_held;
-use crate::opening::fault_of;
 use crate::register::Register;
 use lpis_register_sql::what_is_left_is_found;
-use sqlite::{Alter, Connection, FileFrom, FileStore, MemStore, Start};
+use sqlite::{Alter, Connection, MemStore};
 use std::alloc::Global;
-use std::rt::HostRuntime;
 
 impl<S: Alter + Drop> Register<S> {
     /// Opens the register in a database that was just opened, as `adopt` does, and says of it what
@@ -56,32 +52,6 @@ impl<S: Alter + Drop> Register<S> {
                 Ok(opened)
             }
             Err((conn, fault)) => Err((conn, fault)),
-        }
-    }
-}
-
-impl<S: Start> Register<FileStore<FileFrom<S>>> {
-    /// Opens the register in the file at a path, or makes one; `start` stands for what the file
-    /// holds. A file that is no database, that another program has locked, or whose disk fails is
-    /// the register's failure to store. One that was not there begins with no release. Right after
-    /// Ok a crash leaves the register that was opened. Once the database is open, the answer is
-    /// that of `adopt_found`, whose contract says what an error means.
-    pub fn open_file(
-        rt: &HostRuntime,
-        alloc: Global,
-        path: &str,
-        start: S,
-    ) -> Result<Register<FileStore<FileFrom<S>>>, PublishFault>
-        ensures opened { IfOk result (λ it. IsFileOpened (image_at S.Start) (file_state it.conn)
-            it.held.history it.held.shapes) }
-        ensures kinds { IfErr result IsOpeningFault }
-    {
-        match Connection::open_from(rt, path, false, start) {
-            Ok(conn) => match Register::adopt_found(alloc, conn) {
-                Ok(register) => Ok(register),
-                Err((_conn, fault)) => Err(fault),
-            },
-            Err((error, _)) => Err(fault_of(error)),
         }
     }
 }

@@ -23,8 +23,9 @@ pub(crate) struct Loaded {
     ghost ascending: { IsAscending (shape_ids shapes.items) } by { Prim.hlevel props },
 }
 
-/// Where the database is out of memory, that is reported.
-pub(crate) fn fault_of(error: Error) -> PublishFault
+/// The fault of an opening of which the database answers this: where it is out of memory, that is
+/// reported.
+pub fn fault_of(error: Error) -> PublishFault
     ensures either { (result ≡ Memory) ⊎ (result ≡ Store) }
     ensures memory { error ≡ SqliteFailure OutOfMemory → result ≡ Memory }
     ensures of_memory { result ≡ Memory → error ≡ SqliteFailure OutOfMemory }

@@ -14,7 +14,6 @@ use Rattle.lpis_register.specs.Faults.{IsStoreFault}
 use Rattle.lpis_register.specs.Histories.{HoldsRegister, LeavesRegister}
 use Rattle.lpis_register.specs.Holdings.{Candidate, Holdings, holdings}
 use Rattle.lpis_register.specs.Publishing.{FollowsHistory, LeavesRelease}
-use Rattle.lpis_register.specs.declared.accepting.Accepted.{Accepted}
 use Rattle.lpis_register.specs.declared.accepting.Writing.{Writing}
 use Rattle.lpis_register.specs.declared.fault.PublishFault.{PublishFault}
 use Rattle.lpis_register.specs.declared.fault.PublishFault.TheVariants.{Memory, Store}
