@@ -12,7 +12,7 @@ import threading
 import time
 
 SIGNALS = (signal.SIGINT, signal.SIGTERM, signal.SIGHUP)
-# What the programs are sent, and after how many seconds: psql takes its statement back from the server at INT, and some programs do not hear INT.
+# What the programs are sent, and after how many seconds: some programs do not hear INT.
 STEPS = ((0, signal.SIGINT), (1, signal.SIGTERM), (10, signal.SIGKILL))
 
 _starting = threading.RLock()

@@ -75,17 +75,14 @@ def stop_at_once(name, *folders):
     ending.listen(last)
 
 
-def run(name, text, engine=None, more=None):
+def run(name, text, engine=None):
     """A recipe from its words to its report, and its status. `engine` makes the tables of a source in a folder, and gives the conflicts that its map
     shows, where it has one; none: the tables that stand are compared."""
-    return words.ended(name, lambda: from_words(name, text, engine, more), land.Trouble)
+    return words.ended(name, lambda: from_words(name, text, engine), land.Trouble)
 
 
-def from_words(name, text, engine, more):
-    options = parser(name, text, engine)
-    if more:
-        more(options)
-    said, say = options.parse_args(accepting.arguments_of(sys.argv[1:])), teller(name)
+def from_words(name, text, engine):
+    said, say = parser(name, text, engine).parse_args(accepting.arguments_of(sys.argv[1:])), teller(name)
     said.name = name
     shapely_there.go_on(name)
     stop_at_once(name)
@@ -228,16 +225,6 @@ def classes(asked, layers, stage, out):
         written.writerow(["class", column])
         written.writerows([record.get("class") or "", record.get(column) or ""] for record in table)
     return lacking_classes(table, layers, stands)
-
-
-def table_of_classes(stage, out):
-    """The rows of the table that the release has in the end, its header first; None where there is none."""
-    path = next((path for path in (os.path.join(folder, "classes.csv") for folder in (stage, out)) if os.path.exists(path)), None)
-    if path is None:
-        return None
-    table = table_of(path)
-    column = column_of(table)
-    return [["class", column], *([record.get("class"), record.get(column)] for record in table)]
 
 
 def table_of(path):

@@ -67,7 +67,6 @@ class Land:
     def __init__(self, source, say):
         self.source, self.numbers, self.boxes, self.sums = source, {}, parting.Boxes(), Sums()
         faults = Faults()
-        source.test(say)
         say(f"reading the parcels of {source.path}")
         for row, (name, wkt), raw in Stream(source, "parcels", ["parcel", "wkt"]):
             found = measured(wkt)

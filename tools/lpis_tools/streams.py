@@ -1,16 +1,13 @@
-"""Tables of any size, record by record, each with its lines as they are written; of a folder, or of a database with PostGIS."""
+"""Tables of any size, record by record, each with its lines as they are written."""
 
 import csv
-import io
 import itertools
 import operator
 import os
-import subprocess
-import tempfile
 from itertools import islice
 from operator import mul
 
-from . import ending, psql, unforeseen
+from . import unforeseen
 from .printing import escaped
 from .tables import COLUMNS, FREE, INSTEAD
 
@@ -18,18 +15,6 @@ csv.field_size_limit(1 << 30)
 MARK = "\xef\xbb\xbf"  # the byte order mark; bytes are letters here, one for one
 BLANKS = str.maketrans("(),", "   ")
 FAR = 20_000_000_000
-MOST_TOLD = 20
-ORDERED = {
-    "parcels": "SELECT parcel, ST_AsText(geom, 3) AS wkt FROM rel_parcels ORDER BY parcel",
-    "covers": "SELECT piece, parcel, class, ST_AsText(geom, 3) AS wkt FROM rel_covers ORDER BY piece",
-    "classes": "SELECT class, percent FROM classes ORDER BY class",
-}
-TABLES = {"rel_parcels": ("row", "parcel", "geom"), "rel_covers": ("row", "piece", "parcel", "class", "geom"), "classes": ("class", "percent")}
-# The schema of the recipe for PostGIS goes first, where it is there.
-PATH = "DO $do$ BEGIN PERFORM set_config('search_path', 'lpis_release,' || current_setting('search_path'), false); END $do$"
-# Rows whose shapes the texts would change: no shape, or corners that are no whole millimetres.
-UNEVEN = "SELECT {key}, CASE WHEN geom IS NULL THEN 'no shape' ELSE 'corners that are no whole millimetres' END FROM {table} WHERE geom IS NULL OR ST_AsText(geom, 3) <> ST_AsText(geom, 15) ORDER BY 1"
-UNUSED = "SELECT column_name FROM information_schema.columns WHERE (table_schema || '.' || table_name)::regclass = '{table}'::regclass AND column_name NOT IN ({known}) ORDER BY 1"
 
 
 class Trouble(Exception):
@@ -50,9 +35,6 @@ class Folder:
         with open(os.path.join(self.path, f"{name}.csv"), encoding="latin-1", newline="") as file:
             yield from file
 
-    def test(self, say):
-        pass
-
     def lineage(self):
         """The path of the table of lineage, or None."""
         path = os.path.join(self.path, "lineage.csv")
@@ -68,47 +50,6 @@ class OneFile:
     def lines(self, _name):
         with open(self.path, encoding="latin-1", newline="") as file:
             yield from file
-
-
-class Postgis:
-    """The tables rel_parcels and rel_covers, which the recipe for PostGIS makes, and classes. Their texts are made anew for each pass."""
-
-    @staticmethod
-    def lineage():
-        return None
-
-    def __init__(self, connection):
-        self.path = self.connection = connection
-
-    def words(self, statement):
-        return ["-v", "ON_ERROR_STOP=1", "-d", self.connection, "-c", PATH, "-c", statement]
-
-    def lines(self, name):
-        with tempfile.TemporaryFile("w+", encoding="utf-8", errors="replace") as told:
-            command = ["psql", "-X", "-q", *self.words(f"COPY ({ORDERED[name]}) TO STDOUT (FORMAT csv, HEADER)")]
-            with ending.start(command, stdout=subprocess.PIPE, stderr=told, encoding="latin-1", env=psql.surroundings()) as run:
-                yield from run.stdout
-            if run.returncode != 0:
-                told.seek(0)
-                raise Trouble(f"{self.connection}: psql ended with status {run.returncode} at the table {name}", *psql.reasons(told.read()))
-
-    def ask(self, statement):
-        """The rows of an answer: a field may have any letters."""
-        status, text, told = psql.run("-t", "--csv", *self.words(statement))
-        if status:
-            raise Trouble(f"{self.connection}: psql ended with status {status}", *told)
-        return list(csv.reader(io.StringIO(text, newline="")))
-
-    def test(self, say):
-        """Shapes that the texts would change are faults; columns that no table takes are named."""
-        faults = []
-        for table, key in (("rel_parcels", "parcel"), ("rel_covers", "piece")):
-            faults += [f"{table}: {key} {escaped(name)}: {why}" for name, why in self.ask(UNEVEN.format(key=key, table=table))]
-        for table, known in TABLES.items():
-            for (column,) in self.ask(UNUSED.format(table=table, known=", ".join(f"'{name}'" for name in known))):
-                say(f"column {escaped(column)} of {table} is in no table of the country")
-        if faults:
-            raise Trouble(*faults[:MOST_TOLD], *([f"and {len(faults) - MOST_TOLD} more"] if len(faults) > MOST_TOLD else []))
 
 
 def records(lines):
