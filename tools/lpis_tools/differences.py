@@ -40,7 +40,7 @@ def moved(old, land):
         return None
     from . import moved as moves
 
-    lines = (line.split(": ", 1) for line in moves.between(old.parcels, land.parcels))
+    lines = (line.split(": ", 1) for line in moves.between(sorted(set(old.parcels) & set(land.parcels)), old.parcels, land.parcels))
     return [{"parcel": name, "words": words} for name, words in lines]
 
 

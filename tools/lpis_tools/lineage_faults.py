@@ -11,7 +11,7 @@ class Fault:
     """A fault with its code, where it is, and more words where the code's own do not suffice."""
 
     code: str
-    row: int = 0
+    row: object = 0
     name: str = ""
     words: str = ""
 
@@ -42,7 +42,7 @@ def of_rows(rows, old, new):
 def of_identifiers(rows, old, new):
     """75 of dropped identifiers without a row, ascending; 76 of those that were used before, in the order of the new year."""
     named = {row.old for row in rows}
-    found = [Fault("75", name=name) for name in sorted(old.shapes) if name not in new.shapes and name not in named]
+    found = [Fault("75", name=name) for name in sorted(name for name in old.shapes if name not in new.shapes and name not in named)]
     return found + [Fault("76", name=f"{name} {old.used[name]}") for name in new.shapes if name not in old.shapes and name in old.used]
 
 

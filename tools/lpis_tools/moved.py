@@ -18,10 +18,10 @@ def words_of(name, before, after):
     return f"{name}: its old and its new shape are {apart:.0f} m apart, and {size:.0f} m long" if apart > size else None
 
 
-def between(old, new):
-    """A line for each kept identifier whose land changed for the most part."""
+def between(names, old, new):
+    """A line for each of some kept identifiers whose land changed for the most part."""
     found = []
-    for name in sorted(set(old) & set(new)):
+    for name in names:
         if old[name] is None or old[name] == new[name]:
             continue
         before, after = shape_of(old[name]), shape_of(new[name])

@@ -1,17 +1,17 @@
-"""Proposes rows of lineage from the land that dropped parcels and new ones share. Wants Shapely."""
+"""Proposes rows of lineage from the land that dropped parcels and new ones share: of each dropped parcel by the new ones whose boxes meet its own alone. Wants
+Shapely."""
 
 import csv
-import warnings
 from dataclasses import dataclass
+from functools import lru_cache
 
 from . import cells
 from .changes import Changes
 from .years import Row
 
-warnings.filterwarnings("ignore", message="STRtree")
-
 SLIVER, CLEAR = 0.01, 0.10  # parts of the smaller of two parcels: less is a border that moved, more is a successor
 WHOLE = 0.5  # of a dropped parcel that its successors have at least
+MOST_KEPT = 10_000  # shapes of new parcels that are not read again
 REPORT = ("old", "new", "square_metres", "of_old_percent", "of_new_percent", "kind", "exact", "row")
 
 
@@ -39,18 +39,15 @@ class Fate:
     doubt: str = ""
 
 
-class Tree:
-    """Shapes by their boxes: Shapely 1.8 answers with shapes, 2 with numbers."""
+class Near:
+    """The shapes of new parcels near others."""
 
     def __init__(self, shapes):
-        from shapely.strtree import STRtree
+        self.shapes, self.shape = shapes, lru_cache(MOST_KEPT)(lambda name: shape_of(shapes[name]))
 
-        self.tree = STRtree(shapes) if shapes else None
-        self.number_of = {id(shape): number for number, shape in enumerate(shapes)}
-
-    def near(self, shape):
-        hits = self.tree.query(shape) if self.tree else ()
-        return [self.number_of[id(hit)] if hasattr(hit, "geom_type") else int(hit) for hit in hits]
+    def to(self, shape):
+        """Names and shapes of those whose boxes meet a shape's."""
+        return [(name, self.shape(name)) for name in self.shapes.near([1000 * value for value in shape.bounds])]
 
 
 def shape_of(members):
@@ -62,23 +59,23 @@ def shape_of(members):
     return found if found.is_valid else found.buffer(0)
 
 
-def shared_of(name, shape, names, shapes, tree):
+def shared_of(name, shape, near):
     """What a dropped parcel shares with new ones, the most first."""
     found = []
-    for number in tree.near(shape):
-        area = shape.intersection(shapes[number]).area
+    for other, its in near.to(shape):
+        area = shape.intersection(its).area
         if area > 0:
-            found.append(Shared(name, names[number], area, area / shape.area, area / shapes[number].area))
+            found.append(Shared(name, other, area, area / shape.area, area / its.area))
     return sorted(found, key=lambda it: (-it.area, it.new))
 
 
-def fate_of(name, shape, names, shapes, tree):
+def fate_of(name, shape, near):
     """The successors of a dropped parcel, where they are clear."""
     if shape is None:
         return Fate(name, [], [], "the register keeps no shape of it")
     if not shape.area > 0:
         return Fate(name, [], [], "its shape has no area")
-    shared = shared_of(name, shape, names, shapes, tree)
+    shared = shared_of(name, shape, near)
     successors = [it.new for it in shared if it.part() >= CLEAR]
     doubtful = [it.new for it in shared if SLIVER <= it.part() < CLEAR]
     covered = sum(it.of_old for it in shared if it.part() >= CLEAR)
@@ -91,11 +88,11 @@ def fate_of(name, shape, names, shapes, tree):
 
 def fates(old, new):
     """What became of each dropped parcel, ascending."""
-    dropped = sorted(set(old.shapes) - set(new.shapes))
-    names = sorted(new.shapes)
-    shapes = [shape_of(new.shapes[name]) for name in names] if dropped else []
-    tree = Tree(shapes)
-    return [fate_of(name, shape_of(old.shapes[name]) if old.shapes[name] else None, names, shapes, tree) for name in dropped]
+    near, found = Near(new.shapes), []
+    for name in sorted(name for name in old.shapes if name not in new.shapes):
+        members = old.shapes[name]
+        found.append(fate_of(name, members and shape_of(members), near))
+    return found
 
 
 def rows_of(found):

@@ -42,7 +42,7 @@ def last_year(said):
     is_there = os.path.isfile(said.register)
     if is_there == said.new:
         raise Stop(f"{said.register} is {'there: without --new' if is_there else 'not there: a first year wants --new'}")
-    last = years.of_register(said.register).year if is_there else 0
+    last = years.last_year(said.register) if is_there else 0
     most = datetime.date.today().year + 1
     is_odd = said.year > most or (last and not last < said.year <= last + MOST_STEP)
     if is_odd and not said.year_anyway:
