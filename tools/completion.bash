@@ -55,7 +55,7 @@ _lpis_country() {
     prepare) _lpis_options '--accept --accept-from --classes --epsg --name --identifiers --tables --workers --lineage --parcels --covers --points --anew --help' ;;
     split) _lpis_options '--lineage --parcels --covers --points --anew --help' -d ;;
     cut) _lpis_options '--jobs --snakemake --profile --lpis --help' -d ;;
-    publish) _lpis_options '--new --year-anyway --jobs --snakemake --profile --lpis --help' ;;
+    publish) _lpis_options '--lineage --new --year-anyway --jobs --snakemake --profile --lpis --help' ;;
     *) _lpis_options '--parcels --lpis --help' -d ;;
   esac
 }

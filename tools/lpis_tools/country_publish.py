@@ -4,10 +4,12 @@ import os
 import subprocess
 import sys
 
-from . import ending, engines, ledger, origin, program, words, yearly
+from . import ending, engines, ledger, origin, program, splitting, words, yearly
+from .country_years import Kept
 from .tables import Table
 from .yearly import Stop
 
+MOST_TOLD = 5
 TOP_FILES = ("country.txt", "classes.csv")
 REGION_FILES = ("parcels.csv", "covers.csv", "classes.csv", "lineage.csv", "cert.txt")
 
@@ -58,13 +60,17 @@ def compare(folder, lines):
 def publish(command, said, say):
     """Answers 0 where the country is published."""
     yearly.look_at_places(said, "the certificates, and what is printed,")
-    last, regions = yearly.last_year(said), engines.regions_of(said.folder)
+    last, regions, kept = yearly.last_year(said), engines.regions_of(said.folder), Kept(said.folder, said.year)
+    kept.look()
+    if said.lineage:
+        splitting.deal(said.lineage, regions, said.folder, say)
     is_marked = look_at_tables(said.folder, regions)
     if engines.cut(command, said, say):
         return yearly.STOPPED
     say("checking the country")
     wanted = compare(said.folder, answer(command, ["country", said.folder], False))
     print(f"the counts and the area are those of the source: {' '.join(wanted)}", flush=True)
+    files = [*TOP_FILES, *(os.path.join(region, name) for region in regions for name in REGION_FILES)]
     with ledger.held(said.register) as log:
         before = ledger.content_of(said.register) if last else {}
         if not said.new:
@@ -74,12 +80,17 @@ def publish(command, said, say):
             cert = os.path.join(said.folder, "exact.txt")
             print(answer(command, ["exact-country", said.register, said.folder, cert], False)[-1], end="", flush=True)
             options = ["--exact", cert]
-        say("publishing the country")
-        lines = answer(command, ["publish-country", said.register, str(said.year), said.folder, *options], True)
-        printed = yearly.write(os.path.join(said.folder, f"published-{said.year}.txt"), "".join(lines).encode())
-        files = [*TOP_FILES, *(os.path.join(region, name) for region in regions for name in REGION_FILES)]
-        digest = ledger.add(log, said.register, yearly.entry_of(said, command, files, cert, printed, before))
-    print(f"what was printed is in {printed}\nlog {ledger.path_of(said.register)} line sha256 {digest}")
+        say(f"keeping a copy of the country for {kept.place}")
+        with kept.copied([*files, *(["exact.txt"] if cert else [])]):
+            say("publishing the country")
+            lines = answer(command, ["publish-country", said.register, str(said.year), said.folder, *options], True)
+            printed = yearly.write(os.path.join(said.folder, f"published-{said.year}.txt"), "".join(lines).encode())
+            entry = yearly.entry_of(said, command, files, cert, printed, before)
+            digest = ledger.add(log, said.register, entry)
+            wrong = kept.settle(printed, said.register, entry)
+    print(f"what was printed is in {printed}\nlog {ledger.path_of(said.register)} line sha256 {digest}\nthe year is kept in {kept.place}")
+    if wrong:
+        say(f"{kept.place} is not what was published, since files changed meanwhile: {' '.join(wrong[:MOST_TOLD])}")
     for line in origin.balance_lines(origin.facts(said.folder, None)):
         print(line)
-    return 0
+    return yearly.STOPPED if wrong else 0

@@ -221,11 +221,11 @@ def write_regions(land, tiling, places, out, say):
     return paths + [write_new(os.path.join(out, folder, "classes.csv"), classes) for folder in ("", *tiling.folders)]
 
 
-def write_lineage(path, tiling, out, say):
+def write_lineage(path, folders, out, say):
     """The new tables of lineage: the source's rows, the first to the first region, as many to each as a table may have. Answers their paths, and how many
     rows there are."""
-    header, count, waiting = "old,new\n", 0, iter(tiling.folders)
-    paths = [os.path.join(out, folder, "lineage.csv") for folder in tiling.folders]
+    header, count, waiting = "old,new\n", 0, iter(folders)
+    paths = [os.path.join(out, folder, "lineage.csv") for folder in folders]
     rows = []
     if path:
         say(f"dealing out the rows of {path}")
@@ -249,6 +249,25 @@ def write_lineage(path, tiling, out, say):
         if file:
             file.close()
     return paths, count
+
+
+def deal(path, folders, out, say):
+    """Deals out a table of lineage to the regions of a country that is split; answers how many rows it has."""
+    try:
+        paths, count = write_lineage(path, folders, out, say)
+        for each in paths:
+            settle(each)
+    finally:
+        clear(out, folders)
+    return count
+
+
+def clear(out, folders):
+    """Removes tables that did not take their place."""
+    for folder in ("", *folders):
+        for name in WRITTEN:
+            with contextlib.suppress(OSError):
+                os.remove(os.path.join(out, folder, f"{name}.csv{NEW}"))
 
 
 class New(Folder):
@@ -304,16 +323,13 @@ def split(source, out, most, anew, say, lineage=None):
         os.makedirs(os.path.join(out, folder), exist_ok=True)
     try:
         paths = write_regions(land, tiling, places, out, say)
-        more, rows = write_lineage(lineage or source.lineage(), tiling, out, say)
+        more, rows = write_lineage(lineage or source.lineage(), tiling.folders, out, say)
         paths += more
         say("looking for every row of the source in the regions")
         whole = judge(land, tiling, places, out)
         changed = sum(map(settle, paths))
     finally:
-        for folder in ("", *tiling.folders):
-            for name in WRITTEN:
-                with contextlib.suppress(OSError):
-                    os.remove(os.path.join(out, folder, f"{name}.csv{NEW}"))
+        clear(out, tiling.folders)
     write(os.path.join(out, COUNTS), f"{land.sums.counts()}\n")
     write(os.path.join(out, "country.txt"), tiling.text())
     whole.write(out)

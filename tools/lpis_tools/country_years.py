@@ -1,0 +1,51 @@
+"""A country's years: DIR/years/YEAR has what was published, with what was reported on the way to it and its line of the log. The next split writes over the
+tables of the regions; this folder stays, and is a country itself."""
+
+import contextlib
+import os
+import shutil
+
+from . import ledger, origin
+from .yearly import Stop
+
+FOLDER = "years"
+LOG = "log.json"
+BESIDE = ("split.txt", "report.geojson", "kept.csv", "kept.geojson", *origin.FILES)  # of what is not in the log's line
+
+
+class Kept:
+    """The folder of a year, which is made beside its place before anything is published, so that a full disk stops that."""
+
+    def __init__(self, folder, year):
+        self.folder, self.place = folder, os.path.join(folder, FOLDER, str(year))
+        self.made = os.path.join(folder, FOLDER, f".{year}.new")
+
+    def look(self):
+        """Stops where the year has a folder."""
+        if os.path.lexists(self.place):
+            raise Stop(f"{self.place} is there, with what was published before: move it away first; nothing was published")
+
+    @contextlib.contextmanager
+    def copied(self, names):
+        """Copies files of the country; what was not settled goes."""
+        shutil.rmtree(self.made, ignore_errors=True)
+        try:
+            for name in [*names, *(name for name in BESIDE if os.path.isfile(os.path.join(self.folder, name)))]:
+                self.copy(name)
+            yield self
+        finally:
+            shutil.rmtree(self.made, ignore_errors=True)
+
+    def copy(self, name):
+        path = os.path.join(self.made, name)
+        os.makedirs(os.path.dirname(path), exist_ok=True)
+        shutil.copy2(os.path.join(self.folder, name), path)
+
+    def settle(self, printed, register, entry):
+        """Puts the folder in its place, with what was printed and the log's line; the names of files that are not as they were published."""
+        self.copy(os.path.basename(printed))
+        with open(os.path.join(self.made, LOG), "wb") as file:
+            file.write(ledger.lines_of(register)[-1] + b"\n")
+        wrong = [name for name, digest in entry["tables"].items() if ledger.digest_of(os.path.join(self.made, name)) != digest]
+        os.rename(self.made, self.place)
+        return wrong
