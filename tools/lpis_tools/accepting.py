@@ -104,10 +104,22 @@ def is_same(one, other):
     return one is other if one is None or other is None else abs(one - other) <= LAST
 
 
-def what_stops(stopping, left):
-    """The last line's words: how many are left of those that stop, their kinds, and the first of them by name."""
-    kinds = Counter(found.kind for found in left)
-    named = "; ".join(" ".join(word for word in (found.kind, *map(readable, found.key_words()[3].split())) if word) for found in left[:MOST_NAMED])
-    of = f" of {len(stopping)}, the others are accepted" if len(left) < len(stopping) else ""
-    counted = ", ".join(f"{count} {kind}" for kind, count in kinds.most_common()) + ": " if len(left) > MOST_NAMED else ""
-    return f"{len(left)}{of} ({counted}{named}{'; ..' if len(left) > MOST_NAMED else ''})"
+class Left:
+    """What stops and is not accepted: how many, their kinds, and the first of them by name."""
+
+    def __init__(self, found=()):
+        self.count, self.kinds, self.named = 0, Counter(), []
+        for one in found:
+            self.add(one)
+
+    def add(self, found):
+        self.count += 1
+        self.kinds[found.kind] += 1
+        if self.count <= MOST_NAMED:
+            self.named.append(" ".join(word for word in (found.kind, *map(readable, found.key_words()[3].split())) if word))
+
+    def words(self, stopping):
+        """The last line's words, beside how many stop in all."""
+        of = f" of {stopping}, the others are accepted" if self.count < stopping else ""
+        counted = ", ".join(f"{count} {kind}" for kind, count in self.kinds.most_common()) + ": " if self.count > MOST_NAMED else ""
+        return f"{self.count}{of} ({counted}{'; '.join(self.named)}{'; ..' if self.count > MOST_NAMED else ''})"

@@ -10,6 +10,7 @@ from __future__ import annotations
 
 import math
 import os
+from collections import Counter
 
 from . import cells, files
 
@@ -19,6 +20,7 @@ FILE = "balance.csv"
 ZONE = 1_000_000  # metres: eastings may have the number of their zone before them
 MOST = 1e16  # square metres: more than the range of the tables has
 NEAR = 0.5  # square metres: what a balance that adds up may miss
+UNIT = 1 << 40  # parts of a square metre: sums are whole numbers of them, so that their order changes nothing
 
 
 def area_of(members):
@@ -92,6 +94,10 @@ class Balance:
         away = round((members[0][0][0][0] - now[0][0][0][0]) / ZONE) * ZONE if members and now else 0
         return [[[(x - away, y) for x, y in ring] for ring in member] for member in members] if away else members
 
+    def reasons(self):
+        """How many rows of the source have no shape, by why."""
+        return Counter(entry.row.why for entry in self.entries.values() if entry.row.why)
+
     def left_out(self, layers):
         """The entries of rows that the layers have no longer."""
         kept = {id(row) for name in SHAPED if name in layers for row in layers[name].rows}
@@ -112,7 +118,10 @@ class Balance:
         self.add(group_of(layer, record), "tables", area)
 
     def add(self, group, column, area):
-        self.sums.setdefault(group, dict.fromkeys(COLUMNS, 0.0))[column] += area
+        self.add_exact(group, column, int(area * UNIT))
+
+    def add_exact(self, group, column, parts):
+        self.sums.setdefault(group, dict.fromkeys(COLUMNS, 0))[column] += parts
 
     def book(self, row, mended, change):
         """A row that the layers have: its area after all repairs, and the land that it gained by rounding less what it lost; None where it is in no
@@ -133,8 +142,9 @@ class Balance:
     def lines(self):
         """Each class, then all pieces, then the parcels."""
         classes = sorted(group for group in self.sums if group[0] == "covers")
-        whole = {column: math.fsum(self.sums[group][column] for group in classes) for column in COLUMNS}
-        return [*((group, self.sums[group]) for group in classes), (("covers", ""), whole), *((group, self.sums[group]) for group in sorted(self.sums) if group[0] == "parcels")]
+        whole = {column: sum(self.sums[group][column] for group in classes) for column in COLUMNS}
+        found = [*((group, self.sums[group]) for group in classes), (("covers", ""), whole), *((group, self.sums[group]) for group in sorted(self.sums) if group[0] == "parcels")]
+        return [(group, {column: parts / UNIT for column, parts in sums.items()}) for group, sums in found]
 
     def words(self):
         """The balance for people, in hectares, and whether it adds up."""

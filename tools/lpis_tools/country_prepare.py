@@ -1,35 +1,132 @@
-"""From a nation's source to the regions of a country: the tests of `prepare`, the rounding cell by cell and many at once, the report, and the split."""
+"""From a nation's source to the regions of a country: the source read and tested in parts, what needs the whole country in SQL, the rounding cell by cell, the
+report, and the split. Parts and cells are jobs, many at once; no process has the country in memory."""
 
 from __future__ import annotations
 
 import os
 import shutil
+import tempfile
 
-from . import by_cells, files, prepared, splitting, streams
-
-RESULTS = ".cells"  # what the cells gave
+from . import engines, files, findings, gathering, jobs, land, losses, naming, parts, passes, prepared, progress, splitting, store, streams
 
 
 class Run(prepared.Run):
-    """A run whose tables are those of regions. `words` has also `workers`, the limits of a region, `anew`, `lineage` and `tables`."""
+    """A run whose tables are those of regions. `words` has also `workers`, `snakemake`, `profile`, the limits of a region, `anew`, `lineage` and `tables`."""
 
     NAME = "country"
 
-    def tested(self):
-        work, whole, names, classes = super().tested()
-        if classes is None and whole:
-            work.find("classes", "classes", None, "there is no table of classes: a table classes in the source, or --classes FILE", "")
-        return work, whole, names, classes
+    def __init__(self, words, names, say):
+        super().__init__(words, names, say)
+        self.results, self.base, self.gathered, self.whole = jobs.begin(self.path(jobs.FOLDER)), None, None, None
+        shutil.rmtree(self.spare)
+        self.spare = tempfile.mkdtemp(prefix=".source-", dir=words.out)  # where all machines see it
+        self.stop_at_once()
+
+    def close(self):
+        if self.base:
+            self.base.close()
+            files.remove(os.path.join(self.results, jobs.STORE))
+        super().close()
 
     def digest(self):
         """None: what was rounded is kept cell by cell."""
         return None
 
+    def tracked(self, rows, what, count):
+        return progress.each(rows, "country", what, count, "rows")
+
+    # The source.
+
+    def tested(self):
+        self.say(f"reading {self.words.land}")
+        layers = land.read(self.words.land, self.names, ("parcels", "covers", "classes"), self.spare, outlined=store.LAYERS)
+        counts = {name: layer.origin and parts.count_of(layer.origin) for name, layer in layers.items()}
+        for name in store.LAYERS:
+            if layers[name].origin and counts[name]:
+                layers[name].rows = [parts.first_of(layers[name].origin, lambda found: True) or land.Row(None, {})]
+        work = passes.Preparation(layers, self.words.epsg, self.say)
+        work.tables()
+        if work.hopeless():
+            return work, None, None, None
+        work.systems(lambda name, epsg: self.transformed(name, epsg, outlined=store.LAYERS if layers[name].origin else ()))
+        starts, are_metres = self.stored(work, layers)
+        names = passes.Names(work, self.given)
+        self.say("names, and what they name")
+        work.of_layers(starts, are_metres)
+        work.tell_taken()
+        work.at(passes.NAMES)
+        names.run()
+        passes.join(work)
+        work.tell_shapeless()
+        work.at(passes.CLASSES)
+        return work, self.whole, names, self.tested_classes(work, names)
+
+    def tested_classes(self, work, names):
+        classes = naming.classes(work, names, self.classes(work.layers), passes.classes_used(self.base))
+        if classes is not None:
+            self.keep_classes(work, classes)
+        else:
+            work.find("classes", "classes", None, "there is no table of classes: a table classes in the source, or --classes FILE", "")
+        return classes
+
+    def stored(self, work, layers):
+        """Makes the store of all rows; answers where each layer begins in it and how many rows it has, and whether the source is in metres."""
+        plan, are_metres = self.planned(work, layers)
+        made = self.parts_made(plan, layers)
+        self.say("writing all rows by their places")
+        self.base, begins = store.merged(os.path.join(self.results, jobs.STORE), [os.path.join(self.results, name) for name in made])
+        ends = [*begins[1:], self.base.execute("SELECT count(*) FROM row").fetchone()[0]]
+        starts = {}
+        for name, begin, end in zip((part["layer"] for part in plan), begins, ends):
+            first, count = starts.get(name, (begin, 0))
+            starts[name] = first, count + end - begin
+        work.begin(self.base, layers)
+        work.counts.update({name: count for name, (_, count) in starts.items()})
+        self.whole = passes.Balance(self.base)
+        self.kept_files = made
+        return starts, are_metres
+
+    def planned(self, work, layers):
+        options = {"epsg": work.epsg, "given": {kind: sorted(names) for kind, names in self.given.items()}}
+        if any(layers[name].origin is None for name in store.LAYERS):
+            are_metres = any(row.found and land.reads_as_metres(row.found.box()) for name in store.LAYERS for row in layers[name].rows)
+            return parts.of_memory(layers, {**options, "are_metres": are_metres}), are_metres
+        origins = {name: [layers[name].origin, *filter(None, [work.transformed.get(name)])] for name in store.LAYERS}
+        are_metres = any(parts.first_of(origins[name][-1], lambda found: land.reads_as_metres(found.box())) for name in store.LAYERS)
+        return parts.planned(origins, {name: layers[name].key for name in store.LAYERS}, {**options, "are_metres": are_metres}), are_metres
+
+    def parts_made(self, plan, layers):
+        if "rows" in plan[0]:
+            return [parts.made_of_memory(part, layers, self.results) for part in plan]
+        return engines.prepared(self.words, self.results, "part", plan)
+
+    # The rounding.
+
     def rounded(self, work):
-        made = by_cells.Rounded(work.layers, self.made, self.path(RESULTS), self.words.workers or len(os.sched_getaffinity(0)), self.say)
+        """Has all cells rounded, and puts together what they give."""
+        if self.gathered is None:
+            count = store.put_cells(self.base)
+            self.say(f"rounding {count} cells")
+            names = engines.prepared(self.words, self.results, "cell", [None] * count)
+            self.whole.begin(None)
+            self.gathered = gathering.Gathered(self.base, self.results, names, self.whole)
+            self.gathered.read(progress.Progress("country", "reading what was rounded", count, "cells"))
+            jobs.clear(self.results, [*self.kept_files, *names, jobs.STORE])
+        return self.gathered
+
+    def conflicts(self, _work, seen):
+        return list(seen.losses.conflicts())
+
+    def report(self, work, seen, whole):
+        for loss in passes.left_out(self.base):
+            seen.losses.add(loss)
+        for name, layer in work.layers.items():
+            for column in layer.others:
+                seen.losses.add(losses.Loss("column", [column], f"the column {column} of the layer {name} is in no table", layer=name))
+        self.base.commit()
         self.say("tables")
-        made.tables(self.made)
-        return made.conflicts()
+        seen.tables(self.made, self.tracked)
+        return losses.concluded(seen.losses, seen.counts, work.counts, self.words.out, self.accept, work.epsg, whole, prepared.recipe.unwritten(self.words.out))
 
     def put(self, whole):
         """Splits the tables into regions; the balance of the folder stays that from the source to the tables."""

@@ -1,11 +1,13 @@
 """Certificates of all regions by an engine that is there, make or Snakemake, and the check of the country."""
 
+import json
 import os
 import shlex
 import shutil
 import subprocess
+import sys
 
-from . import drawing, ending, files, finding, tiles
+from . import drawing, ending, files, finding, jobs, progress, snakefile, tiles
 from .printing import escaped
 from .splitting import COUNTS, write
 from .streams import Trouble
@@ -27,40 +29,6 @@ all: $(REGIONS:%=%/cert.txt)
 	@$(LPIS) cut $* $@.new >$*/cut.txt && mv -- $@.new $@
 	@echo "$*: $$(cat $*/cut.txt)"
 """
-SNAKEFILE = """# The certificates of the regions of country.txt: snakemake -k -j 4, or on a cluster snakemake -k --profile slurm. LPIS is the program.
-# Written by `country cut`.
-import os
-
-LPIS = os.environ.get("LPIS", "lpis")
-with open("country.txt") as lines:
-    REGIONS = [line.split()[1] for line in lines if line.startswith("region ")]
-
-
-rule all:
-    input:
-        expand("{region}/cert.txt", region=REGIONS),
-
-
-rule cut:
-    input:
-        "{region}/parcels.csv",
-        "{region}/covers.csv",
-        "{region}/classes.csv",
-    output:
-        "{region}/cert.txt",
-    resources:
-        mem_mb=4000,
-        runtime=60,
-    shell:
-        "rm -f -- {output}.new {wildcards.region}/cut.txt; {LPIS} cut {wildcards.region} {output}.new >{wildcards.region}/cut.txt && mv -- {output}.new {output}"
-"""
-PROFILE = """# For Snakemake 7: snakemake -k --profile slurm. The folder lies where all machines see it. Snakemake 8 takes `executor: slurm`
-# (its plugin of that name) in place of `cluster`. Other engines take another word there, such as `qsub -V -cwd`.
-cluster: "sbatch --parsable --job-name=lpis.{jobid} --cpus-per-task=1 --mem={resources.mem_mb} --time={resources.runtime} --output=slurm/job.{jobid}.out"
-jobs: 100
-latency-wait: 60
-keep-going: true
-"""
 
 
 def regions_of(folder):
@@ -71,6 +39,32 @@ def regions_of(folder):
             return tiles.read(file.read()).folders
         except tiles.Unreadable as error:
             raise Trouble(f"{path}: {error}") from None
+
+
+def prepared(words, folder, kind, plan):
+    """Has the jobs of a kind done; answers the names of the files that they give."""
+    if kind == "part":
+        for name, text in ((jobs.PLAN, json.dumps(plan)), (jobs.PARTS, "".join(f"{part['file']}\n" for part in plan))):
+            with files.anew(os.path.join(folder, name)) as file:
+                file.write(text)
+    else:
+        jobs.forget_cells(folder)
+        with files.anew(os.path.join(folder, jobs.COUNT)) as file:
+            file.write(f"{len(plan)}\n")
+    at_once = words.workers or len(os.sched_getaffinity(0))
+    if words.snakemake or words.profile:
+        by_snakemake(words.out, f"{kind}s", at_once, words.profile, "all" if progress.Quiet.is_quiet else "rules", {"LPIS_COUNTRY": shlex.join([sys.executable, jobs.TOOL])})
+        return jobs.done(folder, kind, plan)
+    what, things = {"part": ("reading", "parts"), "cell": ("rounding", "cells")}[kind]
+    return jobs.do_all(folder, kind, len(plan), at_once, progress.Progress("country", what, len(plan), things))
+
+
+def by_snakemake(folder, target, at_once, profile, quiet, surroundings):
+    """Runs a target of the Snakefile, which goes on where a job is refused."""
+    if not snakefile.is_there():
+        raise Trouble("there is no snakemake")
+    write(os.path.join(folder, "Snakefile"), snakefile.SNAKEFILE)
+    ending.run(snakefile.command(target, at_once, profile, quiet), cwd=folder, env={**os.environ, **snakefile.SAFE, **surroundings}, stdout=2, check=False)
 
 
 def absolute(command):
@@ -92,23 +86,19 @@ def is_cut(folder, region):
 
 def run(command, words, regions):
     """Runs the engine, which goes on where a region is refused."""
-    folder, jobs = words.folder, words.jobs or len(os.sched_getaffinity(0))
+    folder, at_once = words.folder, words.jobs or len(os.sched_getaffinity(0))
     write(os.path.join(folder, "Makefile"), MAKEFILE.format(regions=" ".join(regions)))
-    write(os.path.join(folder, "Snakefile"), SNAKEFILE)
+    write(os.path.join(folder, "Snakefile"), snakefile.SNAKEFILE)
     os.makedirs(os.path.join(folder, "slurm"), exist_ok=True)
-    write(os.path.join(folder, "slurm", "config.yaml"), PROFILE)
+    write(os.path.join(folder, "slurm", "config.yaml"), snakefile.PROFILE)
     program = shlex.join(absolute(command))
-    if words.profile:
-        engine = ["snakemake", "-s", "Snakefile", "-k", "--profile", os.path.abspath(words.profile)]
-    elif words.snakemake:
-        engine = ["snakemake", "-s", "Snakefile", "-k", "-q", "all", "-j", str(jobs)]
-    else:
-        engine = ["make", "-f", "Makefile", "-r", "-k", "--no-print-directory", "-j", str(jobs)]
-        program = program.replace("$", "$$")  # make works out what it has of the environment
-    surroundings = {**os.environ, "LPIS": program}
-    if shutil.which(engine[0]) is None:
-        raise Trouble(f"there is no {engine[0]}")
-    ending.run(engine, cwd=folder, env=surroundings, stdout=2, check=False)
+    if words.profile or words.snakemake:
+        by_snakemake(folder, "certificates", at_once, words.profile, "all", {"LPIS": program})
+        return
+    if shutil.which("make") is None:
+        raise Trouble("there is no make")
+    engine = ["make", "-f", "Makefile", "-r", "-k", "--no-print-directory", "-j", str(at_once)]
+    ending.run(engine, cwd=folder, env={**os.environ, "LPIS": program.replace("$", "$$")}, stdout=2, check=False)  # make works out what it has of the environment
 
 
 def faults_of(command, folder, refused, say):

@@ -61,12 +61,13 @@ def lines_of(findings, accept):
     lines, shown, notes = [], Counter(), {}
     for finding in findings:
         if finding.kind in NOTES:
-            notes.setdefault((finding.kind, finding.layer), []).append(finding)
+            first, count = notes.get((finding.kind, finding.layer), (finding.name, 0))
+            notes[finding.kind, finding.layer] = first, count + 1
             continue
         shown[finding.kind] += 1
         if shown[finding.kind] <= MOST_SHOWN:
             lines.append(finding.line(accept))
     lines += [f"{kind}: and {count - MOST_SHOWN} more, see prepared.csv" for kind, count in shown.items() if count > MOST_SHOWN]
-    for (kind, layer), found in notes.items():
-        lines.append(f"{kind}: {len(found)} of {layer} ({readable(found[0].name)}{' and others' if len(found) > 1 else ''}): {NOTES[kind]}")
+    for (kind, layer), (first, count) in notes.items():
+        lines.append(f"{kind}: {count} of {layer} ({readable(first)}{' and others' if count > 1 else ''}): {NOTES[kind]}")
     return lines

@@ -43,6 +43,17 @@ class Row:
 
 
 @dataclass
+class Origin:
+    """What is read of a layer of a GeoPackage: the table, the columns by what they are for, that of the shapes with its system, and the key, if there is one."""
+
+    path: str
+    table: str
+    chosen: dict
+    shape: tuple | None
+    key: str | None
+
+
+@dataclass
 class Layer:
     name: str
     rows: list = field(default_factory=list)
@@ -52,10 +63,23 @@ class Layer:
     faults: list = field(default_factory=list)  # of sheets: what keeps the table from being read
     notes: list = field(default_factory=list)  # what was met on the way, without loss
     is_valid: bool = False  # all shapes are known to be valid
+    origin: Origin | None = None  # where in a GeoPackage its rows are
+
+    def keep(self, test):
+        """Keeps the rows of which a test is true."""
+        self.rows = [row for row in self.rows if test(row)]
+
+    def groups(self, column, key):
+        """The different names of a column that have one key, in lists of two or more."""
+        groups = {}
+        for name in {row[column] for row in self.rows}:
+            groups.setdefault(key(name), []).append(name)
+        return [names for names in groups.values() if len(names) > 1]
 
 
-def read(path, names=None, wanted=("parcels", "covers"), spare=None):
-    """The layers of a land by their names. `names` says what a layer or column is called in it: {'parcels': 'blocks', 'parcels.parcel': 'id'}."""
+def read(path, names=None, wanted=("parcels", "covers"), spare=None, outlined=()):
+    """The layers of a land by their names. `names` says what a layer or column is called in it: {'parcels': 'blocks', 'parcels.parcel': 'id'}. Of a GeoPackage
+    the layers that are to be outlined have no rows yet: `rows_of` reads them."""
     names = names or {}
     if os.path.isdir(path) and not is_of_another_program(path):
         return read_folder(path, names, wanted)
@@ -69,9 +93,9 @@ def read(path, names=None, wanted=("parcels", "covers"), spare=None):
             raise Trouble(f"{path}: {error.strerror}") from None
         start = b""
     if start == PACKAGE and is_package(path):
-        return read_package(path, names, wanted)
+        return read_package(path, names, wanted, outlined)
     made, told = as_package(path, spare)
-    layers = read_package(made, of_made(names), wanted)
+    layers = read_package(made, of_made(names), wanted, outlined)
     for layer in layers.values():
         layer.notes += [f"ogr2ogr reports: {words}" for words in told]
     return layers
@@ -177,10 +201,16 @@ def text_of(value):
     return value.decode("utf-8", "backslashreplace") if isinstance(value, bytes) else str(value)
 
 
-def read_package(path, names, wanted):
+def opened(path):
+    """A GeoPackage for reading: letters that are none stay different."""
     unforeseen.at(path)
     connection = connected(path)
-    connection.text_factory = lambda text: text.decode("utf-8", "backslashreplace")  # letters that are none stay different
+    connection.text_factory = lambda text: text.decode("utf-8", "backslashreplace")
+    return connection
+
+
+def read_package(path, names, wanted, outlined):
+    connection = opened(path)
     try:
         tables = [str(name) for (name,) in databases.rows(connection, "SELECT table_name FROM gpkg_contents ORDER BY rowid")]
         shapes = shapes_of(connection)
@@ -200,8 +230,12 @@ def read_package(path, names, wanted):
                 reasons.append(f"layer {table}: {why}")
             elif not lacking:
                 key = next((column for column, row in columns.items() if row[5] == 1 and str(row[2]).upper() in ("INTEGER", "INT")), None)
-                layers[name] = read_layer(connection, table, Layer(name), chosen, shape, key)
-                layers[name].others = [column for column in columns if column not in chosen.values() and column not in (key, shape[0] if shape else "")]
+                layers[name] = layer = Layer(name, key="fid" if key else "row", origin=Origin(path, table, chosen, shape, key))
+                if shape:
+                    layer.system = system_of(connection, shape[1])
+                if name not in outlined:
+                    layer.rows += rows_of(connection, layer.origin)
+                layer.others = [column for column in columns if column not in chosen.values() and column not in (key, shape[0] if shape else "")]
         if reasons:
             raise Trouble(*reasons)
         return layers
@@ -233,19 +267,18 @@ def shapes_of(connection):
     return shapes
 
 
-def read_layer(connection, table, layer, chosen, shape, key):
-    if shape:
-        layer.system = system_of(connection, shape[1])
-    layer.key = "fid" if key else "row"
-    fields = [*([quoted(key)] if key else []), *map(quoted, chosen.values()), *([quoted(shape[0])] if shape else [])]
-    for number, values in unforeseen.each(table, databases.rows(connection, f"SELECT {', '.join(fields)} FROM {quoted(table)}")):
-        start = 1 if key else 0
-        row = Row(values[0] if key else number, dict(zip(chosen, map(text_of, values[start:]))))
+def rows_of(connection, origin, among=None, first=1):
+    """The rows of a layer: all, or those among two numbers of rows. Where it has no key they are numbered from the first on."""
+    shape, start = origin.shape, 1 if origin.key else 0
+    fields = [*([quoted(origin.key)] if origin.key else []), *map(quoted, origin.chosen.values()), *([quoted(shape[0])] if shape else [])]
+    condition = f" WHERE rowid BETWEEN {among[0]:d} AND {among[1]:d} ORDER BY rowid" if among else ""
+    found = databases.rows(connection, f"SELECT {', '.join(fields)} FROM {quoted(origin.table)}{condition}")
+    for number, values in unforeseen.each(origin.table, found):
+        row = Row(values[0] if origin.key else number - 1 + first, dict(zip(origin.chosen, map(text_of, values[start:]))))
         if shape:
             put_shape(row, values[-1], wkb.of_package)
             of_one_system(row, shape[1], "its layer's")
-        layer.rows.append(row)
-    return layer
+        yield row
 
 
 def put_shape(row, value, reader):

@@ -13,7 +13,7 @@ from collections import Counter
 from shapely.geometry import mapping
 
 from . import balance, cells, files, land, outcome
-from .accepting import what_stops
+from .accepting import Left
 from .conflicts import ORDER, Loss, Source, find_conflicts, find_names, number_of, parts_of, polygons_by
 from .findings import readable
 
@@ -54,11 +54,10 @@ def find_all(source, tables, say, whole, seen, between):
 
 def write(losses, out, epsg=None):
     """The report in a folder: all rows, however many there are; and as layers, those of some kinds apart. Which files there are."""
-    apart = {"report": [loss for loss in losses if loss.kind not in APART], **{kind: [loss for loss in losses if loss.kind == kind] for kind in APART}}
-    write_rows([loss for loss in losses if loss.kind != "kept"], os.path.join(out, "report.csv"))
-    written = ["report.csv"]
-    for name, found in apart.items():
-        written += write_apart(name, found, out, epsg)
+    write_rows((loss for loss in losses if loss.kind != "kept"), os.path.join(out, "report.csv"))
+    written = ["report.csv", *write_apart("report", (loss for loss in losses if loss.kind not in APART), out, epsg)]
+    for kind in APART:
+        written += write_apart(kind, [loss for loss in losses if loss.kind == kind], out, epsg)
     return written
 
 
@@ -102,9 +101,8 @@ def feature_of(loss):
         "words": loss.words}}
 
 
-def told(losses, layers, found, counts):
+def told(losses, found, counts):
     """The report as lines for people."""
-    counts = counts or {name: len(layers[name].rows) for name in ("parcels", "covers")}
     lines = [f"parcels {found[0]} of {counts['parcels']} pieces {found[1]} of {counts['covers']}"]
     shown = Counter()
     for loss in losses:
@@ -113,10 +111,11 @@ def told(losses, layers, found, counts):
             if shown[loss.kind] <= MOST_TOLD:
                 lines.append(line_of(loss))
     lines += [f"  and {count - MOST_TOLD} more of kind {kind}: see report.csv" for kind, count in shown.items() if count > MOST_TOLD]
-    narrow = [loss for loss in losses if loss.width is not None and not loss.stops() and loss.kind != "between"]
+    narrow = [(loss.area, loss.width) for loss in losses if loss.width is not None and not loss.stops() and loss.kind != "between"]
     if narrow:
-        lines.append(f"conflicts narrower than two centimetres: {len(narrow)}, together {sum(loss.area for loss in narrow):.3f} m2, the widest {max(loss.width for loss in narrow) * 1000:.1f} mm")
-    lines += [f"{count} {words}" for kind, words in COUNTED if (count := sum(loss.kind == kind for loss in losses))]
+        lines.append(f"conflicts narrower than two centimetres: {len(narrow)}, together {sum(area for area, _ in narrow):.3f} m2, the widest {max(width for _, width in narrow) * 1000:.1f} mm")
+    kinds = Counter(loss.kind for loss in losses)
+    lines += [f"{kinds[kind]} {words}" for kind, words in COUNTED if kinds[kind]]
     lines += [f"the greatest change of a parcel: {loss.words} ({' '.join(map(readable, loss.names))})" for loss in losses if loss.kind == "changed" and not loss.stops()]
     lines += [line_of(loss) for loss in losses if loss.kind == "column"]
     return lines
@@ -134,8 +133,7 @@ def line_of(loss):
 
 def why_nothing(losses, whole):
     """Why tables have no row: the commonest reasons of the source's rows."""
-    reasons = {id(entry.row): entry.row.why for entry in whole.entries.values() if entry.row.why}
-    found = Counter(reasons.values()) or Counter(loss.words for loss in losses if loss.kind in ("lost", "left out"))
+    found = whole.reasons() or Counter(loss.words for loss in losses if loss.kind in ("lost", "left out"))
     return "; ".join(f"{count} row{'s' * (count > 1)}: {words}" for words, count in found.most_common(MOST_REASONS)) or "the tables have no row"
 
 
@@ -148,21 +146,38 @@ def report(layers, out, accept, say, epsg=None, counts=None, whole=None, tables=
         epsg = systems[0] if systems else None
     whole = whole or balance.Balance(layers)
     losses, found = find_all(source or Source(layers), tables or out, say, whole, seen, between)
+    counts = counts or {name: len(layers[name].rows) for name in ("parcels", "covers")}
+    return concluded(losses, found, counts, out, accept, epsg, whole, refusal)
+
+
+def concluded(losses, found, counts, out, accept, epsg, whole, refusal):
+    """Writes and prints what was found, the gravest first: `losses` are gone over several times. The status of the run."""
     written = write(losses, out, epsg)
     whole.write(out)
-    for line in [*told(losses, layers, found, counts), f"written: {', '.join(os.path.join(out, name) for name in (*written, balance.FILE))}", *whole.words()]:
+    for line in [*told(losses, found, counts), f"written: {', '.join(os.path.join(out, name) for name in (*written, balance.FILE))}", *whole.words()]:
         print(line)
     if not all(found):
         print(f"nothing is left: {why_nothing(losses, whole)}{refusal and '; ' + refusal}")
         return 1
-    stopping = [loss for loss in losses if loss.stops()]
-    left = [loss for loss in stopping if not accept.takes(loss)]
+    stopping = Stopping(losses, accept)
     uneven = "" if whole.is_even() else "the balance does not add up"
-    if not stopping and not uneven:
+    if not stopping.count and not uneven:
         return 0
-    refused = any(loss.kind == "overlap" and loss.is_grave for loss in losses)
-    remedy = ": mend the source" if refused else ": mend the source, or take the tables as they are by --accept"
-    is_accepted = not left and (not uneven or accept.is_all)
-    what = f"{len(stopping) + bool(uneven)}, accepted" if is_accepted else f"{what_stops(stopping, left)}{remedy}" if left else f"1 ({uneven}){remedy}"
-    print(f"to look at: {what}" + ("; lpis refuses these tables" if refused else "") + ("" if is_accepted or not refusal else f"; {refusal}"))
+    remedy = ": mend the source" if stopping.is_refused else ": mend the source, or take the tables as they are by --accept"
+    is_accepted = not stopping.left.count and (not uneven or accept.is_all)
+    what = f"{stopping.count + bool(uneven)}, accepted" if is_accepted else f"{stopping.left.words(stopping.count)}{remedy}" if stopping.left.count else f"1 ({uneven}){remedy}"
+    print(f"to look at: {what}" + ("; lpis refuses these tables" if stopping.is_refused else "") + ("" if is_accepted or not refusal else f"; {refusal}"))
     return 0 if is_accepted else 1
+
+
+class Stopping:
+    """Of losses how many stop, what is left of them when some are accepted, and whether lpis refuses the tables."""
+
+    def __init__(self, losses, accept):
+        self.count, self.left, self.is_refused = 0, Left(), False
+        for loss in losses:
+            self.is_refused |= loss.kind == "overlap" and loss.is_grave
+            if loss.stops():
+                self.count += 1
+                if not accept.takes(loss):
+                    self.left.add(loss)

@@ -39,36 +39,40 @@ class Names:
         for name, columns in COLUMNS:
             for column in columns:
                 self.trim(name, column)
+        self.note_owners()
         for name, columns in COLUMNS:
-            for row in self.work.layers[name].rows:
-                for column in columns:
-                    if row[column].strip() and self.new_name(column, row[column]) == row[column]:
-                        self.owners[column][row[column]] = row[column]
-        for name, columns in COLUMNS:
-            kept = []
-            for row in self.work.layers[name].rows:
-                if all([self.rename(name, row, column) for column in columns]):
-                    kept.append(row)
-            self.work.layers[name].rows = kept
+            self.work.layers[name].keep(lambda row, name=name, columns=columns: all([self.rename(name, row, column) for column in columns]))
         for column, names in self.given.items():  # those that this year has not come back in another
             for old, new in names.items():
                 self.renamed[column].setdefault(old, new)
         self.in_case_alone()
 
+    def note_owners(self):
+        """Names that are identifiers are their own."""
+        for name, columns in COLUMNS:
+            for row in self.work.layers[name].rows:
+                for column in columns:
+                    if row[column].strip() and self.new_name(column, row[column]) == row[column]:
+                        self.owners[column][row[column]] = row[column]
+
+    def owner_of(self, column, new, bare):
+        """Whose an identifier is: that of the name, where it was nobody's."""
+        return self.owners[column].setdefault(new, bare)
+
     def trim(self, name, column):
         """Takes blanks off before and behind, where the name is the same without them."""
-        trimmed = []
+        first, count = None, 0
         for row in self.work.layers[name].rows:
             old = row[column]
             bare = old.strip()
             if bare not in ("", old) and self.new_name(column, old) == self.new_name(column, bare):
-                trimmed.append((row, old))
+                first, count = first or (row, old, bare), count + 1
                 row.fields[column] = bare
                 self.renamed[column][old] = self.new_name(column, bare)
-        if trimmed:
-            row, old = trimmed[0]
+        if first:
+            row, old, bare = first
             layer = self.work.layers[name]
-            self.work.findings.append(Finding("blanks", name, row.number, row[column], f"{len(trimmed)} of the column {column} have blanks before or behind, such as {old!r}", "taken off, the same in all tables", True, key=layer.key))
+            self.work.findings.append(Finding("blanks", name, row.number, bare, f"{count} of the column {column} have blanks before or behind, such as {old!r}", "taken off, the same in all tables", True, key=layer.key))
 
     def new_name(self, column, old):
         """The identifier of a name: that of an earlier year, or the name itself, or what is made of it."""
@@ -93,7 +97,7 @@ class Names:
         new = self.new_name(column, old)
         row.fields[column] = new
         if new != old and old not in self.renamed[column]:
-            is_taken = self.owners[column].setdefault(new, old.strip()) != old.strip()
+            is_taken = self.owner_of(column, new, old.strip()) != old.strip()
             self.renamed[column][old] = new
             key = work.layers[layer].key
             work.findings.append(Finding("identifier", layer, row.number, old, f"{column} {old!r} is no identifier" if not identifiers.is_one(old) else f"{column} {old!r}", f"now {new}", True, key=key))
@@ -104,47 +108,55 @@ class Names:
     def in_case_alone(self):
         """Names those that people may take for one."""
         for layer, column in (("parcels", "parcel"), ("covers", "piece"), ("covers", "class")):
-            groups = {}
-            for name in {row[column] for row in self.work.layers[layer].rows}:
-                groups.setdefault(alike(name), []).append(name)
-            for names in sorted(sorted(names) for names in groups.values() if len(names) > 1):
+            for names in sorted(map(sorted, self.work.layers[layer].groups(column, alike))):
                 self.work.findings.append(Finding("alike", layer, None, names[0], f"the {column}s {' and '.join(names)} differ in case, or in .0, alone", "kept as they are", True))
 
 
 def join(work, whole):
     """Doubled identifiers, pieces of parcels that are not there, parcels without pieces."""
     parcels, covers = work.layers["parcels"], work.layers["covers"]
-    doubled_parcels(work, parcels, whole)
-    doubled_pieces(work, covers, whole)
+    join_rows(doubled_parcels(work, parcels), whole)
+    join_rows(doubled_pieces(work, covers, {row["piece"] for row in covers.rows}), whole)
     known = {row["parcel"] for row in parcels.rows}
-    near = {}
-    for name in known:
-        near.setdefault(alike(name), name)
-    for row in covers.rows:
-        if row["parcel"] not in known:
-            other = near.get(alike(row["parcel"]))
-            work.find("stranger", "covers", row, f"its parcel {row['parcel']} is not there" + (f"; {other} is, which differs in case, or in .0, alone" if other else ""))
+    strangers = [row for row in covers.rows if row["parcel"] not in known]
+    tell_strangers(work, strangers, sorted(known) if strangers else ())
     covers.rows = [row for row in covers.rows if row["parcel"] in known and row.found]
     named = {row["parcel"] for row in covers.rows}
-    for row in parcels.rows:
-        if row["parcel"] not in named:
-            work.find("bare", "parcels", row, "no piece with a shape names it")
+    tell_bare(work, (row for row in parcels.rows if row["parcel"] not in named))
     parcels.rows = [row for row in parcels.rows if row["parcel"] in named]
 
 
-def doubled_parcels(work, layer, whole):
+def tell_strangers(work, rows, known):
+    """Of pieces whose parcel is not there, with that of those known, in order, which people may take for it."""
+    near, wanted = {}, {alike(row["parcel"]) for row in rows}
+    for name in known:
+        if alike(name) in wanted:
+            near.setdefault(alike(name), name)
+    for row in rows:
+        other = near.get(alike(row["parcel"]))
+        work.find("stranger", "covers", row, f"its parcel {row['parcel']} is not there" + (f"; {other} is, which differs in case, or in .0, alone" if other else ""))
+
+
+def tell_bare(work, rows):
+    for row in rows:
+        work.find("bare", "parcels", row, "no piece with a shape names it")
+
+
+def doubled_parcels(work, layer):
+    """Leaves the first row of each parcel in the layer, and gives the rows that go on in it, behind it, by its id."""
     first, joined = {}, {}
     for row in layer.rows:
         before = first.setdefault(row["parcel"], row)
         if before is not row:
             work.find("doubled", "parcels", row, f"{layer.key} {before.number} has this identifier too", "the two are joined")
             joined.setdefault(id(before), [before]).append(row)
-    join_rows(joined, whole)
     layer.rows = list(first.values())
+    return joined
 
 
-def doubled_pieces(work, layer, whole):
-    first, used, joined, next_of = {}, {row["piece"] for row in layer.rows}, {}, {}
+def doubled_pieces(work, layer, used):
+    """As with parcels; but a piece of another parcel or class gets a name of its own, which none of those used is."""
+    first, joined, next_of = {}, {}, {}
     for row in layer.rows:
         name = row["piece"]
         before = first.setdefault(name, row)
@@ -160,20 +172,23 @@ def doubled_pieces(work, layer, whole):
         work.find("doubled", "covers", row, f"{layer.key} {before.number} has this identifier too, for another parcel or class", f"now {new}")
         row.fields["piece"] = new
         first[new] = row
-    join_rows(joined, whole)
     layer.rows = list(first.values())
+    return joined
 
 
 def join_rows(joined, whole):
     """The land of rows goes on in the first of them."""
     for before, *others in joined.values():
         whole.join(before, others)
-        founds = [row.found for row in (before, *others) if row.found]
-        shapes = [shapely_wkb.loads(found.blob) for found in founds] if len(founds) > 1 else []
-        if shapes:
-            before.found = wkb.Found(members_of(unary_union([shape if shape.is_valid else shape.buffer(0) for shape in shapes])))
-        elif founds:
-            before.found = founds[0]
+        before.found = united([row.found for row in (before, *others) if row.found])
+
+
+def united(founds):
+    """The land of shapes as one; None where there is none."""
+    if len(founds) < 2:
+        return founds[0] if founds else None
+    shapes = [shapely_wkb.loads(found.blob) for found in founds]
+    return wkb.Found(members_of(unary_union([shape if shape.is_valid else shape.buffer(0) for shape in shapes])))
 
 
 # Tables of names and of classes.
@@ -208,11 +223,11 @@ def write_identifiers(renamed, path):
         table.writerows([kind, cells.text(old), cells.text(new)] for kind, names in renamed.items() for old, new in names.items())
 
 
-def classes(work, names, table):
-    """The rows of classes.csv, by the new names; None where there is no table."""
-    used = Counter(row["class"] for row in work.layers["covers"].rows)
+def classes(work, names, table, used=None):
+    """The rows of classes.csv, by the new names; None where there is no table. `used`: how many pieces have each class, where that is known."""
     if table is None:
         return None
+    used = Counter(row["class"] for row in work.layers["covers"].rows) if used is None else used
     column = next((name for name in ("percent", "eligible") if any(name in record for record in table)), "percent")
     rows = {}
 

@@ -49,18 +49,22 @@ class Places:
 
 
 class Outcome:
-    """Compares the tables of a folder with a source."""
+    """Compares tables with a source: those of a folder, or records with their polygons and areas, by a function of a table's name."""
 
-    def __init__(self, source, folder, whole):
-        self.source, self.folder, self.whole = source, folder, whole
+    def __init__(self, source, tables, whole):
+        self.source, self.whole = source, whole
+        self.records = tables if callable(tables) else lambda name: read_table(tables, name)
         self.places, self.found, self.parcel_of = Places(source.losses), {}, {}
         self.greatest = None
         self.covers = set()
 
-    def find(self):
+    def compare_tables(self):
         for name in ("covers", "parcels"):
             self.table(name, Source.KEYS[name])
         self.places.tell(self.parcel_of)
+
+    def find(self):
+        self.compare_tables()
         if self.greatest and not any(loss is self.greatest[1] for loss in self.source.losses):
             self.source.losses.append(self.greatest[1])
         return self.found["parcels"], self.found["covers"]
@@ -70,7 +74,7 @@ class Outcome:
         for row in reversed(self.source.layers[name].rows):
             waiting.setdefault(row[column], []).append(row)
         self.found[name] = 0
-        for record, members, area in read_table(self.folder, name):
+        for record, members, area in self.records(name):
             self.found[name] += 1
             self.whole.add_table(name, record, area)
             who = record[column]

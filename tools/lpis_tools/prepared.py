@@ -26,6 +26,9 @@ class Run:
         self.given = naming.given_identifiers(words.identifiers)
         os.makedirs(words.out, exist_ok=True)
         self.made, self.spare = tempfile.mkdtemp(prefix=".prepare-", dir=words.out), tempfile.mkdtemp()
+        self.stop_at_once()
+
+    def stop_at_once(self):
         recipe.stop_at_once(self.NAME, self.made, self.spare)
 
     def close(self):
@@ -100,9 +103,9 @@ class Run:
         if there != {name: str(value) for name, value in classes.items()}:
             work.find("classes", "classes", None, f"{self.path('classes.csv')} has other rows than the table classes of the source: remove it, or name it by --classes", "")
 
-    def transformed(self, name, epsg):
+    def transformed(self, name, epsg, outlined=()):
         made, _ = land.as_package(self.words.land, self.spare, self.names.get(name, name), "-t_srs", f"EPSG:{epsg}")
-        return land.read(made, land.of_made(self.names), (name,), self.spare)[name]
+        return land.read(made, land.of_made(self.names), (name,), self.spare, outlined)[name]
 
     def write_findings(self, work, names):
         self.put_findings(work)
@@ -122,15 +125,15 @@ class Run:
         """The end of a run whose findings are not accepted, or cannot be."""
         if whole:
             seen = self.rounded(work)
-            conflicts = losses.conflicts_alone(work.layers, self.say, seen)
+            conflicts = self.conflicts(work, seen)
             if not work.hopeless():
                 self.kept.keep(work.layers, self.made, seen)
             print(*map(losses.line_of, conflicts), *whole.source_words(work.layers), sep="\n")
             work.conflicts(conflicts)
             self.put_findings(work)
         remedy = "" if work.hopeless() else ", or mend and leave out by --accept"
-        left = [finding for finding in work.grave() if finding.is_hopeless() or not self.accept.takes(finding)]
-        print(f"to look at: {accepting.what_stops(work.grave(), left)}, {recipe.unwritten(self.words.out)}; see {self.path('prepared.csv')}: mend the source{remedy}")
+        left = accepting.Left(finding for finding in work.grave() if finding.is_hopeless() or not self.accept.takes(finding))
+        print(f"to look at: {left.words(sum(1 for _ in work.grave()))}, {recipe.unwritten(self.words.out)}; see {self.path('prepared.csv')}: mend the source{remedy}")
         return 1
 
     def go(self):
@@ -142,7 +145,7 @@ class Run:
         if self.previous:
             print(self.previous.words())
         self.make_classes(work, classes)
-        status = losses.report(work.layers, self.words.out, self.accept, self.say, work.epsg, work.counts, whole, self.made, seen=seen, between=self.words.between, refusal=recipe.unwritten(self.words.out))
+        status = self.report(work, seen, whole)
         if status:
             self.kept.keep(work.layers, self.made, seen)
             return status
@@ -157,6 +160,13 @@ class Run:
             self.say("the borders are those that the run before has rounded")
             return seen
         return rounding.release(work.layers, self.made, self.say, self.previous, self.words.between)
+
+    def conflicts(self, work, seen):
+        """The conflicts of the source that stop, before anything is settled."""
+        return losses.conflicts_alone(work.layers, self.say, seen)
+
+    def report(self, work, seen, whole):
+        return losses.report(work.layers, self.words.out, self.accept, self.say, work.epsg, work.counts, whole, self.made, seen=seen, between=self.words.between, refusal=recipe.unwritten(self.words.out))
 
     def make_classes(self, work, classes):
         """Writes the table of classes, or says which rows it would have."""

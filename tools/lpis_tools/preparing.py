@@ -87,39 +87,48 @@ class Preparation:
         return system.at(first.box()[1] if first else 0.0)
 
     def transform(self, name, system, transformed):
-        """Takes the shapes of a layer as another system has them, row by row."""
+        """Takes the shapes of a layer as another system has them."""
         try:
             made = transformed(name, self.epsg)
-            if [row.fields for row in made.rows] != [row.fields for row in self.layers[name].rows]:
-                raise land.Trouble("ogr2ogr has other rows than the source")
             if made.system is None or made.system.why:
                 raise land.Trouble(f"EPSG:{self.epsg} does not suit: {made.system.why if made.system else 'it is not known'}")
+            self.take(name, made)
         except land.Trouble as trouble:
             self.find("system", name, None, f"it is in {system}, and could not be transformed to EPSG:{self.epsg}: {trouble}", "")
             return
-        for row, new in zip(self.layers[name].rows, made.rows):
-            if row.found:
-                row.found, row.why, row.place = new.found, f"{new.why}, after it was transformed", None
         self.find("system", name, None, f"it is in {system}", f"transformed to EPSG:{self.epsg}", True)
+
+    def take(self, name, made):
+        take_shapes(self.layers[name].rows, made.rows)
 
     # Shapes.
 
     def shapes(self):
-        least_metres = any(land.reads_as_metres(row.found.box()) for name in KEYS for row in self.layers[name].rows if row.found)
+        are_metres = any(land.reads_as_metres(row.found.box()) for name in KEYS for row in self.layers[name].rows if row.found)
         for name in KEYS:
             layer = self.layers[name]
             self.say(f"testing {len(layer.rows)} rows of {name}")
-            if len(layer.rows) > MOST_ROWS:
-                self.find("rows", name, None, f"{len(layer.rows)} rows, and a release has at most {MOST_ROWS}", "tools/country makes regions of them", True)
-            for row in unforeseen.numbered(name, layer.rows):
-                if row.found is None:
-                    self.without_shape("shape", name, row, row.why)
-                    continue
-                for note in sorted(row.found.notes):
-                    self.find(note, name, row, NOTES[note], "", True)
-                self.place(name, row, least_metres)
-            if not least_metres and any(row.found for row in layer.rows):
-                self.find("degrees", name, None, "the whole layer reads as degrees: transform it to a system in metres (or move it, where these are metres)", "")
+            self.many(name, len(layer.rows))
+            self.test(name, layer.rows, are_metres)
+            if not are_metres and any(row.found for row in layer.rows):
+                self.all_degrees(name)
+
+    def many(self, name, count):
+        if count > MOST_ROWS:
+            self.find("rows", name, None, f"{count} rows, and a release has at most {MOST_ROWS}", "tools/country makes regions of them", True)
+
+    def all_degrees(self, name):
+        self.find("degrees", name, None, "the whole layer reads as degrees: transform it to a system in metres (or move it, where these are metres)", "")
+
+    def test(self, name, rows, are_metres):
+        """Tests rows of a layer one by one. `are_metres`: some shape of the source reads as metres."""
+        for row in unforeseen.numbered(name, rows):
+            if row.found is None:
+                self.without_shape("shape", name, row, row.why)
+                continue
+            for note in sorted(row.found.notes):
+                self.find(note, name, row, NOTES[note], "", True)
+            self.place(name, row, are_metres)
 
     def without_shape(self, kind, name, row, words):
         self.find(kind, name, row, words, "made of its pieces" if name == "parcels" else "left out")
@@ -151,23 +160,22 @@ class Preparation:
             self.find("points", name, row, f"more than {MOST_POINTS} points: cut it into pieces", "")
 
     def validity(self):
-        """Mends shapes that cross themselves: a hole takes land away wherever it lies, and never becomes land."""
         mended = []
         for name in KEYS:
             self.say(f"testing the shapes of {name}")
-            for row in unforeseen.numbered(name, self.layers[name].rows):
-                if row.found is None:
-                    continue
-                shape = shapely_wkb.loads(row.found.blob)
-                if not shape.is_valid and self.mend(name, row, shape) and name == "covers":
-                    mended.append(row)
+            rows = self.make_valid(name, self.layers[name].rows)
+            mended += rows if name == "covers" else []
             self.layers[name].is_valid = True
         if mended:
             self.taken_from_neighbours(mended)
 
-    def mend(self, name, row, shape):
+    def make_valid(self, name, rows):
+        """Mends shapes that cross themselves: a hole takes land away wherever it lies, and never becomes land. Answers the rows of which something is left."""
+        return [row for row in unforeseen.numbered(name, rows) if row.found and not shapely_wkb.loads(row.found.blob).is_valid and self.mend(name, row)]
+
+    def mend(self, name, row):
         """Whether anything is left of a shape that was mended."""
-        why, mended = explain_validity(shape), polygons_by(row.found.members)
+        why, mended = explain_validity(shapely_wkb.loads(row.found.blob)), polygons_by(row.found.members)
         if mended.is_empty:
             self.without_shape("invalid", name, row, f"{why}, and nothing of it has an area")
             return False
@@ -182,13 +190,25 @@ class Preparation:
         boxes = Boxes([row.found.box() for row in rows])
         found = {finding.row: finding for finding in self.findings if finding.kind == "invalid" and finding.layer == "covers"}
         for row in mended:
-            shape, taken = shapely_wkb.loads(row.found.blob), []
-            for number in boxes.meeting(row.found.box()):
-                if rows[number] is not row:
-                    area = shape.intersection(polygons_by(rows[number].found.members)).area
-                    taken += [f"{area:.3f} m2 of {rows[number]['piece']}"] if area >= 0.001 else []
-            if taken:
-                found[row.number].words += f"; mended it lies on {', '.join(taken)}"
+            found[row.number].words += taken_words(row, (rows[number] for number in boxes.meeting(row.found.box()) if rows[number] is not row))
+
+
+def taken_words(row, others):
+    """What a mended piece has of the places of others."""
+    shape, taken = shapely_wkb.loads(row.found.blob), []
+    for other in others:
+        area = shape.intersection(polygons_by(other.found.members)).area
+        taken += [f"{area:.3f} m2 of {other['piece']}"] if area >= 0.001 else []
+    return f"; mended it lies on {', '.join(taken)}" if taken else ""
+
+
+def take_shapes(rows, transformed):
+    """Takes the shapes of rows from those of the transformed layer, row by row."""
+    if [row.fields for row in transformed] != [row.fields for row in rows]:
+        raise land.Trouble("ogr2ogr has other rows than the source")
+    for row, new in zip(rows, transformed):
+        if row.found:
+            row.found, row.why, row.place = new.found, f"{new.why}, after it was transformed", None
 
 
 def size_of(row):

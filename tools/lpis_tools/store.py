@@ -1,5 +1,5 @@
-"""The mended rows of a source with their boxes, in a file of SQLite with an R-tree, and parted into cells: so that a part of a country is rounded without
-the rest. A cell is a square whose sides are powers of two millimetres; a parcel is in the cell that has the lower left corner of its pieces' box."""
+"""The rows of a source with their boxes, in a file of SQLite with an R-tree: so that what needs the whole country is asked in SQL, and a part of it is
+rounded without the rest. Rows stand in the order of the source, the parcels first. What is left out of the tables stays, and is not kept."""
 
 from __future__ import annotations
 
@@ -7,67 +7,179 @@ import sqlite3
 
 import numpy
 
-from . import land, wkb
-from .snapping import REACH
+from . import files, wkb
+from .findings import Finding
 
-MOST_POINTS = 150_000  # of a cell's parcels, unless one has more
-SIDE, LEAST = 36, 10  # powers of two: the side of all cells in millimetres, and that of the smallest
-TABLES = """
-CREATE TABLE row (id INTEGER PRIMARY KEY, is_cover INTEGER, name TEXT, parcel TEXT, shape BLOB, left REAL, low REAL, right REAL, high REAL);
-CREATE TABLE cell (parcel TEXT PRIMARY KEY, number INTEGER);
-CREATE TABLE text (is_cover INTEGER, name TEXT, text TEXT);
+PAGE = 20_000  # rows in memory at once
+ROWS = """
+CREATE TABLE row (id INTEGER PRIMARY KEY, is_cover INTEGER, number, name TEXT, parcel TEXT, class TEXT, is_odd INTEGER, is_kept INTEGER, is_joined INTEGER,
+  area REAL, points INTEGER, why TEXT, x REAL, y REAL, left REAL, low REAL, right REAL, high REAL);
+CREATE TABLE shape (id INTEGER PRIMARY KEY, shape BLOB, read BLOB);
+CREATE TABLE finding (seq INTEGER PRIMARY KEY, step INTEGER, place REAL, is_shapeless INTEGER, kind TEXT, layer TEXT, number, name TEXT, words TEXT, done TEXT, is_mended INTEGER, area REAL, x REAL, y REAL, key TEXT);
 """
-INDEX = "CREATE INDEX by_parcel ON row (parcel); CREATE INDEX by_cell ON cell (number);"
-OWN = "SELECT row.id, left, low, right, high FROM row JOIN cell USING (parcel) WHERE number = ?"
-BESIDE = "SELECT id FROM box WHERE left <= ? AND right >= ? AND low <= ? AND high >= ?"
+WHOLE = """
+CREATE VIRTUAL TABLE box USING rtree(id, left, right, low, high);
+CREATE TABLE cell (parcel TEXT PRIMARY KEY, number INTEGER) WITHOUT ROWID;
+CREATE TABLE used (name TEXT PRIMARY KEY) WITHOUT ROWID;
+CREATE TABLE text (id INTEGER PRIMARY KEY, cell INTEGER, at INTEGER);
+CREATE TABLE loss (seq INTEGER PRIMARY KEY, is_conflict INTEGER, first INTEGER, second INTEGER, is_stopping INTEGER, kind INTEGER, size REAL, names TEXT, words TEXT, told TEXT, shape BLOB, width REAL,
+  area REAL, layer TEXT, rows TEXT, is_grave INTEGER, x REAL, y REAL);
+"""
+FAST = "PRAGMA synchronous = OFF; PRAGMA journal_mode = OFF; PRAGMA temp_store = FILE; PRAGMA cache_size = -65536;"
+COLUMNS = "id, is_cover, number, name, parcel, class, why, x, y, left, low, right, high"
+SIZED = "left = ?, low = ?, right = ?, high = ?, points = ?"
+LAYERS = ("parcels", "covers")
+KEY = "key_of"  # the function of SQL that gives what names have in common
+
+
+def new(path, *tables):
+    """A new file with tables, which nobody reads before it is whole."""
+    base = sqlite3.connect(path)
+    base.executescript(FAST + "".join(tables))
+    return base
 
 
 class Row:
-    """A row of the store, as the rounding wants it."""
+    """A row of the store. Its shape is read when it is asked for, and written when it is set."""
 
-    __slots__ = ("fields", "found")
+    __slots__ = ("base", "box", "fields", "id", "number", "place", "read", "why")
 
-    def __init__(self, is_cover, name, parcel, shape):
-        self.fields = {"parcel": parcel, "piece": name} if is_cover else {"parcel": parcel}
-        self.found = wkb.Found.of_blob(shape)
+    def __init__(self, base, number, is_cover, own, name, parcel, land_class, why, x, y, *box):
+        self.base, self.id, self.number, self.why, self.box = base, number, own, why, box if box[0] is not None else None
+        self.place = None if x is None else (x, y)
+        self.fields = {"piece": name, "parcel": parcel, "class": land_class} if is_cover else {"parcel": parcel}
+        self.read = dict(self.fields)
 
     def __getitem__(self, name):
         return self.fields.get(name) or ""
 
+    @property
+    def found(self):
+        if self.box is None:
+            return None
+        found = wkb.Found.of_blob(self.base.execute("SELECT shape FROM shape WHERE id = ?", (self.id,)).fetchone()[0])
+        found.bounds = self.box
+        return found
 
-def make(path, parcels, covers):
-    """The store of rows with shapes; answers how many cells it has."""
-    store = sqlite3.connect(path)
-    try:
-        store.executescript(f"PRAGMA synchronous = OFF; PRAGMA journal_mode = OFF; {TABLES}")
-        store.execute("CREATE VIRTUAL TABLE box USING rtree(id, left, right, low, high)")
-        boxes, points = {}, {}
-        for number, (is_cover, row) in enumerate([(0, row) for row in parcels] + [(1, row) for row in covers]):
-            left, low, right, high = row.found.box()
-            name = row["parcel"]
-            store.execute("INSERT INTO row VALUES (?, ?, ?, ?, ?, ?, ?, ?, ?)", (number, is_cover, row["piece"] if is_cover else name, name, row.found.blob, left, low, right, high))
-            store.execute("INSERT INTO box VALUES (?, ?, ?, ?, ?)", (number, left, right, low, high))
-            if is_cover:
-                before = boxes.get(name, (left, low))
-                boxes[name], points[name] = (min(before[0], left), min(before[1], low)), points.get(name, 0) + row.found.count()
-        count = put_cells(store, boxes, points)
-        store.executescript(INDEX)
-        store.commit()
-    except sqlite3.OperationalError as error:
-        raise land.Trouble(f"{path}: {error}") from None
-    finally:
-        store.close()
-    return count
+    @found.setter
+    def found(self, found):
+        self.box = found.box() if found else None
+        self.base.execute(f"UPDATE row SET {SIZED} WHERE id = ?", (*(self.box or (None,) * 4), found.count() if found else 0, self.id))
+        self.base.execute("UPDATE shape SET shape = ? WHERE id = ?", (found.blob if found else None, self.id))
+        self.base.execute("DELETE FROM box WHERE id = ?", (self.id,))
+        if found:
+            left, low, right, high = self.box
+            self.base.execute("INSERT INTO box VALUES (?, ?, ?, ?, ?)", (self.id, left, right, low, high))
+
+    def save(self):
+        if self.fields != self.read:
+            fields = self.fields
+            self.base.execute("UPDATE row SET name = ?, parcel = ?, class = ? WHERE id = ?", (fields.get("piece", fields["parcel"]), fields["parcel"], fields.get("class"), self.id))
 
 
-def put_cells(store, corners, points):
-    """Writes the cell of each parcel; answers how many there are."""
-    names = sorted(corners)
-    places = numpy.floor(numpy.array([corners[name] for name in names]).reshape(-1, 2) * 1000).astype(numpy.int64)
+class Layer:
+    """The rows of a layer in a store that the passes over names look at: those whose names are not identifiers as they stand."""
+
+    def __init__(self, base, name, outline):
+        self.base, self.name, self.is_cover, self.outline = base, name, int(name == "covers"), outline
+        self.key, self.others, self.system = outline.key, outline.others, outline.system
+
+    def among(self, condition, words=()):
+        """The kept rows with a condition, in their order; what changes in their fields is written."""
+        last = -1
+        while True:
+            found = self.base.execute(f"SELECT {COLUMNS} FROM row WHERE {condition} AND is_cover = ? AND is_kept AND id > ? ORDER BY id LIMIT {PAGE}", (*words, self.is_cover, last)).fetchall()
+            if not found:
+                return
+            rows = [Row(self.base, *fields) for fields in found]
+            yield from rows
+            last = rows[-1].id
+            for row in rows:
+                row.save()
+
+    @property
+    def rows(self):
+        return self.among("is_odd")
+
+    def keep(self, test):
+        dropped = []
+        for row in self.rows:
+            if not test(row):
+                dropped.append((row.id,))
+        self.base.executemany("UPDATE row SET is_kept = 0 WHERE id = ?", dropped)
+
+    def groups(self, column, _key):
+        """The different names of a column that have one key, in lists of two or more. The key is the base's."""
+        column = "name" if column == "piece" else column
+        different = f"SELECT DISTINCT {column} AS name FROM row WHERE is_cover = {self.is_cover} AND is_kept"
+        self.base.execute(f"CREATE TEMP TABLE keyed AS SELECT {KEY}(name) AS key, name FROM ({different})")
+        found, groups = self.base.execute("SELECT key, name FROM keyed WHERE key IN (SELECT key FROM keyed GROUP BY key HAVING count(*) > 1) ORDER BY key, name").fetchall(), {}
+        self.base.execute("DROP TABLE keyed")
+        for key, name in found:
+            groups.setdefault(key, []).append(name or "")
+        return list(groups.values())
+
+
+class Findings:
+    """The findings of a store, in the order of the steps, and within one in that of the rows."""
+
+    def __init__(self, base):
+        self.base, self.step, self.place, self.after = base, 0, 0.0, 0.0
+
+    def append(self, finding):
+        self.base.execute("INSERT INTO finding VALUES (NULL, ?, ?, 0, ?, ?, ?, ?, ?, ?, ?, ?, ?, ?, ?)", (self.step, self.place, *fields_of(finding)))
+
+    def __iter__(self):
+        return self.those("1")
+
+    def those(self, condition):
+        for kind, layer, number, name, words, done, is_mended, area, x, y, key in self.base.execute(f"SELECT kind, layer, number, name, words, done, is_mended, area, x, y, key FROM finding WHERE {condition} ORDER BY step, place, seq"):
+            yield Finding(kind, layer, number, name, words, done, bool(is_mended), area, None if x is None else (x, y), key)
+
+
+def fields_of(finding):
+    return (finding.kind, finding.layer, finding.row, finding.name, finding.words, finding.done, finding.is_mended, finding.area, *(finding.place or (None, None)), finding.key)
+
+
+def merged(path, parts):
+    """A new store of the parts of a source, in their order; and where each begins in it."""
+    files.remove(path)
+    base = new(path, ROWS, WHOLE)
+    starts, count = [], 0
+    for part in parts:
+        base.execute("ATTACH ? AS part", (part,))
+        starts.append(count)
+        base.execute("INSERT INTO row SELECT id + ?, is_cover, number, name, parcel, class, is_odd, is_kept, is_joined, area, points, why, x, y, left, low, right, high FROM part.row", (count,))
+        base.execute("INSERT INTO shape SELECT id + ?, shape, read FROM part.shape", (count,))
+        base.execute("INSERT INTO finding SELECT NULL, step, place + ?, is_shapeless, kind, layer, number, name, words, done, is_mended, area, x, y, key FROM part.finding ORDER BY seq", (count,))
+        (rows,) = base.execute("SELECT count(*) FROM part.row").fetchone()
+        count += rows
+        base.commit()
+        base.execute("DETACH part")
+    base.execute("INSERT INTO box SELECT id, left, right, low, high FROM row WHERE left IS NOT NULL")
+    base.executescript("CREATE INDEX by_parcel ON row (parcel, is_cover); CREATE INDEX by_name ON row (name, is_cover); CREATE INDEX odd ON row (id) WHERE is_odd")
+    base.commit()
+    return base, starts
+
+
+# Cells.
+
+MOST_POINTS = 150_000  # of a cell's parcels, unless one has more
+SIDE, LEAST = 36, 10  # powers of two: the side of all cells in millimetres, and that of the smallest
+
+
+def put_cells(base):
+    """Parts the kept parcels into cells; answers how many there are. A cell is a square whose sides are powers of two millimetres; a parcel is in the cell
+    that has the lower left corner of its pieces' box."""
+    corners = "SELECT min(id), min(left), min(low), sum(points) FROM row WHERE is_cover AND is_kept GROUP BY parcel"
+    found = numpy.fromiter(base.execute(corners), dtype=[("id", "i8"), ("left", "f8"), ("low", "f8"), ("points", "i8")])
+    places = numpy.floor(numpy.stack([found["left"], found["low"]], axis=1) * 1000).astype(numpy.int64)
     count = 0
-    for numbers in cells_of(places, numpy.array([points[name] for name in names], int), MOST_POINTS):
-        store.executemany("INSERT INTO cell VALUES (?, ?)", ((names[number], count) for number in numbers.tolist()))
+    for numbers in cells_of(places, found["points"], MOST_POINTS):
+        base.executemany("INSERT INTO cell SELECT parcel, ? FROM row WHERE id = ?", ((count, number) for number in found["id"][numbers].tolist()))
         count += 1
+    base.execute("CREATE INDEX by_cell ON cell (number)")
+    base.commit()
     return count
 
 
@@ -81,26 +193,3 @@ def cells_of(places, points, most):
             continue
         quarter = (places[numbers] >> (side - 1) & 1) @ (1, 2) if side < SIDE else (places[numbers] >= 0) @ (1, 2)
         waiting += [(numbers[quarter == which], side - 1) for which in (3, 2, 1, 0) if (quarter == which).any()]
-
-
-class Reader:
-    """A store that is read, cell by cell."""
-
-    def __init__(self, path):
-        self.store = sqlite3.connect(f"file:{path}?mode=ro", uri=True)
-
-    def parcels(self, cell):
-        """The names of a cell's parcels."""
-        return {name for (name,) in self.store.execute("SELECT parcel FROM cell WHERE number = ?", (cell,))}
-
-    def rows(self, cell):
-        """The rows of parcels and of covers that the rounding of a cell's parcels hangs on: their own, and each whose box comes within reach of one of these."""
-        numbers = set()
-        for number, left, low, right, high in self.store.execute(OWN, (cell,)).fetchall():
-            numbers.add(number)
-            numbers.update(one for (one,) in self.store.execute(BESIDE, (right + REACH, left - REACH, high + REACH, low - REACH)))
-        found = ([], [])
-        for number in sorted(numbers):
-            is_cover, *fields = self.store.execute("SELECT is_cover, name, parcel, shape FROM row WHERE id = ?", (number,)).fetchone()
-            found[is_cover].append(Row(is_cover, *fields))
-        return found

@@ -25,7 +25,7 @@ class Row:
     """A row as the tools have it when they have read it."""
 
     def __init__(self, number, fields, members):
-        self.number, self.fields, self.found = number, fields, wkb.Found(members)
+        self.number, self.fields, self.found, self.why, self.place = number, fields, wkb.Found(members), "", None
 
     def __getitem__(self, name):
         return self.fields.get(name) or ""

@@ -1,0 +1,153 @@
+"""What a cell of a country gives, of its rows and those beside them alone: the texts of its parcels and pieces, what was lost, settled or changed of them,
+and their part of the balance. All of it goes into one file, a record a line, which is named by all that it hangs on."""
+
+from __future__ import annotations
+
+import hashlib
+import json
+import os
+import sqlite3
+
+from . import balance, conflicts, files, outcome, polygons, rounding, wkb
+from .snapping import REACH
+
+RULE = "lpis cells 2"  # what another rule gave is not taken
+OWN = "SELECT row.id, left, low, right, high FROM row JOIN cell USING (parcel) WHERE cell.number = ? AND is_kept"
+BESIDE = "SELECT id FROM box WHERE left <= ? AND right >= ? AND low <= ? AND high >= ?"
+FIELDS = "SELECT id, is_cover, name, parcel, class, area, why, shape, read FROM row JOIN shape USING (id) WHERE id = ? AND is_kept"
+
+
+class Row:
+    """A row of the store, as the rounding and the report want it. `read` is its shape as it was read, where that is another. Its number is its name: who reads
+    a result finds the row by it, wherever it stands then."""
+
+    __slots__ = ("area", "digest", "fields", "found", "id", "is_cover", "number", "read", "why")
+
+    def __init__(self, own, is_cover, name, parcel, land_class, area, why, shape, read):
+        self.fields = {"piece": name, "parcel": parcel, "class": land_class} if is_cover else {"parcel": parcel}
+        self.id, self.number, self.is_cover, self.area, self.why = own, (is_cover, name), is_cover, area, why
+        self.found, self.read = (wkb.Found.of_blob(blob) if blob else None for blob in (shape, read))
+        self.digest = [is_cover, name, parcel, land_class, why, *(hashlib.sha256(blob).hexdigest() if blob else "" for blob in (shape, read))]
+
+    def __getitem__(self, name):
+        return self.fields.get(name) or ""
+
+
+class Layer:
+    """The rows of a layer whose shapes are valid."""
+
+    is_valid = True
+
+    def __init__(self, name, rows):
+        self.name, self.rows = name, rows
+
+
+class Cell:
+    """A cell: the names of its parcels, its rows and those that their rounding hangs on: each whose box comes within reach of one of these."""
+
+    def __init__(self, base, number):
+        own, numbers = set(), set()
+        for one, left, low, right, high in base.execute(OWN, (number,)).fetchall():
+            own.add(one)
+            if left is not None:
+                numbers.update(other for (other,) in base.execute(BESIDE, (right + REACH, left - REACH, high + REACH, low - REACH)))
+        rows = [Row(*fields) for one in sorted(numbers | own) for fields in base.execute(FIELDS, (one,))]
+        self.wanted = {row["parcel"] for row in rows if row.id in own}
+        self.own = {name: [row for row in rows if row.is_cover == is_cover and row.id in own] for is_cover, name in enumerate(("parcels", "covers"))}
+        self.parcels, self.covers = ([row for row in rows if row.is_cover == is_cover and row.found] for is_cover in (0, 1))
+
+    def name(self):
+        """A digest of the parcels that are wanted and of the rows, in their order."""
+        digest = hashlib.sha256(RULE.encode())
+        for words in (sorted(self.wanted), *(row.digest for rows in (*self.own.values(), self.parcels, self.covers) for row in rows)):
+            digest.update(json.dumps(words).encode())
+        return f"{digest.hexdigest()}.jsonl"
+
+
+def made(path, number, results):
+    """The name of the file that has what a cell gives; it is made where it is not there."""
+    base = sqlite3.connect(f"file:{path}?mode=ro", uri=True)
+    try:
+        cell = Cell(base, number)
+    finally:
+        base.close()
+    name = cell.name()
+    if not os.path.exists(os.path.join(results, name)):
+        with files.anew(os.path.join(results, name)) as file:
+            for record in records_of(cell):
+                file.write(json.dumps(record) + "\n")
+    return name
+
+
+def records_of(cell):
+    """The records of a cell: `piece` and `parcel` with the text, `loss`, `greatest` with the greatest change of a parcel, `sum` of the balance."""
+    made_map = rounding.Map(cell.parcels, cell.covers, lambda words: None)
+    texts = {"covers": texts_of_pieces(cell, made_map), "parcels": texts_of_parcels(cell, made_map)}
+    for kind, name in (("piece", "covers"), ("parcel", "parcels")):
+        yield from ((kind, row[kind], text) for row, text in texts[name] if row["parcel"] in cell.wanted)
+    whole = balance.Balance({})
+    for name, rows in cell.own.items():
+        for row in rows:
+            entry = whole.entries[id(row)] = balance.Entry(name, row, row.area)
+            entry.founds = (row.read,) if row.read else entry.founds
+    source = conflicts.Source({"parcels": Layer("parcels", cell.parcels), "covers": Layer("covers", cell.covers)})
+    conflicts.find_conflicts(source, lambda words: None, conflicts_of(cell, made_map))
+    before = [loss.words for loss in source.losses]
+    compared = Compared(source, cell, texts, whole)
+    compared.compare_tables()
+    for number, loss in enumerate(source.losses):
+        yield "loss", record_of(loss, before[number] if number < len(before) else loss.words)
+    if compared.greatest:
+        change, loss = compared.greatest
+        yield "greatest", change, record_of(loss, loss.words), any(one is loss for one in source.losses)
+    for (layer, land_class), sums in whole.sums.items():
+        yield "sum", layer, land_class, list(sums.values())
+
+
+def texts_of_pieces(cell, made_map):
+    """The rows of pieces with their texts: those of other cells are right near this one's alone."""
+    return [(cell.covers[number], text) for number, text in made_map.polygons(made_map.pieces)]
+
+
+def texts_of_parcels(cell, made_map):
+    rows = {row["parcel"]: number for number, row in enumerate(cell.own["parcels"])}
+    nobody = rounding.faces.NOBODY
+    of_piece = rounding.numpy.array([rows.get(row["parcel"], nobody) for row in cell.covers] + [nobody], int)
+    return [(cell.own["parcels"][number], text) for number, text in made_map.polygons(of_piece[made_map.pieces])]
+
+
+def conflicts_of(cell, made_map):
+    """The conflicts that are this cell's to tell: an overlap is that of the lesser piece."""
+    found, wanted = made_map.conflicts(None), cell.wanted
+    found.overlaps = [pair for pair in found.overlaps if min(pair, key=lambda row: row["piece"])["parcel"] in wanted]
+    found.gaps = [row for row in found.gaps if row["parcel"] in wanted]
+    found.outsides = [(piece, row) for piece, row in found.outsides if piece["parcel"] in wanted]
+    return found
+
+
+class Compared(outcome.Outcome):
+    """The tables of a cell beside its rows. Pieces of other cells are there only where they may have a place in conflict."""
+
+    def __init__(self, source, cell, texts, whole):
+        super().__init__(source, self.own_records, whole)
+        self.cell, self.texts = cell, texts
+        source.layers = {name: Layer(name, rows) for name, rows in cell.own.items()}
+
+    def own_records(self, name):
+        for row, text in self.texts[name]:
+            is_own = row["parcel"] in self.cell.wanted
+            if not is_own and not self.places.points:
+                continue
+            members = polygons.read(text.encode())
+            if is_own:
+                yield row.fields, members, polygons.doubled(members) / 2_000_000
+            else:
+                self.parcel_of[row["piece"]] = row["parcel"]
+                self.hold(row["piece"], members)
+
+
+def record_of(loss, words):
+    """A loss as a record: what was known before the tables were made, and what is told of them behind it."""
+    shape = None if loss.shape is None else rounding.shapely_wkb.dumps(loss.shape).hex()
+    return {"kind": loss.kind, "names": loss.names, "words": words, "told": loss.words[len(words) :], "shape": shape, "width": loss.width, "area": loss.area, "layer": loss.layer,
+            "rows": loss.rows, "is_grave": loss.is_grave, "place": loss.place()}

@@ -1,0 +1,132 @@
+"""What the cells of a country gave, put together: the tables in the order of the source, the losses as a report has them, and the balance."""
+
+from __future__ import annotations
+
+import json
+import os
+
+from shapely import wkb as shapely_wkb
+
+from . import land, rounding
+from .conflicts import ORDER, Loss
+
+CONFLICTS = ("overlap", "gap", "outside")
+FIELDS = "kind, names, words, told, shape, width, area, layer, rows, is_grave, x, y"
+FOUND = "SELECT id FROM row WHERE is_cover = ? AND name = ? AND is_kept"
+AS_TOLD, AS_FOUND = "words || told", "words"
+MOST_OPEN = 200  # files at once
+BETWEEN = "\x01"  # names in the order of lists of names
+
+
+class Losses:
+    """The losses of a store, the gravest first; gone over as often as is asked."""
+
+    def __init__(self, base):
+        self.base = base
+
+    def add(self, loss, told="", conflict=(0, None, None)):
+        place, shape = loss.place() or (None, None), None if loss.shape is None else shapely_wkb.dumps(loss.shape)
+        whole = Loss(loss.kind, loss.names, loss.words + told, None, loss.width, loss.area, is_grave=loss.is_grave)
+        self.put(loss.kind, loss.names, loss.words, told, shape, loss.width, loss.area, loss.layer, loss.rows, loss.is_grave, place, whole.stops(), conflict)
+
+    def put(self, kind, names, words, told, shape, width, area, layer, rows, is_grave, place, stops, conflict):
+        self.base.execute("INSERT INTO loss VALUES (NULL, ?, ?, ?, ?, ?, ?, ?, ?, ?, ?, ?, ?, ?, ?, ?, ?, ?)",
+                          (*conflict, stops, ORDER.index(kind), width or area or 0, BETWEEN.join(names), words, told, shape, width, area, layer, json.dumps(rows), is_grave, *place))
+
+    def __iter__(self):
+        return self.those("1 ORDER BY is_stopping DESC, kind, size DESC, names, seq", AS_TOLD)
+
+    def conflicts(self):
+        """Those that the source has in itself and that stop, before anything is settled, in the order of the source."""
+        return self.those("is_conflict ORDER BY kind, first, second, seq", AS_FOUND)
+
+    def those(self, condition, words):
+        for kind, names, said, shape, width, area, layer, rows, is_grave, x, y in self.base.execute(f"SELECT kind, names, {words}, shape, width, area, layer, rows, is_grave, x, y FROM loss WHERE {condition}"):
+            yield Loss(ORDER[kind], names.split(BETWEEN), said, shapely_wkb.loads(shape) if shape else None, width, area, layer, json.loads(rows), bool(is_grave), () if x is None else (x, y))
+
+
+class Gathered:
+    """What cells gave, by the names of their files in a folder."""
+
+    def __init__(self, base, folder, names, whole):
+        self.base, self.folder, self.names, self.whole = base, folder, names, whole
+        self.losses, self.greatest, self.open = Losses(base), None, {}
+        self.counts = [0, 0]
+
+    def path(self, cell):
+        return os.path.join(self.folder, self.names[cell])
+
+    def read(self, progress):
+        """Takes where the texts are, and all else."""
+        for cell in range(len(self.names)):
+            try:
+                self.read_cell(cell)
+            except (ValueError, TypeError, KeyError, IndexError):
+                raise land.Trouble(f"{self.path(cell)} is not as it was written: delete {self.folder} and run it again") from None
+            progress.add()
+        if self.greatest and not self.greatest[2]:
+            self.add_loss(self.greatest[1])
+        self.base.commit()
+
+    def read_cell(self, cell):
+        texts = {"parcel": [], "piece": []}
+        with open(self.path(cell), "rb") as file:
+            at = 0
+            for line in file:
+                if line.startswith((b'["piece"', b'["parcel"')):
+                    kind, name = json.loads(line[: line.index(b", \"MULTI")] + b"]")
+                    texts[kind].append((name, cell, at))
+                else:
+                    self.take(*json.loads(line))
+                at += len(line)
+        for is_cover, kind in enumerate(("parcel", "piece")):
+            self.counts[is_cover] += len(texts[kind])
+            self.base.executemany(f"INSERT INTO text SELECT id, ?2, ?3 FROM row WHERE is_cover = {is_cover} AND name = ?1 AND is_kept", texts[kind])
+
+    def take(self, kind, *words):
+        if kind == "sum":
+            layer, land_class, sums = words
+            for column, parts in zip(("mended", "left out", "settled", "tables"), sums[1:]):
+                self.whole.add_exact((layer, land_class), column, parts)
+        elif kind == "greatest":
+            change, loss, is_there = words
+            (place,) = self.places(loss)
+            if self.greatest is None or (change, -place) > self.greatest[0]:
+                self.greatest = (change, -place), loss, is_there
+        else:
+            self.add_loss(*words)
+
+    def places(self, found):
+        """The ids of a loss's rows."""
+        return [self.base.execute(FOUND, tuple(row)).fetchone()[0] for row in found["rows"]]
+
+    def add_loss(self, found):
+        places, kind = self.places(found), found["kind"]
+        numbers = [self.base.execute("SELECT number FROM row WHERE id = ?", (place,)).fetchone()[0] for place in places]
+        loss = Loss(kind, found["names"], found["words"], None, found["width"], found["area"], found["layer"], numbers, found["is_grave"], tuple(found["place"] or ()))
+        conflict = (0, None, None)
+        if kind in CONFLICTS and loss.is_wide():
+            conflict = (1, *places) if kind == "outside" else (1, min(places), max(places))
+        shape = bytes.fromhex(found["shape"]) if found["shape"] else None
+        self.losses.put(kind, loss.names, loss.words, found["told"], shape, loss.width, loss.area, loss.layer, numbers, loss.is_grave, loss.known_place or (None, None), loss.stops(), conflict)
+
+    # The tables.
+
+    def text_of(self, cell, at):
+        file = self.open.get(cell)
+        if file is None:
+            if len(self.open) == MOST_OPEN:
+                self.open.pop(next(iter(self.open))).close()
+            file = self.open[cell] = open(self.path(cell), "rb")
+        file.seek(at)
+        return json.loads(file.readline())[2]
+
+    def tables(self, out, tracked):
+        """Writes covers.csv and parcels.csv in the order of the source. `tracked`: rows as they come, with their progress."""
+        for is_cover, name, header in ((1, "covers.csv", ["piece", "parcel", "class", "wkt"]), (0, "parcels.csv", ["parcel", "wkt"])):
+            found = self.base.execute("SELECT name, parcel, class, cell, at FROM text JOIN row USING (id) WHERE is_cover = ? ORDER BY id", (is_cover,))
+            rows = ([piece, parcel, land_class, self.text_of(cell, at)] if is_cover else [parcel, self.text_of(cell, at)] for piece, parcel, land_class, cell, at in found)
+            rounding.write(out, name, header, tracked(rows, name, self.counts[is_cover]))
+        for file in self.open.values():
+            file.close()
+        self.open = {}

@@ -1,0 +1,129 @@
+"""The jobs of a country's preparation, many at once: each is a part of the source that is read, or a cell that is rounded, and gives one file that takes its
+place when it is whole. So what was done stays done, whoever ends the run. PLAN is the file `plan.json` of the folder of the results."""
+
+from __future__ import annotations
+
+import contextlib
+import json
+import os
+import queue
+import re
+import subprocess
+import sys
+import threading
+
+from . import ending, files, land
+
+FOLDER, PLAN, PARTS, COUNT, STORE = ".cells", "plan.json", "parts", "count", "rows.db"
+OWN = re.compile(r"[0-9a-f]{64}\.(jsonl|part)|\d+\.cell|plan\.json|parts|count|rows\.db(-journal)?|\.lpis-[0-9a-f]+\.new")  # names of results, and of what a killed worker left
+TOOL = os.path.join(os.path.dirname(os.path.dirname(os.path.realpath(__file__))), "country")
+
+
+class Worker:
+    """Does jobs of a folder, one after the other."""
+
+    def __init__(self, folder):
+        self.folder, self.parts = folder, None
+
+    def do(self, kind, number):
+        """The name of the file that a job gives."""
+        if kind == "cell":
+            from . import cell
+
+            name = cell.made(os.path.join(self.folder, STORE), number, self.folder)
+            with files.anew(os.path.join(self.folder, f"{number}.cell")) as file:
+                file.write(name)
+            return name
+        from . import parts
+
+        if self.parts is None:
+            with open(os.path.join(self.folder, PLAN), encoding="utf-8") as file:
+                self.parts = json.load(file)
+        return parts.made(self.parts[number], self.folder)
+
+
+def work(folder, words):
+    """Does the job that is named, or else those of standard input, a line each, and answers each by the name of its file."""
+    worker = Worker(folder)
+    for line in [" ".join(words)] if words else sys.stdin:
+        kind, number = line.split()
+        print(worker.do(kind, int(number)), flush=True)
+    return 0
+
+
+def do_all(folder, kind, count, workers, progress):
+    """Has the jobs of a kind done by worker processes; answers the names of their files, in order."""
+    waiting, names, lock = queue.SimpleQueue(), [None] * count, threading.Lock()
+    for number in range(count):
+        waiting.put(number)
+
+    def go():
+        with ending.start([sys.executable, TOOL, "job", folder], stdin=subprocess.PIPE, stdout=subprocess.PIPE, text=True) as worker:
+            while (number := taken(waiting)) is not None:
+                try:
+                    print(kind, number, file=worker.stdin, flush=True)
+                    names[number] = worker.stdout.readline().strip() or None
+                except BrokenPipeError:
+                    break
+                if names[number] is None:
+                    break
+                with lock:
+                    progress.add()
+            with contextlib.suppress(BrokenPipeError):
+                worker.stdin.close()
+
+    threads = [threading.Thread(target=go, daemon=True) for _ in range(max(1, min(workers, count)))]
+    for thread in threads:
+        thread.start()
+    for thread in threads:
+        thread.join()
+    judge(names, kind)
+    return names
+
+
+def taken(waiting):
+    try:
+        return waiting.get_nowait()
+    except queue.Empty:
+        return None
+
+
+def done(folder, kind, plan):
+    """The names of the files that jobs of another engine gave."""
+    names = []
+    for number, part in enumerate(plan):
+        name = part["file"] if part else None
+        with contextlib.suppress(FileNotFoundError):
+            if kind == "cell":
+                with open(os.path.join(folder, f"{number}.cell"), encoding="utf-8") as file:
+                    name = file.read()
+        names.append(name if name and OWN.fullmatch(name) and os.path.exists(os.path.join(folder, name)) else None)
+    judge(names, kind)
+    return names
+
+
+def judge(names, kind):
+    lacking = sum(name is None for name in names)
+    if lacking:
+        raise land.Trouble(f"{lacking} of {len(names)} {kind}s were not done: run it again, and what is done is taken over")
+
+
+def begin(folder):
+    """The folder of the results, which is nobody else's."""
+    if os.path.islink(folder):
+        raise land.Trouble(f"{folder} is a link: remove it, so that nothing is written or removed elsewhere")
+    os.makedirs(folder, exist_ok=True)
+    return folder
+
+
+def forget_cells(folder):
+    """Removes what a run before says of its cells, which are others now; what they gave is named by all that it hangs on, and stays."""
+    for name in os.listdir(folder):
+        if re.fullmatch(r"\d+\.cell", name):
+            files.remove(os.path.join(folder, name))
+
+
+def clear(folder, kept):
+    """Removes what no run needs any more."""
+    for name in set(filter(OWN.fullmatch, os.listdir(folder))) - set(kept):
+        files.remove(os.path.join(folder, name))

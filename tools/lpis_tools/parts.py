@@ -1,0 +1,139 @@
+"""The rows of a source in parts of so many rows, each read, tested and mended alone: what a part gives is a file of its own, with the rows, their shapes and
+what was found. A source that is no GeoPackage is read at once, and parted then."""
+
+from __future__ import annotations
+
+import contextlib
+import hashlib
+import json
+import os
+import sqlite3
+from dataclasses import asdict
+
+from . import databases, files, identifiers, land, naming, preparing, sizes, store, unforeseen
+
+RULE = "lpis parts 1"  # what another rule gave is not taken
+MOST = 25_000  # rows
+SHAPES, VALID = 1, 2  # steps: what a part finds
+
+
+def ranges_of(connection, origin):
+    """The least and the greatest number of the rows of each part of a layer, and the place of the first; None for both where its rows have no numbers."""
+    try:
+        numbers = [number for place, (number,) in enumerate(connection.execute(f"SELECT rowid FROM {land.quoted(origin.table)} ORDER BY rowid")) if place % MOST == 0]
+    except sqlite3.OperationalError:  # a view
+        return [(None, 1)]
+    return [((low, high - 1), 1 + place * MOST) for place, (low, high) in enumerate(zip(numbers, [*numbers[1:], (1 << 63)]))]
+
+
+def stamp(path):
+    """What a file is known by until it changes."""
+    facts = [os.path.realpath(path)]
+    for name in (path, f"{path}-wal"):
+        with contextlib.suppress(FileNotFoundError):
+            facts += [os.stat(name).st_size, os.stat(name).st_mtime_ns]
+    return facts
+
+
+def part_name(facts):
+    return f"{hashlib.sha256(json.dumps([RULE, facts]).encode()).hexdigest()}.part"
+
+
+def planned(origins, keys, options):
+    """The parts of a source. `origins` has where each layer's rows are, and where it was transformed those with its shapes too; `keys` what their numbers are."""
+    plan = []
+    for name in store.LAYERS:
+        with contextlib.closing(land.opened(origins[name][0].path)) as connection:
+            ranges = ranges_of(connection, origins[name][0])
+        stamps = [stamp(origin.path) for origin in origins[name]]
+        for among, first in ranges:
+            facts = {"layer": name, "origins": [{**asdict(origin), "path": os.path.abspath(origin.path)} for origin in origins[name]], "among": among, "first": first, "key": keys[name], **options}
+            plan.append({**facts, "file": part_name([*stamps, facts])})
+    return plan
+
+
+def made(part, folder):
+    """Makes the file of a part, where it is not there; answers its name."""
+    path = os.path.join(folder, part["file"])
+    if not os.path.exists(path):
+        rows, key = read(part), part["key"]
+        with files.beside(path) as new:
+            write(new, part["layer"], rows, key, part)
+    return part["file"]
+
+
+def read(part):
+    """The rows of a part, with the shapes of the transformed layer where there is one."""
+    rows, *others = (rows_of(land.Origin(**origin), part) for origin in part["origins"])
+    for transformed in others:
+        preparing.take_shapes(rows, transformed)
+    return rows
+
+
+def rows_of(origin, part):
+    with contextlib.closing(land.opened(origin.path)) as connection:
+        try:
+            return list(land.rows_of(connection, origin, part["among"], part["first"]))
+        except (sqlite3.Error, ValueError) as error:
+            raise land.Trouble(f"{origin.path}: {databases.why(error)}") from None
+
+
+def write(path, name, rows, key, options):
+    """Tests rows of a layer, and writes them with all that was found."""
+    layer = land.Layer(name, rows, key=key)
+    work = preparing.Preparation({name: layer}, options["epsg"], lambda words: None)
+    founds = [row.found for row in rows]
+    areas = sizes.areas_of(founds)
+    work.test(name, rows, options["are_metres"])
+    count = len(work.findings)
+    work.make_valid(name, rows)
+    base = store.new(path, store.ROWS)
+    columns, given = dict(naming.COLUMNS)[name], options["given"]
+    for number, (row, found, area) in enumerate(zip(unforeseen.numbered(name, rows), founds, areas)):
+        base.execute(f"INSERT INTO row VALUES ({', '.join('?' * 18)})", record_of(number, name, row, area, any(is_odd(row[column], given[column]) for column in columns)))
+        base.execute("INSERT INTO shape VALUES (?, ?, ?)", (number, row.found.blob if row.found else None, found.blob if found and row.found is not found else None))
+    places = {row.number: number for number, row in enumerate(rows)}
+    shapeless = {id(finding) for _, finding in work.shapeless}
+    base.executemany(f"INSERT INTO finding VALUES (NULL, {', '.join('?' * 14)})",
+                     ((SHAPES if number < count else VALID, places[finding.row], id(finding) in shapeless, *store.fields_of(finding)) for number, finding in enumerate(work.findings)))
+    base.commit()
+    base.close()
+
+
+def is_odd(name, given):
+    """Whether a name is no identifier as it stands, or another is given for it."""
+    return name in given or not identifiers.is_one(name)
+
+
+def record_of(number, name, row, area, is_odd_one):
+    box = row.found.box() if row.found else (None,) * 4
+    parcel, fields = row["parcel"], row.fields
+    return (number, int(name == "covers"), row.number, row["piece"] if name == "covers" else parcel, parcel, row["class"] if "class" in fields else None, is_odd_one, 1, 0,
+            area, row.found.count() if row.found else 0, row.why, *(row.place or (None, None)), *box)
+
+
+def first_of(origin, test):
+    """The first row of a layer with a shape of which a test is true, or None."""
+    with contextlib.closing(land.opened(origin.path)) as connection:
+        return next((row for row in land.rows_of(connection, origin) if row.found and test(row.found)), None)
+
+
+def count_of(origin):
+    with contextlib.closing(land.opened(origin.path)) as connection:
+        return connection.execute(f"SELECT count(*) FROM {land.quoted(origin.table)}").fetchone()[0]
+
+
+# A source that is in memory.
+
+
+def of_memory(layers, options):
+    return [{"layer": name, "rows": [start, start + MOST], **options} for name in store.LAYERS for start in range(0, max(1, len(layers[name].rows)), MOST)]
+
+
+def made_of_memory(part, layers, folder):
+    """The name of the file of a part of such a source, made anew."""
+    name, (start, end) = part["layer"], part["rows"]
+    file = part_name([os.getpid(), name, start])
+    with files.beside(os.path.join(folder, file)) as new:
+        write(new, name, layers[name].rows[start:end], layers[name].key, part)
+    return file
