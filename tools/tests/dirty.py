@@ -81,6 +81,10 @@ class Package:
         self.base.execute(f'CREATE TABLE "{name}" (fid INTEGER PRIMARY KEY AUTOINCREMENT NOT NULL, geom GEOMETRY, {" TEXT, ".join(columns)} TEXT)')
         self.base.execute("INSERT INTO gpkg_contents (table_name, data_type, identifier, srs_id) VALUES (?, 'features', ?, ?)", (name, name, system))
         self.base.execute("INSERT INTO gpkg_geometry_columns VALUES (?, 'geom', 'GEOMETRY', ?, 2, 2)", (name, system))
+        self.rows(name, columns, rows, system)
+
+    def rows(self, name, columns, rows, system=None):
+        system = system or self.system
         for *fields, shape in rows:
             blob = None if shape is None else b"GP\0" + bytes([17 if shape == EMPTY else 1]) + struct.pack("<i", system) + shape
             self.base.execute(f'INSERT INTO "{name}" (geom, {", ".join(columns)}) VALUES (?{", ?" * len(columns)})', (blob, *fields))
