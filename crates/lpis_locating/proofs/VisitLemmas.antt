@@ -1,5 +1,5 @@
 -- What looking at parcels finds of points.
-use Rattle.std.proofs.Common.{◌≡◌, ℕ, ◌<◌, List, [], ◌∷◌, ◌++◌, length, get_or, Option, Some, None, ◌⊎◌, inl, inr, refl, ap, sym, ◌∙◌, subst, arith, slice_get}
+use Rattle.std.proofs.Common.{◌≡◌, ℕ, ◌<◌, List, [], ◌∷◌, ◌++◌, Contains, length, get_or, Option, Some, None, ◌⊎◌, inl, inr, refl, ap, sym, ◌∙◌, subst, arith, slice_get}
 use Rattle.std.proofs.Math.ListN.{set}
 use Rattle.std.proofs.lemmas.Bool.{cases_eq}
 use Rattle.std.proofs.lemmas.List.{get_or-set_other, get_or-set_same, length-set}
@@ -10,9 +10,9 @@ use Rattle.lpis_parcels.specs.declared.parcel.Parcel.{Parcel}
 use Rattle.lpis_parcels.specs.Release.{Contents}
 use Rattle.lpis_checker.specs.SoundMap.{IsInParcel}
 use Rattle.lpis_locating.specs.declared.place.Place.{Place}
-use Rattle.lpis_locating.specs.Places.{AreFoundIn, FindsIn}
+use Rattle.lpis_locating.specs.Places.{AreFoundIn, AreKept, FindsIn, IsKept, IsPlace}
 use Rattle.lpis_locating.specs.Points.{Given}
-use Rattle.lpis_locating.specs.private.Visits.{AreTouched, AreVisited, IsSettled, IsTouched, IsVisited}
+use Rattle.lpis_locating.specs.private.Visits.{AreTouched, AreVisited, IsPlaceBy, IsSettled, IsTouched, IsVisited}
 
 abbrev Places : Type 0
 Places = List (Option Place)
@@ -137,6 +137,22 @@ visited_more r ks ls ps a b c t u = record {
       visited_then r ks ls g.at f m.0 h (t.each i g f m.0 e d m.1) (u.each i g m.0 h e m.1 n);
 }
 
+-- the place in a parcel of the release
+place_in_release : (r : Contents) (k : Parcel) (p : RationalPoint) (a : Place) → Contains r.parcels k → IsPlaceBy r p k a → IsPlace r p a
+place_in_release r k p a among s = (
+  record {
+    x = k;
+    is_parcel = among;
+    parcel_id = sym s.parcel_is;
+    in_parcel = s.in_parcel;
+    y = s.piece;
+    is_piece = rw s.parcel_is s.is_piece;
+    piece_id = sym s.piece_is;
+    in_piece = s.in_piece;
+  },
+  sym s.class_is,
+)
+
 -- all parcels of the release
 pub found_in : (r : Contents) (ps : List Given) (old new : Places) → AreVisited r r.parcels ps old new → AreFoundIn r ps old new
 found_in r ps old new v = record {
@@ -147,17 +163,37 @@ found_in r ps old new v = record {
     by : (p : RationalPoint) (f h : Option Place) → IsVisited r r.parcels p f h → FindsIn r p f h
     by p (Some a) h e = e
     by p None None n = n
-    by p None (Some a) w =
-        let s = w.2 in (
-          record {
-            x = w.0;
-            is_parcel = w.1;
-            parcel_id = sym s.parcel_is;
-            in_parcel = s.in_parcel;
-            y = s.piece;
-            is_piece = rw s.parcel_is s.is_piece;
-            piece_id = sym s.piece_is;
-            in_piece = s.in_piece;
-          },
-          sym s.class_is,
-        )
+    by p None (Some a) w = place_in_release r w.0 p a w.1 w.2
+
+-- what was found is kept where all were looked at
+pub kept_of_found : (r : Contents) (ps : List Given) (old new : Places) → AreFoundIn r ps old new → AreKept r ps old new
+kept_of_found r ps old new v = record {
+  as_many = v.as_many;
+  each = λ i g f h e d b. by g.at f h (v.each i g f h e d b);
+}
+  where
+    by : (p : RationalPoint) (f h : Option Place) → FindsIn r p f h → IsKept r p f h
+    by p (Some a) h e = e
+    by p None None n = tt
+    by p None (Some a) w = w
+
+-- and where it stopped at a parcel
+pub kept_so_far : (r : Contents) (ks ls : List Parcel) (k : Parcel) (ps : List Given) (a b c : Places) → r.parcels ≡ ks ++ ls → Contains r.parcels k → AreVisited r ks ps a b → AreTouched r k ps b c
+    → AreKept r ps a c
+kept_so_far r ks ls k ps a b c all among v t = record {
+  as_many = t.as_many ∙ v.as_many;
+  each = λ i g f h e d n.
+      let m = item b i (length a) (sym v.as_many) (slice_get_within a i f d) in
+      by g.at f m.0 h (v.each i g f m.0 e d m.1) (t.each i g m.0 h e m.1 n);
+}
+  where
+    by : (p : RationalPoint) (f m h : Option Place) → IsVisited r ks p f m → IsTouched r k p m h → IsKept r p f h
+    by p (Some x) m h e u = kept h (subst (λ (o : Option Place). IsTouched r k p o h) e u)
+      where
+        kept : (h : Option Place) → IsTouched r k p (Some x) h → IsKept r p (Some x) h
+        kept h u = u
+    by p None (Some x) h w u =
+        let is : Contains r.parcels w.0 = subst (λ (xs : List Parcel). Contains xs w.0) (sym all) (Contains-append_left ks ls w.0 w.1) in
+        subst (λ (o : Option Place). IsKept r p None o) (sym u) (place_in_release r w.0 p x is w.2)
+    by p None None (Some x) n u = place_in_release r k p x among u
+    by p None None None n u = tt

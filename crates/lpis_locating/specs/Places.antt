@@ -1,5 +1,5 @@
 -- Where points lie, and what a release adds to what was found of them.
-use Rattle.std.specs.Prelude.{◌≡◌, ℕ, List, length, slice_get, Option, None, Some}
+use Rattle.std.specs.Prelude.{◌≡◌, ⊤, ℕ, List, length, slice_get, Option, None, Some}
 use Rattle.lpis_points.specs.Plane.{RationalPoint}
 use Rattle.lpis_parcels.specs.Release.{Contents}
 use Rattle.lpis_checker.specs.SoundMap.{IsLocated, IsNowhere}
@@ -27,3 +27,15 @@ pub record AreFoundIn (r : Contents) (ps : List Given) (old new : List (Option P
     pub as_many : length new ≡ length old
     pub each : (i : ℕ) (g : Given) (f h : Option Place) → slice_get ps i ≡ Some g
         → slice_get old i ≡ Some f → slice_get new i ≡ Some h → FindsIn r g.at f h
+
+-- a place that was found stays, and one that is new is that in the release
+abbrev pub IsKept : Contents → RationalPoint → Option Place → Option Place → Type 0
+IsKept r p (Some a) new = new ≡ Some a
+IsKept r p None (Some a) = IsPlace r p a
+IsKept r p None None = ⊤
+
+-- so it is of each of the points, whether or not the look through the release came to its end
+pub record AreKept (r : Contents) (ps : List Given) (old new : List (Option Place)) : Type 0 where
+  pub as_many : length new ≡ length old
+  pub each : (i : ℕ) (g : Given) (f h : Option Place) → slice_get ps i ≡ Some g
+      → slice_get old i ≡ Some f → slice_get new i ≡ Some h → IsKept r g.at f h

@@ -6,7 +6,7 @@ ghost use Rattle.lpis_covers.specs.declared.piece.Piece.{Piece};
 ghost use Rattle.lpis_parcels.specs.Release.{pieces_named};
 ghost use Rattle.lpis_checker.specs.SoundMap.{IsInParcel, IsInPiece, IsSoundMap};
 ghost use Rattle.lpis_country.specs.Polygons.{HasClosedRings, box_of_members};
-ghost use Rattle.lpis_locating.specs.Places.{AreFoundIn};
+ghost use Rattle.lpis_locating.specs.Places.{AreFoundIn, AreKept};
 ghost use Rattle.lpis_locating.specs.Points.{Given, rational_at};
 ghost use Rattle.lpis_locating.specs.private.Reaches.{reach_of};
 ghost use Rattle.lpis_locating.specs.private.Slots.{AreAscending, HasSlots, IsSlot};
@@ -80,8 +80,8 @@ fn settle(
     requires among { Contains release.now.parcels parcel.now }
     requires closed { HasClosedRings parcel.now.polygon }
     requires reach { reach.now ≡ reach_of (box_of_members parcel.now.polygon) }
-    ensures touched { OnOk result (IsTouched release.now parcel.now (rational_at slot.now.spot)
-        found.old found.new) }
+    ensures touched { IsTouched release.now parcel.now (rational_at slot.now.spot) found.old
+        found.new }
     ensures settled { OnOk result (found.new ≡ None
         → IsInParcel (rational_at slot.now.spot) parcel.now → ⊥) }
 {
@@ -105,7 +105,7 @@ fn visit_slot(
     requires reach { reach.now ≡ reach_of (box_of_members parcel.now.polygon) }
     requires within { slot.now.row < length found.old }
     ensures touched { (ps : List Given) → IsSlot ps slot.now
-        → OnOk result (AreTouched release.now parcel.now ps found.old found.new) }
+        → AreTouched release.now parcel.now ps found.old found.new }
     ensures settled { (ps : List Given) → IsSlot ps slot.now
         → OnOk result (IsSettled parcel.now ps found.new slot.now.row) }
 {
@@ -129,7 +129,7 @@ fn visit_strip(
     requires within { (ps : List Given) × HasSlots ps slots.now
         × (length found.old ≡ length ps) }
     ensures touched { (ps : List Given) → HasSlots ps slots.now
-        → OnOk result (AreTouched release.now parcel.now ps found.old found.new) }
+        → AreTouched release.now parcel.now ps found.old found.new }
     ensures settled { (ps : List Given) → HasSlots ps slots.now
         → OnOk result (IsStripSettled parcel.now ps slots.now found.new strip) }
 {
@@ -154,8 +154,9 @@ fn visit(
     requires among { Contains release.now.parcels parcel.now }
     requires closed { HasClosedRings parcel.now.polygon }
     requires as_many { length found.old ≡ length points.now }
-    ensures { OnOk result (AreVisited release.now (parcel.now ∷ []) points.now found.old
+    ensures visited { OnOk result (AreVisited release.now (parcel.now ∷ []) points.now found.old
         found.new) }
+    ensures touched { AreTouched release.now parcel.now points.now found.old found.new }
 {
     let reach = scaled_box(&parcel.polygon);
     let (grid, slots) = points.strips();
@@ -169,7 +170,7 @@ fn visit(
 /// Finds the places of points in a release that is a sound map. A point that has a place keeps it.
 ///
 /// In each strip that its box meets, a parcel looks at the points between the low and the high side
-/// of the box alone.
+/// of the box alone. Where memory runs out, what was found so far is there.
 pub fn locate_in(
     release: &Release,
     points: &Points,
@@ -177,7 +178,8 @@ pub fn locate_in(
 ) -> Result<(), AllocError>
     requires sound { IsSoundMap release.now }
     requires as_many { length found.old ≡ length points.now }
-    ensures { OnOk result (AreFoundIn release.now points.now found.old found.new) }
+    ensures found { OnOk result (AreFoundIn release.now points.now found.old found.new) }
+    ensures kept { AreKept release.now points.now found.old found.new }
 {
     // Its rings are closed.
     is_region(release);

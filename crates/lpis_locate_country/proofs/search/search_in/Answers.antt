@@ -13,4 +13,4 @@ returns-in-Points c = λ table before is.
       mine.0,
       written_back before c.args.release.now c.in-Points.search.points c.in-Points.search.found.items c.deref_mut.result.now c.locate_in.new.found _ (omega (arith, told.as_many, v, l))
           c.deref_mut.ensures.value mine.1 told,
-    )) c.locate_in.ensures
+    )) c.locate_in.ensures.found

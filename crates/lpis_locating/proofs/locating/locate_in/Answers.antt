@@ -1,10 +1,10 @@
-use Rattle.std.proofs.Common.{◌++◌, ◌∷◌, [], ◌∙◌, List, Contains, ap, sym, subst, take}
-use Rattle.std.proofs.lemmas.List.{take_all, take_more}
+use Rattle.std.proofs.Common.{◌≡◌, ◌++◌, ◌∷◌, [], ◌∙◌, List, Contains, ap, drop, sym, subst, take}
+use Rattle.std.proofs.lemmas.List.{take-append-drop, take_all, take_more}
 use Rattle.std.proofs.lemmas.List.Elements.{All-contains}
 use Rattle.lpis_parcels.specs.declared.parcel.Parcel.{Parcel}
 use Rattle.lpis_country.specs.Polygons.{HasClosedRings}
 use Rattle.lpis_locating.specs.private.Visits.{AreVisited}
-use Rattle.lpis_locating.proofs.VisitLemmas.{found_in, visited_more, visited_none}
+use Rattle.lpis_locating.proofs.VisitLemmas.{found_in, kept_of_found, kept_so_far, visited_more, visited_none}
 use Rattle.lpis_locating.proofs.locating.locate_in.Goals as goal
 
 pub loop-parcel-init : goal.loop-parcel-init
@@ -28,11 +28,22 @@ loop-parcel-preserved c =
     let parcel = c.parcel-item.result in
     let more = take_more parcels i parcel c.loop-parcel-test.true ∙ ap (λ (k : Parcel). take i parcels ++ k ∷ []) (sym c.parcel-item.is) in
     subst (λ (ks : List Parcel). AreVisited c.args.release.now ks c.args.points.now c.args.found.now c.visit.new.found) (sym more)
-    (visited_more c.args.release.now (take i parcels) (parcel ∷ []) c.args.points.now c.args.found.now c.loop-parcel.found c.visit.new.found c.loop-parcel.invariant c.in_ok-visit.ensures)
+    (visited_more c.args.release.now (take i parcels) (parcel ∷ []) c.args.points.now c.args.found.now c.loop-parcel.found c.visit.new.found c.loop-parcel.invariant c.in_ok-visit.ensures.visited)
 
 pub returns : goal.returns
 returns c =
     let parcels = c.parcels-parcel-items.result.now in
     let all = take_all c.loop-parcel.parcel-index parcels c.loop-parcel-test.false ∙ c.parcels-parcel-items.ensures.parcels in
-    found_in c.args.release.now c.args.points.now c.args.found.now c.loop-parcel.found
-    (subst (λ (ks : List Parcel). AreVisited c.args.release.now ks c.args.points.now c.args.found.now c.loop-parcel.found) all c.loop-parcel.invariant)
+    let found = found_in c.args.release.now c.args.points.now c.args.found.now c.loop-parcel.found
+    (subst (λ (ks : List Parcel). AreVisited c.args.release.now ks c.args.points.now c.args.found.now c.loop-parcel.found) all c.loop-parcel.invariant) in
+    record { found = found; kept = kept_of_found c.args.release.now c.args.points.now c.args.found.now c.loop-parcel.found found }
+
+pub returns-in_err-visit-clause-kept : goal.returns-in_err-visit-clause-kept
+returns-in_err-visit-clause-kept c =
+    let r = c.args.release.now in
+    let parcels = c.parcels-parcel-items.result.now in
+    let i = c.loop-parcel.parcel-index in
+    let parcel = c.parcel-item.result in
+    let among : Contains r.parcels parcel = subst (λ (ks : List Parcel). Contains ks parcel) c.parcels-parcel-items.ensures.parcels (i, c.loop-parcel-test.true, sym c.parcel-item.is) in
+    let all : r.parcels ≡ take i parcels ++ drop i parcels = sym c.parcels-parcel-items.ensures.parcels ∙ sym (take-append-drop i parcels) in
+    kept_so_far r (take i parcels) (drop i parcels) parcel c.args.points.now c.args.found.now c.loop-parcel.found c.visit.new.found all among c.loop-parcel.invariant c.visit.ensures.touched

@@ -13,8 +13,8 @@ returns-clause-touched c = λ ps s.
     let slot = c.args.slot.now in
     let was = c.index-found-slot.result in
     let new = c.settle.new.found in
-    on_ok_weaker c.settle.result (λ told. touched_at r k ps c.args.found.now slot.row s.point was new s.at c.requires.within c.index-found-slot.is
-    (rw s.same (subst (λ (o : Option Place). IsTouched r k (rational_at slot.spot) o new) (sym c.index-found-slot.is) told))) c.settle.ensures.touched
+    touched_at r k ps c.args.found.now slot.row s.point was new s.at c.requires.within c.index-found-slot.is
+    (rw s.same (subst (λ (o : Option Place). IsTouched r k (rational_at slot.spot) o new) (sym c.index-found-slot.is) c.settle.ensures.touched))
 
 pub returns-clause-settled : goal.returns-clause-settled
 returns-clause-settled c = λ ps s.

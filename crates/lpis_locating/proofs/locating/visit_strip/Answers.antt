@@ -31,7 +31,7 @@ loop-k-preserved c = λ ps has.
     let slot = c.index-slots-k.result in
     let is : IsSlot ps slot = subst (λ (s : Slot). IsSlot ps s) (sym c.index-slots-k.is) (has.only c.loop-k.k slot c.loop-k-test.true) in
     let before = c.loop-k.invariant ps has in
-    let touched = c.in_ok-visit_slot.ensures.touched ps is in (
+    let touched = c.visit_slot.ensures.touched ps is in (
       touched_more r k ps c.args.found.now c.loop-k.found c.visit_slot.new.found before.0 touched,
       settled_next r k ps slots c.loop-k.found c.visit_slot.new.found c.args.strip c.loop-k.k slot touched c.loop-k-test.true c.index-slots-k.is
           (c.in_ok-visit_slot.ensures.settled ps is) before.1,
@@ -55,3 +55,9 @@ returns-clause-touched c = λ ps has. (c.loop-k.invariant ps has).0
 
 pub returns-clause-settled : goal.returns-clause-settled
 returns-clause-settled c = λ ps has m d w is. (c.loop-k.invariant ps has).1 m d (omega (arith, c.loop-k-test.false)) w is
+
+pub returns-in_err-visit_slot-clause-touched : goal.returns-in_err-visit_slot-clause-touched
+returns-in_err-visit_slot-clause-touched c = λ ps has.
+    let slot = c.index-slots-k.result in
+    let is : IsSlot ps slot = subst (λ (s : Slot). IsSlot ps s) (sym c.index-slots-k.is) (has.only c.loop-k.k slot c.loop-k-test.true) in
+    touched_more c.args.release.now c.args.parcel.now ps c.args.found.now c.loop-k.found c.visit_slot.new.found (c.loop-k.invariant ps has).0 (c.visit_slot.ensures.touched ps is)
