@@ -10,15 +10,15 @@ PAGE_WORDS = {
     "docs/GUIDE.md": 7_300,
     "docs/FORMATS.md": 8_300,
     "docs/PROOF.md": 6_900,
-    "docs/ARCHITECTURE.md": 4_450,
-    "docs/DECISIONS.md": 4_400,
+    "docs/ARCHITECTURE.md": 4_490,
+    "docs/DECISIONS.md": 4_460,
     "CONTRIBUTING.md": 3_650,
-    "CHANGELOG.md": 1_600,
+    "CHANGELOG.md": 1_615,
     "bench/RESULTS.md": 1_650,
     "docs/*.1": 4_720,  # the pages of the manual together
 }
 RELEASE_BYTES = 7_000_000  # of release/ together
-PAGE_LINES = {"docs/DECISIONS.md": 268, "docs/PROOF.md": 360, "bench/RESULTS.md": 250}
+PAGE_LINES = {"docs/DECISIONS.md": 271, "docs/PROOF.md": 360, "bench/RESULTS.md": 250}
 
 
 def sizes():

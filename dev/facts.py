@@ -1,6 +1,7 @@
-"""What is known of a built program: imported by `dev/carry`, `dev/carried`, `dev/package` and `dev/page`."""
+"""What is known of a built program, and where it is put: imported by `dev/carry`, `dev/carried`, `dev/package`, `dev/page` and `dev/wheels.py`."""
 
 import hashlib
+import os
 import re
 import shutil
 import subprocess
@@ -15,6 +16,12 @@ RUN = TOP / "tools" / "run.sh"
 
 def output(*words, folder=TOP):
     return subprocess.run([str(word) for word in words], cwd=folder, check=True, stdout=subprocess.PIPE, text=True).stdout.strip()
+
+
+def installed(folder, prefix):
+    """Installs to a prefix below a folder; gives the prefix's folder."""
+    subprocess.run([TOP / "install", prefix], env={**os.environ, "DESTDIR": f"{folder}/"}, check=True, stderr=subprocess.DEVNULL, stdout=subprocess.DEVNULL)
+    return folder / prefix.strip("/")
 
 
 def digest(path):

@@ -1,0 +1,33 @@
+"""What the tests of the package `lpis` share: where things lie, who can answer, and calls of other programs. Importing it puts the package on the path of
+modules."""
+
+import importlib.util
+import os
+import pathlib
+import subprocess
+import sys
+
+import places
+
+TOP = pathlib.Path(places.TOP)
+PYTHON, EXAMPLES = TOP / "python", TOP / "examples"
+sys.path[:0] = [str(PYTHON / "src"), str(TOP / "dev"), str(TOP / "bench")]
+LIBRARY = pathlib.Path(os.environ.get("LPIS_LIBRARY") or TOP / "out" / "library" / "liblpis.so")
+BACKENDS = ["program", *(["library"] if LIBRARY.exists() else [])]
+NO_LIBRARY = "no liblpis.so in out/library (dev/library), and LPIS_LIBRARY names none"
+ALONE = {name: value for name, value in os.environ.items() if not name.startswith(("PYTHON", "PIP_", "LPIS"))}  # nothing that leads to this clone
+
+
+def run(*words, **more):
+    return subprocess.run([str(word) for word in words], **{"capture_output": True, "text": True, "check": False, "env": ALONE, **more})
+
+
+def done(*words, **more):
+    ended = run(*words, **more)
+    assert ended.returncode == 0, (words, ended.returncode, ended.stdout, ended.stderr)
+    return ended.stdout
+
+
+def has(name):
+    """Whether this Python has a module."""
+    return importlib.util.find_spec(name) is not None
