@@ -3,7 +3,6 @@
 from __future__ import annotations
 
 import ctypes
-import subprocess
 import tempfile
 from pathlib import Path
 from typing import Any, NamedTuple, Protocol
@@ -123,7 +122,7 @@ def folder_of(**tables: bytes) -> tempfile.TemporaryDirectory[str]:
 
 def run(*words: str) -> Answer:
     """The answer of the program; `Failed` where it ends in another way than by a yes or a refusal."""
-    ended = subprocess.run([*tree.program(), *words], stdin=subprocess.DEVNULL, capture_output=True, text=True, errors="backslashreplace", check=False)
+    ended = tree.ended([*tree.program(), *words])
     if ended.returncode not in (0, 1, 2):
         raise Failed(ended.stderr.strip() or f"lpis {words[0]} ended with status {ended.returncode}")
     if ended.returncode == 2 and not ended.stdout:

@@ -5,7 +5,6 @@ from __future__ import annotations
 import csv
 import io
 import os
-import subprocess
 import sys
 import tempfile
 from dataclasses import dataclass
@@ -92,7 +91,7 @@ def prepare(parcels: Table, covers: Table | None = None, classes: Table | None =
             words += [f"--{option}", os.fspath(value) if isinstance(value, os.PathLike) else str(value)] if value is not None else []
         for wanted, found in (names or {}).items():
             words += ["--name", f"{wanted}={found}"]
-        ended = subprocess.run(words, stdin=subprocess.DEVNULL, capture_output=True, text=True, errors="backslashreplace", check=False)
+        ended = tree.ended(words)
         if ended.returncode not in (0, 1):
             raise Failed(ended.stderr.strip() or f"lpis-prepare ended with status {ended.returncode}")
         return read(target, ended.returncode == 0, ended.stdout)
