@@ -18,6 +18,8 @@ from .refusals import Failed, Point, Refused
 from .tables import Table, columns_of, data_of, records_of
 
 KEYS = {"parcels": ("parcel",), "covers": ("piece", "parcel", "class"), "classes": ("class",), "lineage": ("old", "new"), "points": ("point",)}
+TOTAL = re.compile(r"(?m)^total area (\S+) eligible (\S+)$")
+PARCEL = re.compile(r"(?m)^parcel (\S+) area (\S+) eligible (\S+)$")
 POINT = re.compile(r"[^,()]*")
 COORDINATE = re.compile(r"[+-]?(?:\d+\.?\d*|\.\d+)\Z", re.ASCII)
 NAMES = {"class_": "class"}  # attributes that are called otherwise than their columns
@@ -79,16 +81,18 @@ class Report:
 
     Attributes:
         text: what `lpis` printed.
-        parcels: a `Parcel` each, in the order of their table.
         area, eligible: of all parcels together, in square metres.
     """
 
     def __init__(self, text: str, covers: bytes, classes: bytes) -> None:
         self.text, self._covers, self._classes = text, covers, classes
-        lines = [line.split() for line in text.splitlines()]
-        self.parcels = tuple(Parcel(words[1], Area(words[3]), Area(words[5])) for words in lines if words[0] == "parcel")
-        (total,) = (words for words in lines if words[0] == "total")
-        self.area, self.eligible = Area(total[2]), Area(total[4])
+        ((area, eligible),) = TOTAL.findall(text)
+        self.area, self.eligible = Area(area), Area(eligible)
+
+    @functools.cached_property
+    def parcels(self) -> tuple[Parcel, ...]:
+        """A `Parcel` each, in the order of their table."""
+        return tuple(Parcel(name, Area(area), Area(eligible)) for name, area, eligible in PARCEL.findall(self.text))
 
     @functools.cached_property
     def pieces(self) -> tuple[Piece, ...]:
@@ -118,7 +122,7 @@ class Report:
         return frame_of(rows_of(getattr(self, {"parcels": "parcels", "pieces": "pieces", "classes": "classes"}[table])))
 
     def __repr__(self) -> str:
-        return f"<lpis.Report: {len(self.parcels)} parcels, area {self.area}, eligible {self.eligible}>"
+        return f"<lpis.Report: {self.text.splitlines()[0]}, area {self.area}, eligible {self.eligible}>"
 
 
 def rows_of(items: Iterable[Any]) -> list[dict[str, Any]]:

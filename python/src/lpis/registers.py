@@ -3,6 +3,7 @@
 from __future__ import annotations
 
 import os
+import re
 import sqlite3
 from dataclasses import dataclass
 from pathlib import Path
@@ -13,6 +14,9 @@ from .answers import Certificate, CertificateSource, Report, refused, release_of
 from .backends import Answer, folder_of, run
 from .refusals import Failed
 from .tables import Table, data_of
+
+
+LINEAGE = re.compile(r"(?m)^lineage (\S+) (\S+)( exact)?$")
 
 
 @dataclass(frozen=True)
@@ -42,9 +46,8 @@ class Publication(Report):
 
     def __init__(self, text: str, covers: bytes, classes: bytes) -> None:
         super().__init__(text, covers, classes)
-        lines = [line.split() for line in text.splitlines()]
-        self.year = int(lines[-1][1])
-        self.lineage = tuple(Ending(words[1], words[2], words[3:] == ["exact"]) for words in lines if words[0] == "lineage")
+        self.year = int(text.split()[-1])
+        self.lineage = tuple(Ending(name, kind, bool(exact)) for name, kind, exact in LINEAGE.findall(text))
 
 
 class Register:
