@@ -1,83 +1,100 @@
 #!/usr/bin/env python3
-"""Tests that the years of a register are lawful, a second time, beside `lpis`:   python3 audit/register.py DB [--shapes DIR]
+"""Tests that the years of a register are lawful, a second time, beside `lpis`:   audit/register.py DB [--shapes DIR]
 
-Reads the database, which it cannot write; of version 2 or 3. Prints its numbers: status 0. Else a line `no` for each fault: status 1. With --shapes also
-whether the shapes that it keeps are those of the parcels in DIR, which is to be the release that was published last.
+Reads a database of version 1, 2 or 3, and cannot write it. Prints its numbers and the views and indexes in it: status
+0. Else a line `no` for each fault, such as a trigger: status 1. With --shapes also whether the shapes that it keeps are
+those of the parcels in DIR, which is to be the release that was published last.
 """
 
 import re
 import sqlite3
-import sys
-from collections import defaultdict
 from pathlib import Path
 
 from lineage import row_faults
-from release import IDENTIFIER, No, ends, need, polygon_of, read_parcels
+from release import IDENTIFIER, No, need, polygon_of, read_parcels, run
 
-COLUMNS = {"lpis_format": "one version", "lpis_release": "year", "lpis_span": "id since until", "lpis_row": "year pos old new",
-           "lpis_text": "id wkt", "lpis_mark": "year pos"}
+COLUMNS = {  # of each table what identifies a row, what else is in it, and the versions that have it
+    "lpis_release": (["year"], [], "123"),
+    "lpis_live": (["id", "year"], [], "1"),
+    "lpis_span": (["id"], ["since", "until"], "23"),
+    "lpis_row": (["year", "pos"], ["old", "new"], "123"),
+    "lpis_text": (["id"], ["wkt"], "3"),
+    "lpis_mark": (["year", "pos"], [], "3"),
+}
+OTHERS = "SELECT type, name FROM sqlite_master WHERE type <> 'table' AND sql <> '' OR sql LIKE 'CREATE VIRTUAL%'"
+
+
+def rows_of(base, name, version):
+    """The rows of a table that is there. What it has in a register of another version says nothing."""
+    key, others, versions = COLUMNS[name]
+    if version not in versions or not base.execute("SELECT 1 FROM sqlite_master WHERE name LIKE ?", [name]).fetchone():
+        return []
+    rows = base.execute(f"SELECT {', '.join(key + others)} FROM {name}").fetchall()
+    types = [str if column in ("id", "old", "new", "wkt") else int for column in key + others]
+    need(all([type(value) for value in row] == types for row in rows), name, "has a value of another type")
+    need(len({row[: len(key)] for row in rows}) == len(rows), name, "has two rows of one key")
+    return rows
+
 
 def read_register(path):
-    """The rows of its tables by their names, all of one moment, and none of a table that is not there."""
-    try:
-        base = sqlite3.connect(Path(path).resolve().as_uri() + "?mode=ro", uri=True, isolation_level=None)
-        base.text_factory = lambda data: data.decode("iso-8859-1")
-        base.execute("PRAGMA trusted_schema = OFF")
-        base.execute("BEGIN")
-        there = [name for (name,) in base.execute("SELECT name FROM sqlite_master WHERE type = 'table'")]
-        tables = {name: base.execute(f"SELECT {columns.replace(' ', ',')} FROM {name}").fetchall() if name in there else []
-                  for name, columns in COLUMNS.items()}
-    except sqlite3.Error as fault:
-        raise OSError(f"{path}: {fault}") from None
-    for name, columns in COLUMNS.items():
-        types = [str if column in ("id", "old", "new", "wkt") else int for column in columns.split()]
-        need(all(list(map(type, row)) == types for row in tables[name]), name, "has a value of another type")
-    version = tables["lpis_format"] if "lpis_format" in there else [(1, 3)]
-    need(version in ([(1, 2)], [(1, 3)]), "no register of version 2 or 3:", version)
-    if version == [(1, 2)]:
-        tables["lpis_text"] = tables["lpis_mark"] = []  # whatever is in tables of these names
-    return tables
+    """Its years, spans, rows, marks and texts, and what others made in it, all of one moment."""
+    base = sqlite3.connect(Path(path).resolve().as_uri() + "?mode=ro", uri=True, isolation_level=None)
+    base.text_factory = lambda data: data.decode("iso-8859-1")
+    base.execute("BEGIN")
+    others = sorted(base.execute(OTHERS))
+    hiding = [name for kind, name in others if kind in ("trigger", "table") or name.lower().startswith("lpis_")]
+    need(not hiding, "it has a trigger, a virtual table, or a view in place of a table:", *hiding)
+    need(not base.execute("PRAGMA foreign_key_check").fetchone(), "a row names one that is not there")
+    has_version = base.execute("SELECT 1 FROM sqlite_master WHERE name LIKE 'lpis_format'").fetchone()
+    version = base.execute("SELECT one, version FROM lpis_format").fetchall() if has_version else [(1, 3)]
+    need(version in ([(1, 1)], [(1, 2)], [(1, 3)]), "no register of version 1, 2 or 3:", version)
+    release, lives, spans, rows, texts, marks = (rows_of(base, name, str(version[0][1])) for name in COLUMNS)
+    years = sorted(year for (year,) in release)
+    spans += [(name, year, 0 if year == years[-1] else year) for name, year in lives]
+    return years, spans, sorted(rows), set(marks), texts, others
 
-def span_faults(spans, years):
-    for name, (since, until) in sorted(spans.items()):
-        if not re.fullmatch(IDENTIFIER, name):
-            yield f"{name!r} is no identifier"
-        if since not in years or until and not (until in years[:-1] and since <= until):
-            yield f"{name!r} is live from {since} to {until}, which are no years of releases, or not in order"
 
-def year_faults(tables, spans, years):
-    """What is wrong with the rows of each release, by the identifiers of the one before and its own."""
-    rows, marks, live = defaultdict(list), set(tables["lpis_mark"]), set()
-    for year, place, old, new in sorted(tables["lpis_row"]):
-        rows[year].append((place, old, new))
-    yield from (f"{year} has rows, and no release" for year in sorted(rows.keys() - set(years)))
-    yield from (f"{year} {place} is a mark of no row" for year, place in sorted(marks - {row[:2] for row in tables["lpis_row"]}))
-    for last, year in zip([None, *years], years):
-        before = live
-        live = {name for name in live if spans[name][1] != last} | {name for name, (since, _) in spans.items() if since == year}
-        if [place for place, _, _ in rows[year]] != list(range(len(rows[year]))) or not 1 <= year <= 65_535:
+def history_faults(years, spans, rows, marks):
+    """What is wrong with spans, rows and marks, each release beside the one before it."""
+    for name, since, until in spans:
+        is_span = since in years and (until == 0 or until in years[:-1] and since <= until)
+        if not is_span or not re.fullmatch(IDENTIFIER, name):
+            yield f"{name!r} is no identifier, or {since} and {until} are no years of releases in order"
+    yield from (f"{row} is a row of no release" for row in rows if row[0] not in years)
+    yield from (f"{mark} is a mark of no row" for mark in sorted(marks - {row[:2] for row in rows}))
+    before, gone = set(), set()
+    for year in years:
+        live = {name for name, since, until in spans if since <= year and (until == 0 or year <= until)}
+        gone |= before - live
+        its_rows = [row for row in rows if row[0] == year]
+        if [row[1] for row in its_rows] != list(range(len(its_rows))) or not 1 <= year <= 65_535:
             yield f"{year} is not from 1 to 65535, or its rows are not at 0, 1, 2 and so on"
-        marked = {(old, new) for place, old, new in rows[year] if (year, place) in marks}
-        yield from (f"{year} {fault}" for fault in row_faults([row[1:] for row in rows[year]], marked, before, live))
+        marked = {row[2:] for row in its_rows if row[:2] in marks}
+        yield from (f"{year} 76: it was in an earlier release, not in the last: {name}" for name in sorted(live & gone))
+        yield from (f"{year} {fault}" for fault in row_faults([row[2:] for row in its_rows], marked, before, live))
+        before = live
+
 
 def shape_faults(texts, spans, folder):
-    kept = {}
-    for name, wkt in texts:
-        if name in kept or spans.get(name, (0, 1))[1] != 0:
-            yield f"{name!r} has two texts, or is not live"
+    kept, live = {}, {name for name, _, until in spans if until == 0}
+    for name, text in texts:
         try:
-            kept[name] = polygon_of(wkt)
+            kept[name] = polygon_of(text)
         except No as fault:
             yield f"{name!r} has {fault}"
+    yield from (f"{name!r} has a text, and is not live" for name in sorted(kept.keys() - live))
     parcels = read_parcels(folder) if folder else kept
-    yield from (f"{name!r} has not the shape of the release" for name in sorted(parcels.keys() | kept.keys()) if parcels.get(name) != kept.get(name))
+    differing = [name for name in parcels.keys() | kept.keys() if parcels.get(name) != kept.get(name)]
+    yield from (f"{name!r} has not the shape of the release" for name in sorted(differing))
+
 
 def main(path, folder):
-    tables = read_register(path)
-    years, spans = sorted(year for (year,) in tables["lpis_release"]), {name: span for name, *span in tables["lpis_span"]}
-    faults = [*span_faults(spans, years), *year_faults(tables, spans, years), *shape_faults(tables["lpis_text"], spans, folder)]
+    years, spans, rows, marks, texts, others = read_register(path)
+    faults = [*history_faults(years, spans, rows, marks), *shape_faults(texts, spans, folder)]
     need(not faults, "\nno ".join(faults))
-    return f"lawful releases {len(years)} identifiers {len(spans)} shapes {len(tables['lpis_text'])}\n"
+    counts = f"lawful releases {len(years)} identifiers {len({name for name, _, _ in spans})} shapes {len(texts)}\n"
+    return counts + "".join(f"made by others: {kind} {name}\n" for kind, name in others)
+
 
 if __name__ == "__main__":
-    sys.exit(ends(main, "DB", "--shapes"))
+    run(main, "DB", "--shapes")

@@ -1,7 +1,7 @@
 """Draws docs/idea-*.svg, of worked releases and the certificates that `lpis` finds for them: imported by dev/pictures.
 
 Each is an SVG of its own, on a ground of its own, for light and for dark pages. What is flat or touches is drawn a little apart, and the page says so.
-Corners, triangles, flats and separating edges are read by audit/release.py."""
+Tables are read by audit/release.py."""
 
 import math
 import os
@@ -93,12 +93,19 @@ class Drawing:
 
 
 def box_of(*polygons):
-    points = audit.points_of(polygons)
+    points = {a for polygon in polygons for a, _ in polygon}
     return tuple(most(point[k] for point in points) for most in (min, max) for k in (0, 1))
 
 
 def rings_of(polygon):
-    return [ring[:-1] for member in polygon for ring in member]
+    """The points of each ring: where an edge does not go on from the last one, another ring begins."""
+    rings, last = [], None
+    for a, b in polygon:
+        if a != last:
+            rings.append([])
+        rings[-1].append(a)
+        last = b
+    return rings
 
 
 def lpis(*words):
@@ -107,14 +114,24 @@ def lpis(*words):
 
 def blocks_of(cert):
     """Triangles and flats by kind and identifier, and the pair lines."""
-    found = list(audit.read_certificate(cert))
-    return {block[:2]: block[2:] for block in found if block[0] != "s"}, [block[1:] for block in found if block[0] == "s"]
+    blocks, pairs = {}, []
+    for kind, *words in map(str.split, cert.read_text(encoding="ascii").splitlines()):
+        if kind in ("piece", "parcel", "exact"):
+            shapes = {"t": [], "f": []}
+            name = words[0] if kind != "exact" else words[1]
+            blocks[f"exact {words[0]}" if kind == "exact" else kind, name] = (shapes["t"], shapes["f"])
+        elif kind in ("t", "f"):
+            numbers = list(map(int, words))
+            shapes[kind].append(tuple(zip(numbers[::2], numbers[1::2])))
+        elif kind == "s":
+            pairs.append(tuple(map(int, words)))
+    return blocks, pairs
 
 
 def crossings(polygon, point):
     """What each edge that a way to the right meets adds to the count, from left to right: 1 where it goes up, -1 where it goes down."""
     found = []
-    for a, b in audit.edges_of([polygon]):
+    for a, b in polygon:
         low, high, sign = (a, b, 1) if a[1] < b[1] else (b, a, -1)
         if low[1] <= point[1] < high[1] and audit.orient(low, high, point) > 0:
             found.append((low[0] + (high[0] - low[0]) * (point[1] - low[1]) / (high[1] - low[1]), sign))
@@ -129,7 +146,7 @@ def draw_walk(_):
                           (box[0] - 14_000, box[1] - 6_000, box[2] + 14_000, box[3]))
     panel.path(rings_of(farm), "one")
     panel.path(rings_of(farm), "shape")
-    for a, b in audit.edges_of([farm]):
+    for a, b in farm:
         panel.arrow(a, b)
     for point in ((20_000, 70_000), (30_000, 40_000), (80_000, 30_000), (-12_000, 10_000)):
         signs = crossings(farm, point)
@@ -147,7 +164,7 @@ def draw_cancel(folder):
         panel = drawing.panel(title, box_of(shape), part, 2)
         panel.path(rings_of(shape), "one")
         panel.path(rings_of(shape) if part else triangles, "shape" if part else "cut")
-        for a, b in audit.edges_of([shape]) if part else audit.around(triangles):
+        for a, b in shape if part else audit.around(triangles):
             panel.arrow(a, b)
     return drawing
 
@@ -203,13 +220,13 @@ def draw_lineage(folder):
     left = drawing.panel("2024: meadow", box_of(whole), 0, 2)
     left.path(rings_of(whole), "one")
     left.path(rings_of(whole), "shape")
-    for a, b in audit.edges_of([whole]):
+    for a, b in whole:
         left.arrow(a, b)
     right = drawing.panel("2025: its two parts, and two flats", box_of(whole), 1, 2)
     for part, kind in zip(parts, ("one", "two")):
         right.path(rings_of(part), kind)
         right.path(rings_of(part), "shape")
-        for a, b in audit.edges_of([part]):
+        for a, b in part:
             right.arrow(a, b)
     for flat in flats:
         right.flat(flat, (30_000, 20_000))

@@ -7,6 +7,7 @@ import sqlite3
 import damage
 import lineage
 import register
+import registers
 from exact_years import TwoYears
 from tables import write_lines, write_release
 
@@ -25,6 +26,26 @@ STATEMENTS = [
     "UPDATE lpis_text SET id = '{other}' WHERE id = '{name}'", "UPDATE lpis_format SET version = {place} + 1", "UPDATE lpis_format SET one = 2", "DROP TABLE lpis_mark",
     "DROP TABLE lpis_text", "DROP TABLE lpis_format", "CREATE TABLE notes (note TEXT); INSERT INTO notes VALUES ('x')", "CREATE VIEW now AS SELECT id FROM lpis_text",
     "DELETE FROM lpis_text", "DELETE FROM lpis_mark; DELETE FROM lpis_row",
+]
+
+# Edits of two years in registers of each version: what others may put there, what is in the way of `lpis`, and what is no lawful history.
+BESIDE = [
+    "", "CREATE VIEW now AS SELECT year FROM lpis_release", "CREATE VIEW some AS SELECT old FROM lpis_row WHERE old GLOB 'A*'", "CREATE TABLE notes (note); INSERT INTO notes VALUES (1)",
+    "CREATE INDEX by_old ON lpis_row (old)", "CREATE INDEX some ON lpis_row (old) WHERE old > 'A'", "CREATE INDEX low ON lpis_row (lower(old))",
+    "CREATE TRIGGER watch AFTER INSERT ON lpis_row BEGIN SELECT 1; END", "CREATE TRIGGER watch BEFORE UPDATE OF version ON lpis_format BEGIN SELECT raise(ABORT, 'no'); END",
+    "CREATE VIEW v AS SELECT year FROM lpis_release; CREATE TRIGGER watch INSTEAD OF INSERT ON v BEGIN SELECT 1; END", "CREATE VIRTUAL TABLE words USING fts5 (word)",
+    "CREATE VIEW lpis_mark AS SELECT 2025 AS year, 0 AS pos", "DROP TABLE lpis_mark; CREATE VIEW LPIS_Mark AS SELECT 2025 AS year, 0 AS pos",
+    "CREATE TABLE flights (flown REFERENCES lpis_release); INSERT INTO flights VALUES (2023)", "CREATE TABLE flights (flown REFERENCES lpis_release); INSERT INTO flights VALUES (2024)",
+    "ALTER TABLE lpis_row RENAME TO x; ALTER TABLE x RENAME TO LPIS_ROW", "ALTER TABLE lpis_text RENAME TO x; ALTER TABLE x RENAME TO LPIS_TEXT; UPDATE lpis_text SET wkt = 'no polygon'",
+    "UPDATE lpis_row SET new = 'D' WHERE pos = 1", "UPDATE lpis_row SET new = '' WHERE pos = 1", "DELETE FROM lpis_row WHERE pos = 1", "DELETE FROM lpis_row WHERE pos = 0", "DELETE FROM lpis_format",
+    "INSERT INTO lpis_row VALUES (2025, 2, 'A', 'B')", "INSERT INTO lpis_row VALUES (2025, 2, 'B', 'C')", "INSERT INTO lpis_row VALUES (2024, 0, 'A', '')", "INSERT INTO lpis_release VALUES (65536)",
+    "INSERT INTO lpis_release VALUES (2026)", "INSERT INTO lpis_release VALUES (0)", "INSERT INTO lpis_release VALUES (2023)", "DROP TABLE lpis_row", "DROP TABLE lpis_span", "DROP TABLE lpis_live",
+    "INSERT INTO lpis_live VALUES (2024, 'no identifier')", "DELETE FROM lpis_live WHERE id = 'C'", "DELETE FROM lpis_live WHERE id = 'A'", "INSERT INTO lpis_live VALUES (2025, 'A')",
+    "INSERT INTO lpis_live VALUES (2024, 'B')", "INSERT INTO lpis_live VALUES (2024, 'D'), (2025, 'D')", "INSERT INTO lpis_live VALUES (2024, 'D')", "INSERT INTO lpis_live VALUES (2023, 'A')",
+    "INSERT INTO lpis_release VALUES (2026); INSERT INTO lpis_live VALUES (2026, 'A'), (2026, 'B'), (2026, 'C')", "INSERT INTO lpis_release VALUES (2026); INSERT INTO lpis_live VALUES (2026, 'B'), (2026, 'C')",
+    "DROP TABLE lpis_span; CREATE TABLE lpis_span (id TEXT, since INTEGER, until INTEGER);" + registers.SPANS + registers.SPANS,
+    "DROP TABLE lpis_text; CREATE TABLE lpis_text (id TEXT, wkt TEXT);" + registers.TEXTS + registers.TEXTS, registers.TEXT + "INSERT INTO lpis_text VALUES ('X', 'no polygon')",
+    registers.SPAN + "INSERT INTO lpis_span VALUES ('X', 2024, 0)", registers.LIVE + "INSERT INTO lpis_live VALUES (2024, 'X')", registers.MARK + "INSERT INTO lpis_mark VALUES (2025, 1)",
 ]
 
 
@@ -90,11 +111,29 @@ def edited(path, years, numbers):
 
 
 def expect_register(cases, name, lpis, path, other):
-    """The register is lawful where the program opens it, and is read alone."""
-    before, is_opened = dump(path), lpis("trace", copied(path, other), "nobody") == (1, "refused 83\n")
-    cases.codes["a register is opened" if is_opened else "a register is not opened"] += 1
-    cases.expect_verdict(f"{name}: is it lawful", is_opened, register.main, path, None)
+    """The register is lawful where the program opens it, and is read alone. What may be in the program's way is a fault, or is named."""
+    before, (status, said) = dump(path), lpis("trace", copied(path, other), "nobody")
+    cases.codes[f"of registers {said.strip() or 'failed store'}"] += 1
+    is_lawful, text = cases.answer(register.main, path, None)
+    is_named = "made by others" in text
+    cases.expect(f"{name}: lpis {status} {said!r}, audit {is_lawful} {text!r}", is_lawful == (said == "refused 83\n") or status == 3 and is_named)
     cases.expect(f"{name}: the register is as it was", dump(path) == before)
+    return text
+
+
+def compare_versions(cases, lpis, folder):
+    """Two years in registers of each version, edited. A view and a trigger are named."""
+    for version, script in enumerate((registers.VERSION_1, registers.VERSION_2, registers.VERSION_3), 1):
+        for number, edit in enumerate(BESIDE):
+            path = folder / f"version-{version}-{number}.db"
+            base = sqlite3.connect(path)
+            base.executescript(f"PRAGMA foreign_keys = OFF; {script}")
+            with contextlib.suppress(sqlite3.OperationalError, sqlite3.IntegrityError):
+                base.executescript(edit)
+            base.close()
+            text = expect_register(cases, f"version {version}, {edit}", lpis, path, folder / "opened.db")
+            for word, object_name in (("VIEW now", "now"), ("TRIGGER watch", "watch")):
+                cases.expect(f"version {version}, {edit}: named in {text!r}", word not in edit or object_name in text)
 
 
 def compare_lineage(cases, name, lpis, folder, path):
