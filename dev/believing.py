@@ -74,7 +74,8 @@ def model_of(crate, name, has_fields):
 def in_sequence(nodes, uses, group_of):
     """The nodes in runs of one group, each (group, members), each node after those that it uses; of a circle the first as they stand.
 
-    A run goes on as long as its group has a node whose turn it is; then that group follows that has the fewest nodes left behind by its run."""
+    A run goes on as long as its group has a node whose turn it is; then that group follows that has the fewest nodes left behind by its run. Files stand in one piece
+    where they can: before one is cut, some of the types of a crate stand by themselves."""
     left = dict.fromkeys(nodes)
     groups = {}
     for node in nodes:
@@ -92,7 +93,7 @@ def in_sequence(nodes, uses, group_of):
     while left:
         runs = [(len([node for node in members if node in left]) - len(run), place, group, run)
                 for place, (group, members) in enumerate(groups.items()) if (run := run_of(group))]
-        _, _, group, run = min(runs, key=lambda found: found[:2]) if runs else (0, 0, group_of(next(iter(left))), [next(iter(left))])
+        _, _, group, run = min(runs, key=lambda found: (found[0] > 0 and not isinstance(found[2], str), found[0] > 0, *found[:2])) if runs else (0, 0, group_of(next(iter(left))), [next(iter(left))])
         yield group, run
         for node in run:
             del left[node]
