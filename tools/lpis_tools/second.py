@@ -1,12 +1,16 @@
 """The second checker, audit/: whether it answers as the program does."""
 
+import contextlib
+import csv
 import os
 import sys
+import tempfile
 
-from . import ending
+from . import ending, registers, years
 
 TOOLS = os.path.dirname(os.path.dirname(os.path.realpath(__file__)))
 PLACES = (os.path.join(TOOLS, "audit"), os.path.join(os.path.dirname(TOOLS), "audit"))  # installed beside the tools, or of the repository
+YES = "two programs agree: yes, and their reports are equal"
 
 
 class Disagree(Exception):
@@ -32,10 +36,23 @@ def agreement(command, folder, cert):
     text, (status, other) = first.stdout.decode("utf-8", "replace"), asked("release.py", folder, cert)
     last = (text + first.stderr.decode("utf-8", "replace")).rstrip("\n").rpartition("\n")[2]
     if first.returncode == 0 and status == 0 and text == other:
-        return "two programs agree: yes, and their reports are equal"
+        return YES
     if first.returncode in (1, 2) and status == 1:
         return f"two programs agree: {last}; the second says: {other.rstrip()}"
     raise Disagree(f"two programs do not agree: lpis says {last}, the second checker {other.rstrip().rpartition(chr(10))[2]}")
+
+
+def of_lineage(register, folder, cert):
+    """What the second checker says of marked splits and merges that follow on the shapes that a register keeps."""
+    with contextlib.closing(registers.opened(register)) as base:
+        _, texts, _ = years.content_of(base, register)
+    with tempfile.TemporaryDirectory(prefix="lpis-") as old:
+        with open(os.path.join(old, "parcels.csv"), "w", encoding="utf-8", newline="") as file:
+            csv.writer(file).writerows([("parcel", "wkt"), *texts.items()])
+        status, text = asked("lineage.py", old, folder, cert)
+    if status != 0:
+        raise Disagree(f"two programs do not agree: lpis finds the marks of {folder} exact, and the second checker says: {text.rstrip()}")
+    return f"two programs agree on the marks of {folder}: {text.rstrip()}"
 
 
 def of_register(register, folder):
