@@ -9,7 +9,7 @@ import sys
 
 HERE = os.path.dirname(os.path.dirname(os.path.realpath(__file__)))
 COMMANDS = [name for name in sorted(os.listdir(HERE)) if name not in ("installed", "lpis") and os.path.isfile(os.path.join(HERE, name)) and os.access(os.path.join(HERE, name), os.X_OK)]
-PAGES = ("BELIEVE", "GUIDE", "FORMATS", "PROOF")
+PAGES = ("BELIEVE", "GUIDE", "FORMATS", "IDEA", "PROOF")
 OF_SOURCES = re.compile(r"`[^`]*\b(?:bench|crates|dev|tests)/[^`]*`|\b(?:README|CONTRIBUTING|ARCHITECTURE|DECISIONS)\.md")
 NOTE = "> Paths below `bench/`, `crates/`, `dev/` and `tests/` are those of the sources of lpis.\n"
 
@@ -19,6 +19,7 @@ def named(text, prefix):
     text = re.sub(r"\btools/recipes\b", f"{prefix}/lib/lpis/recipes", text)
     text = re.sub(rf"\btools/({'|'.join(COMMANDS)})\b", r"lpis-\1", text)
     text = re.sub(r"\btools/(audit\w*\.sql)", rf"{prefix}/lib/lpis/\1", text)
+    text = re.sub(r"(?<![\w/.])audit/", f"{prefix}/lib/lpis/audit/", text)
     text = re.sub(r'\./lpis(?= |`|")|"\$(?:OLD)?PWD/lpis"', "lpis", text)
     text = re.sub(r"(?<![\w/])examples/(?=\w)", f"{prefix}/share/doc/lpis/examples/", text)
     return re.sub(rf"\bdocs/({'|'.join(PAGES)})\.md", rf"{prefix}/share/doc/lpis/\1.md", text)
