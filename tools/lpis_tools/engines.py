@@ -64,7 +64,17 @@ def by_snakemake(folder, target, at_once, profile, quiet, surroundings):
     if not snakefile.is_there():
         raise Trouble("there is no snakemake")
     write(os.path.join(folder, "Snakefile"), snakefile.SNAKEFILE)
-    ending.run(snakefile.command(target, at_once, profile, quiet), cwd=folder, env={**os.environ, **snakefile.SAFE, **surroundings}, stdout=2, check=False)
+    own = os.path.join(folder, snakefile.OWN)
+    if profile and os.path.realpath(profile) == os.path.realpath(own):
+        write_profile(own)
+        if others := sorted(name for name in os.listdir(own) if name.startswith("config.v")):  # of later versions, which take these first
+            raise Trouble(f"{os.path.join(own, others[0])} is none of this tool's, and Snakemake may run it: remove it, or name a profile in another folder")
+    ending.run(snakefile.command(target, at_once, profile, quiet), cwd=folder, env=snakefile.surroundings(surroundings), stdout=2, check=False)
+
+
+def write_profile(own):
+    os.makedirs(own, exist_ok=True)
+    write(os.path.join(own, "config.yaml"), snakefile.PROFILE)
 
 
 def absolute(command):
@@ -89,8 +99,7 @@ def run(command, words, regions):
     folder, at_once = words.folder, words.jobs or len(os.sched_getaffinity(0))
     write(os.path.join(folder, "Makefile"), MAKEFILE.format(regions=" ".join(regions)))
     write(os.path.join(folder, "Snakefile"), snakefile.SNAKEFILE)
-    os.makedirs(os.path.join(folder, "slurm"), exist_ok=True)
-    write(os.path.join(folder, "slurm", "config.yaml"), snakefile.PROFILE)
+    write_profile(os.path.join(folder, snakefile.OWN))
     program = shlex.join(absolute(command))
     if words.profile or words.snakemake:
         by_snakemake(folder, "certificates", at_once, words.profile, "all", {"LPIS": program})

@@ -106,6 +106,7 @@ keep-going: true
 """
 # What a run that was killed has left is no lock, and what it had begun is done again; a job is run where a file is newer, and for nothing else.
 ALWAYS = ["-s", "Snakefile", "-k", "--nolock", "--rerun-incomplete", "--rerun-triggers", "mtime"]
+OWN = "slurm"  # the folder of the profile that is written beside the regions
 SAFE = {"PYTHONSAFEPATH": "1", "PYTHONDONTWRITEBYTECODE": "1"}  # jobs take no module of the folder either
 
 
@@ -113,6 +114,11 @@ def command(target, jobs, profile, quiet):
     """The words that run a target. A profile of the folder that is not named is not taken."""
     words = ["snakemake", *ALWAYS, *(["--workflow-profile", "none"] if knows("--workflow-profile") else [])]
     return [*words, *(["--profile", os.path.abspath(profile)] if profile else ["-q", quiet, "-j", str(jobs)]), target]
+
+
+def surroundings(more):
+    """The environment of a run. Snakemake looks for a profile that the environment names in the folder first: only the one that --profile names is taken."""
+    return {**{name: value for name, value in os.environ.items() if name != "SNAKEMAKE_PROFILE"}, **SAFE, **more}
 
 
 def knows(option):
