@@ -1,5 +1,6 @@
 """Which edge lies next to the left of a place, for many places at once, among edges that meet at corners alone. Exact: in whole numbers, and in fractions
-where two edges are near one another."""
+where two edges are near one another. Cells are quick where edges are spread out; where they lie in heaps, or far from the places, a line that goes upward
+over all of them finds what is left, in the time of a sort."""
 
 from __future__ import annotations
 
@@ -11,6 +12,8 @@ from .noding import WIDE, cells_along, expanded, key_of, parts_of, side_of, size
 
 NONE = -1
 NEAR = 0.01  # millimetres: places on a line that doubles may take for one another
+MOST = 32  # edges that are looked at for each edge and each place before the rest is swept
+TURN = 256  # what each turn over the places that wait counts besides
 
 
 class Leftward:
@@ -19,7 +22,7 @@ class Leftward:
     def __init__(self, edges):
         upward = edges[:, 1] <= edges[:, 3]
         self.edges = numpy.where(upward[:, None], edges, edges[:, [2, 3, 0, 1]])
-        self.side = size_of_cells(edges)
+        self.side, self.looked = size_of_cells(edges), 0
         edge, column, row = cells_along(self.edges, self.side)
         level = self.edges[edge, 1] == self.edges[edge, 3]
         edge, column, row = edge[~level], column[~level], row[~level]
@@ -41,6 +44,11 @@ class Leftward:
             waiting = waiting[((key + (1 << 31)) >> 32 == row[waiting]) & (end >= best[waiting])]
             if not len(waiting):
                 return found
+            more = TURN + len(waiting) + int(self.counts[cell[waiting]].sum())
+            if self.looked + more > MOST * (len(self.edges) + len(places) + TURN):
+                found[waiting] = swept(self.edges, places[waiting])
+                return found
+            self.looked += more
             self.look(waiting, cell[waiting], places, found, best)
             cell[waiting] -= 1
 
@@ -62,9 +70,10 @@ class Leftward:
         """Takes the next ones of some edges to the left of places."""
         lines = self.edges[edge].astype(float)
         x = lines[:, 0] + (places[place, 1] - lines[:, 1]) / (lines[:, 3] - lines[:, 1]) * (lines[:, 2] - lines[:, 0])
-        most = best.copy()
-        numpy.maximum.at(most, place, x)
-        near = x >= most[place] - NEAR
+        _, first, which = numpy.unique(place, return_index=True, return_inverse=True)
+        most = best[place[first]]
+        numpy.maximum.at(most, which, x)
+        near = x >= most[which] - NEAR
         edge, place, x = edge[near], place[near], x[near]
         for one, where, at in sorted(zip(edge.tolist(), place.tolist(), x.tolist()), key=lambda found: found[2]):
             if found[where] == NONE or at > best[where] + NEAR or self.exact(one, places[where]) > self.exact(found[where], places[where]):
@@ -76,3 +85,46 @@ class Leftward:
         ax, ay, bx, by = self.edges[edge].tolist()
         slope = Fraction(bx - ax, by - ay)
         return ax + (int(place[1]) - ay) * slope, slope
+
+
+def swept(edges, places):
+    """The number of the next edge to the left of each place, or NONE, of edges that lead upward. The line has the edges that it goes through in order."""
+    levels = numpy.unique(places[:, 1])
+    numbers = numpy.nonzero(numpy.searchsorted(levels, edges[:, 1]) < numpy.searchsorted(levels, edges[:, 3]))[0]
+    lines, found, crossed = edges[numbers].tolist(), numpy.full(len(places), NONE), []
+    for (y, kind, x), some in events_of(lines, places.tolist()):
+        at = behind(crossed, lines, x, y)
+        if kind == ENDS:
+            del crossed[at : at + len(some)]
+        elif kind == BEGINS:
+            crossed[at:at] = some if len(some) == 1 else sorted(some, key=lambda one: Fraction(lines[one][2] - lines[one][0], lines[one][3] - lines[one][1]))
+        elif at:
+            found[some] = numbers[crossed[at - 1]]
+    return found
+
+
+ENDS, BEGINS, ASKED = range(3)
+
+
+def events_of(lines, places):
+    """What the line meets on its way upward: where edges end, then where some begin, then places, each with all that are there."""
+    events = {}
+    for number, (ax, ay, bx, by) in enumerate(lines):
+        events.setdefault((ay, BEGINS, ax), []).append(number)
+        events.setdefault((by, ENDS, bx), []).append(number)
+    for number, (x, y) in enumerate(places):
+        events.setdefault((y, ASKED, x), []).append(number)
+    return sorted(events.items())
+
+
+def behind(crossed, lines, x, y):
+    """How many edges of a line lie left of a place on it."""
+    low, high = 0, len(crossed)
+    while low < high:
+        middle = (low + high) // 2
+        ax, ay, bx, by = lines[crossed[middle]]
+        if (bx - ax) * (y - ay) < (by - ay) * (x - ax):
+            low = middle + 1
+        else:
+            high = middle
+    return low
