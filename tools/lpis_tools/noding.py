@@ -116,12 +116,12 @@ class Corners:
         return numpy.searchsorted(keys, ((points[:, 0] - least[0]) << 32) | (points[:, 1] - least[1]))
 
 
-def size_of_cells(edges):
+def size_of_cells(edges, least=1000):
     """The side of a cell in millimetres: about the middle length of an edge."""
     if not len(edges):
-        return 1000
+        return least
     lengths = numpy.abs(edges[:, 2:] - edges[:, :2]).max(axis=1)
-    return int(max(1000, numpy.median(lengths), lengths.mean() / 4, lengths.max() / 100_000))
+    return int(max(least, numpy.median(lengths), lengths.mean() / 4, lengths.max() / 100_000))
 
 
 def cells_along(edges, side):
