@@ -6,7 +6,7 @@ from __future__ import annotations
 from dataclasses import dataclass
 
 import numpy
-from shapely.geometry import MultiPolygon, Polygon
+from shapely.geometry import Polygon
 from shapely.ops import unary_union
 
 from . import faces
@@ -74,7 +74,7 @@ class Between:
             strips.setdefault((min(one, other), max(one, other)), []).append(Polygon(strip))
         gaps, names = [], list(numbers)
         for pair, found in sorted(strips.items()):
-            whole = MultiPolygon(found).buffer(HAIR, join_style=2).buffer(-HAIR, join_style=2)
+            whole = unary_union(found).buffer(HAIR, join_style=2).buffer(-HAIR, join_style=2)
             gaps += [Gap([names[number] for number in pair], part) for part in getattr(whole, "geoms", [whole]) if part.area > 0]
         return gaps
 
