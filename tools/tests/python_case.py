@@ -12,9 +12,7 @@ import places
 TOP = pathlib.Path(places.TOP)
 PYTHON, EXAMPLES = TOP / "python", TOP / "examples"
 sys.path[:0] = [str(PYTHON / "src"), str(TOP / "dev"), str(TOP / "bench")]
-LIBRARY = pathlib.Path(os.environ.get("LPIS_LIBRARY") or TOP / "out" / "library" / "liblpis.so")
-BACKENDS = ["program", *(["library"] if LIBRARY.exists() else [])]
-NO_LIBRARY = "no liblpis.so in out/library (dev/library), and LPIS_LIBRARY names none"
+NO_LIBRARY = "no liblpis.so of these sources in out/library (dev/library), and LPIS_LIBRARY names none"
 ALONE = {name: value for name, value in os.environ.items() if not name.startswith(("PYTHON", "PIP_", "LPIS"))}  # nothing that leads to this clone
 
 
@@ -31,3 +29,17 @@ def done(*words, **more):
 def has(name):
     """Whether this Python has a module."""
     return importlib.util.find_spec(name) is not None
+
+
+def library():
+    """The library that is named, or that was built here after the last change of its sources; None where there is none."""
+    if os.environ.get("LPIS_LIBRARY"):
+        return pathlib.Path(os.environ["LPIS_LIBRARY"])
+    built = TOP / "out" / "library" / "liblpis.so"
+    crates = done(TOP / "dev" / "sources", "--crates", "lpis_page").split()
+    changed = max(path.stat().st_mtime for crate in crates for path in (TOP / "crates" / crate / "src").rglob("*.rt"))
+    return built if built.exists() and built.stat().st_mtime > changed else None
+
+
+LIBRARY = library()
+BACKENDS = ["program", *(["library"] if LIBRARY else [])]

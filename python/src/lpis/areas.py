@@ -21,7 +21,8 @@ class Area(Fraction):
     _text: str
 
     def __new__(cls, text: str) -> Area:
-        made = super().__new__(cls, text)
+        whole, _, decimals = text.partition(".")
+        made = super().__new__(cls, int(whole + decimals), 10 ** len(decimals))
         made._text = text
         return made
 

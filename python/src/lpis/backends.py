@@ -13,6 +13,7 @@ from .refusals import Failed
 LINE = 160  # bytes of a report's line, more than most have
 CORNER = 120  # bytes that a certificate needs for a corner, more than most do
 MOST_ROOM = 400_000_000
+PROCESSOR = {"cx16", "popcnt", "sse4_1", "sse4_2", "ssse3"}  # the kit compiles for x86-64-v2
 NO_ANSWER = "no answer: memory ran out, or an input is over 1 GiB"
 
 
@@ -130,23 +131,34 @@ def run(*words: str) -> Answer:
     return Answer(ended.stdout, ended.returncode)
 
 
+def loaded() -> Library:
+    """The library. A processor on which it cannot run would end this process."""
+    path = tree.library()
+    if path is None:
+        raise Failed(f"there is no {tree.LIBRARY} beside this package, and LPIS_LIBRARY names none")
+    try:
+        known = set(Path("/proc/cpuinfo").read_text("ascii", "replace").split())
+        if not PROCESSOR <= known:
+            raise Failed(f"{path} does not run on this processor, which lacks {' '.join(sorted(PROCESSOR - known))}")
+        return Library(path)
+    except (OSError, AttributeError) as error:
+        raise Failed(f"{path} is no library that loads here: {error}") from None
+
+
 _chosen: list[Backend] = []
 
 
 def choose(wanted: str = "") -> Backend:
     """The one that is wanted from now on; of no name the library, where it is there and loads, else the program."""
-    path = tree.library()
     if wanted not in ("", Library.name, Program.name):
         raise ValueError(f"{wanted!r} is neither library nor program")
     found: Backend = Program()
-    if wanted != Program.name and path:
+    if wanted != Program.name:
         try:
-            found = Library(path)
-        except (OSError, AttributeError) as error:
+            found = loaded()
+        except Failed:
             if wanted:
-                raise Failed(f"{path} is no library that loads here: {error}") from None
-    elif wanted == Library.name:
-        raise Failed(f"there is no {tree.LIBRARY} beside this package, and LPIS_LIBRARY names none")
+                raise
     _chosen[:] = [found]
     return found
 
