@@ -8,7 +8,7 @@ import json
 import os
 import sqlite3
 
-from . import balance, conflicts, files, outcome, polygons, rounding, wkb
+from . import balance, conflicts, files, last_year, outcome, polygons, rounding, wkb
 from .snapping import REACH
 
 RULE = "lpis cells 2"  # what another rule gave is not taken
@@ -46,19 +46,20 @@ class Cell:
     """A cell: the names of its parcels, its rows and those that their rounding hangs on: each whose box comes within reach of one of these."""
 
     def __init__(self, base, number):
-        own, numbers = set(), set()
+        own, numbers, boxes = set(), set(), []
         for one, left, low, right, high in base.execute(OWN, (number,)).fetchall():
             own.add(one)
             if left is not None:
+                boxes.append((left - REACH, low - REACH, right + REACH, high + REACH))
                 numbers.update(other for (other,) in base.execute(BESIDE, (right + REACH, left - REACH, high + REACH, low - REACH)))
         rows = [Row(*fields) for one in sorted(numbers | own) for fields in base.execute(FIELDS, (one,))]
-        self.wanted = {row["parcel"] for row in rows if row.id in own}
+        self.wanted, self.then = {row["parcel"] for row in rows if row.id in own}, last_year.corners_in(base, boxes)
         self.own = {name: [row for row in rows if row.is_cover == is_cover and row.id in own] for is_cover, name in enumerate(("parcels", "covers"))}
         self.parcels, self.covers = ([row for row in rows if row.is_cover == is_cover and row.found] for is_cover in (0, 1))
 
     def name(self):
-        """A digest of the parcels that are wanted and of the rows, in their order."""
-        digest = hashlib.sha256(RULE.encode())
+        """A digest of the parcels that are wanted, of last year's corners, and of the rows, in their order."""
+        digest = hashlib.sha256(RULE.encode() + self.then.tobytes())
         for words in (sorted(self.wanted), *(row.digest for rows in (*self.own.values(), self.parcels, self.covers) for row in rows)):
             digest.update(json.dumps(words).encode())
         return f"{digest.hexdigest()}.jsonl"
@@ -81,7 +82,7 @@ def made(path, number, results):
 
 def records_of(cell):
     """The records of a cell: `piece` and `parcel` with the text, `loss`, `greatest` with the greatest change of a parcel, `sum` of the balance."""
-    made_map = rounding.Map(cell.parcels, cell.covers, lambda words: None)
+    made_map = rounding.Map(cell.parcels, cell.covers, lambda words: None, then=cell.then)
     texts = {"covers": texts_of_pieces(cell, made_map), "parcels": texts_of_parcels(cell, made_map)}
     for kind, name in (("piece", "covers"), ("parcel", "parcels")):
         yield from ((kind, row[kind], text) for row, text in texts[name] if row["parcel"] in cell.wanted)

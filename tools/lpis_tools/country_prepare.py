@@ -7,13 +7,13 @@ import os
 import shutil
 import tempfile
 
-from . import engines, files, findings, gathering, jobs, land, losses, naming, parts, passes, prepared, progress, splitting, store, streams
+from . import engines, files, findings, gathering, jobs, land, last_year, losses, naming, parts, passes, prepared, progress, splitting, store, streams
 
 
 class Run(prepared.Run):
     """A run whose tables are those of regions. `words` has also `workers`, `snakemake`, `profile`, the limits of a region, `anew`, `lineage` and `tables`."""
 
-    NAME = "country"
+    NAME, LAST_YEAR = "country", last_year.LastYear
 
     def __init__(self, words, names, say):
         super().__init__(words, names, say)
@@ -59,7 +59,9 @@ class Run(prepared.Run):
         passes.join(work)
         work.tell_shapeless()
         work.at(passes.CLASSES)
-        return work, self.whole, names, self.tested_classes(work, names)
+        classes = self.tested_classes(work, names)
+        self.last_year(work)
+        return work, self.whole, names, classes
 
     def tested_classes(self, work, names):
         classes = naming.classes(work, names, self.classes(work.layers), passes.classes_used(self.base))
@@ -106,12 +108,18 @@ class Run(prepared.Run):
         """Has all cells rounded, and puts together what they give."""
         if self.gathered is None:
             count = store.put_cells(self.base)
+            if self.previous:
+                self.say(f"reading the corners of {self.previous.folder}")
+                self.previous.put(self.base)
             self.say(f"rounding {count} cells")
             names = engines.prepared(self.words, self.results, "cell", [None] * count)
             self.whole.begin(None)
             self.gathered = gathering.Gathered(self.base, self.results, names, self.whole)
             self.gathered.read(progress.Progress("country", "reading what was rounded", count, "cells"))
             jobs.clear(self.results, [*self.kept_files, *names, jobs.STORE])
+            if self.previous:
+                self.say(f"comparing with {self.previous.folder}")
+                self.previous.count(self.base, self.gathered.text_of_parcel)
         return self.gathered
 
     def conflicts(self, _work, seen):

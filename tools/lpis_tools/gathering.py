@@ -13,6 +13,7 @@ from .conflicts import ORDER, Loss
 CONFLICTS = ("overlap", "gap", "outside")
 FIELDS = "kind, names, words, told, shape, width, area, layer, rows, is_grave, x, y"
 FOUND = "SELECT id FROM row WHERE is_cover = ? AND name = ? AND is_kept"
+TEXT = "SELECT cell, at FROM row JOIN text USING (id) WHERE is_cover = 0 AND name = ? AND is_kept"
 AS_TOLD, AS_FOUND = "words || told", "words"
 MOST_OPEN = 200  # files at once
 BETWEEN = "\x01"  # names in the order of lists of names
@@ -120,6 +121,11 @@ class Gathered:
             file = self.open[cell] = open(self.path(cell), "rb")
         file.seek(at)
         return json.loads(file.readline())[2]
+
+    def text_of_parcel(self, name):
+        """The text of a parcel, or None."""
+        found = self.base.execute(TEXT, (name,)).fetchone()
+        return self.text_of(*found) if found else None
 
     def tables(self, out, tracked):
         """Writes covers.csv and parcels.csv in the order of the source. `tracked`: rows as they come, with their progress."""

@@ -15,7 +15,7 @@ TABLES = ("parcels.csv", "covers.csv", "classes.csv")
 class Run:
     """A run from a source to tables: what it was asked, and the folder beside the tables where they are made. `close` ends it."""
 
-    NAME = "prepare"
+    NAME, LAST_YEAR = "prepare", previous.Previous
 
     def __init__(self, words, names, say):
         self.words, self.names, self.say, self.previous = words, names, say, None
@@ -88,7 +88,7 @@ class Run:
         if self.words.previous is None:
             return
         try:
-            self.previous = previous.Previous(self.words.previous)
+            self.previous = self.LAST_YEAR(self.words.previous)
             why = self.previous.why_not(work)
         except land.Trouble as trouble:
             why = str(trouble)

@@ -46,10 +46,10 @@ def metres(value):
 class Map:
     """A land with all borders rounded together: the piece of each face."""
 
-    def __init__(self, parcels, covers, say, previous=None):
+    def __init__(self, parcels, covers, say, previous=None, then=()):
         self.parcels, self.covers, self.previous = parcels, covers, previous
         say(f"borders, as those of {previous.folder} where they are the same" if previous else "borders")
-        self.network = snapping.network_of([row.found for row in parcels + covers], say, previous)
+        self.network = snapping.network_of([row.found for row in parcels + covers], say, previous, then)
         say("faces")
         self.faces = faces.Faces(self.network)
         self.windings = self.faces.windings()

@@ -22,7 +22,7 @@ from .noding import PART, Corners, Network, expanded, key_of, parts_of
 
 BITS = 10
 WHOLE, HALF = 1 << BITS, 1 << (BITS - 1)  # parts of a millimetre, and of half of one
-REACH = 0.002  # metres: half a millimetre for the move, half of one for a pixel, a thousandth of one for step 1, and room
+REACH = 0.003  # metres: half a millimetre for the move, one and a half for a pixel and those around it, a thousandth of one for step 1, and room
 LONG = 1 << 29  # parts: products of differences of shorter edges fit 64 bits
 DOUBT = 1e-6  # pixels: crossings so near to a pixel's side are placed in whole numbers; doubles err by less than 1e-9
 
@@ -193,9 +193,23 @@ def drawn(edges):
     return hot, edge[kept], corner[kept], network if kept.all() else edges.network(hot, edge[kept], corner[kept])
 
 
-def network_of(founds, say, previous=None):
+def are_beside(points, ends):
+    """Which of some pixels have no end of an edge, and one in a pixel around them."""
+    every = numpy.concatenate([points, ends])
+    wide, high = (int(size) + 3 for size in numpy.ptp(every, axis=0))
+    places = (every - every.min(axis=0)).astype(numpy.int64 if wide * high < 1 << 62 else object)
+    key = places[:, 0] * high + places[:, 1]
+    found, taken = key[: len(points)], numpy.unique(key[len(points) :])
+    is_beside = [numpy.isin(found + (right * high + up), taken) for right in (-1, 0, 1) for up in (-1, 0, 1) if right or up]
+    return ~numpy.isin(found, taken) & numpy.any(is_beside, axis=0)
+
+
+def network_of(founds, say, previous=None, then=()):
     """The borders of shapes as edges in whole millimetres that meet at corners alone; owners are the shapes' numbers. `previous` has last year's borders,
-    which an edge takes where it is the same."""
+    which an edge takes where it is the same. `then` are corners of last year, whose pixels are hot as if an end lay in them, unless one lies in a pixel
+    around: such a corner has moved."""
     edges = Edges.of(founds)
+    if len(then):
+        edges.points = numpy.concatenate([edges.points, then[~are_beside(then, edges.pixels())]])
     *ways, network = drawn(edges)
     return previous.network(edges, *ways, say) if previous else network

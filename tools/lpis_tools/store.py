@@ -22,6 +22,8 @@ CREATE VIRTUAL TABLE box USING rtree(id, left, right, low, high);
 CREATE TABLE cell (parcel TEXT PRIMARY KEY, number INTEGER) WITHOUT ROWID;
 CREATE TABLE used (name TEXT PRIMARY KEY) WITHOUT ROWID;
 CREATE TABLE text (id INTEGER PRIMARY KEY, cell INTEGER, at INTEGER);
+CREATE TABLE corner (id INTEGER PRIMARY KEY, places BLOB);
+CREATE VIRTUAL TABLE box_of_corner USING rtree(id, left, right, low, high);
 CREATE TABLE loss (seq INTEGER PRIMARY KEY, is_conflict INTEGER, first INTEGER, second INTEGER, is_stopping INTEGER, kind INTEGER, size REAL, names TEXT, words TEXT, told TEXT, shape BLOB, width REAL,
   area REAL, layer TEXT, rows TEXT, is_grave INTEGER, x REAL, y REAL);
 """

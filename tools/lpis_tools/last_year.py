@@ -1,0 +1,93 @@
+"""Last year's tables, of a release or of a country, row by row: the corners of its pieces, which this year's borders go over where they meet their pixels. So a
+border whose source did not change stays as it was, though a neighbour's corner on it is gone. This is local, as the rounding is, and has no passes."""
+
+from __future__ import annotations
+
+import os
+
+import numpy
+
+from . import land, polygons, previous, streams, tables, years
+
+THEN = "SELECT places FROM box_of_corner JOIN corner USING (id) WHERE left <= ? AND right >= ? AND low <= ? AND high >= ?"
+NUMBERS = bytes.maketrans(b"(),", b"   ")
+
+
+def corners_of(text):
+    """The points of a polygon's text in whole millimetres, or None where it is none."""
+    if polygons.WRITTEN.match(text):
+        return numpy.array(text[12:].translate(NUMBERS, b".").split(), numpy.int64).reshape(-1, 2)
+    members = polygons.read(text)
+    return None if members is None else numpy.array(polygons.points(members), numpy.int64).reshape(-1, 2)
+
+
+def corners_in(base, boxes):
+    """The corners of a store that lie in some boxes in metres, each once and in order."""
+    found = [numpy.zeros((0, 2), numpy.int64)]
+    for left, low, right, high in boxes:
+        for (places,) in base.execute(THEN, (right, left, high, low)):
+            places = numpy.frombuffer(places, numpy.int64).reshape(-1, 2)
+            found.append(places[((places >= [1000 * left, 1000 * low]) & (places <= [1000 * right, 1000 * high])).all(axis=1)])
+    return numpy.unique(numpy.concatenate(found), axis=0)
+
+
+class LastYear:
+    """The tables of a folder."""
+
+    def __init__(self, folder):
+        self.folder, self.system, self.counts = folder, previous.system_of(folder), None
+        try:
+            self.folders = [os.path.join(folder, region) for region in years.regions_of(folder)]
+        except years.Trouble as trouble:
+            raise land.Trouble(str(trouble)) from None
+        for name in ("covers", "parcels"):
+            for path in (tables.path_of(each, name) for each in self.folders):
+                if not os.path.isfile(path):
+                    raise land.Trouble(f"{folder} has no table {os.path.relpath(path, folder)} of last year")
+
+    def why_not(self, work):
+        """Why a source cannot have these borders, by what is known before they are read; nothing where it can."""
+        if work.epsg and self.system and work.epsg != self.system:
+            return f"its tables are in EPSG:{self.system}, and this release is in EPSG:{work.epsg}"
+        return ""
+
+    def rows(self, name, column):
+        """Identifiers and texts of a table; a row of several regions comes from each of them."""
+        for folder in self.folders:
+            path = tables.path_of(folder, name)
+            try:
+                for row, (key, text), _ in streams.Stream(streams.Folder(folder), name, [column, "wkt"]):
+                    yield f"{path} row {row}: {streams.shown(key)}", key, text
+            except streams.Trouble as trouble:
+                raise land.Trouble(f"{path}: {trouble}") from None
+
+    def shapes(self):
+        """The corners of each piece."""
+        for place, _, text in self.rows("covers", "piece"):
+            corners = corners_of(text.encode("latin-1"))
+            if corners is None:
+                raise land.Trouble(f"{place}: its wkt is no polygon in millimetres")
+            if len(corners):
+                yield corners
+
+    def put(self, base):
+        """Writes the corners into a store, piece by piece. None of them where this year's land lies is trouble."""
+        land_box, is_near = base.execute("SELECT min(left), min(low), max(right), max(high) FROM row").fetchone(), False
+        for number, corners in enumerate(self.shapes()):
+            left, low, right, high = (corners.min(axis=0) / 1000).tolist() + (corners.max(axis=0) / 1000).tolist()
+            base.execute("INSERT INTO corner VALUES (?, ?)", (number, corners.tobytes()))
+            base.execute("INSERT INTO box_of_corner VALUES (?, ?, ?, ?, ?)", (number, left, right, low, high))
+            is_near |= left <= land_box[2] and right >= land_box[0] and low <= land_box[3] and high >= land_box[1]
+        if not is_near:
+            raise land.Trouble(f"{self.folder}: no piece of its tables lies where this source does: is it of another place, or of another system?")
+        base.commit()
+
+    def count(self, base, text_of):
+        """How many parcels have the text that they had, and how many there were; `text_of` gives this year's by identifier. `base` is a database for it."""
+        base.execute("CREATE TABLE last_year (name TEXT PRIMARY KEY, is_same INTEGER) WITHOUT ROWID")
+        base.executemany("INSERT OR IGNORE INTO last_year VALUES (?, ?)", ((name, text_of(name) == text) for _, name, text in self.rows("parcels", "parcel")))
+        self.counts = base.execute("SELECT total(is_same), count(*) FROM last_year").fetchone()
+
+    def words(self):
+        """How many stayed, for people."""
+        return f"parcels as in {self.folder}, to the millimetre: {self.counts[0]:.0f} of its {self.counts[1]}"
