@@ -7,12 +7,13 @@ import datetime
 import os
 from dataclasses import dataclass, field
 
-from . import ending, page, registers, release_page, report, streams, tiles
+from . import country_changes, differences, ending, origin, page, registers, release_page, report, streams, tiles
 from .areas import AREA, both, decimal, hectares
 from .explaining import Explained
 
 CELLS = 60  # squares of the map's longer side, in which parcels are counted
 FILES = ("parcels", "covers", "classes")
+KEYS = ("parcels", "pieces", "area", "eligible", "findings", "accepted", "new", "gone", "changed", "moved")  # of a region's row
 
 
 @dataclass
@@ -78,8 +79,8 @@ def files_of(folder, tiling):
     return report.digests({name: os.path.join(folder, name) for name in ["country.txt", "classes.csv", *names, "exact.txt"]})
 
 
-def make(command, folder, register=None):
-    """Runs `lpis country`, and reports what is known of the country, and of a register."""
+def make(command, folder, register=None, old=None):
+    """Runs `lpis country`, and reports what is known of the country, of a register, and of an older year."""
     began = datetime.datetime.now(datetime.timezone.utc)
     tiling = tiling_of(folder)
     files = files_of(folder, tiling)
@@ -92,7 +93,12 @@ def make(command, folder, register=None):
     if answer == "yes" and ((totals.get("parcels"), totals.get("area")) != (count, area) or list(passed) != tiling.folders):
         raise report.Trouble(f"lpis reports {totals} of {len(passed)} regions, and the tables have {count} parcels with {area} m2 of {len(regions)} by this tool: one of the two is wrong")
     facts = {"date": began.strftime("%Y-%m-%dT%H:%M:%SZ"), "folder": os.path.abspath(folder), "program": report.of_program(command), "files": files, "answer": answer, "status": run.returncode,
-             "country": totals, "regions": [{"region": name, **passed.get(name, {})} for name in tiling.folders]}
+             "country": totals, "origin": origin.facts(folder, None)}
+    tiles = country_changes.reported(folder, tiling)
+    if old is not None:
+        found, changed = country_changes.difference(old, folder, tiling)
+        facts["difference"], tiles = {"old": os.path.abspath(old), **found}, {name: {**row, **changed[name]} for name, row in tiles.items()}
+    facts["regions"] = [{"region": name, **passed.get(name, {}), **tiles[name]} for name in tiling.folders]
     if register is not None:
         facts["register"] = registers.facts(register)
     country = Country(facts, tiling, regions)
@@ -106,10 +112,12 @@ def make(command, folder, register=None):
 def lines(country):
     """What is printed."""
     facts = country.facts
-    counted = [f"region {row['region']}" + (f" parcels {row['parcels']} pieces {row['pieces']} area {row['area']} ({hectares(row['area'])})" if "area" in row else " has no answer") for row in facts["regions"]]
+    counted = [f"region {row['region']}" + (f" parcels {row['parcels']} pieces {row['pieces']} area {row['area']} ({hectares(row['area'])})" if "area" in row else " has no answer") + country_changes.in_words(row) for row in facts["regions"]]
     totals = facts["country"]
     return [facts["answer"], *(f"  {words}" for words in facts.get("refusal", {}).get("words", [])), *counted,
             *([f"country regions {totals['regions']} parcels {totals['parcels']} area {totals['area']} ({hectares(totals['area'])})"] if totals else []),
+            *(origin.lines(facts["origin"]) if facts["origin"] else []),
+            *([f"since {facts['difference']['old']}: {differences.in_words(facts['difference'])}"] if "difference" in facts else []),
             *([f"register {registers.in_words(facts['register'])}"] if "register" in facts else [])]
 
 
@@ -143,9 +151,10 @@ def write(path, country):
     head += [("register", registers.in_words(facts["register"]))] if "register" in facts else []
     head += [("", words) for words in facts.get("refusal", {}).get("words", [])]
     heads = {3: f"in the country {hectares(totals['area'])}", 4: f"in the country {hectares(totals['eligible'])}"} if totals else {}
-    rows = [[row["region"], *(row.get(key, "") for key in ("parcels", "pieces", "area", "eligible"))] for row in facts["regions"]]
+    head += [("before the tables", words) for words in origin.lines(facts["origin"])]
+    rows = [[row["region"], *(row.get(key, "") for key in KEYS)] for row in facts["regions"]]
     regions = page.Table("Regions (a parcel that meets several tiles counts in each of them, and once in the country)",
-                         ["region", "#parcels", "#pieces", "#area m\u00b2", "#eligible m\u00b2"], rows, [("tiles", number) for number in range(len(rows))], heads)
+                         ["region", "#parcels", "#pieces", "#area m\u00b2", "#eligible m\u00b2", *(f"#{key}" for key in KEYS[4:])], rows, [("tiles", number) for number in range(len(rows))], heads)
     files = page.Table("Files", ["file", "#bytes", "sha256"], [[name, file["bytes"], file["sha256"]] for name, file in facts["files"].items()])
     title = f"Country {os.path.basename(facts['folder'])}"
-    release_page.write(path, page.page(title, facts["answer"], facts["answer"] == "yes", head, chart_of(country), [regions, files]))
+    release_page.write(path, page.page(title, facts["answer"], facts["answer"] == "yes", head, chart_of(country), [regions, *release_page.origin_tables(facts["origin"]), *release_page.changes_tables(facts), files]))

@@ -1,46 +1,60 @@
 """What became of the parcels of an older release: new, gone, of another area, moved, with the rows of lineage that explain them."""
 
-from . import polygons, shapely_there
+import os
+
+from . import polygons, shapely_there, years
 from .areas import AREA, decimal
 from .tables import Table, path_of, shown
 
 
 def lineage(folder):
-    """What became of each old identifier, and what each new one came from, by lineage.csv."""
+    """What became of each old identifier, and what each new one came from, by lineage.csv, of a country by that of each region."""
     to, came = {}, {}
-    try:
-        table = Table(path_of(folder, "lineage"), "lineage")
-    except OSError:
-        return to, came
-    for _, record in table.rows():
-        old, new = (shown(table.field(record, name)) for name in ("old", "new"))
-        to.setdefault(old, []).append(new)
-        if new:
-            came.setdefault(new, []).append(old)
+    for region in years.regions_of(folder):
+        try:
+            table = Table(path_of(os.path.join(folder, region), "lineage"), "lineage")
+        except OSError:
+            continue
+        for _, record in table.rows():
+            old, new = (shown(table.field(record, name)) for name in ("old", "new"))
+            to.setdefault(old, []).append(new)
+            if new:
+                came.setdefault(new, []).append(old)
     return to, came
 
 
 def difference(old, land, folder):
     """Of two releases' parcels, the newer one's folder has lineage.csv."""
-    to, came = lineage(folder)
-    before, after = ({name: polygons.doubled(members) for name, members in parcels.items()} for parcels in (old.parcels, land.parcels))
-    kept = sorted(set(before) & set(after))
-    new = [{"parcel": name, "area": decimal(after[name], AREA), "from": came.get(name, [])} for name in sorted(set(after) - set(before))]
-    gone = [{"parcel": name, "area": decimal(before[name], AREA), "to": [other for other in to.get(name, []) if other], "ended": "" in to.get(name, []),
-             "explained": name in to} for name in sorted(set(before) - set(after))]
-    changed = [{"parcel": name, "before": decimal(before[name], AREA), "after": decimal(after[name], AREA), "difference": decimal(after[name] - before[name], AREA), "from": came.get(name, [])}
-               for name in kept if before[name] != after[name]]
-    others = [name for name in kept if before[name] == after[name] and set(polygons.points(old.parcels[name])) != set(polygons.points(land.parcels[name]))]
-    return {"new": new, "gone": gone, "changed": changed, "other_shape_same_area": others, "moved": moved(old, land), "kept": len(kept) - len(changed) - len(others)}
+    differing = [name for name in sorted(old.parcels) if name in land.parcels and old.parcels[name] != land.parcels[name]]
+    return of_shapes(old.parcels, land.parcels, differing, lineage(folder))
 
 
-def moved(old, land):
+def of_shapes(old, new, differing, rows):
+    """Of two years' shapes, with the names that both have and whose shapes differ, and what the rows of lineage say."""
+    (to, came), changed, others = rows, [], []
+    added = [{"parcel": name, "area": area_of(new[name]), "from": came.get(name, [])} for name in sorted(name for name in new if name not in old)]
+    gone = [{"parcel": name, "area": area_of(old[name]), "to": [other for other in to.get(name, []) if other], "ended": "" in to.get(name, []),
+             "explained": name in to} for name in sorted(name for name in old if name not in new)]
+    for name in differing:
+        before, after = polygons.doubled(old[name]), polygons.doubled(new[name])
+        if before != after:
+            changed.append({"parcel": name, "before": decimal(before, AREA), "after": decimal(after, AREA), "difference": decimal(after - before, AREA), "from": came.get(name, [])})
+        elif set(polygons.points(old[name])) != set(polygons.points(new[name])):
+            others.append(name)
+    return {"new": added, "gone": gone, "changed": changed, "other_shape_same_area": others, "moved": moved(differing, old, new), "kept": len(old) - len(gone) - len(changed) - len(others)}
+
+
+def area_of(members):
+    return decimal(polygons.doubled(members), AREA)
+
+
+def moved(differing, old, new):
     """Identifiers that were kept for other land, with words; None where Shapely, which finds them, is not there."""
     if not shapely_there.is_there():
         return None
     from . import moved as moves
 
-    lines = (line.split(": ", 1) for line in moves.between(sorted(set(old.parcels) & set(land.parcels)), old.parcels, land.parcels))
+    lines = (line.split(": ", 1) for line in moves.between(differing, old, new))
     return [{"parcel": name, "words": words} for name, words in lines]
 
 

@@ -139,15 +139,23 @@ def older(report):
 def difference_tables(report, old):
     if report.before is None:
         return []
-    found = report.facts["difference"]
+    numbers = {**{name: ("old", number) for number, name in enumerate(old.names)}, **numbers_of(report.land)}
+    return changes_tables(report.facts, numbers)
+
+
+def changes_tables(facts, numbers=None):
+    """What differs from an older year; `numbers` say which shape a row shows."""
+    if "difference" not in facts:
+        return []
+    found = facts["difference"]
     rows = [["moved", row["parcel"], "", "", row["words"]] for row in found["moved"] or []]
     rows += [["new", row["parcel"], "", row["area"], "from " + " ".join(row["from"]) if row["from"] else "in no row of lineage"] for row in found["new"]]
     rows += [["gone", row["parcel"], row["area"], "", became(row)] for row in found["gone"]]
     rows += [["changed", row["parcel"], row["before"], row["after"], f"{row['difference']} m\u00b2" + (f", also from {' '.join(row['from'])}" if row["from"] else "")] for row in found["changed"]]
     others, unlooked = found["other_shape_same_area"], "" if found["moved"] is not None else "; whether kept ones moved was not looked for: Shapely is not there"
     kept = f"{found['kept']} parcels are as they were" + (f", {len(others)} have another shape of the same area" if others else "") + unlooked
-    numbers = {**{name: ("old", number) for number, name in enumerate(old.names)}, **numbers_of(report.land)}
-    return [page.Table(f"Since {found['old']}: {kept}", ["what", "parcel", "#area before m\u00b2", "#area after m\u00b2", "more"], rows, [numbers.get(row[1]) for row in rows])]
+    keys = [numbers.get(row[1]) for row in rows] if numbers else []
+    return [page.Table(f"Since {found['old']}: {kept}", ["what", "parcel", "#area before m\u00b2", "#area after m\u00b2", "more"], rows, keys)]
 
 
 def became(row):

@@ -42,6 +42,9 @@ class Rows:
     def __iter__(self):
         return (name for (name,) in self.base.execute(self.all))
 
+    def __len__(self):
+        return self.base.execute(f"SELECT count(*) FROM ({self.all})").fetchone()[0]
+
 
 class Shapes(Rows):
     """The parcels of a year: identifier to members, or to None where no shape of it is kept."""
@@ -62,11 +65,15 @@ class Shapes(Rows):
     def text(self, name):
         return super().__getitem__(name)
 
+    def region(self, name):
+        """The first region that has a parcel."""
+        return self.base.execute("SELECT region FROM parcel WHERE name = ?", (name,)).fetchone()[0]
+
     def add(self, name, text, members, region=""):
         """Adds a parcel; the region that has it already, or None."""
         added = self.base.execute("INSERT OR IGNORE INTO parcel (name, wkt, region) VALUES (?, ?, ?)", (name, text, region))
         if not added.rowcount:
-            return self.base.execute("SELECT region FROM parcel WHERE name = ?", (name,)).fetchone()[0]
+            return self.region(name)
         found = polygons.box([members]) if members else None
         if found:
             left, low, right, high = found

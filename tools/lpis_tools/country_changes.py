@@ -1,0 +1,42 @@
+"""What was accepted and left out on the way to a country's tables, and what became of its parcels since an older year: in all, and by tiles. Both years are read
+parcel by parcel."""
+
+from __future__ import annotations
+
+from . import differences, origin, years
+
+FINDINGS, REPORT = "prepared.csv", "report.csv"
+CHANGES = ("new", "gone", "changed", "other_shape_same_area", "moved")
+
+
+def tile_at(tiling, x, y):
+    """The region of a place in millimetres; what lies on a cut is in the tile from the cut on."""
+    return tiling.folders[tiling.met((x, y, x + 1, y + 1))[0]]
+
+
+def reported(folder, tiling):
+    """Of each region how many findings of the tests lie there, and how many rows of the report stop and were accepted; those without a place are in none."""
+    found = {name: {"findings": 0, "accepted": 0} for name in tiling.folders}
+    for name, column, is_counted in ((FINDINGS, "findings", lambda row: True), (REPORT, "accepted", lambda row: row.get("stops") == "1")):
+        for row in origin.records(folder, name):
+            if row.get("x") and row.get("y") and is_counted(row):
+                found[tile_at(tiling, *(round(1000 * origin.number(row[axis])) for axis in "xy"))][column] += 1
+    return found
+
+
+def difference(old, folder, tiling):
+    """What differs from an older year, as `differences.difference` has it of a release; and how much of it lies in each region."""
+    before, after = years.of_folder(old), years.of_folder(folder)
+    found = differences.of_shapes(before.shapes, after.shapes, list(before.shapes.differing(after.shapes)), differences.lineage(folder))
+    tiles = {name: dict.fromkeys(CHANGES, 0) for name in tiling.folders}
+    for kind in CHANGES:
+        for row in found[kind] or []:
+            name = row if kind == "other_shape_same_area" else row["parcel"]
+            tiles[after.shapes.region(name) if kind != "gone" else tile_at(tiling, *before.shapes[name][0][0][0])][kind] += 1
+    return found, tiles
+
+
+def in_words(row):
+    """What a region's line ends with."""
+    told = [f"{name} {row[name]}" for name in ("findings", "accepted", "new", "gone", "changed") if row.get(name)]
+    return "".join(f" {words}" for words in told)
