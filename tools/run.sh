@@ -103,6 +103,7 @@ register_of() {
   plain_words "$@"
   row_of "${words[0]-}"
   [[ ${#words[@]} -eq $((${#row[@]} + 1)) || ${row[*]} == *' -..' && ${#words[@]} -gt ${#row[@]} ]] || return 0
+  [[ ${row[1]-} != - || ${words[2]-} =~ ^[0-9]+$ ]] || return 0 # its year is none: a line of usage follows
   for place in "${!row[@]}"; do
     [[ ${row[place]} != register ]] || printf '%s' "${words[place + 1]}"
   done
@@ -302,6 +303,7 @@ say_cause() {
     else
       found=$(trouble_of_writing "$path")
     fi
+    [[ $name != lineage || $found != 'it is missing' ]] || found+='; where no identifier was dropped, as in a first year, it is the line old,new alone'
     say "$name${region:+ of region $region} is $path: ${found:-it is there, and writing it failed}"
   fi
 }

@@ -77,7 +77,7 @@ CUTS = {
     "40": ("no cut into triangles was found for this piece",
            "it crosses itself (a bow tie), covers a place twice, or has no area",
            "repair it (`ST_MakeValid`, `v.clean`) before rounding all borders together"),
-    "41": ("two parcels, or two pieces, overlap: the place is inside both",
+    "41": ("two parcels, or two pieces, overlap: the place is inside both (on a border: a hair to the right and above)",
            "each shape was rounded by itself, or the source overlaps",
            "round all borders together; where the overlap is wider than a millimetre or two, correct the source"),
     "42": ("two pieces overlap or could not be separated, and no place was found",
