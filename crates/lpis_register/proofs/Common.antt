@@ -6,10 +6,9 @@ pub use Rattle.lpis_register_rows.specs.Content.{Content}
 pub use Rattle.lpis_register_rows.specs.Shapes.{AreLive, Shape, ShapesAre}
 pub use Rattle.lpis_register_rows.specs.Histories.{TablesHave, HasHistory}
 pub use Rattle.lpis_register_rows.specs.declared.version.Version.{Version}
-pub use Rattle.lpis_register_rows.specs.declared.version.Version.TheVariants.{First, Second, Third}
+pub use Rattle.lpis_register_rows.specs.declared.version.Version.TheVariants.{First, Third}
 pub use Rattle.lpis_register.specs.Faults.{IsFailure}
 pub use Rattle.lpis_register.specs.Histories.{HoldsRegister, LeavesRegister}
-pub use Rattle.lpis_register.specs.Opening.{texts_at}
 pub use Rattle.lpis_register.specs.declared.fault.PublishFault.{PublishFault}
 pub use Rattle.lpis_register.specs.declared.fault.PublishFault.TheVariants.{Unlawful}
 pub use Rattle.lpis_register_sql.specs.Bare.{IsBare}

@@ -7,10 +7,12 @@ use Rattle.sqlite.specs.declared.error.Error.{Error}
 use Rattle.sqlite.specs.declared.error.Error.TheVariants.{SqliteFailure}
 use Rattle.sqlite.specs.declared.error.ErrorCode.TheVariants.{OutOfMemory}
 use Rattle.sqlite_trees.specs.declared.store.Store as store
-use Rattle.lpis_register_sql.specs.Making.{completed, making_statements}
+use Rattle.lpis_register_sql.specs.Making.{making_statements}
+use Rattle.lpis_register_sql.specs.Presence.{AreThere, is_any}
 use Rattle.lpis_register_sql.specs.Quiet.{IsFound}
-use Rattle.lpis_register_sql.specs.Stopping.{BoundStatement, IsStopped, RanAlone, StopsWithin, release_statements}
-use Rattle.lpis_register_sql.specs.Unread.{AreThere, IsUnread}
+use Rattle.lpis_register.proofs.SayingLemmas.{SeesLoaded}
+use Rattle.lpis_register_sql.specs.Stopping.{BoundStatement, IsStopped, StopsWithin, release_statements}
+use Rattle.lpis_register_sql.specs.Unread.{IsUnread}
 use Rattle.lpis_register_sql.specs.declared.found.Found.{Found}
 use Rattle.lpis_lineage.specs.Lineage.{last_year}
 use Rattle.lpis_register_rows.specs.Shapes.{text_edits}
@@ -18,7 +20,7 @@ use Rattle.lpis_register_rows.specs.Content.{StoredSpan}
 use Rattle.lpis_register_rows.specs.Histories.{AreSpansOf}
 use Rattle.lpis_register_sql.proofs.Shared.{unread_still}
 use Rattle.lpis_register.proofs.Common.{Content, Entry, First, HasCleanDisk, IsStored, Layout, PublishFault, Row, Shape, State, Survives, Trees, Version, state}
-use Rattle.lpis_register.specs.FailingToOpen.{FailsToMake, FailsToOpen, FailsWith, HasOpeningCause, settling_statements}
+use Rattle.lpis_register.specs.FailingToOpen.{FailsWith, HasOpeningCause, settling_statements}
 use Rattle.lpis_register.specs.Opening.{HasRegister}
 use Rattle.lpis_register.specs.private.Commits.{HasSettlingCause, IsReported}
 use Rattle.lpis_register.specs.declared.opening.Loaded.{Loaded}
@@ -107,10 +109,11 @@ pub not_settled_after : {S : Type 0} (g : store.Ghosts S) (found : Found) (told 
     → Survives (state g old) (state g mid) P → Survives (state g mid) (state g new) Q
     → (HasCleanDisk (state g mid) → (layout : Layout) → IsFound found layout → (c : Content) → IsStored layout (state g old) c
     → HasRegister version c told.history told.shapes.items × IsStored layout (state g mid) c)
+    → SeesLoaded found (state g old) (state g mid) (Ok (told, version))
     → (HasCleanDisk (state g mid) → IsTrue (state g old).is_open → IsUnchanged (state g old) (state g mid) ⊎ IsUnread found (state g old) (state g mid))
     → HasSettlingCause g found version told.history mid new (Err fault)
     → fault ≡ Store → HasCleanDisk (state g new) → IsTrue (state g old).is_open → FailsWith g found old new
-not_settled_after g found told version old mid new fault one two says tells cause is clean up =
+not_settled_after g found told version old mid new fault one two says sees tells cause is clean up =
     let at_mid : HasCleanDisk (state g mid) = omega (arith, clean, two.clean) in elim (tells at_mid up) [
       | inr unread ↦ inl (unread_still found (state g old) (state g mid) (state g new) two.counts unread)
       | inl same ↦ inr (record {
@@ -120,33 +123,24 @@ not_settled_after g found told version old mid new fault one two says tells caus
         counts = one.counts;
         version = version;
         history = told.history;
+        shapes = told.shapes.items;
+        said = (sees.shows.ok at_mid).0;
         says = λ layout there c stored. (says at_mid layout there c stored).0.says;
         fails = cause is clean same.0.is_open;
       })
     ]
 
--- ---- of a database with a table unseen, and of one that has those of each version
+-- ---- of a database that has one of the tables, and of one that has none
 
 module _ {S : Type 0} (g : store.Ghosts S) (old new : Held S) (found : Found) (there : AreThere old.schema found) where
-  pub fails_with_those : (failed : Type 0) → found.common ≡ true → (failed → HasCleanDisk (state g new) → IsTrue (state g old).is_open → FailsWith g found old new)
+  pub fails_with_those : (failed : Type 0) → is_any found ≡ true → (failed → HasCleanDisk (state g new) → IsTrue (state g old).is_open → FailsWith g found old new)
       → HasOpeningCause g old new failed
-  fails_with_those failed common fails clean is = or_shut (state g old).is_open (λ up. inr (found, there, inl (common, fails is clean up)))
+  fails_with_those failed any fails clean is = or_shut (state g old).is_open (λ up. inr (found, there, inl (any, fails is clean up)))
 
-  fails_to_make : found.common ≡ false → (IsTrue (state g old).is_open → FailsToMake g found old new) → FailsToOpen g old new
-  fails_to_make common fails = or_shut (state g old).is_open (λ up. inr (found, there, inr (common, fails up)))
-
-  -- of one that has not, where they can't be made
-  pub fails_unmade : (e : Error) (fault : PublishFault) → found.common ≡ false → (e ≡ SqliteFailure OutOfMemory → fault ≡ Memory)
-      → (IsTrue (state g old).is_open → HasCleanDisk (state g new) → StopsWithin g (making_statements found) (record old { in_transaction = true }) new e) → HasOpeningCause g old new (fault ≡ Store)
-  fails_unmade e fault common memory stops clean is = fails_to_make common (λ up. elim (stops up clean) [
+  -- they can't be made
+  pub fails_unmade : (e : Error) (fault : PublishFault) → is_any found ≡ false → (e ≡ SqliteFailure OutOfMemory → fault ≡ Memory)
+      → (IsTrue (state g old).is_open → HasCleanDisk (state g new) → StopsWithin g making_statements (record old { in_transaction = true }) new e) → HasOpeningCause g old new (fault ≡ Store)
+  fails_unmade e fault none memory stops clean is = or_shut (state g old).is_open (λ up. elim (stops up clean) [
     | inl refused ↦ absurd (let m = memory refused in cc)
-    | inr stopped ↦ inl stopped
+    | inr stopped ↦ inr (found, there, inr (none, stopped))
   ])
-
-  -- and where they are made, and it fails with those
-  pub fails_made : (failed : Type 0) (all : Found) (made : Held S) {P : Trees → Type 0} → found.common ≡ false → all ≡ completed found → Survives (state g old) (state g made) P
-      → (HasCleanDisk (state g new) → HasCleanDisk (state g made)) → (IsTrue (state g old).is_open → HasCleanDisk (state g made) → RanAlone g (making_statements found) old made)
-      → (failed → HasCleanDisk (state g new) → IsTrue (state g made).is_open → FailsWith g all made new) → HasOpeningCause g old new failed
-  fails_made failed all made common is one before ran fails clean so = fails_to_make common (λ up.
-      let alone = ran up (before clean) in
-      inr (record { made = made; ran = alone; limit = one.limit; counts = one.counts; fails = subst (λ f. FailsWith g f made new) is (fails so clean alone.2.0.is_open) }))

@@ -3,7 +3,9 @@ use Rattle.std.proofs.Common.{◌≡◌, ◌∙◌, ◌<◌, ap, inl, inr, lengt
 use Rattle.lpis_register.proofs.Common.{Content, Entry, HasCleanDisk, HoldsRegister, IsBare, IsStored, Layout, Leaves, LeavesRegister, PublishFault, Shape, State, Trees}
 use Rattle.lpis_register_sql.specs.Layouts.{Origin}
 use Rattle.lpis_register.specs.Opening.{IsOpened, IsUnopened}
-use Rattle.lpis_register.specs.FileOpening.{HoldsNoTable, HoldsContent, IsFileOpened, IsFileUnopened}
+use Rattle.lpis_register.specs.FileOpening.{AreOf, HoldsNoTable, HoldsContent, IsFileOpened, IsFileUnopened}
+use Rattle.lpis_register.specs.Saying.{SaysNone, SaysRegister}
+use Rattle.sqlite.specs.Effect.{Database}
 use Rattle.sqlite.specs.Files.{AreFoundIn}
 use Rattle.sqlite.specs.Start.{FindsIn}
 use Rattle.sqlite.specs.State.{IsLive, Opens}
@@ -26,12 +28,23 @@ module _ (image : Image) (old : State) (opened : HasCleanDisk old → Opens old 
   is_bare clean (inl (db, holds, none)) = bare (opened clean).0 (opened clean).1 (ap (λ (t : Trees). t catalog_tree) ((finds clean).holds db holds) ∙ none)
   is_bare clean (inr none) = bare (opened clean).0 (opened clean).1 (none_in_nothing image old.committed.trees none (finds clean).reads)
 
+  -- what an opening finds is what the files hold
+  is_of : HasCleanDisk old → (P : Database → Type 0) → P old.now → (db : Database) × AreOf image db × P db
+  is_of clean P holds =
+      let it = opened clean in
+      let now : old.now ≡ old.committed = it.0.clean in (
+        old.committed,
+        record { sound = (it.1 it.0.is_open).1; found = (finds clean).reads; only = (finds clean).holds },
+        subst P now holds,
+      )
+
   pub opened_file : (new : State) (h : List Entry) (shapes : List Shape) → ((o : Origin) → HoldsRegister o new h shapes → (db : Trees) → new.may_leave db → LeavesRegister o h shapes db)
       → IsOpened old new h shapes
       → IsFileOpened image new h shapes
   opened_file new h shapes left o = record {
     bare = λ up none. o.bare up (is_bare (o.clean up) none);
     found = λ up layout c rows. o.found up layout c (is_stored (o.clean up) layout c rows);
+    said = λ up. is_of (o.clean up) (λ db. SaysRegister db h shapes) (o.said up);
     left = left;
   }
 
@@ -41,5 +54,6 @@ module _ (image : Image) (old : State) (opened : HasCleanDisk old → Opens old 
     same = λ up alive layout c rows. o.same up alive layout c (is_stored (o.clean up) layout c rows);
     unlawful = λ is up layout c rows. o.unlawful is up layout c (is_stored (o.clean up) layout c rows);
     lawful = λ is up none. o.lawful is up (is_bare (o.clean up) none);
+    refused = λ is up. is_of (o.clean up) SaysNone (o.refused is up).0;
     kind = o.kind;
   }

@@ -1,7 +1,7 @@
 -- From rows and texts that were read to what the tables say.
 use Rattle.std.proofs.Common.{◌≡◌, ◌≢◌, ◌↔◌, ◌⊎◌, arith, inl, inr, ℕ, List, Result, Ok, Err, IfErr, IsTrue, IsPermutation}
 use Rattle.std.proofs.lemmas.List.Sorted.{IsPermutation-sym}
-use Rattle.lpis_register.proofs.Common.{State, Trees, HasCleanDisk, Survives, survives_weaker, Entry, AreLive, Content}
+use Rattle.lpis_register.proofs.Common.{State, Trees, HasCleanDisk, Survives, Entry, AreLive, Content}
 use Rattle.lpis_register.proofs.Common.{HoldsRegister, IsStored, Layout, PublishFault, TablesHave, Shape, ShapesAre}
 use Rattle.lpis_register.proofs.Common.{Unlawful, Version, Third, Whole}
 use Rattle.lpis_register_rows.specs.Content.{StoredText}
@@ -23,7 +23,8 @@ use Rattle.lpis_register_sql.proofs.Shared.{unread_before, unread_still}
 use Rattle.sqlite.proofs.Callers.{unchanged_then}
 use Rattle.lpis_register.proofs.FailingLemmas.{unread_cause}
 use Rattle.lpis_register.specs.declared.fault.PublishFault.TheVariants.{Memory, Store}
-use Rattle.lpis_register.specs.private.Finding.{ReadsFound, TellsFound}
+use Rattle.lpis_register.specs.private.Finding.{ReadsFound, SeesFound, SeesHistory, SeesNoHistory, TellsFound}
+use Rattle.lpis_register_sql.specs.Presence.{AreThere}
 
 -- rows without texts, in another order, report the same histories
 abbrev pub Textless : Type 0
@@ -67,11 +68,12 @@ module _ (old new : State) (h : List Entry) (shapes : List Shape) (found : Found
   stays r finds clean up o holds = still_holds o old new h shapes holds (finds.reads.same clean up (Whole o) (there o holds) holds.content holds.stored)
 
   quiet : (r : Result (List Entry × Version) PublishFault) → Reads r → (o : Origin) → HoldsRegister o old h shapes → Survives old new (λ _. ⊥)
-  quiet r finds o holds = survives_weaker old new _ _ (λ clean db none. none (Whole o) (there o holds) holds.content holds.stored) finds.reads.survives
+  quiet r finds o holds = finds.reads.survives
 
   pub read_again : ((c : Content) (k g : List Entry) (version other : Version) → TablesHave version c k → TablesHave other c g → IsSameHistory k g) → (k : List Entry) (version : Version)
-      → Reads (Ok (k, version)) → ReadsHistory old new h shapes (Ok k)
-  read_again one k version finds = record {
+      → AreThere old.now.schema found → SeesFound (SeesHistory found) (SeesNoHistory found) old new (Ok (k, version)) → Reads (Ok (k, version)) → ReadsHistory old new h shapes (Ok k)
+  read_again one k version is sees finds = record {
+    said = λ clean. let rows = (sees.shows.ok clean).0 in (found, is, rows.0, rows.1, version, rows.2);
     ok = λ clean o holds.
         one holds.content h k Third version holds.tells (finds.reads.ok clean (Whole o) (there o holds) holds.content holds.stored).0;
     lawful = λ clean o holds. tt;
@@ -82,6 +84,7 @@ module _ (old new : State) (h : List Entry) (shapes : List Shape) (found : Found
 
   pub not_read : (e : PublishFault) → Reads (Err e) → ReadsHistory old new h shapes (Err e)
   not_read e finds = record {
+    said = λ clean. tt;
     ok = λ clean o holds. tt;
     lawful = λ clean o holds is. finds.unlawful clean (Whole o) (there o holds) holds.content holds.stored is Third h holds.tells;
     same = stays _ finds;

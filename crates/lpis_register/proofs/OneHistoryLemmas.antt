@@ -3,9 +3,11 @@ use Rattle.std.proofs.Common.{◌≡◌, ◌∙◌, ◌↔◌, refl, sym, ap, su
 use Rattle.std.proofs.lemmas.List.Sorted.{IsPermutation-refl}
 use Rattle.lpis_covers.specs.Ids.{has_id}
 use Rattle.lpis_lineage.specs.Lineage.{holds}
-use Rattle.lpis_register.proofs.Common.{State, Entry, last_live, AreLive, Content, TablesHave, Shape, ShapesAre, HasHistory, Whole, IsStored, HoldsRegister, texts_at, Version}
+use Rattle.lpis_register.proofs.Common.{State, Entry, last_live, AreLive, Content, TablesHave, Shape, ShapesAre, HasHistory, Whole, IsStored, HoldsRegister, Version}
+use Rattle.lpis_register.specs.Opening.{texts_at}
 use Rattle.lpis_register_sql.specs.Layouts.{Origin}
-use Rattle.lpis_register.proofs.Common.{First, Second, Third}
+use Rattle.lpis_register.proofs.Common.{First, Third}
+use Rattle.lpis_register_rows.specs.declared.version.Version.TheVariants.{Second}
 use Rattle.lpis_register_rows.specs.Content.{StoredText}
 use Rattle.lpis_register_rows.specs.Histories.{IsSameContent, IsSameHistory, only_format}
 use Rattle.lpis_register.specs.Opening.{HasNoRegister}

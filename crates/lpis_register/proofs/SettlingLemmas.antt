@@ -1,7 +1,8 @@
 -- Tables of version 3, made of those of any version that say a history.
 use Rattle.std.proofs.Common.{◌≡◌, List, Result, Ok, Err, true, sym, subst, arith}
 use Rattle.lpis_register.proofs.Common.{State, Survives, survives_weaker, Entry, Content, IsFailure, IsStored, Layout, PublishFault, TablesHave, Shape, ShapesAre}
-use Rattle.lpis_register.proofs.Common.{HasHistory, Version, Third, texts_at}
+use Rattle.lpis_register.proofs.Common.{HasHistory, Version, Third}
+use Rattle.lpis_register.specs.Opening.{texts_at}
 use Rattle.lpis_register_sql.specs.declared.found.Found.{Found}
 use Rattle.lpis_register_sql.specs.Quiet.{IsFound}
 use Rattle.lpis_register_sql.specs.Commits.{Rewrites}

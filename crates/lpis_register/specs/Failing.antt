@@ -6,7 +6,8 @@ use Rattle.sqlite_trees.specs.declared.store.Store.{Ghosts}
 use Rattle.lpis_lineage.specs.Lineage.{last_year}
 use Rattle.lpis_register_rows.specs.Shapes.{text_edits}
 use Rattle.lpis_register_sql.specs.Stopping.{BoundStatement, IsStopped, release_statements}
-use Rattle.lpis_register_sql.specs.Unread.{AreThere, IsUnread}
+use Rattle.lpis_register_sql.specs.Presence.{AreThere}
+use Rattle.lpis_register_sql.specs.Unread.{IsUnread}
 use Rattle.lpis_register_sql.specs.declared.found.Found.{Found}
 use Rattle.lpis_register.specs.Accepting.{IsAccepted}
 use Rattle.lpis_register.specs.Holdings.{Candidate, Holdings, RegisterState}

@@ -6,17 +6,20 @@ use Rattle.sqlite_trees.specs.declared.store.Store.{Ghosts}
 use Rattle.lpis_lineage.specs.declared.row.Entry.{Entry}
 use Rattle.lpis_register_rows.specs.Content.{Content, StoredSpan}
 use Rattle.lpis_register_rows.specs.Histories.{AreSpansOf, TablesHave}
+use Rattle.lpis_register_rows.specs.Shapes.{Shape}
 use Rattle.lpis_register_rows.specs.declared.version.Version.{Version}
 use Rattle.lpis_register_rows.specs.declared.version.Version.TheVariants.{First, Second, Third}
 use Rattle.lpis_register_sql.specs.Hiding.{hides_table}
 use Rattle.lpis_register_sql.specs.Holding.{IsStored}
 use Rattle.lpis_register_sql.specs.Layouts.{Layout}
-use Rattle.lpis_register_sql.specs.Making.{completed, completing_statements, making_statements}
+use Rattle.lpis_register_sql.specs.Making.{completing_statements, making_statements}
 use Rattle.lpis_register_sql.specs.Making.{moving_statements, raising_statements}
+use Rattle.lpis_register_sql.specs.Presence.{AreThere, is_any}
 use Rattle.lpis_register_sql.specs.Quiet.{IsFound}
-use Rattle.lpis_register_sql.specs.Stopping.{BoundStatement, IsStopped, RanAlone}
-use Rattle.lpis_register_sql.specs.Unread.{AreThere, IsUnread}
+use Rattle.lpis_register_sql.specs.Stopping.{BoundStatement, IsStopped}
+use Rattle.lpis_register_sql.specs.Unread.{IsUnread}
 use Rattle.lpis_register_sql.specs.declared.found.Found.{Found}
+use Rattle.lpis_register.specs.Saying.{SaysTables}
 
 -- the statements that make tables of version 3 of those of a version: of version 1 with these spans
 abbrev pub settling_statements : Version → Found → List StoredSpan → List BoundStatement
@@ -34,8 +37,8 @@ module _ {S : Type 0} (store : Ghosts S) where
     pub stopped : IsStopped store (settling_statements version found spans)
         (record old { in_transaction = true }) new
 
-  -- so it is with the tables that were found, once they were read, which changed nothing; where
-  -- they hold rows of a register, it is the version and the history that these rows say
+  -- so it is with the tables that were found, once they were read, which changed nothing: with the
+  -- version and the history that they say
   pub record FailsAfterReading (found : Found) (old new : Held S) : Type 0 where
     pub read : Held S
     pub unchanged : IsUnchanged (state store old) (state store read)
@@ -43,6 +46,8 @@ module _ {S : Type 0} (store : Ghosts S) where
     pub counts : (state store old).faults ≤ (state store read).faults
     pub version : Version
     pub history : List Entry
+    pub shapes : List Shape
+    pub said : SaysTables found (state store old).now version history shapes
     pub says : (layout : Layout) → IsFound found layout → (c : Content)
         → IsStored layout (state store old) c → TablesHave version c history
     pub fails : FailsToSettle version found history read new
@@ -52,29 +57,16 @@ module _ {S : Type 0} (store : Ghosts S) where
   FailsWith found old new = IsUnread found (state store old) (state store new)
       ⊎ FailsAfterReading found old new
 
-  -- the tables that were not found were made and committed, and it fails with those
-  pub record FailsOnceMade (found : Found) (old new : Held S) : Type 0 where
-    pub made : Held S
-    pub ran : RanAlone store (making_statements found) old made
-    pub limit : made.step_limit ≡ old.step_limit
-    pub counts : (state store old).faults ≤ (state store made).faults
-    pub fails : FailsWith (completed found) made new
-
-  -- one is not there that each version has: the disk failed while the tables were made, or the
-  -- engine refuses one of the statements that make them; or they were made, and it fails then
-  abbrev pub FailsToMake : Found → Held S → Held S → Type 0
-  FailsToMake found old new =
-      IsStopped store (making_statements found) (record old { in_transaction = true }) new
-      ⊎ FailsOnceMade found old new
-
   -- a call fails to open a register: the connection was shut before, or a table of the register is
   -- there unseen, or the disk failed during the call, or the engine refuses the query of a table
-  -- that is there, or a statement that makes or moves tables
+  -- that is there, or a statement that makes or moves tables, which are made first where there is
+  -- none
   abbrev pub FailsToOpen : Held S → Held S → Type 0
   FailsToOpen old new = ((state store old).is_open ≡ false) ⊎ ((hides_table old.schema ≡ true)
       ⊎ ((found : Found) × AreThere old.schema found
-      × (((found.common ≡ true) × FailsWith found old new)
-      ⊎ ((found.common ≡ false) × FailsToMake found old new))))
+      × (((is_any found ≡ true) × FailsWith found old new)
+      ⊎ ((is_any found ≡ false)
+      × IsStopped store making_statements (record old { in_transaction = true }) new))))
 
   -- if the disk kept what was written, and this says that the database failed, there is a cause
   abbrev pub HasOpeningCause : Held S → Held S → Type 0 → Type 0

@@ -2,7 +2,8 @@
 use Rattle.std.specs.Prelude.{◌≡◌, ◌⊎◌, [], List, IsTrue}
 use Rattle.sqlite_trees.specs.Objects.{catalog_tree}
 use Rattle.sqlite_wal.specs.Recovery.{Image}
-use Rattle.sqlite.specs.Files.{HoldsDatabase}
+use Rattle.sqlite.specs.Effect.{Database, IsDatabase}
+use Rattle.sqlite.specs.Files.{AreFoundIn, HoldsDatabase}
 use Rattle.sqlite.specs.State.{HasCleanDisk, State}
 use Rattle.sqlite.specs.Tree.{Trees}
 use Rattle.lpis_lineage.specs.declared.row.Entry.{Entry}
@@ -14,6 +15,7 @@ use Rattle.lpis_register_sql.specs.Layouts.{Layout, New, Origin, origin_of}
 use Rattle.lpis_register.specs.Faults.{IsOpeningFault}
 use Rattle.lpis_register.specs.Histories.{HoldsRegister, LeavesRegister}
 use Rattle.lpis_register.specs.Opening.{FindsNothing, HasNoRegister, IsOpenedAs}
+use Rattle.lpis_register.specs.Saying.{SaysNone, SaysRegister}
 use Rattle.lpis_register.specs.declared.fault.PublishFault.{PublishFault}
 use Rattle.lpis_register.specs.declared.fault.PublishFault.TheVariants.{Unlawful}
 
@@ -26,6 +28,12 @@ abbrev pub HoldsNoTable : Image → Type 0
 HoldsNoTable image = ((db : Trees) × HoldsDatabase image db × (db catalog_tree ≡ []))
     ⊎ (image.db ≡ [])
 
+-- the files hold this database: it is what an open finds in them
+pub record AreOf (image : Image) (db : Database) : Type 0 where
+  pub sound : IsDatabase db
+  pub found : AreFoundIn image db.trees
+  pub only : (trees : Trees) → HoldsDatabase image trees → db.trees ≡ trees
+
 -- an opening of these files that made this history and these shapes of them
 pub record IsFileOpened (image : Image) (new : State) (h : List Entry) (shapes : List Shape)
     : Type 0 where
@@ -33,6 +41,8 @@ pub record IsFileOpened (image : Image) (new : State) (h : List Entry) (shapes :
       → HoldsRegister (New nothing) new [] [] × (h ≡ []) × (shapes ≡ [])
   pub found : HasCleanDisk new → (layout : Layout) (c : Content) → HoldsContent image layout c
       → IsOpenedAs (origin_of layout) new c h shapes
+  -- they are what the tables in the files say, whatever these are
+  pub said : HasCleanDisk new → (db : Database) × AreOf image db × SaysRegister db h shapes
   -- right after it a crash leaves tables that hold both, and nothing else
   pub left : (o : Origin) → HoldsRegister o new h shapes → (db : Trees) → new.may_leave db
       → LeavesRegister o h shapes db
@@ -47,4 +57,7 @@ pub record IsFileUnopened (image : Image) (new : State) (fault : PublishFault) :
   pub unlawful : fault ≡ Unlawful → HasCleanDisk new → (layout : Layout) (c : Content)
       → HoldsContent image layout c → HasNoRegister c
   pub lawful : fault ≡ Unlawful → HasCleanDisk new → HoldsNoTable image → ⊥
+  -- and where the tables in the files say nothing, whatever these are
+  pub refused : fault ≡ Unlawful → HasCleanDisk new → (db : Database) × AreOf image db
+      × SaysNone db
   pub kind : IsOpeningFault fault

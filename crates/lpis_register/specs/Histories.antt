@@ -13,6 +13,7 @@ use Rattle.lpis_register_rows.specs.Shapes.{AreLive, Shape, ShapesAre}
 use Rattle.lpis_register_sql.specs.Layouts.{Origin, Whole}
 use Rattle.lpis_register_sql.specs.Holding.{IsStored, Leaves}
 use Rattle.lpis_register.specs.Faults.{IsOpeningFault}
+use Rattle.lpis_register.specs.Saying.{SaysHistory}
 use Rattle.lpis_register.specs.declared.fault.PublishFault.{PublishFault}
 use Rattle.lpis_register.specs.declared.fault.PublishFault.TheVariants.{Unlawful}
 
@@ -42,6 +43,8 @@ pub record ReadsHistory (old new : State) (h : List Entry) (shapes : List Shape)
       → IfOk r (IsSameHistory h)
   pub lawful : HasCleanDisk new → (o : Origin) → HoldsRegister o old h shapes
       → IfErr r (λ e. e ≡ Unlawful → ⊥)
+  -- it is one that the tables that are there say, whatever these are
+  pub said : HasCleanDisk new → IfOk r (SaysHistory old.now)
   pub same : HasCleanDisk new → IsTrue new.is_open → (o : Origin) → HoldsRegister o old h shapes
       → HoldsRegister o new h shapes
   pub crash : (o : Origin) → HoldsRegister o old h shapes → Survives old new (λ _. ⊥)

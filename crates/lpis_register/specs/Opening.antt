@@ -2,6 +2,7 @@
 use Rattle.std.specs.Prelude.{◌≡◌, ◌⊎◌, [], false, List, IsTrue}
 use Rattle.sqlite.specs.Tree.{Trees}
 use Rattle.sqlite.specs.State.{HasCleanDisk, State, Survives}
+use Rattle.lpis_register_sql.specs.Showing.{StaysSame}
 use Rattle.lpis_lineage.specs.declared.row.Entry.{Entry}
 use Rattle.lpis_lineage.specs.Lineage.{last_live}
 use Rattle.lpis_register_rows.specs.Content.{Content, StoredText}
@@ -16,6 +17,7 @@ use Rattle.lpis_register_sql.specs.Layouts.{Layout, New, Origin, origin_of}
 use Rattle.lpis_register_sql.specs.Holding.{IsStored}
 use Rattle.lpis_register.specs.Faults.{IsOpeningFault}
 use Rattle.lpis_register.specs.Histories.{HoldsRegister, LeavesRegister}
+use Rattle.lpis_register.specs.Saying.{SaysNone, SaysRegister}
 use Rattle.lpis_register.specs.declared.fault.PublishFault.{PublishFault}
 use Rattle.lpis_register.specs.declared.fault.PublishFault.TheVariants.{Unlawful}
 
@@ -73,6 +75,8 @@ pub record IsOpened (old new : State) (h : List Entry) (shapes : List Shape) : T
       × (shapes ≡ [])
   pub found : HasCleanDisk new → (layout : Layout) (c : Content) → IsStored layout old c
       → IsOpenedAs (origin_of layout) new c h shapes
+  -- they are what the tables that are there say, whatever these are
+  pub said : HasCleanDisk new → SaysRegister old.now h shapes
   -- no table of the register is there unseen
   pub seen : hides_table old.now.schema ≡ false
   pub clean : HasCleanDisk new → HasCleanDisk old
@@ -87,6 +91,16 @@ pub record IsUnopened (old new : State) (fault : PublishFault) : Type 0 where
   pub unlawful : fault ≡ Unlawful → HasCleanDisk new → (layout : Layout) (c : Content)
       → IsStored layout old c → HasNoRegister c
   pub lawful : fault ≡ Unlawful → HasCleanDisk new → IsBare old → ⊥
+  -- and where the tables that are there say nothing, whatever these are; then nothing is changed
+  pub refused : fault ≡ Unlawful → HasCleanDisk new → SaysNone old.now × StaysSame old new
+  pub untouched : fault ≡ Unlawful → Survives old new (λ _. ⊥)
   pub clean : HasCleanDisk new → HasCleanDisk old
   pub crash : Survives old new (LeavesOpened old)
   pub kind : IsOpeningFault fault
+
+-- what an opening that failed leaves: a crash leaves what it left before, or what an opening
+-- commits; where rows were refused, nothing new, and nothing is changed
+pub record LeavesUnopened (old new : State) (fault : PublishFault) : Type 0 where
+  pub crash : Survives old new (LeavesOpened old)
+  pub untouched : fault ≡ Unlawful → Survives old new (λ _. ⊥)
+  pub same : fault ≡ Unlawful → HasCleanDisk new → StaysSame old new

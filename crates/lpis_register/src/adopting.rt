@@ -36,8 +36,8 @@ fn open_found<S: Alter>(
     Ok(told)
 }
 
-/// What a database says, whose tables are those of version 3 afterwards; a database with none gets
-/// them.
+/// What a database says, whose tables are those of version 3 afterwards. Where one of the
+/// register's is there, those that are there are read before any is made.
 pub(crate) fn open_tables<S: Alter>(
     alloc: Global,
     conn: &mut Connection<S>,
@@ -57,19 +57,21 @@ pub(crate) fn open_tables<S: Alter>(
     if found.hidden {
         return Err(PublishFault::Store);
     }
-    if found.common {
+    if found.is_any() {
         return open_found(alloc, conn, &found);
     }
-    match create(conn, &found) {
-        Ok(()) => open_found(alloc, conn, &found.completed()),
+    match create(conn) {
+        Ok(()) => Ok(Loaded::none(alloc)),
         Err(error) => Err(fault_of(error)),
     }
 }
 
 impl<S: Alter + Drop> Register<S> {
-    /// Opens the register in a database: tables that are not there are made, and those of version 1
-    /// or 2 are moved to version 3. Rows that are no lawful history are refused, and so are texts
-    /// that are not those of shapes of live parcels; then nothing is changed. Where something else
+    /// Opens the register in a database: the history that its tables say, in whatever order they
+    /// stand, and whatever stands beside. Once they were read, tables that are not there are made,
+    /// and those of version 1 or 2 are moved to version 3. Rows that are no lawful history are
+    /// refused, and so are texts that are not those of shapes of live parcels; then nothing is
+    /// changed. Where `lpis_format` is not there, `lpis_span` tells version 3. Where something else
     /// has the name of a table of the register, or a trigger or an index binds one so that no
     /// statement here can read it, that is the register's failure to store.
     /// The connection comes back beside a fault, and its tables hold what they held. With `Store`

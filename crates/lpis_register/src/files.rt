@@ -3,7 +3,7 @@
 ghost use Rattle.std.specs.Prelude.{◌≡◌, [], false, IfErr, IfOk};
 ghost use Rattle.sqlite_wal.specs.Recovery.{Image};
 ghost use Rattle.sqlite.specs.Start.{FindsIn};
-ghost use Rattle.sqlite.specs.State.{HasCleanDisk, IsLive, Opens, Survives};
+ghost use Rattle.sqlite.specs.State.{HasCleanDisk, IsLive, Opens};
 ghost use Rattle.sqlite.specs.Held.{state};
 ghost use Rattle.sqlite.specs.Steps.{over_memory};
 ghost use Rattle.lpis_register_sql.specs.Beside.{nothing};
@@ -13,7 +13,7 @@ ghost use Rattle.lpis_register.specs.Faults.{IsFailure};
 ghost use Rattle.lpis_register.specs.FileOpening.{IsFileOpened, IsFileUnopened};
 ghost use Rattle.lpis_register.specs.Histories.{HoldsRegister};
 ghost use Rattle.lpis_register.specs.Holdings.{holdings};
-ghost use Rattle.lpis_register.specs.Opening.{LeavesOpened};
+ghost use Rattle.lpis_register.specs.Opening.{LeavesUnopened};
 ghost use Rattle.lpis_register.specs.declared.fault.PublishFault.TheVariants.{Store};
 
 use crate::fault::PublishFault;
@@ -40,8 +40,8 @@ impl<S: Alter + Drop> Register<S> {
         ensures unopened { (image : Image) → (HasCleanDisk (state S.Store conn) → FindsIn image
             (state S.Store conn)) → IfErr result (λ e. IsFileUnopened image (state S.Store e.0)
             e.1) }
-        ensures survives { IfErr result (λ e. Survives (state S.Store conn) (state S.Store e.0)
-            (LeavesOpened (state S.Store conn))) }
+        ensures leaves { IfErr result (λ e. LeavesUnopened (state S.Store conn) (state S.Store e.0)
+            e.1) }
         ensures cause { IfErr result (λ e. HasOpeningCause S.Store conn e.0 (e.1 ≡ Store)) }
         ensures autocommit { IfErr result (λ e. e.0.in_transaction ≡ false) }
     {

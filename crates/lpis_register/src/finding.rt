@@ -11,7 +11,10 @@ ghost use Rattle.lpis_register_rows.specs.Histories.{TablesHave};
 ghost use Rattle.lpis_register_sql.specs.Unread.{IsUnread};
 ghost use Rattle.lpis_register.specs.Faults.{IsOpeningFault};
 ghost use Rattle.lpis_register.specs.Opening.{HasNoRegister, HasRegister, texts_at};
-ghost use Rattle.lpis_register.specs.private.Finding.{ReadsFound, TellsFound};
+ghost use Rattle.lpis_register.specs.Saying.{SaysNoShapes, SaysNoTables, SaysShapes, SaysTables};
+ghost use Rattle.lpis_register.specs.private.Finding.{ReadsFound, SeesFound, SeesHistory};
+ghost use Rattle.lpis_register.specs.private.Finding.{SeesNoHistory, TellsFound};
+ghost use Rattle.lpis_register_rows.specs.declared.version.Version.TheVariants.{Third};
 ghost use Rattle.lpis_register.specs.declared.fault.PublishFault.TheVariants.{Store, Unlawful};
 
 use crate::fault::PublishFault;
@@ -67,6 +70,8 @@ pub(crate) fn find_rows<S: Alter>(
         → IsTrue (state S.Store conn.old).is_open
         → IsUnread found.now (state S.Store conn.old) (state S.Store conn.new)) }
     ensures tells { TellsFound found.now (state S.Store conn.old) (state S.Store conn.new) result }
+    ensures sees { SeesFound (SeesHistory found.now) (SeesNoHistory found.now)
+        (state S.Store conn.old) (state S.Store conn.new) result }
 {
     order_of_rows_is_free();
     match load_found(alloc, conn, found) {
@@ -110,6 +115,9 @@ fn find_texts<S: Alter>(
         (state S.Store conn.old) (state S.Store conn.new) result }
     ensures ascend { IfOk result (λ shapes. IsAscending (shape_ids shapes.items)) }
     ensures tells { TellsFound found.now (state S.Store conn.old) (state S.Store conn.new) result }
+    ensures sees { SeesFound (λ db shapes. SaysShapes Third found.now db history.now shapes.items)
+        (λ db. SaysNoShapes Third found.now db history.now)
+        (state S.Store conn.old) (state S.Store conn.new) result }
 {
     texts_keep_one_list_of_shapes();
     match load_texts(alloc, conn, found) {
@@ -135,6 +143,9 @@ fn find_shapes<S: Alter>(
         (state S.Store conn.old) (state S.Store conn.new) result }
     ensures ascend { IfOk result (λ shapes. IsAscending (shape_ids shapes.items)) }
     ensures tells { TellsFound found.now (state S.Store conn.old) (state S.Store conn.new) result }
+    ensures sees { SeesFound (λ db shapes. SaysShapes version found.now db history.now shapes.items)
+        (λ db. SaysNoShapes version found.now db history.now)
+        (state S.Store conn.old) (state S.Store conn.new) result }
 {
     texts_keep_one_list_of_shapes();
     match version {
@@ -155,6 +166,8 @@ pub(crate) fn find_loaded<S: Alter>(
         (λ c it. HasRegister it.1 c it.0.history it.0.shapes.items) HasNoRegister
         (state S.Store conn.old) (state S.Store conn.new) result }
     ensures tells { TellsFound found.now (state S.Store conn.old) (state S.Store conn.new) result }
+    ensures sees { SeesFound (λ db it. SaysTables found.now db it.1 it.0.history it.0.shapes.items)
+        (SaysNoTables found.now) (state S.Store conn.old) (state S.Store conn.new) result }
 {
     tables_have_one_history();
     let (history, version) = find_rows(alloc, conn, found)?;

@@ -1,6 +1,6 @@
 //! What an opening finds.
 
-ghost use Rattle.std.specs.Prelude.{◌≡◌, ◌⊎◌};
+ghost use Rattle.std.specs.Prelude.{◌≡◌, ◌⊎◌, []};
 ghost use Rattle.std.proofs.Props.{props};
 ghost use Rattle.sqlite.specs.declared.error.Error.TheVariants.{SqliteFailure};
 ghost use Rattle.sqlite.specs.declared.error.ErrorCode.TheVariants.{OutOfMemory};
@@ -14,6 +14,7 @@ use lpis_covers::Id;
 use lpis_lineage::History;
 use lpis_rings::Polygon;
 use sqlite::{Error, ErrorCode};
+use std::alloc::Global;
 
 /// What tables say: a history, and the shapes that they keep.
 #[derive(Drop)]
@@ -21,6 +22,19 @@ pub(crate) struct Loaded {
     pub(crate) history: History,
     pub(crate) shapes: Vec<(Id, Polygon)>,
     ghost ascending: { IsAscending (shape_ids shapes.items) } by { Prim.hlevel props },
+}
+
+impl Loaded {
+    /// What a database with no table says: no release.
+    pub(crate) fn none(alloc: Global) -> Loaded
+        ensures history { result.history ≡ [] }
+        ensures shapes { result.shapes.items ≡ [] }
+    {
+        Loaded {
+            history: History::new(alloc),
+            shapes: Vec::new(alloc),
+        }
+    }
 }
 
 /// The fault of an opening of which the database answers this: where it is out of memory, that is

@@ -4,10 +4,10 @@ use Rattle.sqlite_trees.specs.declared.store.Store.{Ghosts}
 use Rattle.sqlite_wal.specs.Recovery.{Image}
 use Rattle.sqlite.specs.Held.{Held, IsNew, state}
 use Rattle.sqlite.specs.Start.{FindsIn}
-use Rattle.sqlite.specs.State.{HasCleanDisk, IsLive, Opens, Survives}
+use Rattle.sqlite.specs.State.{HasCleanDisk, IsLive, Opens}
 use Rattle.lpis_register.specs.FailingToOpen.{HasOpeningCause}
 use Rattle.lpis_register.specs.FileOpening.{IsFileUnopened}
-use Rattle.lpis_register.specs.Opening.{LeavesOpened}
+use Rattle.lpis_register.specs.Opening.{LeavesUnopened}
 use Rattle.lpis_register.specs.declared.fault.PublishFault.{PublishFault}
 use Rattle.lpis_register.specs.declared.fault.PublishFault.TheVariants.{Store}
 
@@ -26,6 +26,5 @@ module _ {S : Type 0} (store : Ghosts S) where
     pub opened : Held S
     pub over : IsOver image opened
     pub unopened : IsFileUnopened image (state store left) fault
-    pub survives : Survives (state store opened) (state store left)
-        (LeavesOpened (state store opened))
+    pub leaves : LeavesUnopened (state store opened) (state store left) fault
     pub cause : HasOpeningCause store opened left (fault ≡ Store)

@@ -12,10 +12,11 @@ use Rattle.lpis_register_sql.proofs.TurnLemmas.{Holds, Leads, nothing, one, then
 -- in each order, the tables that are not there are made, and those that are hold what they held
 pub completes : {S : Type 0} {g : store.Ghosts S} (found : Found) (base : Database) (c : Content) (s : Layout) → IsFound found s
     → Leads g (Holds s base c) (completing_statements found) (Holds (made_whole s) base c)
-completes found base c (Whole o) there = rw (there.spans, there.texts, there.marks) nothing
-completes found base c (LessMarks o) there = rw (there.spans, there.texts, there.marks) (one (mark_beside o base c))
-completes found base c (LessTexts o) there = rw (there.spans, there.texts, there.marks) (then (one (text_beside o base c)) (one (mark_beside o base c)))
-completes found base c First there = rw (there.spans, there.texts, there.marks) (then (one (span_beside base c)) (then (one (text_beside _ base c)) (one (mark_beside _ base c))))
+completes found base c (Whole o) there = rw (there.format, there.years, there.lines, there.spans, there.texts, there.marks) nothing
+completes found base c (LessMarks o) there = rw (there.format, there.years, there.lines, there.spans, there.texts, there.marks) (one (mark_beside o base c))
+completes found base c (LessTexts o) there = rw (there.format, there.years, there.lines, there.spans, there.texts, there.marks) (then (one (text_beside o base c)) (one (mark_beside o base c)))
+completes found base c First there = rw (there.format, there.years, there.lines, there.spans, there.texts, there.marks)
+    (then (one (span_beside base c)) (then (one (text_beside _ base c)) (one (mark_beside _ base c))))
 
 -- an order of the tables that has `lpis_mark` is already the full one of version 3
 pub mark_there : (s : Layout) → has_marks s ≡ true → made_whole s ≡ s

@@ -2,12 +2,12 @@
 use Rattle.std.proofs.Common.{arith, refl, inl, ◌≡◌, Ok, Err, Result}
 use Rattle.lpis_register_sql.proofs.Common.{HasCleanDisk, State, Survives, Content, Layout, IsStored}
 use Rattle.sqlite.proofs.StateLemmas.{survives_then}
-use Rattle.lpis_register_sql.specs.Quiet.{LeavesNone, ReadsRows}
+use Rattle.lpis_register_sql.specs.Quiet.{ReadsRows}
 
 -- what the calls so far have answered
 pub record Told (P : Layout → Type 0) (Says : Content → Type 0) (a b : State) : Type 0 where
   pub says : HasCleanDisk b → (s : Layout) → P s → (c : Content) → IsStored s a c → Says c × IsStored s b c
-  pub survives : Survives a b (LeavesNone P a)
+  pub survives : Survives a b (λ _. ⊥)
 
 -- before the first call nothing is answered, and what is stored is stored still
 pub nothing_yet : {P : Layout → Type 0} {a : State} → Told P (λ c. Unit {0}) a a
@@ -17,9 +17,8 @@ nothing_yet = record {
 }
 
 -- one more call: a crash leaves nothing new
-still_none : {P Q : Layout → Type 0} {Says : Content → Type 0} {a b c : State} → ((s : Layout) → P s → Q s) → Told P Says a b → Survives b c (LeavesNone Q b) → Survives a c (LeavesNone P a)
-still_none {a = a} {b = b} {c = c} f told quiet =
-    survives_then a b c _ _ _ (λ _ db none. none) (λ clean db none s p x h. none s (f s p) x (told.says (omega (arith, quiet.clean)) s p x h).1) told.survives quiet
+still_none : {a b c : State} → Survives a b (λ _. ⊥) → Survives b c (λ _. ⊥) → Survives a c (λ _. ⊥)
+still_none {a = a} {b = b} {c = c} one two = survives_then a b c _ _ _ (λ _ db none. none) (λ clean db none. none) one two
 
 -- which answers
 pub then : {P Q : Layout → Type 0} {Says : Content → Type 0} {X E : Type 0} {More : Content → X → Type 0} {a b c : State} {x : X} → ((s : Layout) → P s → Q s) → Told P Says a b
@@ -28,7 +27,7 @@ then f told reads = record {
   says = λ clean s p content h.
       let before = told.says (omega (arith, reads.survives.clean)) s p content h in
       let now = reads.ok clean s (f s p) content before.1 in ((before.0, now.0), now.1);
-  survives = still_none f told reads.survives;
+  survives = still_none told.survives reads.survives;
 }
 
 -- or fails
@@ -37,7 +36,7 @@ pub then_fails : {P Q : Layout → Type 0} {Says : Content → Type 0} {X Y D E 
 then_fails failed f told reads = rw failed.1 (record {
   ok = λ clean s p content h. tt;
   same = λ clean up s p content h. reads.same clean up s (f s p) content (told.says (omega (arith, reads.survives.clean)) s p content h).1;
-  survives = still_none f told reads.survives;
+  survives = still_none told.survives reads.survives;
 })
 
 -- what is made of all that was answered

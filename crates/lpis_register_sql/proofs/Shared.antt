@@ -1,4 +1,5 @@
 -- The lemmas that the crates above cite, passed on from one place. Declares nothing.
 pub use Rattle.lpis_register_sql.proofs.CompletingLemmas.{mark_there}
+pub use Rattle.lpis_register_sql.proofs.SeeingLemmas.{stays_then}
 pub use Rattle.lpis_register_sql.proofs.QuietLemmas.{answered, nothing_yet, then, then_fails}
 pub use Rattle.lpis_register_sql.proofs.UnreadLemmas.{unread_before, unread_still}

@@ -1,6 +1,6 @@
 -- What the queries show.
 use Rattle.std.proofs.Common.{◌≡◌, ◌⊎◌, inl, inr, ℕ, List, [], ◌∷◌, map, drop, Ok, Err, Result, IfOk, refl, sym, ap, ap₂, subst, subst₂, ◌∙◌, IsPermutation, true, OnErr, Vec, Global}
-use Rattle.lpis_register_sql.proofs.Common.{IsPermutation-map, IsPermutation-trans, Null, Row, Term, overlay, understood, Error, State}
+use Rattle.lpis_register_sql.proofs.Common.{IsPermutation-map, IsPermutation-trans, Null, Row, Term, overlay, Error, State}
 use Rattle.lpis_register_sql.proofs.Common.{HasCleanDisk, Survives, Content, Format, Layout, schema_of, origin_of, has_spans, has_live, has_texts, has_marks, span_tree, text_tree, mark_tree}
 use Rattle.lpis_register_sql.proofs.Common.{read_format, read_release, read_span, read_line_text, read_live, read_text, read_mark}
 use Rattle.lpis_register_sql.proofs.Common.{IsStored, format_row, year_row, span_row, line_row, live_row, text_row, mark_row}
@@ -10,9 +10,12 @@ use Rattle.std.proofs.lemmas.List.Concat.{flat_map_single}
 use Rattle.std.proofs.lemmas.List.{map-id}
 use Rattle.sqlite_value.specs.declared.keys.Key.{Key}
 use Rattle.sqlite.specs.State.{Shown, IsUnchanged, IsRolledBack, CommitsShowing}
-use Rattle.sqlite.proofs.Callers.{reads_as, IsPlain, never_commits}
+use Rattle.sqlite.proofs.Callers.{reads_as}
+use Rattle.lpis_register_sql.specs.Unread.{StoredTable, query_of}
+use Rattle.lpis_register_sql.specs.private.Telling.{IsPlainWhere}
+use Rattle.lpis_register_sql.proofs.AnsweringLemmas.{IsRead, never_left, plain_where}
 use Rattle.sqlite.proofs.StateLemmas.{survives_weaker}
-use Rattle.lpis_register_sql.specs.Quiet.{LeavesNone, ReadsRows}
+use Rattle.lpis_register_sql.specs.Quiet.{ReadsRows}
 use Rattle.lpis_register_sql.specs.private.Shown.{year_shown, format_shown, span_shown, line_shown, live_shown, text_shown, mark_shown}
 use Rattle.lpis_register_sql.proofs.MeaningLemmas.{Asks, from_all, read_format_means, read_release_means, read_span_means, read_line_means, read_live_means, span_query, line_query}
 use Rattle.lpis_register_sql.proofs.MeaningLemmas.{live_query, text_query, mark_query, read_text_means, read_mark_means}
@@ -115,36 +118,32 @@ module _ {s : Layout} {old : State} {c : Content} (new : State) (rows : List Row
 -- ---- a query reads
 
 -- a query reads
-pub by_query : {X : Type 0} {P : Layout → Type 0} {rows : Content → List X} {old new : State} {r : Result (Vec X Global) Error} (sql : List ℕ) (shown : Row → X)
-    → ((s : Layout) → P s → IsPlain (understood (schema_of s) sql))
-    → ((s : Layout) → P s → (c : Content) (seen : List Row) → IsStored s old c → Shown sql [] old new seen → IsPermutation (rows c) (map shown seen))
-    → (IsPlain (understood old.now.schema sql) → HasCleanDisk new → IfOk r (λ all. (seen : List Row) × Shown sql [] old new seen × (all.items ≡ map shown seen)))
-    → (IsPlain (understood old.now.schema sql) → HasCleanDisk new → OnErr r (IsUnchanged old new ⊎ IsRolledBack old new))
-    → Survives old new (CommitsShowing sql [] old) → ReadsRows P (λ c all. IsPermutation (rows c) all.items) old new r
-by_query {X = X} {P = P} {rows = rows} {old = old} {new = new} {r = r} sql shown plain says ok err survives = read r ok err
+pub by_query : {X : Type 0} {P : Layout → Type 0} {rows : Content → List X} {old new : State} {r : Result (Vec X Global) Error} (t : StoredTable) (shown : Row → X) (columns : X → Row)
+    → ((s : Layout) → P s → (c : Content) (seen : List Row) → IsStored s old c → Shown (query_of t) [] old new seen → IsPermutation (rows c) (map shown seen))
+    → (IsPlainWhere old.now.schema (query_of t) → HasCleanDisk new → IfOk r (λ all. IsRead t shown columns old new all.items))
+    → (IsPlainWhere old.now.schema (query_of t) → HasCleanDisk new → OnErr r (IsUnchanged old new ⊎ IsRolledBack old new))
+    → Survives old new (CommitsShowing (query_of t) [] old) → ReadsRows P (λ c all. IsPermutation (rows c) all.items) old new r
+by_query {X = X} {P = P} {rows = rows} {old = old} {new = new} {r = r} t shown columns says ok err survives = read r (ok plain) (err plain)
   where
-    plain_here : (s : Layout) → P s → (c : Content) → IsStored s old c → IsPlain (understood old.now.schema sql)
-    plain_here s p c h = subst (λ it. IsPlain (understood it sql)) (sym h.holds.schema) (plain s p)
+    plain : IsPlainWhere old.now.schema (query_of t)
+    plain = plain_where t old.now.schema
 
-    quiet : Survives old new (LeavesNone P old)
-    quiet = survives_weaker old new _ _ (λ _ db may s p c h. never_commits sql [] old db (plain_here s p c h) may) survives
+    quiet : Survives old new (λ _. ⊥)
+    quiet = survives_weaker old new _ _ (λ _ db may. never_left (query_of t) [] old db plain may) survives
 
-    read : (r : Result (Vec X Global) Error)
-        → (IsPlain (understood old.now.schema sql) → HasCleanDisk new → IfOk r (λ all. (seen : List Row) × Shown sql [] old new seen × (all.items ≡ map shown seen)))
-        → (IsPlain (understood old.now.schema sql) → HasCleanDisk new → OnErr r (IsUnchanged old new ⊎ IsRolledBack old new))
+    read : (r : Result (Vec X Global) Error) → (HasCleanDisk new → IfOk r (λ all. IsRead t shown columns old new all.items)) → (HasCleanDisk new → OnErr r (IsUnchanged old new ⊎ IsRolledBack old new))
         → ReadsRows P (λ c all. IsPermutation (rows c) all.items) old new r
     read (Ok all) ok err =
         let stays : HasCleanDisk new → (s : Layout) → P s → (c : Content) → IsStored s old c → IsStored s new c = λ clean s p c h.
-        let it = ok (plain_here s p c h) clean in stored_back s old new c (unchanged_back s old new c h (shown_same sql old new it.0 (plain_here s p c h) it.1)) h in
+        let it = ok clean in stored_back s old new c (unchanged_back s old new c h (shown_same (query_of t) old new it.0 plain it.1)) h in
         record {
-          ok = λ clean s p c h.
-              let it = ok (plain_here s p c h) clean in (subst (IsPermutation (rows c)) (sym it.2) (says s p c it.0 h it.1), stays clean s p c h);
+          ok = λ clean s p c h. let it = ok clean in (subst (IsPermutation (rows c)) (sym it.2) (says s p c it.0 h it.1), stays clean s p c h);
           same = λ clean up. stays clean;
           survives = quiet;
         }
     read (Err e) ok err = record {
       ok = λ clean s p c h. tt;
-      same = λ clean up s p c h. elim (err (plain_here s p c h) clean) [
+      same = λ clean up s p c h. elim (err clean) [
         | inl same ↦ stored_back s old new c (unchanged_back s old new c h same) h
         | inr undo ↦ stored_back s old new c (undone_back old old new (sym h.settled) undo up) h
       ];

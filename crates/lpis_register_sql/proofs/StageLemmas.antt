@@ -21,7 +21,6 @@ use Rattle.lpis_register_sql.proofs.MeaningLemmas.{Makes, format_is, format_term
 use Rattle.lpis_register_sql.proofs.WriteLemmas.{adds, did_not_stop, ran, same_value}
 use Rattle.lpis_register_sql.proofs.TurnLemmas.{Holds, Leads, Turns, one, then}
 use Rattle.lpis_register_sql.specs.Making.{making_statements, plain_statement}
-use Rattle.lpis_register_sql.specs.declared.found.Found.{Found}
 use Rattle.sqlite.specs.Effect.{IsDatabase}
 use Rattle.sqlite.specs.State.{Executes}
 use Rattle.sqlite_trees.specs.declared.store.Store as store
@@ -119,10 +118,10 @@ begins base = record {
 }
 
 -- where there is no table, the statements that make them make a new register
-pub makes_new : {S : Type 0} {g : store.Ghosts S} (found : Found) → found.format ≡ false → (base : Database)
-    → Leads g (Stage no_schema base) (making_statements found) (Holds (Whole (New nothing)) base no_content)
-makes_new found fresh base = rw fresh (then (then (one (makes_table _ _ _ _ format_is refl base)) (then (one (makes_table _ _ _ _ release_is refl base)) (one (makes_table _ _ _ _ span_is refl base))))
-    (then (then (one (makes_table _ _ _ _ row_is refl base)) (then (one (makes_table _ _ _ _ (text_is (New nothing)) refl base)) (one (makes_table _ _ _ _ mark_is refl base)))) (one (begins base))))
+pub makes_new : {S : Type 0} {g : store.Ghosts S} (base : Database)
+    → Leads g (Stage no_schema base) making_statements (Holds (Whole (New nothing)) base no_content)
+makes_new base = then (then (one (makes_table _ _ _ _ format_is refl base)) (then (one (makes_table _ _ _ _ release_is refl base)) (one (makes_table _ _ _ _ span_is refl base))))
+    (then (then (one (makes_table _ _ _ _ row_is refl base)) (then (one (makes_table _ _ _ _ (text_is (New nothing)) refl base)) (one (makes_table _ _ _ _ mark_is refl base)))) (one (begins base)))
 
 -- ---- a table more beside those that hold rows
 

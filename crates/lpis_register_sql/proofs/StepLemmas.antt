@@ -14,7 +14,6 @@ use Rattle.lpis_register_rows.specs.Content.{no_content}
 use Rattle.lpis_register_sql.specs.Bare.{IsBare}
 use Rattle.lpis_register_sql.specs.Beside.{nothing}
 use Rattle.lpis_register_sql.specs.Commits.{Creates, Rewrites}
-use Rattle.lpis_register_sql.specs.declared.found.Found.{Found}
 use Rattle.lpis_register_sql.specs.Stopping.{BoundStatement}
 use Rattle.lpis_register_sql.specs.private.Inside.{Makes}
 use Rattle.lpis_register_sql.specs.private.Stages.{Stage}
@@ -124,16 +123,16 @@ module _ {S : Type 0} {g : store.Ghosts S} (held : Held S) {first last : Held S}
   module _ {r : Result (Unit {0}) Error} (ok : HasCleanDisk (state g end) → IsCommitted (state g last) (state g end) r)
       (err : HasCleanDisk (state g end) → IfErr r (FailsToCommit (state g last) (state g end))) where
     -- tables that were made, and are committed
-    pub created_at_commit : {found : Found} → (found.format ≡ false → (base : Database) → Leads g (Stage no_schema base) xs (Holds (Whole (New nothing)) base no_content))
-        → Creates found (state g held) (state g end) r
-    created_at_commit {found = found} does = record {
-      ok = λ fresh clean bare. committed (Whole (New nothing)) _ (state g last) (state g end) _ (inside fresh clean bare) r (ok clean);
-      err = λ fresh clean up bare. where_fails r (λ back. bare_back (state g held) (state g end) back bare)
-          (commit_fails (Whole (New nothing)) (state g held) (state g last) (state g end) _ (inside fresh clean bare) up r (err clean));
-      crash = crash _ (λ clean db is fresh bare. subst (Leaves (Whole (New nothing)) no_content) (sym is) (held_is_left (Whole (New nothing)) (state g last).now _ (inside fresh clean bare).holds));
+    pub created_at_commit : ((base : Database) → Leads g (Stage no_schema base) xs (Holds (Whole (New nothing)) base no_content))
+        → Creates (state g held) (state g end) r
+    created_at_commit does = record {
+      ok = λ clean bare. committed (Whole (New nothing)) _ (state g last) (state g end) _ (inside clean bare) r (ok clean);
+      err = λ clean up bare. where_fails r (λ back. bare_back (state g held) (state g end) back bare)
+          (commit_fails (Whole (New nothing)) (state g held) (state g last) (state g end) _ (inside clean bare) up r (err clean));
+      crash = crash _ (λ clean db is bare. subst (Leaves (Whole (New nothing)) no_content) (sym is) (held_is_left (Whole (New nothing)) (state g last).now _ (inside clean bare).holds));
     } where
-      inside : found.format ≡ false → HasCleanDisk (state g end) → IsBare (state g held) → Inside (Whole (New nothing)) (state g held).now (state g last) no_content
-      inside fresh clean bare = let stage = begun_bare g held first begun bare in reached (does fresh _) stage.is_open stage clean
+      inside : HasCleanDisk (state g end) → IsBare (state g held) → Inside (Whole (New nothing)) (state g held).now (state g last) no_content
+      inside clean bare = let stage = begun_bare g held first begun bare in reached (does _) stage.is_open stage clean
 
     -- rows that were written, and are committed
     pub written_at_commit : {IsSuch : Layout → Content → Type 0} {turn : Content → Content}

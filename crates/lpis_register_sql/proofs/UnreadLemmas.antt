@@ -16,7 +16,7 @@ use Rattle.std.proofs.Common.{◌≤◌, IsErrAnd}
 use Rattle.sqlite.proofs.Callers.{IsPlain, unchanged_then}
 use Rattle.lpis_register_sql.specs.declared.found.Found.{Found}
 use Rattle.lpis_register_sql.specs.Unread.{IsRefusedQuery, HasColumns, IsOfKind, IsUnanswered, IsUnread, ColumnKind, StoredTable, Tells, is_read, kinds_of, query_of}
-use Rattle.lpis_register_sql.specs.private.Telling.{TellsRows}
+use Rattle.lpis_register_sql.specs.private.Telling.{IsPlainWhere, TellsRows}
 use Rattle.lpis_register_rows.specs.Content.{Content}
 use Rattle.lpis_register_sql.specs.Quiet.{IsFound, ReadsRows}
 use Rattle.lpis_register_sql.proofs.QuietLemmas.{Told, nothing_yet, then, then_fails}
@@ -107,10 +107,10 @@ misfit_stops sql kinds a b e rows row same begun misfit = elim (memory? e) [
 ]
 
 -- what a plain query showed changed nothing
-pub shown_same : (sql : List ℕ) (a b : State) (rows : List Row) → IsPlain (understood a.now.schema sql) → Shown sql [] a b rows → IsUnchanged a b
+pub shown_same : (sql : List ℕ) (a b : State) (rows : List Row) → IsPlainWhere a.now.schema sql → Shown sql [] a b rows → IsUnchanged a b
 unfolding Shown
 shown_same sql a b rows plain h =
-    let none = (subst IsPlain h.1.is plain).0 in (subst (ShowsRows a b sql h.0 (timed [] h.0.formats h.1.now) rows) none h.2).3
+    let none = (plain h.0 h.1.is).0 in (subst (ShowsRows a b sql h.0 (timed [] h.0.formats h.1.now) rows) none h.2).3
 
 -- a reading that fails, where the query is a plain one
 pub told_err_rows : {X : Type 0} (sql : List ℕ) (kinds : List ColumnKind) (a b : State) (e : Error) (r : Result X Error) → IsErrAnd r (λ x. x ≡ e)

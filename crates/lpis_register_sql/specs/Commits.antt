@@ -1,5 +1,5 @@
 -- What a call that writes in one transaction does to a database.
-use Rattle.std.specs.Prelude.{◌≡◌, ℕ, true, false, IsTrue, OnErr, OnOk, Result}
+use Rattle.std.specs.Prelude.{◌≡◌, ℕ, true, IsTrue, OnErr, OnOk, Result}
 use Rattle.sqlite.specs.Tree.{Trees}
 use Rattle.sqlite.specs.State.{HasCleanDisk, State, Survives}
 use Rattle.sqlite.specs.declared.error.Error.{Error}
@@ -13,18 +13,15 @@ use Rattle.lpis_register_sql.specs.Quiet.{IsFound}
 use Rattle.lpis_register_sql.specs.declared.found.Found.{Found}
 
 -- the tables of a new register, where there was none
-abbrev pub LeavesMade : Found → State → Trees → Type 0
-LeavesMade found old trees =
-    found.format ≡ false → IsBare old → Leaves (Whole (New nothing)) no_content trees
+abbrev pub LeavesMade : State → Trees → Type 0
+LeavesMade old trees = IsBare old → Leaves (Whole (New nothing)) no_content trees
 
 -- making the tables of a new register, where there was none; with an error there is none
 -- afterwards, unless the database is shut
-pub record Creates (found : Found) (old new : State) (r : Result (Unit {0}) Error) : Type 0 where
-  pub ok : found.format ≡ false → HasCleanDisk new → IsBare old
-      → OnOk r (IsStored (Whole (New nothing)) new no_content)
-  pub err : found.format ≡ false → HasCleanDisk new → IsTrue new.is_open → IsBare old
-      → OnErr r (IsBare new)
-  pub crash : Survives old new (LeavesMade found old)
+pub record Creates (old new : State) (r : Result (Unit {0}) Error) : Type 0 where
+  pub ok : HasCleanDisk new → IsBare old → OnOk r (IsStored (Whole (New nothing)) new no_content)
+  pub err : HasCleanDisk new → IsTrue new.is_open → IsBare old → OnErr r (IsBare new)
+  pub crash : Survives old new (LeavesMade old)
 
 -- rows of a version, in the tables that were found
 abbrev pub IsFoundOf : Found → ℕ → Layout → Content → Type 0

@@ -1,5 +1,5 @@
 -- The statements that make the register's tables, and that move them to version 3.
-use Rattle.std.specs.Prelude.{true, List, [], ◌∷◌, ◌++◌, ℕ, if◌then◌else◌, map}
+use Rattle.std.specs.Prelude.{List, [], ◌∷◌, ◌++◌, ℕ, if◌then◌else◌, map}
 use Rattle.lpis_register_rows.specs.Content.{StoredSpan}
 use Rattle.lpis_register_sql.specs.Holding.{span_row}
 use Rattle.lpis_register_sql.specs.Statements.{clear_live, clear_mark, clear_span, clear_text}
@@ -13,11 +13,7 @@ use Rattle.lpis_register_sql.specs.declared.found.Found.{Found}
 abbrev pub plain_statement : List ℕ → BoundStatement
 plain_statement sql = record { sql = sql; values = [] }
 
--- ---- where one of the tables is not there that each version has
-
--- the version, where its table was not found
-abbrev pub version_statements : Found → List BoundStatement
-version_statements found = if found.format then [] else plain_statement insert_format ∷ []
+-- ---- where no table of the register is there
 
 abbrev pub first_tables : List BoundStatement
 first_tables = plain_statement make_format ∷ plain_statement make_release
@@ -27,20 +23,26 @@ abbrev pub other_tables : List BoundStatement
 other_tables = plain_statement make_row ∷ plain_statement make_text
     ∷ plain_statement make_mark ∷ []
 
--- the tables of version 3, each where it is not there, and the version
-abbrev pub making_statements : Found → List BoundStatement
-making_statements found = first_tables ++ (other_tables ++ version_statements found)
+-- the tables of version 3, and the version
+abbrev pub making_statements : List BoundStatement
+making_statements = first_tables ++ (other_tables ++ plain_statement insert_format ∷ [])
 
--- what is there once they are made
-abbrev pub completed : Found → Found
-completed found = record found { spans = true; texts = true; marks = true }
-
--- ---- where those are there
+-- ---- where one is there
 
 -- a table of version 3, where it was not found
 
+abbrev pub missing_format : Found → List BoundStatement
+missing_format found = if found.format then []
+    else plain_statement make_format ∷ plain_statement insert_format ∷ []
+
+abbrev pub missing_years : Found → List BoundStatement
+missing_years found = if found.years then [] else plain_statement make_release ∷ []
+
 abbrev pub missing_spans : Found → List BoundStatement
 missing_spans found = if found.spans then [] else plain_statement make_span ∷ []
+
+abbrev pub missing_lines : Found → List BoundStatement
+missing_lines found = if found.lines then [] else plain_statement make_row ∷ []
 
 abbrev pub missing_texts : Found → List BoundStatement
 missing_texts found = if found.texts then [] else plain_statement make_text ∷ []
@@ -48,10 +50,17 @@ missing_texts found = if found.texts then [] else plain_statement make_text ∷ 
 abbrev pub missing_marks : Found → List BoundStatement
 missing_marks found = if found.marks then [] else plain_statement make_mark ∷ []
 
--- all three
+-- those that each version has, and the version, before what refers to them
+abbrev pub missing_first : Found → List BoundStatement
+missing_first found = missing_format found ++ missing_years found
+
+abbrev pub missing_others : Found → List BoundStatement
+missing_others found =
+    missing_spans found ++ (missing_lines found ++ (missing_texts found ++ missing_marks found))
+
+-- all that are missing
 abbrev pub completing_statements : Found → List BoundStatement
-completing_statements found =
-    missing_spans found ++ (missing_texts found ++ missing_marks found)
+completing_statements found = missing_first found ++ missing_others found
 
 -- a span, when it began and when it ended
 abbrev pub whole_span_statement : StoredSpan → BoundStatement

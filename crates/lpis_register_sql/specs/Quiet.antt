@@ -1,19 +1,16 @@
 -- What reading answers, and what it leaves.
-use Rattle.std.specs.Prelude.{◌≡◌, Result, IfOk, IsTrue}
-use Rattle.sqlite.specs.Tree.{Trees}
+use Rattle.std.specs.Prelude.{◌≡◌, true, Result, IfOk, IsTrue}
 use Rattle.sqlite.specs.State.{State, HasCleanDisk, Survives}
 use Rattle.lpis_register_rows.specs.Content.{Content}
 use Rattle.lpis_register_sql.specs.declared.found.Found.{Found}
 use Rattle.lpis_register_sql.specs.Layouts.{Layout, has_spans, has_live, has_texts, has_marks}
 use Rattle.lpis_register_sql.specs.Holding.{IsStored}
 
--- a crash leaves nothing new of a database that holds rows of the register, its tables in such an
--- order
-abbrev pub LeavesNone : (Layout → Type 0) → State → Trees → Type 0
-LeavesNone P old trees = (layout : Layout) → P layout → (c : Content) → IsStored layout old c → ⊥
-
 -- the tables that were found are those of this order, and no others
 pub record IsFound (found : Found) (layout : Layout) : Type 0 where
+  pub format : found.format ≡ true
+  pub years : found.years ≡ true
+  pub lines : found.lines ≡ true
   pub spans : found.spans ≡ has_spans layout
   pub lives : found.lives ≡ has_live layout
   pub texts : found.texts ≡ has_texts layout
@@ -28,4 +25,5 @@ pub record ReadsRows {X E : Type 0} (P : Layout → Type 0) (Says : Content → 
   -- the rows stay, also where it fails, unless the database is shut
   pub same : HasCleanDisk new → IsTrue new.is_open → (layout : Layout) → P layout → (c : Content)
       → IsStored layout old c → IsStored layout new c
-  pub survives : Survives old new (LeavesNone P old)
+  -- a crash leaves nothing new, whatever the database holds
+  pub survives : Survives old new (λ _. ⊥)

@@ -1,13 +1,11 @@
 -- Why a table of the register can't be read.
-use Rattle.std.specs.Prelude.{◌≡◌, ◌⊎◌, ◌&&◌, ◌++◌, ◌∷◌, [], ℕ, Bool, true, IsTrue, IsUtf8, List}
-use Rattle.std.specs.Prelude.{MatchResult, Result, codes}
-use Rattle.std.specs.List.{list_any}
+use Rattle.std.specs.Prelude.{◌≡◌, ◌⊎◌, ◌++◌, ◌∷◌, [], ℕ, Bool, IsTrue, IsUtf8, List}
+use Rattle.std.specs.Prelude.{MatchResult, Result}
 use Rattle.sqlite.specs.Clock.{timed}
 use Rattle.sqlite.specs.Effect.{Database, RefusesToRead}
 use Rattle.sqlite.specs.Given.{IsPlain}
 use Rattle.sqlite.specs.Listing.{IsSourceOf, reads_listing, understood}
 use Rattle.sqlite.specs.Order.{Row}
-use Rattle.sqlite.specs.Schema.{Schema}
 use Rattle.sqlite.specs.State.{Begins, HasCleanDisk, IsNoStatement, IsStatement, IsUnchanged}
 use Rattle.sqlite.specs.State.{State}
 use Rattle.sqlite.specs.Values.{IsInt}
@@ -18,7 +16,6 @@ use Rattle.sqlite.specs.declared.types.Value.{Value}
 use Rattle.sqlite.specs.declared.types.Value.TheVariants.{Text}
 use Rattle.sqlite_disk.specs.Disk.{MoreFaults}
 use Rattle.sqlite_resolve.specs.declared.compiled.Compiled.{Compiled}
-use Rattle.sqlite_schema.specs.Names.{same_name}
 use Rattle.lpis_register_sql.specs.Statements.{read_format, read_line_text, read_live, read_mark}
 use Rattle.lpis_register_sql.specs.Statements.{read_release, read_span, read_text}
 use Rattle.lpis_register_sql.specs.declared.found.Found.{Found}
@@ -67,25 +64,12 @@ HasColumns [] row = Unit {0}
 HasColumns (k ∷ kinds) [] = ⊥
 HasColumns (k ∷ kinds) (v ∷ row) = IsOfKind k v × HasColumns kinds row
 
--- ---- the tables that are read: those that each version has, and of the others those found
-
-abbrev pub has_table : Schema → List ℕ → Bool
-has_table schema name = list_any (λ t. same_name t.name name) schema.tables
-
-pub record AreThere (schema : Schema) (found : Found) : Type 0 where
-  pub format : found.format ≡ has_table schema (codes "lpis_format")
-  pub common : found.common ≡ ((has_table schema (codes "lpis_format")
-      && has_table schema (codes "lpis_release")) && has_table schema (codes "lpis_row"))
-  pub spans : found.spans ≡ has_table schema (codes "lpis_span")
-  pub lives : found.lives ≡ has_table schema (codes "lpis_live")
-  pub texts : found.texts ≡ has_table schema (codes "lpis_text")
-  pub marks : found.marks ≡ has_table schema (codes "lpis_mark")
-
+-- whether it is read: where it was found
 abbrev pub is_read : Found → StoredTable → Bool
-is_read found Formats = true
-is_read found Years = true
+is_read found Formats = found.format
+is_read found Years = found.years
 is_read found Spans = found.spans
-is_read found Lines = true
+is_read found Lines = found.lines
 is_read found Lives = found.lives
 is_read found Texts = found.texts
 is_read found Marks = found.marks
@@ -108,7 +92,8 @@ module _ (st : State) (sql : List ℕ) where
   IsUnanswered kinds =
       ¬ IsPlain (understood st.now.schema sql) ⊎ (IsRefusedQuery ⊎ ShowsMisfit kinds)
 
--- the disk failed between these two, or in the first the engine refuses the query of a table
+-- the disk failed between these two, or in the first the engine refuses the query of a table that
+-- was found
 abbrev pub IsUnread : Found → State → State → Type 0
 IsUnread found old new = MoreFaults old.faults new.faults
     ⊎ ((t : StoredTable) × IsTrue (is_read found t) × IsUnanswered old (query_of t) (kinds_of t))

@@ -4,11 +4,10 @@ ghost use Rattle.std.specs.Prelude.{◌≡◌, true, false};
 ghost use Rattle.std.specs.List.{list_any};
 ghost use Rattle.sqlite_schema.specs.Names.{same_name};
 ghost use Rattle.lpis_register_sql.specs.Hiding.{hides_table, is_table_name};
-ghost use Rattle.lpis_register_sql.specs.Making.{completed};
+ghost use Rattle.lpis_register_sql.specs.Presence.{AreThere, is_any};
 ghost use Rattle.lpis_register_sql.specs.Quiet.{IsFound};
 ghost use Rattle.lpis_register_sql.specs.Layouts.{has_marks, no_schema, schema_of};
 ghost use Rattle.lpis_register_sql.specs.Standing.{Stands};
-ghost use Rattle.lpis_register_sql.specs.Unread.{AreThere};
 
 use sqlite_schema::names::same_name;
 use sqlite_schema::schema::Schema;
@@ -18,10 +17,12 @@ use sqlite_schema::schema::Schema;
 pub struct Found {
     /// `lpis_format` is there.
     pub format: bool,
-    /// So are all that each version has.
-    pub common: bool,
+    /// `lpis_release` is there.
+    pub years: bool,
     /// `lpis_span` is there.
     pub spans: bool,
+    /// `lpis_row` is there.
+    pub lines: bool,
     /// `lpis_live` is there.
     pub lives: bool,
     /// `lpis_text` is there.
@@ -33,26 +34,18 @@ pub struct Found {
 }
 
 impl Found {
+    /// Whether one at least is there.
+    pub fn is_any(&self) -> bool
+        ensures { result ≡ is_any self.now }
+    {
+        self.format | self.years | self.spans | self.lines | self.lives | self.texts | self.marks
+    }
+
     /// Whether each table of version 3 is there.
     pub fn is_whole(&self) -> bool
         ensures { (layout : _) → IsFound self.now layout → result ≡ has_marks layout }
     {
-        self.spans & self.texts & self.marks
-    }
-
-    /// The tables once those that are not there are made.
-    pub fn completed(self) -> Found
-        ensures made { (result.spans ≡ true) × (result.texts ≡ true) × (result.marks ≡ true) }
-        ensures completed { result ≡ completed self }
-        ensures same { (result.format ≡ self.format) × (result.common ≡ self.common)
-            × (result.lives ≡ self.lives) × (result.hidden ≡ self.hidden) }
-    {
-        Found {
-            spans: true,
-            texts: true,
-            marks: true,
-            ..self
-        }
+        self.format & self.years & self.spans & self.lines & self.texts & self.marks
     }
 }
 
@@ -95,25 +88,25 @@ fn hides_table(schema: &Schema) -> bool
 
 /// The tables that are there.
 pub fn tables_in(schema: &Schema) -> Found
-    ensures bare { schema.now ≡ no_schema → (result.format ≡ false) × (result.common ≡ false)
-        × (result.lives ≡ false) }
+    ensures bare { schema.now ≡ no_schema → is_any result ≡ false }
     ensures hidden { result.hidden ≡ hides_table schema.now }
     ensures there { AreThere schema.now result }
     ensures laid_out { (layout : _) (trees : _) → Stands layout trees
-        → schema.now ≡ schema_of layout → (result.common ≡ true) × IsFound result layout }
+        → schema.now ≡ schema_of layout → (is_any result ≡ true) × IsFound result layout }
 {
     let format = has_table(schema, "lpis_format");
-    let release = has_table(schema, "lpis_release");
-    let row = has_table(schema, "lpis_row");
+    let years = has_table(schema, "lpis_release");
     let spans = has_table(schema, "lpis_span");
+    let lines = has_table(schema, "lpis_row");
     let lives = has_table(schema, "lpis_live");
     let texts = has_table(schema, "lpis_text");
     let marks = has_table(schema, "lpis_mark");
     let hidden = hides_table(schema);
     Found {
         format,
-        common: format & release & row,
+        years,
         spans,
+        lines,
         lives,
         texts,
         marks,

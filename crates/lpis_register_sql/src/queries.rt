@@ -7,12 +7,15 @@ use sqlite::{Alter, Connection, Error, Row};
 use std::alloc::Global;
 
 impl FromRow for FormatRow {
+    ghost use Rattle.lpis_register_sql.specs.Showing.{format_columns};
     ghost use Rattle.lpis_register_sql.specs.Unread.{Formats, kinds_of};
     ghost use Rattle.lpis_register_sql.specs.private.Shown.{format_shown};
 
     ghost shown = { format_shown };
 
     ghost kinds = { kinds_of Formats };
+
+    ghost columns = { format_columns };
 
     #[tactic(auto, using(crate::proofs::UnreadLemmas::misfit))]
     fn read(row: &Row) -> Result<FormatRow, Error> {
@@ -33,8 +36,8 @@ impl Stored for FormatRow {
 
     ghost has_table = { λ layout. true };
 
-    fn was_found(_found: &Found) -> bool {
-        true
+    fn was_found(found: &Found) -> bool {
+        found.format
     }
 
     fn query<S: Alter>(alloc: Global, conn: &mut Connection<S>) -> Result<Vec<FormatRow>, Error> {
@@ -46,12 +49,15 @@ impl Stored for FormatRow {
 
 /// A year of a release.
 impl FromRow for i64 {
+    ghost use Rattle.lpis_register_sql.specs.Showing.{year_columns};
     ghost use Rattle.lpis_register_sql.specs.Unread.{Years, kinds_of};
     ghost use Rattle.lpis_register_sql.specs.private.Shown.{year_shown};
 
     ghost shown = { year_shown };
 
     ghost kinds = { kinds_of Years };
+
+    ghost columns = { year_columns };
 
     #[tactic(auto, using(crate::proofs::UnreadLemmas::misfit_alone))]
     fn read(row: &Row) -> Result<i64, Error> {
@@ -70,8 +76,8 @@ impl Stored for i64 {
 
     ghost has_table = { λ layout. true };
 
-    fn was_found(_found: &Found) -> bool {
-        true
+    fn was_found(found: &Found) -> bool {
+        found.years
     }
 
     fn query<S: Alter>(alloc: Global, conn: &mut Connection<S>) -> Result<Vec<i64>, Error> {
@@ -82,12 +88,15 @@ impl Stored for i64 {
 }
 
 impl FromRow for SpanRow {
+    ghost use Rattle.lpis_register_sql.specs.Holding.{span_row};
     ghost use Rattle.lpis_register_sql.specs.Unread.{Spans, kinds_of};
     ghost use Rattle.lpis_register_sql.specs.private.Shown.{span_shown};
 
     ghost shown = { span_shown };
 
     ghost kinds = { kinds_of Spans };
+
+    ghost columns = { span_row };
 
     #[tactic(auto, using(crate::proofs::UnreadLemmas::misfit))]
     fn read(row: &Row) -> Result<SpanRow, Error> {
@@ -125,12 +134,15 @@ impl Stored for SpanRow {
 }
 
 impl FromRow for LineRow {
+    ghost use Rattle.lpis_register_sql.specs.Holding.{line_row};
     ghost use Rattle.lpis_register_sql.specs.Unread.{Lines, kinds_of};
     ghost use Rattle.lpis_register_sql.specs.private.Shown.{line_shown};
 
     ghost shown = { line_shown };
 
     ghost kinds = { kinds_of Lines };
+
+    ghost columns = { line_row };
 
     #[tactic(auto, using(crate::proofs::UnreadLemmas::misfit))]
     fn read(row: &Row) -> Result<LineRow, Error> {
@@ -158,8 +170,8 @@ impl Stored for LineRow {
 
     ghost has_table = { λ layout. true };
 
-    fn was_found(_found: &Found) -> bool {
-        true
+    fn was_found(found: &Found) -> bool {
+        found.lines
     }
 
     fn query<S: Alter>(alloc: Global, conn: &mut Connection<S>) -> Result<Vec<LineRow>, Error> {
@@ -174,12 +186,15 @@ impl Stored for LineRow {
 }
 
 impl FromRow for LiveRow {
+    ghost use Rattle.lpis_register_sql.specs.Holding.{live_row};
     ghost use Rattle.lpis_register_sql.specs.Unread.{Lives, kinds_of};
     ghost use Rattle.lpis_register_sql.specs.private.Shown.{live_shown};
 
     ghost shown = { live_shown };
 
     ghost kinds = { kinds_of Lives };
+
+    ghost columns = { live_row };
 
     #[tactic(auto, using(crate::proofs::UnreadLemmas::misfit))]
     fn read(row: &Row) -> Result<LiveRow, Error> {
@@ -216,12 +231,15 @@ impl Stored for LiveRow {
 }
 
 impl FromRow for TextRow {
+    ghost use Rattle.lpis_register_sql.specs.Holding.{text_row};
     ghost use Rattle.lpis_register_sql.specs.Unread.{Texts, kinds_of};
     ghost use Rattle.lpis_register_sql.specs.private.Shown.{text_shown};
 
     ghost shown = { text_shown };
 
     ghost kinds = { kinds_of Texts };
+
+    ghost columns = { text_row };
 
     #[tactic(auto, using(crate::proofs::UnreadLemmas::misfit))]
     fn read(row: &Row) -> Result<TextRow, Error> {
@@ -254,12 +272,15 @@ impl Stored for TextRow {
 }
 
 impl FromRow for MarkRow {
+    ghost use Rattle.lpis_register_sql.specs.Holding.{mark_row};
     ghost use Rattle.lpis_register_sql.specs.Unread.{Marks, kinds_of};
     ghost use Rattle.lpis_register_sql.specs.private.Shown.{mark_shown};
 
     ghost shown = { mark_shown };
 
     ghost kinds = { kinds_of Marks };
+
+    ghost columns = { mark_row };
 
     #[tactic(auto, using(crate::proofs::UnreadLemmas::misfit))]
     fn read(row: &Row) -> Result<MarkRow, Error> {

@@ -1,15 +1,15 @@
 //! The rows of a table, read one at a time, whichever it is: no list of what a query shows is made.
 
-ghost use Rattle.std.specs.Prelude.{◌≡◌, ◌⊎◌, [], List, map, false, IfOk, OnErr, OnOk};
+ghost use Rattle.std.specs.Prelude.{◌≡◌, ◌⊎◌, [], List, length, map, take, false, IfOk};
+ghost use Rattle.std.specs.Prelude.{OnErr, OnOk};
 ghost use Rattle.std.specs.Prelude.{IsPermutation};
-ghost use Rattle.sqlite.specs.Given.{IsPlain};
 ghost use Rattle.sqlite.specs.Held.{state};
-ghost use Rattle.sqlite.specs.Listing.{understood};
 ghost use Rattle.sqlite.specs.State.{CommitsShowing, HasCleanDisk, IsRolledBack, IsUnchanged};
 ghost use Rattle.sqlite.specs.State.{Shown, Survives};
 ghost use Rattle.lpis_register_sql.specs.Quiet.{IsFound, ReadsRows};
-ghost use Rattle.lpis_register_sql.specs.Unread.{Tells};
-ghost use Rattle.lpis_register_sql.specs.private.Telling.{TellsRows};
+ghost use Rattle.lpis_register_sql.specs.Showing.{Shows, ShowsFound};
+ghost use Rattle.lpis_register_sql.specs.Unread.{Tells, is_read};
+ghost use Rattle.lpis_register_sql.specs.private.Telling.{IsPlainWhere, TellsRows};
 
 use crate::found::Found;
 use sqlite::{Alter, Connection, Error, ErrorCode, Row};
@@ -17,7 +17,7 @@ use std::alloc::Global;
 
 /// What a row that a query shows is read as.
 pub(crate) trait FromRow: Drop {
-    ghost use Rattle.std.specs.Prelude.{◌≡◌, ◌≢◌, IfErr, IfOk, List};
+    ghost use Rattle.std.specs.Prelude.{◌≡◌, ◌≢◌, IfErr, IfOk, List, length, take};
     ghost use Rattle.sqlite.specs.Order.{Row};
     ghost use Rattle.sqlite.specs.declared.error.Error.TheVariants.{SqliteFailure};
     ghost use Rattle.sqlite.specs.declared.error.ErrorCode.TheVariants.{OutOfMemory};
@@ -27,9 +27,12 @@ pub(crate) trait FromRow: Drop {
 
     ghost kinds: { List ColumnKind };
 
+    ghost columns: { Self → Row };
+
     /// A row that the query showed.
     fn read(row: &Row) -> Result<Self, Error>
         ensures shown { IfOk result (λ it. shown row.now ≡ it) }
+        ensures columns { IfOk result (λ it. take (length kinds) row.now ≡ columns it) }
         ensures misfit { IfErr result (λ e. e ≢ SqliteFailure OutOfMemory
             → ¬ HasColumns kinds row.now) };
 }
@@ -42,11 +45,12 @@ fn take_rows<T: FromRow, S: Alter>(
 ) -> Result<(), Error>
     requires empty { all.old.items ≡ [] }
     ensures autocommit { conn.old.in_transaction ≡ false → conn.new.in_transaction ≡ false }
-    ensures shown { IsPlain (understood conn.old.schema sql.now)
+    ensures shown { IsPlainWhere conn.old.schema sql.now
         → HasCleanDisk (state S.Store conn.new) → OnOk result ((rows : List Row)
         × Shown sql.now [] (state S.Store conn.old) (state S.Store conn.new) rows
-        × (all.new.items ≡ map T.shown rows)) }
-    ensures same { IsPlain (understood conn.old.schema sql.now)
+        × (all.new.items ≡ map T.shown rows)
+        × (map (take (length T.kinds)) rows ≡ map T.columns all.new.items)) }
+    ensures same { IsPlainWhere conn.old.schema sql.now
         → HasCleanDisk (state S.Store conn.new)
         → OnErr result (IsUnchanged (state S.Store conn.old) (state S.Store conn.new)
         ⊎ IsRolledBack (state S.Store conn.old) (state S.Store conn.new)) }
@@ -74,11 +78,12 @@ pub(crate) fn read_rows<T: FromRow, S: Alter>(
     sql: &str,
 ) -> Result<Vec<T>, Error>
     ensures autocommit { conn.old.in_transaction ≡ false → conn.new.in_transaction ≡ false }
-    ensures shown { IsPlain (understood conn.old.schema sql.now)
+    ensures shown { IsPlainWhere conn.old.schema sql.now
         → HasCleanDisk (state S.Store conn.new) → IfOk result (λ all. (rows : List Row)
         × Shown sql.now [] (state S.Store conn.old) (state S.Store conn.new) rows
-        × (all.items ≡ map T.shown rows)) }
-    ensures same { IsPlain (understood conn.old.schema sql.now)
+        × (all.items ≡ map T.shown rows)
+        × (map (take (length T.kinds)) rows ≡ map T.columns all.items)) }
+    ensures same { IsPlainWhere conn.old.schema sql.now
         → HasCleanDisk (state S.Store conn.new)
         → OnErr result (IsUnchanged (state S.Store conn.old) (state S.Store conn.new)
         ⊎ IsRolledBack (state S.Store conn.old) (state S.Store conn.new)) }
@@ -101,6 +106,7 @@ pub(crate) trait Stored: FromRow {
     ghost use Rattle.lpis_register_sql.specs.Layouts.{Layout};
     ghost use Rattle.lpis_register_sql.specs.Holding.{Means};
     ghost use Rattle.lpis_register_sql.specs.Quiet.{IsFound, ReadsRows};
+    ghost use Rattle.lpis_register_sql.specs.Showing.{Shows, ShowsTable};
     ghost use Rattle.lpis_register_sql.specs.Unread.{StoredTable, is_read, kinds_of, query_of};
     ghost use Rattle.lpis_register_sql.specs.private.Telling.{TellsRows};
 
@@ -123,7 +129,9 @@ pub(crate) trait Stored: FromRow {
             (λ c all. IsPermutation (rows c) all.items)
             (state S.Store conn.old) (state S.Store conn.new) result }
         ensures tells { TellsRows (query_of table) (kinds_of table) (state S.Store conn.old)
-            (state S.Store conn.new) result };
+            (state S.Store conn.new) result }
+        ensures shows { Shows (λ db all. ShowsTable db table Self.columns all.items)
+            (state S.Store conn.old) (state S.Store conn.new) result };
 
     ghost without_table: { (layout : Layout) (trees : Trees) (c : Content) → Means layout trees c
         → has_table layout ≡ false → rows c ≡ [] };
@@ -140,6 +148,8 @@ pub(crate) fn load_rows<T: Stored, S: Alter>(
     ensures reads { ReadsRows (IsFound found.now) (λ c all. IsPermutation (T.rows c) all.items)
         (state S.Store conn.old) (state S.Store conn.new) result }
     ensures tells { Tells found.now (state S.Store conn.old) (state S.Store conn.new) result }
+    ensures shows { Shows (λ db all. ShowsFound (is_read found.now T.table) db T.table T.columns
+        all.items) (state S.Store conn.old) (state S.Store conn.new) result }
 {
     if T::was_found(found) {
         T::query(alloc, conn)

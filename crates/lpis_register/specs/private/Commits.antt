@@ -13,10 +13,12 @@ use Rattle.lpis_register_sql.specs.declared.found.Found.{Found}
 use Rattle.lpis_register_sql.specs.Layouts.{Layout, origin_of}
 use Rattle.lpis_register_sql.specs.Holding.{IsStored}
 use Rattle.lpis_register_sql.specs.Quiet.{IsFound}
+use Rattle.lpis_register_sql.specs.Showing.{StaysSame}
 use Rattle.lpis_register.specs.FailingToOpen.{FailsToSettle}
 use Rattle.lpis_register.specs.Faults.{IsFailure, IsOpeningFault}
 use Rattle.lpis_register.specs.Histories.{HoldsRegister, LeavesRegister}
 use Rattle.lpis_register.specs.Opening.{IsOpenedAs, LeavesKept, HasNoRegister, HasRegister}
+use Rattle.lpis_register.specs.Saying.{SaysNoTables, SaysTables}
 use Rattle.lpis_register.specs.declared.fault.PublishFault.{PublishFault}
 use Rattle.lpis_register.specs.declared.fault.PublishFault.TheVariants.{Store, Unlawful}
 use Rattle.lpis_register.specs.declared.opening.Loaded.{Loaded}
@@ -65,6 +67,11 @@ pub record OpensFound (found : Found) (old new : State) (r : Result Loaded Publi
         → (c : Content) → IsStored layout old c → OnErr r (IsStored layout new c)
     pub unlawful : HasCleanDisk new → (layout : Layout) → IsFound found layout → (c : Content)
         → IsStored layout old c → IfErr r (λ e. e ≡ Unlawful → HasNoRegister c)
+    pub said : HasCleanDisk new → IfOk r (λ (told : Loaded). (version : Version)
+        × SaysTables found old.now version told.history told.shapes.items)
+    pub refused : HasCleanDisk new → IfErr r (λ e. e ≡ Unlawful → SaysNoTables found old.now
+        × StaysSame old new)
+    pub untouched : IfErr r (λ e. e ≡ Unlawful → Survives old new (λ _. ⊥))
     pub clean : HasCleanDisk new → HasCleanDisk old
     pub crash : Survives old new (LeavesFound found old)
     pub kinds : IfErr r IsOpeningFault

@@ -1,11 +1,16 @@
 -- What a call answers that reads the tables which were found.
-use Rattle.std.specs.Prelude.{◌≡◌, ◌⊎◌, IsTrue, MatchResult, Result, IfErr}
+use Rattle.std.specs.Prelude.{◌≡◌, ◌⊎◌, IsTrue, List, MatchResult, Result, IfErr}
+use Rattle.sqlite.specs.Effect.{Database}
 use Rattle.sqlite.specs.State.{HasCleanDisk, IsUnchanged, State}
+use Rattle.lpis_lineage.specs.declared.row.Entry.{Entry}
 use Rattle.lpis_register_rows.specs.Content.{Content}
+use Rattle.lpis_register_rows.specs.Histories.{TablesHave}
+use Rattle.lpis_register_rows.specs.declared.version.Version.{Version}
 use Rattle.lpis_register_sql.specs.declared.found.Found.{Found}
 use Rattle.lpis_register_sql.specs.Layouts.{Layout}
 use Rattle.lpis_register_sql.specs.Holding.{IsStored}
 use Rattle.lpis_register_sql.specs.Quiet.{IsFound, ReadsRows}
+use Rattle.lpis_register_sql.specs.Showing.{Shows, ShowsRows, StaysSame}
 use Rattle.lpis_register_sql.specs.Unread.{IsUnread}
 use Rattle.lpis_register.specs.Faults.{IsOpeningFault}
 use Rattle.lpis_register.specs.declared.fault.PublishFault.{PublishFault}
@@ -25,3 +30,19 @@ abbrev pub TellsFound : {X : Type 0} → Found → State → State → Result X 
 TellsFound found old new r = HasCleanDisk new → IsTrue old.is_open
     → MatchResult r (λ _. IsUnchanged old new ⊎ IsUnread found old new)
     (λ fault. fault ≡ Store → IsUnread found old new)
+
+-- what the tables that were found show is answered, and they are refused for what they show; both
+-- change nothing
+pub record SeesFound {X : Type 0} (Says : Database → X → Type 0) (SaysNo : Database → Type 0)
+    (old new : State) (r : Result X PublishFault) : Type 0 where
+  pub shows : Shows Says old new r
+  pub refuses : HasCleanDisk new → IfErr r (λ e. e ≡ Unlawful → SaysNo old.now × StaysSame old new)
+
+-- rows that say a history, or none
+abbrev pub SeesHistory : Found → Database → List Entry × Version → Type 0
+SeesHistory found db it =
+    (rows : Content) × ShowsRows found db rows × TablesHave it.1 rows it.0
+
+abbrev pub SeesNoHistory : Found → Database → Type 0
+SeesNoHistory found db = (rows : Content) × ShowsRows found db rows
+    × ((version : Version) (h : List Entry) → TablesHave version rows h → ⊥)

@@ -10,6 +10,6 @@ returns-in-Ok-clause-unopened g c =
       opened = c.in-Ok.conn;
       over = record { fresh = c.in-Ok.ensures.fresh; opens = c.in-Ok.ensures.opened; finds = c.in-Ok.ensures.found };
       unopened = it.unopened _ c.in-Ok.ensures.found;
-      survives = it.survives;
+      leaves = it.leaves;
       cause = it.cause;
     }

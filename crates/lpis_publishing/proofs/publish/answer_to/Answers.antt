@@ -1,4 +1,4 @@
-use Rattle.std.proofs.Common.{◌≡◌, ◌∙◌, ℕ, refl, subst, sym}
+use Rattle.std.proofs.Common.{◌∙◌, ℕ, refl, subst, sym}
 use Rattle.lpis_publishing.proofs.Common.{IfOk-weaker}
 use Rattle.lpis_publishing.proofs.PublishLemmas.{both-ok, fails-submitted}
 use Rattle.lpis_publishing.proofs.SubmissionLemmas.{submission-more, submission-said, submission-status}

@@ -1,5 +1,6 @@
 use Rattle.std.proofs.Common.{[]}
-use Rattle.lpis_register.proofs.Common.{Second, state}
+use Rattle.lpis_register.proofs.Common.{state}
+use Rattle.lpis_register_rows.specs.declared.version.Version.TheVariants.{Second}
 use Rattle.lpis_register_rows.specs.Content.{raised}
 use Rattle.lpis_register.proofs.SettlingLemmas.{settled_by}
 use Rattle.lpis_register.specs.FailingToOpen.{settling_statements}

@@ -1,5 +1,7 @@
 use Rattle.std.proofs.Common.{◌∙◌, sym}
 use Rattle.sqlite.specs.Held.{state}
+use Rattle.lpis_register_sql.specs.Unread.{is_read}
+use Rattle.lpis_register_sql.proofs.SeeingLemmas.{found_shown, unfound_shown}
 use Rattle.lpis_register_sql.proofs.UnreadLemmas.{told_of}
 use Rattle.lpis_register_sql.proofs.reading.load_rows.Goals as goal
 
@@ -7,3 +9,13 @@ pub returns-then-was_found-clause-tells : goal.returns-then-was_found-clause-tel
 returns-then-was_found-clause-tells g c =
     told_of c.args.found.now g.T.Stored.table (state g.S.Store c.args.conn.now) (state g.S.Store c.query.new.conn) c.query.result
     (sym c.was_found.ensures.read ∙ c.if-was_found.true) c.query.ensures.tells
+
+pub returns-then-was_found-clause-shows : goal.returns-then-was_found-clause-shows
+returns-then-was_found-clause-shows g c =
+    found_shown (is_read c.args.found.now g.T.Stored.table) g.T.Stored.table g.T.FromRow.columns (state g.S.Store c.args.conn.now) (state g.S.Store c.query.new.conn) c.query.result
+    (sym c.was_found.ensures.read ∙ c.if-was_found.true) c.query.ensures.shows
+
+pub returns-else-was_found-clause-shows : goal.returns-else-was_found-clause-shows
+returns-else-was_found-clause-shows g c =
+    unfound_shown (is_read c.args.found.now g.T.Stored.table) g.T.Stored.table g.T.FromRow.columns (state g.S.Store c.args.conn.now) c.new.result
+    (sym c.was_found.ensures.read ∙ c.if-was_found.false) c.new.ensures.items

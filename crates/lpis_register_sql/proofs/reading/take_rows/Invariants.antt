@@ -1,9 +1,9 @@
-use Rattle.std.proofs.Common.{◌≡◌, [], false, List, map}
+use Rattle.std.proofs.Common.{◌≡◌, [], false, List, length, map, take}
 use Rattle.sqlite_value.specs.Order.{Row}
 use Rattle.sqlite.specs.State.{CommitsShowing, HasCleanDisk, IsUnchanged, Survives}
 use Rattle.sqlite.specs.Held.{state}
-use Rattle.sqlite.specs.Given.{HasGiven, IsPlain}
-use Rattle.sqlite.specs.Listing.{understood}
+use Rattle.sqlite.specs.Given.{HasGiven}
+use Rattle.lpis_register_sql.specs.private.Telling.{IsPlainWhere}
 use Rattle.lpis_register_sql.proofs.reading.take_rows.Given as goal
 
 abbrev pub invariant-rows : goal.invariant-rows
@@ -14,4 +14,5 @@ invariant-rows g l =
     × Survives old now (CommitsShowing l.sql [] old)
     × (l.fn.conn.in_transaction ≡ false → l.rows.conn.now.in_transaction ≡ false)
     × ((given : List Row) × (l.all.items ≡ map g.T.FromRow.shown given)
-    × (IsPlain (understood l.fn.conn.schema l.sql) → HasCleanDisk now → HasGiven g.S.Store l.sql [] l.rows.conn.now given × IsUnchanged old now))
+    × (map (take (length g.T.FromRow.kinds)) given ≡ map g.T.FromRow.columns l.all.items)
+    × (IsPlainWhere l.fn.conn.schema l.sql → HasCleanDisk now → HasGiven g.S.Store l.sql [] l.rows.conn.now given × IsUnchanged old now))

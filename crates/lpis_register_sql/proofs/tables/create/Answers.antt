@@ -8,7 +8,7 @@ pub returns-clause-creates : goal.returns-clause-creates
 returns-clause-creates g c =
     let same : c.commit.new.self.0 ≡ c.conn-2-1.given.0 = search rules in
     rw (← same) (created_at_commit c.args.conn.now c.commit.new.self.0 c.transaction-tx.ensures.begun c.in_ok-make_all.ensures.makes c.commit.ensures.survives c.commit.ensures.ok c.commit.ensures.err
-    (λ fresh base. makes_new c.args.found.now fresh base))
+    makes_new)
 
 pub returns-clause-ran : goal.returns-clause-ran
 returns-clause-ran g c =

@@ -12,5 +12,7 @@ pub returns-in-Err-clause-unopened : goal.returns-in-Err-clause-unopened
 returns-in-Err-clause-unopened g c image finds =
     unopened_file image (state g.S.Store c.args.conn) c.requires.opened finds c.what_is_left_is_found.ensures.stored c.what_is_left_is_found.ensures.bare _ _ c.in-Err.ensures.unopened
 
-pub returns-in-Err-clause-survives : goal.returns-in-Err-clause-survives
-returns-in-Err-clause-survives g c = c.in-Err.ensures.unopened.crash
+pub returns-in-Err-clause-leaves : goal.returns-in-Err-clause-leaves
+returns-in-Err-clause-leaves g c =
+    let unopened = c.in-Err.ensures.unopened in
+    record { crash = unopened.crash; untouched = unopened.untouched; same = λ is up. (unopened.refused is up).1 }

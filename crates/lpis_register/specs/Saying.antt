@@ -1,0 +1,67 @@
+-- What the tables that a database has say, in whatever order they stand, and whatever stands
+-- beside.
+use Rattle.std.specs.Prelude.{◌≡◌, ◌⊎◌, [], false, true, List}
+use Rattle.sqlite.specs.Effect.{Database}
+use Rattle.lpis_lineage.specs.declared.row.Entry.{Entry}
+use Rattle.lpis_lineage.specs.Lineage.{last_live}
+use Rattle.lpis_register_rows.specs.Content.{Content, StoredText}
+use Rattle.lpis_register_rows.specs.Histories.{TablesHave}
+use Rattle.lpis_register_rows.specs.Shapes.{AreLive, Shape, ShapesAre, TextsStand}
+use Rattle.lpis_register_rows.specs.declared.version.Version.{Version}
+use Rattle.lpis_register_rows.specs.declared.version.Version.TheVariants.{First, Second, Third}
+use Rattle.lpis_register_sql.specs.Presence.{AreThere, is_any}
+use Rattle.lpis_register_sql.specs.Showing.{ShowsRows, ShowsTexts}
+use Rattle.lpis_register_sql.specs.declared.found.Found.{Found}
+
+-- ---- shapes: only version 3 keeps any
+
+-- the texts that are shown are those of these shapes, which are of live parcels
+abbrev pub SaysShapes : Version → Found → Database → List Entry → List Shape → Type 0
+SaysShapes First found db h shapes = shapes ≡ []
+SaysShapes Second found db h shapes = shapes ≡ []
+SaysShapes Third found db h shapes = (texts : List StoredText) × ShowsTexts found db texts
+    × ShapesAre texts shapes × AreLive (last_live h) shapes
+
+-- the texts that are shown are those of no shapes of live parcels
+abbrev pub SaysNoShapes : Version → Found → Database → List Entry → Type 0
+SaysNoShapes First found db h = ⊥
+SaysNoShapes Second found db h = ⊥
+SaysNoShapes Third found db h = (texts : List StoredText) × ShowsTexts found db texts
+    × (TextsStand texts (last_live h) → ⊥)
+
+-- ---- the tables that are found
+
+-- they show rows that say this history, as this version has it, and keep these shapes
+pub record SaysTables (found : Found) (db : Database) (version : Version) (h : List Entry)
+    (shapes : List Shape) : Type 0 where
+  pub content : Content
+  pub shown : ShowsRows found db content
+  pub says : TablesHave version content h
+  pub keeps : SaysShapes version found db h shapes
+
+-- they show rows that say no history; or one whose shapes the texts are not
+pub record SaysNoTables (found : Found) (db : Database) : Type 0 where
+  pub content : Content
+  pub shown : ShowsRows found db content
+  pub none : ((version : Version) (h : List Entry) → TablesHave version content h → ⊥)
+      ⊎ ((version : Version) × (h : List Entry) × TablesHave version content h
+      × SaysNoShapes version found db h)
+
+-- ---- the database
+
+-- the tables that it has show rows that say this history
+abbrev pub SaysHistory : Database → List Entry → Type 0
+SaysHistory db h = (found : Found) × AreThere db.schema found × (content : Content)
+    × ShowsRows found db content × (version : Version) × TablesHave version content h
+
+-- it has none of the register's tables, and this is the empty history, with no shape; or those that
+-- it has say this
+abbrev pub SaysRegister : Database → List Entry → List Shape → Type 0
+SaysRegister db h shapes = (found : Found) × AreThere db.schema found
+    × (((is_any found ≡ false) × (h ≡ []) × (shapes ≡ []))
+    ⊎ ((is_any found ≡ true) × (version : Version) × SaysTables found db version h shapes))
+
+-- it has some, and those that it has say none
+abbrev pub SaysNone : Database → Type 0
+SaysNone db = (found : Found) × AreThere db.schema found × (is_any found ≡ true)
+    × SaysNoTables found db
