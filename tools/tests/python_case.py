@@ -4,6 +4,7 @@ modules."""
 import importlib.util
 import os
 import pathlib
+import shutil
 import subprocess
 import sys
 
@@ -29,6 +30,11 @@ def done(*words, **more):
 def has(name):
     """Whether this Python has a module."""
     return importlib.util.find_spec(name) is not None
+
+
+def mypy():
+    """The words that call mypy; none where it is not there."""
+    return [sys.executable, "-m", "mypy"] if has("mypy") else [name for name in [shutil.which("mypy")] if name]
 
 
 def library():

@@ -244,7 +244,7 @@ def row_of(data: bytes, found: Any) -> tuple[tuple[str, ...], Point | None]:
     """The identifiers of the row that a refusal names, and the point at which its text is refused, where that has two numbers."""
     records = records_of(data)
     record = dict(zip((name.lower() for name in records[0]), records[found.row] if found.row < len(records) else []))
-    names = tuple(record[name] for name in KEYS.get(found.table, ()) if name in record)
+    names = tuple(record[name].encode("latin-1").decode("utf-8", "replace") for name in KEYS.get(found.table, ()) if name in record)
     return names, point_at(record.get("wkt", ""), found.offset) if found.offset is not None else None
 
 
