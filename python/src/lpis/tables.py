@@ -124,9 +124,10 @@ def nested(parts: Any, depth: int) -> str:
 
 def number(value: Any) -> str:
     """The shortest decimals that give the same number, without an exponent."""
-    value = value.item() if hasattr(value, "item") else value
-    word = str(value)
-    return format(Decimal(word), "f") if "e" in word.lower() and isinstance(value, (float, Decimal)) else word
+    if not isinstance(value, (float, int)) and hasattr(value, "item"):
+        value = value.item()
+    word = float.__repr__(value) if isinstance(value, float) else str(value)
+    return format(Decimal(word), "f") if ("e" in word or "E" in word) and isinstance(value, (float, Decimal)) else word
 
 
 def records_of(data: bytes) -> list[list[str]]:

@@ -1,5 +1,6 @@
 """Where the program and its tools are, and how they are run: with their lines as progress, and ended where the user cancels."""
 
+import glob
 import os
 import shutil
 import subprocess
@@ -11,6 +12,7 @@ from qgis.core import QgsProcessingException
 SETTING = "LPIS_FOLDER"
 HERE = os.path.dirname(os.path.realpath(__file__))
 WAIT = 0.2  # seconds between two looks at the button 'Cancel'
+OF_WHEEL = os.path.join("lib", "python3*", "*-packages", "lpis", "carried", "lib", "lpis")  # where pip puts what its commands run
 
 
 def folders():
@@ -18,7 +20,8 @@ def folders():
     found = shutil.which("lpis-prepare")
     beside = os.path.dirname(os.path.realpath(found)) if found else ""
     up = [os.path.normpath(os.path.join(HERE, *[".."] * steps)) for steps in (2, 3, 4)]
-    return [ProcessingConfig.getSetting(SETTING) or "", os.environ.get("LPIS_FOLDER", ""), *(os.path.join(place, *more) for place in up for more in ((), ("lib", "lpis"))), beside]
+    by_pip = glob.glob(os.path.join(glob.escape(os.path.dirname(beside)), OF_WHEEL)) if beside else []
+    return [ProcessingConfig.getSetting(SETTING) or "", os.environ.get("LPIS_FOLDER", ""), *(os.path.join(place, *more) for place in up for more in ((), ("lib", "lpis"))), beside, *by_pip]
 
 
 def tool(name):
