@@ -1,9 +1,9 @@
 #!/usr/bin/env python3
 """Tests marked splits and merges a second time, beside `lpis publish`:   python3 audit/lineage.py OLD NEW CERT
 
-OLD and NEW are the folders of two releases, one behind the other; CERT is the certificate with which NEW is published.
-Where it is good for NEW, the rows of NEW/lineage.csv fit, and no marked split or merge loses or gains a point, it
-prints how many there are: status 0. Else `no` and a fault, perhaps not the first: status 1.
+OLD and NEW are folders of releases, one behind the other, and CERT is the certificate with which NEW is published.
+Where it is good, the rows of NEW/lineage.csv fit, and no marked split or merge loses or gains a point, it prints how
+many there are: status 0. Else `no` and a fault: status 1. Whether a register keeps OLD's shapes tests register.py.
 """
 
 from collections import Counter, defaultdict

@@ -221,16 +221,16 @@ def test_certificate(parcels, pieces, path):
         need(found == name, 60, "piece", name, "is wanted, and there is", found)
         need(its_triangles, 61, "piece", name, "has no triangle")
         need(all(orient(*triangle) > 0 for triangle in its_triangles), 62, "piece", name, "has a clockwise triangle")
-        test_corners(64, name, its_triangles + flats, polygon)
-        test_edges((63, 65), name, polygon, around(its_triangles), flats)
+        test_corners(64, f"piece {name}", its_triangles + flats, polygon)
+        test_edges((63, 65), f"piece {name}", polygon, around(its_triangles), flats)
         triangles += its_triangles
         parts[parcel] += polygon
     for name, polygon in parcels.items():
         found, flat_count = certificate.words(PARCEL)
         flats = certificate.shapes("f", flat_count)
         need(found == name, 60, "parcel", name, "is wanted, and there is", found)
-        test_corners(64, name, flats, polygon + parts[name])
-        test_edges((63, 66), name, polygon, parts[name], flats)
+        test_corners(64, f"parcel {name}", flats, polygon + parts[name])
+        test_edges((63, 66), f"parcel {name}", polygon, parts[name], flats)
     while len(words := certificate.words(EXACT_OR_PAIRS)) > 1:
         need(not certificate.is_first_version, "cert line", certificate.number, "is none of version 1")
         blocks.append((words[0], words[1], certificate.shapes("f", words[2])))
@@ -259,7 +259,7 @@ def main(folder, path):
 
 def run(main, *words):
     """Prints what `main` answers to the words of the command line, and ends with its status."""
-    parser = argparse.ArgumentParser(description=sys.modules["__main__"].__doc__)
+    parser = argparse.ArgumentParser(usage=sys.modules["__main__"].__doc__)
     for word in words:
         parser.add_argument(word)
     try:
