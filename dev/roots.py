@@ -24,14 +24,15 @@ def methods_in(crate):
 
 
 def of(crates):
-    """The nodes of these contracts, of all crates by their names. An impl is more than what is called of it, so its methods stand for it."""
+    """The nodes of these contracts, of all crates by their names. An impl is more than what is called of it, so its methods stand for it. A type without a clause
+    says nothing by itself: it stands on the page where a contract names it."""
     called = {name for crate in PROGRAMS for name in crates[crate].imported()}
     methods = {name for crate in PROGRAMS for name in methods_in(crates[crate])}
     told = told_functions()
     for crate in crates.values():
         for (kind, name, _), node in crate.nodes.items():
             of_type, _, method = name.partition("::")
-            is_called = (crate.name, of_type) in called and (not method or method in methods)
+            is_called = (crate.name, of_type) in called and (not method or method in methods) and (kind != "type" or node.parts)
             is_own = crate.name in PROGRAMS and kind == "fn"
             if kind != "impl" and (node.is_promise or method) and (is_called or is_own or (kind != "type" and name in told)):
                 yield node
