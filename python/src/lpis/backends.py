@@ -3,6 +3,7 @@
 from __future__ import annotations
 
 import ctypes
+import mmap
 import tempfile
 from pathlib import Path
 from typing import Any, NamedTuple, Protocol
@@ -60,7 +61,7 @@ class Library:
         """The answer of a call whose last room is that of its text, and what stands in the others."""
         while True:
             given, reply = ctypes.c_size_t(), Reply()
-            rooms = [bytearray(size) for size in sizes]
+            rooms = [mmap.mmap(-1, size) for size in sizes]  # of which what is not written takes no memory
             lent: list[Any] = [(ctypes.c_char * size).from_buffer(room) for size, room in zip(sizes, rooms)]
             words = [word for data in [*inputs, *lent] for word in (data, len(data))]
             between = [ctypes.byref(given)] if len(sizes) > 1 else []
@@ -68,7 +69,7 @@ class Library:
             del lent, words
             needed = [*([given.value] if between else []), reply.length]
             if is_answer:
-                *others, text = (bytes(memoryview(room)[:length]) for room, length in zip(rooms, needed))
+                *others, text = (room[:length] for room, length in zip(rooms, needed))
                 return Answer(text.decode("ascii", "replace"), reply.status), others
             if all(length <= size for length, size in zip(needed, sizes)):
                 raise Failed(NO_ANSWER)
