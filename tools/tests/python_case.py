@@ -12,6 +12,7 @@ import places
 
 TOP = pathlib.Path(places.TOP)
 PYTHON, EXAMPLES = TOP / "python", TOP / "examples"
+NAMES = ("parcels", "covers", "classes")
 sys.path[:0] = [str(PYTHON / "src"), str(TOP / "dev"), str(TOP / "bench")]
 NO_LIBRARY = "no liblpis.so of these sources in out/library (dev/library), and LPIS_LIBRARY names none"
 ALONE = {name: value for name, value in os.environ.items() if not name.startswith(("PYTHON", "PIP_", "LPIS"))}  # nothing that leads to this clone
@@ -49,3 +50,18 @@ def library():
 
 LIBRARY = library()
 BACKENDS = ["program", *(["library"] if LIBRARY else [])]
+
+
+def release(name):
+    return [EXAMPLES / name / f"{table}.csv" for table in NAMES]
+
+
+def square(x, y, side=10):
+    return {"type": "Polygon", "coordinates": [[(x, y), (x + side, y), (x + side, y + side), (x, y + side), (x, y)]]}
+
+
+class Feature:
+    """As fiona and Shapely give them."""
+
+    def __init__(self, found):
+        self.__geo_interface__ = found

@@ -5,6 +5,7 @@ from __future__ import annotations
 import csv
 import io
 import os
+import re
 import sys
 import tempfile
 from dataclasses import dataclass
@@ -17,6 +18,7 @@ from .refusals import Failed
 from .tables import SHAPE, Table, data_of, rows_of, text_of, written
 
 TABLES = ("parcels", "covers", "classes")
+USAGE = re.compile(r"(?ms)^usage: .*?(?=^prepare: )")
 
 
 @dataclass(frozen=True, repr=False)
@@ -93,7 +95,7 @@ def prepare(parcels: Table, covers: Table | None = None, classes: Table | None =
             words += ["--name", f"{wanted}={found}"]
         ended = tree.ended(words)
         if ended.returncode not in (0, 1):
-            raise Failed(ended.stderr.strip() or f"lpis-prepare ended with status {ended.returncode}")
+            raise Failed(USAGE.sub("", ended.stderr).strip() or f"lpis-prepare ended with status {ended.returncode}")
         return read(target, ended.returncode == 0, ended.stdout)
 
 
