@@ -45,8 +45,9 @@ def read_register(path):
     hiding = [name for kind, name in others if kind in ("trigger", "table") or name.lower().startswith("lpis_")]
     need(not hiding, "it has a trigger, a virtual table, or a view in place of a table:", *hiding)
     need(not base.execute("PRAGMA foreign_key_check").fetchone(), "a row names one that is not there")
-    has_version = base.execute("SELECT 1 FROM sqlite_master WHERE name LIKE 'lpis_format'").fetchone()
-    version = base.execute("SELECT one, version FROM lpis_format").fetchall() if has_version else [(1, 3)]
+    names = {name.lower() for (name,) in base.execute("SELECT name FROM sqlite_master WHERE type = 'table'")}
+    need({"lpis_format", "lpis_span"} & names or not names & COLUMNS.keys(), "it lacks lpis_format and lpis_span")
+    version = base.execute("SELECT one, version FROM lpis_format").fetchall() if "lpis_format" in names else [(1, 3)]
     need(version in ([(1, 1)], [(1, 2)], [(1, 3)]), "no register of version 1, 2 or 3:", version)
     release, lives, spans, rows, texts, marks = (rows_of(base, name, str(version[0][1])) for name in COLUMNS)
     years = sorted(year for (year,) in release)

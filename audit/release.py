@@ -119,8 +119,6 @@ def read_release(folder):
     return parcels, pieces, {name: percent_of(row) for name, row in classes.items()}
 
 
-# The certificate's text.
-
 COUNT, PLACE = "(0|[1-9][0-9]{0,9})", "(0|-?[1-9][0-9]{0,10})"
 PIECE, PARCEL = f"piece ({IDENTIFIER}) {COUNT} {COUNT}", f"parcel ({IDENTIFIER}) {COUNT}"
 EXACT_OR_PAIRS = f"exact (split|merge) ({IDENTIFIER}) {COUNT}|pairs {COUNT}"
@@ -128,7 +126,7 @@ SHAPE = {letter: letter + f" {PLACE}" * 6 for letter in "tf"}
 
 
 class Certificate:
-    """Its lines, which are read one after the other."""
+    """The lines of a certificate, which are read one after the other."""
 
     def __init__(self, path):
         self.lines, self.number, self.counts = opened(path), 0, {"t": 0, "f": 0}

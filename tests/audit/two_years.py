@@ -40,6 +40,7 @@ BESIDE = [
     "UPDATE lpis_row SET new = 'D' WHERE pos = 1", "UPDATE lpis_row SET new = '' WHERE pos = 1", "DELETE FROM lpis_row WHERE pos = 1", "DELETE FROM lpis_row WHERE pos = 0", "DELETE FROM lpis_format",
     "INSERT INTO lpis_row VALUES (2025, 2, 'A', 'B')", "INSERT INTO lpis_row VALUES (2025, 2, 'B', 'C')", "INSERT INTO lpis_row VALUES (2024, 0, 'A', '')", "INSERT INTO lpis_release VALUES (65536)",
     "INSERT INTO lpis_release VALUES (2026)", "INSERT INTO lpis_release VALUES (0)", "INSERT INTO lpis_release VALUES (2023)", "DROP TABLE lpis_row", "DROP TABLE lpis_span", "DROP TABLE lpis_live",
+    "DROP TABLE lpis_format",
     "INSERT INTO lpis_live VALUES (2024, 'no identifier')", "DELETE FROM lpis_live WHERE id = 'C'", "DELETE FROM lpis_live WHERE id = 'A'", "INSERT INTO lpis_live VALUES (2025, 'A')",
     "INSERT INTO lpis_live VALUES (2024, 'B')", "INSERT INTO lpis_live VALUES (2024, 'D'), (2025, 'D')", "INSERT INTO lpis_live VALUES (2024, 'D')", "INSERT INTO lpis_live VALUES (2023, 'A')",
     "INSERT INTO lpis_release VALUES (2026); INSERT INTO lpis_live VALUES (2026, 'A'), (2026, 'B'), (2026, 'C')", "INSERT INTO lpis_release VALUES (2026); INSERT INTO lpis_live VALUES (2026, 'B'), (2026, 'C')",
