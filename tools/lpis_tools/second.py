@@ -6,7 +6,7 @@ import os
 import sys
 import tempfile
 
-from . import ending, registers, years
+from . import ending, registers
 
 TOOLS = os.path.dirname(os.path.dirname(os.path.realpath(__file__)))
 PLACES = (os.path.join(TOOLS, "audit"), os.path.join(os.path.dirname(TOOLS), "audit"))  # installed beside the tools, or of the repository
@@ -44,11 +44,10 @@ def agreement(command, folder, cert):
 
 def of_lineage(register, folder, cert):
     """What the second checker says of marked splits and merges that follow on the shapes that a register keeps."""
-    with contextlib.closing(registers.opened(register)) as base:
-        _, texts, _ = years.content_of(base, register)
     with tempfile.TemporaryDirectory(prefix="lpis-") as old:
-        with open(os.path.join(old, "parcels.csv"), "w", encoding="utf-8", newline="") as file:
-            csv.writer(file).writerows([("parcel", "wkt"), *texts.items()])
+        with contextlib.closing(registers.opened(register)) as base, open(os.path.join(old, "parcels.csv"), "w", encoding="utf-8", newline="") as file:
+            file.write("parcel,wkt\n")
+            csv.writer(file).writerows(base.execute("SELECT id, wkt FROM lpis_text"))
         status, text = asked("lineage.py", old, folder, cert)
     if status != 0:
         raise Disagree(f"two programs do not agree: lpis finds the marks of {folder} exact, and the second checker says: {text.rstrip()}")
