@@ -1,6 +1,6 @@
 """The wheel of the package `lpis`: written by `dev/package` for release/, and by pip through python/backend.py of a clone.
 
-A wheel is a zip with the files of the package and three of facts. It carries what `./install` puts (lpis/carried), so that program and tools are those of the
+A wheel is a zip with the files of the package and four of facts. It carries what `./install` puts (lpis/carried), so that program and tools are those of the
 archive; the pages of the manual go where a system has them. Its bytes depend on these files alone: names are sorted, times are one.
 """
 
