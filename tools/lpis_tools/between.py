@@ -3,6 +3,7 @@ the land, has a narrow arm, the land over a border at right angles up to the bor
 
 from __future__ import annotations
 
+import math
 from dataclasses import dataclass
 
 import numpy
@@ -12,6 +13,7 @@ from shapely.ops import unary_union
 from . import faces
 from .facing import TINY, Facing
 
+DEEP = 10  # times the width: strips up to this depth cross a few of the other side
 HAIR = 0.000_05  # metres that parts of one gap may be apart, of doubles
 
 
@@ -70,13 +72,23 @@ class Between:
         names = [self.held[there] for there in self.faces.cycle[halves ^ 1].tolist()]
         numbers = {name: number for number, name in enumerate(sorted(set(names)))}
         strips = {}
-        for one, other, strip in Facing(*(ends.astype(float) for ends in self.ends(halves)), numpy.array([numbers[name] for name in names], int)).strips(self.width):
-            strips.setdefault((min(one, other), max(one, other)), []).append(Polygon(strip))
+        for one, other, *strip in Facing(*(ends.astype(float) for ends in self.ends(halves)), numpy.array([numbers[name] for name in names], int)).strips(self.width):
+            strips.setdefault((min(one, other), max(one, other)), {}).setdefault(one, []).append(strip)
         gaps, names = [], list(numbers)
-        for pair, found in sorted(strips.items()):
-            whole = unary_union(found).buffer(HAIR, join_style=2).buffer(-HAIR, join_style=2)
+        for pair, sides in sorted(strips.items()):
+            whole = land_of([side for _, side in sorted(sides.items())]).buffer(HAIR, join_style=2).buffer(-HAIR, join_style=2)
             gaps += [Gap([names[number] for number in pair], part) for part in getattr(whole, "geoms", [whole]) if part.area > 0]
         return gaps
+
+
+def land_of(sides):
+    """The land over the borders of two parcels, of strips and how often the depth of each has its width. Where strips are deep, those of one side cross many of the
+    other's: then the land over that one whose borders have more of it, from which the land over both cannot be told."""
+    shapes = [[Polygon(strip) for strip, _ in side] for side in sides]
+    deep = math.fsum(depth for side in sides for _, depth in side)
+    if deep <= DEEP * sum(map(len, shapes)):
+        return unary_union([shape for side in shapes for shape in side])
+    return max(map(unary_union, shapes), key=lambda land: land.area)
 
 
 def in_order(lengths):

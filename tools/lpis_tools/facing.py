@@ -25,7 +25,7 @@ class Facing:
         self.side = size_of_cells(self.edges, LEAST)
 
     def strips(self, most):
-        """Whose border lies next to whose, two of them, and a polygon of the land between, in metres: by the borders, and along each."""
+        """Whose border lies next to whose, a polygon of the land between in metres, and how often its depth has its width: by the borders, and along each."""
         found, width = [], min(most, 2 * self.side)
         waiting = [(number, 0.0, length) for number, length in enumerate(self.length.tolist())]
         while waiting:
@@ -35,7 +35,7 @@ class Facing:
                 left += self.look(waiting[start : start + PART], width, found)
             waiting, width = left if width < most else [], min(most, 2 * width)
         for border, owner, pieces in sorted(found, key=lambda one: (one[0], one[2][0][0])):
-            yield self.whose[border], owner, self.polygon(border, pieces)
+            yield self.whose[border], owner, self.polygon(border, pieces), max(max(piece[2:]) for piece in pieces) / (pieces[-1][1] - pieces[0][0])
 
     def look(self, waiting, width, found):
         """Adds what faces some places, (border, from, to), up to a width, and gives those that nothing faces."""
