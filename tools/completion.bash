@@ -57,6 +57,11 @@ _lpis_country() {
     cut) _lpis_options '--jobs --snakemake --profile --lpis --help' -d ;;
     publish) _lpis_options '--lineage --new --year-anyway --jobs --snakemake --profile --lpis --help' ;;
     *) _lpis_options '--parcels --lpis --help' -d ;;
+    prepare) _lpis_options '--accept --accept-from --classes --epsg --name --identifiers --tables --workers --snakemake --profile --lineage --parcels --covers --points --anew --quiet --help' ;;
+    split) _lpis_options '--lineage --parcels --covers --points --anew --quiet --help' -d ;;
+    cut) _lpis_options '--jobs --snakemake --profile --lpis --quiet --help' -d ;;
+    publish) _lpis_options '--lineage --new --year-anyway --jobs --snakemake --profile --lpis --quiet --help' ;;
+    *) _lpis_options '--parcels --lpis --quiet --help' -d ;;
   esac
 }
 _lpis_explain() { _lpis_options '--cert --register --area --points --svg --geojson --epsg --status --name --codes --version --help'; }

@@ -9,11 +9,17 @@ import os
 import sqlite3
 
 from . import balance, conflicts, files, last_year, outcome, polygons, rounding, wkb
+from shapely import wkb as shapely_wkb
+from shapely.geometry import box
+from shapely.prepared import prep
+
+from . import balance, conflicts, files, outcome, polygons, rounding, store, wkb
 from .snapping import REACH
 
+FAR = 2 * REACH  # from a shape, whose borders move
 RULE = "lpis cells 2"  # what another rule gave is not taken
 OWN = "SELECT row.id, left, low, right, high FROM row JOIN cell USING (parcel) WHERE cell.number = ? AND is_kept"
-BESIDE = "SELECT id FROM box WHERE left <= ? AND right >= ? AND low <= ? AND high >= ?"
+BESIDE = "SELECT id, left, low, right, high FROM box WHERE left <= ? AND right >= ? AND low <= ? AND high >= ?"
 FIELDS = "SELECT id, is_cover, name, parcel, class, area, why, shape, read FROM row JOIN shape USING (id) WHERE id = ? AND is_kept"
 
 
@@ -42,8 +48,17 @@ class Layer:
         self.name, self.rows = name, rows
 
 
+def beside(base, number, left, low, right, high):
+    """The ids of the rows that the rounding of a row hangs on: those whose boxes come within reach of its box, or of its shape where the box is large."""
+    near = base.execute(BESIDE, (right + REACH, left - REACH, high + REACH, low - REACH))
+    if max(right - left, high - low) <= store.LARGE:
+        return [one for one, *_ in near]
+    shape = prep(shapely_wkb.loads(base.execute("SELECT shape FROM shape WHERE id = ?", (number,)).fetchone()[0]))
+    return [one for one, west, south, east, north in near if shape.intersects(box(west - FAR, south - FAR, east + FAR, north + FAR))]
+
+
 class Cell:
-    """A cell: the names of its parcels, its rows and those that their rounding hangs on: each whose box comes within reach of one of these."""
+    """A cell: the names of its parcels, its rows and those that their rounding hangs on."""
 
     def __init__(self, base, number):
         own, numbers, boxes = set(), set(), []
@@ -52,6 +67,7 @@ class Cell:
             if left is not None:
                 boxes.append((left - REACH, low - REACH, right + REACH, high + REACH))
                 numbers.update(other for (other,) in base.execute(BESIDE, (right + REACH, left - REACH, high + REACH, low - REACH)))
+                numbers.update(beside(base, one, left, low, right, high))
         rows = [Row(*fields) for one in sorted(numbers | own) for fields in base.execute(FIELDS, (one,))]
         self.wanted, self.then = {row["parcel"] for row in rows if row.id in own}, last_year.corners_in(base, boxes)
         self.own = {name: [row for row in rows if row.is_cover == is_cover and row.id in own] for is_cover, name in enumerate(("parcels", "covers"))}
@@ -149,6 +165,6 @@ class Compared(outcome.Outcome):
 
 def record_of(loss, words):
     """A loss as a record: what was known before the tables were made, and what is told of them behind it."""
-    shape = None if loss.shape is None else rounding.shapely_wkb.dumps(loss.shape).hex()
+    shape = None if loss.shape is None else shapely_wkb.dumps(loss.shape).hex()
     return {"kind": loss.kind, "names": loss.names, "words": words, "told": loss.words[len(words) :], "shape": shape, "width": loss.width, "area": loss.area, "layer": loss.layer,
             "rows": loss.rows, "is_grave": loss.is_grave, "place": loss.place()}

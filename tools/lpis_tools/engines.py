@@ -53,28 +53,38 @@ def prepared(words, folder, kind, plan):
             file.write(f"{len(plan)}\n")
     at_once = words.workers or len(os.sched_getaffinity(0))
     if words.snakemake or words.profile:
-        by_snakemake(words.out, f"{kind}s", at_once, words.profile, "all" if progress.Quiet.is_quiet else "rules", {"LPIS_COUNTRY": shlex.join([sys.executable, jobs.TOOL])})
+        by_snakemake(words.out, f"{kind}s", at_once, words.profile, progress.Quiet.is_quiet, {"LPIS_COUNTRY": shlex.join([sys.executable, jobs.TOOL])})
         return jobs.done(folder, kind, plan)
     what, things = {"part": ("reading", "parts"), "cell": ("rounding", "cells")}[kind]
     return jobs.do_all(folder, kind, len(plan), at_once, progress.Progress("country", what, len(plan), things))
 
 
-def by_snakemake(folder, target, at_once, profile, quiet, surroundings):
+def by_snakemake(folder, target, at_once, profile, is_quiet, surroundings):
     """Runs a target of the Snakefile, which goes on where a job is refused."""
     if not snakefile.is_there():
         raise Trouble("there is no snakemake")
-    write(os.path.join(folder, "Snakefile"), snakefile.SNAKEFILE)
+    put_snakefile(folder)
     own = os.path.join(folder, snakefile.OWN)
     if profile and os.path.realpath(profile) == os.path.realpath(own):
-        write_profile(own)
         if others := sorted(name for name in os.listdir(own) if name.startswith("config.v")):  # of later versions, which take these first
             raise Trouble(f"{os.path.join(own, others[0])} is none of this tool's, and Snakemake may run it: remove it, or name a profile in another folder")
-    ending.run(snakefile.command(target, at_once, profile, quiet), cwd=folder, env=snakefile.surroundings(surroundings), stdout=2, check=False)
+    ending.run(snakefile.command(target, at_once, profile, is_quiet), cwd=folder, env=snakefile.surroundings(surroundings), stdout=2, check=False)
 
 
-def write_profile(own):
-    os.makedirs(own, exist_ok=True)
-    write(os.path.join(own, "config.yaml"), snakefile.PROFILE)
+def put_snakefile(folder):
+    """Writes the Snakefile, and a profile for a cluster."""
+    write(os.path.join(folder, "Snakefile"), snakefile.SNAKEFILE)
+    os.makedirs(os.path.join(folder, snakefile.OWN), exist_ok=True)
+    write(os.path.join(folder, snakefile.OWN, "config.yaml"), snakefile.PROFILE)
+
+
+def lines_of_regions(folder):
+    """How many lines of country.txt name a region, whatever else is wrong with it."""
+    try:
+        with open(os.path.join(folder, "country.txt"), "rb") as file:
+            return sum(line.startswith(b"region ") for line in file)
+    except OSError:
+        return 0
 
 
 def absolute(command):
@@ -98,16 +108,19 @@ def run(command, words, regions):
     """Runs the engine, which goes on where a region is refused."""
     folder, at_once = words.folder, words.jobs or len(os.sched_getaffinity(0))
     write(os.path.join(folder, "Makefile"), MAKEFILE.format(regions=" ".join(regions)))
-    write(os.path.join(folder, "Snakefile"), snakefile.SNAKEFILE)
-    write_profile(os.path.join(folder, snakefile.OWN))
+    put_snakefile(folder)
     program = shlex.join(absolute(command))
     if words.profile or words.snakemake:
-        by_snakemake(folder, "certificates", at_once, words.profile, "all", {"LPIS": program})
+        by_snakemake(folder, "certificates", at_once, words.profile, True, {"LPIS": program})
         return
     if shutil.which("make") is None:
         raise Trouble("there is no make")
     engine = ["make", "-f", "Makefile", "-r", "-k", "--no-print-directory", "-j", str(at_once)]
-    ending.run(engine, cwd=folder, env={**os.environ, "LPIS": program.replace("$", "$$")}, stdout=2, check=False)  # make works out what it has of the environment
+    surroundings, shown = {**os.environ, "LPIS": program.replace("$", "$$")}, progress.Progress("country", "cutting", len(regions), "regions")  # make works out what it has of the environment
+    with ending.start(engine, cwd=folder, env=surroundings, stdout=subprocess.PIPE, text=True) as make:
+        for _ in make.stdout:  # a line of each region that is cut
+            shown.add()
+    shown.end()
 
 
 def faults_of(command, folder, refused, say):
@@ -172,12 +185,14 @@ def check(command, words, say):
     """`lpis country`, line by line as it comes; after a yes the counts of the country beside those of the source. A country without these is not
     compared, and that is no success: who has no source calls `lpis country`."""
     options = ["--parcels"] if words.parcels else []
-    told = []
+    told, shown = [], progress.Progress("country", "checking", lines_of_regions(words.folder), "regions")
     with ending.start([*command, "country", *options, words.folder], stdout=subprocess.PIPE, text=True) as lpis:
         for line in lpis.stdout:
             print(line, end="", flush=True)
             if line.startswith("country regions "):
                 told = line.split()
+            elif line.startswith("region "):
+                shown.add()
     wanted = counts_of(words.folder)
     if lpis.returncode == 0 and not wanted:
         say(f"{uncompared(words.folder)} (`lpis country` alone compares nothing)")

@@ -19,6 +19,18 @@ MOST_OPEN = 200  # files at once
 BETWEEN = "\x01"  # names in the order of lists of names
 
 
+class Stored(Loss):
+    """A loss of a store, whose shape is made when it is asked for."""
+
+    @property
+    def shape(self):
+        return None if self.blob is None else shapely_wkb.loads(self.blob)
+
+    @shape.setter
+    def shape(self, blob):
+        self.blob = blob
+
+
 class Losses:
     """The losses of a store, the gravest first; gone over as often as is asked."""
 
@@ -43,7 +55,7 @@ class Losses:
 
     def those(self, condition, words):
         for kind, names, said, shape, width, area, layer, rows, is_grave, x, y in self.base.execute(f"SELECT kind, names, {words}, shape, width, area, layer, rows, is_grave, x, y FROM loss WHERE {condition}"):
-            yield Loss(ORDER[kind], names.split(BETWEEN), said, shapely_wkb.loads(shape) if shape else None, width, area, layer, json.loads(rows), bool(is_grave), () if x is None else (x, y))
+            yield Stored(ORDER[kind], names.split(BETWEEN), said, shape, width, area, layer, json.loads(rows), bool(is_grave), () if x is None else (x, y))
 
 
 class Gathered:

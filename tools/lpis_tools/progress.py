@@ -69,3 +69,14 @@ def each(rows, tool, what, count, things, at_once=1000):
         if number % at_once == 0:
             progress.add(at_once)
     progress.end()
+
+
+def read(records, tool, what, size):
+    """The records of a table with their lines, as `streams.Stream` has them, with the share of its bytes that passed by."""
+    progress, count = Progress(tool, what, max(1, size >> 20), "MB"), 0
+    for record in records:
+        yield record
+        count += len(record[2])
+        if count >> 20 > progress.done:
+            progress.add((count >> 20) - progress.done)
+    progress.end()

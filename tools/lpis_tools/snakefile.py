@@ -9,7 +9,6 @@ import subprocess
 SNAKEFILE = """# A country by Snakemake, which runs what is missing or whose inputs changed: the parts of its source and the cells (by `country prepare`), the
 # certificates of the regions of country.txt, and the check. snakemake -k -j 4 TARGET, or on a cluster snakemake -k --profile slurm TARGET.
 # TARGET is parts, cells, certificates or check. LPIS is the program, LPIS_COUNTRY the tool. Written by `country`.
-import json
 import os
 import sys
 
@@ -110,10 +109,10 @@ OWN = "slurm"  # the folder of the profile that is written beside the regions
 SAFE = {"PYTHONSAFEPATH": "1", "PYTHONDONTWRITEBYTECODE": "1"}  # jobs take no module of the folder either
 
 
-def command(target, jobs, profile, quiet):
-    """The words that run a target. A profile of the folder that is not named is not taken."""
+def command(target, jobs, profile, is_quiet):
+    """The words that run a target. Where it is not quiet, Snakemake tells how much is done. A profile of the folder that is not named is not taken."""
     words = ["snakemake", *ALWAYS, *(["--workflow-profile", "none"] if knows("--workflow-profile") else [])]
-    return [*words, *(["--profile", os.path.abspath(profile)] if profile else ["-q", quiet, "-j", str(jobs)]), target]
+    return [*words, *(["--profile", os.path.abspath(profile)] if profile else ["-j", str(jobs)]), target, *(["-q", "all"] if is_quiet else [])]
 
 
 def surroundings(more):

@@ -9,7 +9,7 @@ import re
 import zlib
 from array import array
 
-from . import balance, files, parting, tiles
+from . import balance, files, parting, progress, tiles
 from .streams import Folder, OneFile, Stream, Trouble, ended, measured, shown
 
 MOST_TOLD = 20
@@ -61,6 +61,10 @@ class Sums:
         return f"parcels {self.rows['parcels']} pieces {self.rows['covers']} area {area // 10**7}.{area % 10**7:07}"
 
 
+def tracked(source, name, stream):
+    return progress.read(stream, "country", name, source.size(name))
+
+
 class Land:
     """What is kept of a source: the number of each parcel, its box, and the rows and points of its pieces."""
 
@@ -68,7 +72,7 @@ class Land:
         self.source, self.numbers, self.boxes, self.sums = source, {}, parting.Boxes(), Sums()
         faults = Faults()
         say(f"reading the parcels of {source.path}")
-        for row, (name, wkt), raw in Stream(source, "parcels", ["parcel", "wkt"]):
+        for row, (name, wkt), raw in tracked(source, "parcels", Stream(source, "parcels", ["parcel", "wkt"])):
             found = measured(wkt)
             if found is None:
                 faults.add(f"parcels.csv row {row}: parcel {shown(name)}: its wkt is no polygon in range")
@@ -79,7 +83,7 @@ class Land:
                 self.boxes.add(found[0])
                 self.sums.add("parcels", raw, PARCELS, found[1])
         say(f"reading the pieces of {len(self.boxes)} parcels")
-        for row, (piece, name, land_class, wkt), raw in Stream(source, "covers", ["piece", "parcel", "class", "wkt"]):
+        for row, (piece, name, land_class, wkt), raw in tracked(source, "covers", Stream(source, "covers", ["piece", "parcel", "class", "wkt"])):
             number, found = self.numbers.get(name), measured(wkt)
             if number is None:
                 faults.add(f"covers.csv row {row}: piece {shown(piece)}: its parcel {shown(name)} is in no row of parcels.csv")
@@ -212,7 +216,7 @@ def write_regions(land, tiling, places, out, say):
         stream = Stream(land.source, name, ["parcel", "parcel"])
         writer = Writer(out, tiling.folders, name, stream.header)
         paths += writer.paths
-        for row, (parcel, _), raw in stream:
+        for row, (parcel, _), raw in tracked(land.source, name, stream):
             if parcel not in land.numbers:
                 raise Trouble(f"{name}.csv row {row}: parcel {shown(parcel)}: {CHANGED}")
             writer.add(places.of(land.numbers[parcel]), ended(raw))
@@ -280,7 +284,7 @@ class New(Folder):
 
 def sums_of(land, tiling, places, out):
     """What the regions have, each row in the first region of its parcel."""
-    sums = Sums()
+    sums, shown = Sums(), progress.Progress("country", "looking for every row", len(tiling.folders), "regions")
     for region, folder in enumerate(tiling.folders):
         new = New(os.path.join(out, folder))
         for _, (name, wkt), raw in Stream(new, "parcels", ["parcel", "wkt"]):
@@ -289,6 +293,7 @@ def sums_of(land, tiling, places, out):
         for _, (name, land_class, wkt), raw in Stream(new, "covers", ["parcel", "class", "wkt"]):
             if places.first[land.numbers[name]] == region:
                 sums.add("covers", raw, ("covers", land_class or "(no class)"), measured(wkt)[1])
+        shown.add()
     for _, _, raw in Stream(New(out), "classes", ["class", "class"]):
         sums.add("classes", raw, None, 0)
     return sums

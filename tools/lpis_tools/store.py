@@ -159,7 +159,7 @@ def merged(path, parts):
         base.commit()
         base.execute("DETACH part")
     base.execute("INSERT INTO box SELECT id, left, right, low, high FROM row WHERE left IS NOT NULL")
-    base.executescript("CREATE INDEX by_parcel ON row (parcel, is_cover); CREATE INDEX by_name ON row (name, is_cover); CREATE INDEX odd ON row (id) WHERE is_odd")
+    base.executescript("CREATE INDEX by_parcel ON row (parcel, is_cover); CREATE INDEX by_name ON row (name, is_cover); CREATE INDEX odd ON row (id) WHERE is_odd; CREATE INDEX in_order ON finding (step, place, seq); CREATE INDEX gravest ON loss (is_stopping DESC, kind, size DESC, names, seq)")
     base.commit()
     return base, starts
 
@@ -168,17 +168,20 @@ def merged(path, parts):
 
 MOST_POINTS = 150_000  # of a cell's parcels, unless one has more
 SIDE, LEAST = 36, 10  # powers of two: the side of all cells in millimetres, and that of the smallest
+LARGE = 2000.0  # metres: a parcel with a longer box, a road or a river, is a cell of its own
+EXTENTS = "SELECT min(id), min(left), min(low), max(right), max(high), sum(points) FROM row WHERE is_cover AND is_kept GROUP BY parcel"
+EXTENT = [("id", "i8"), ("left", "f8"), ("low", "f8"), ("right", "f8"), ("high", "f8"), ("points", "i8")]
 
 
 def put_cells(base):
     """Parts the kept parcels into cells; answers how many there are. A cell is a square whose sides are powers of two millimetres; a parcel is in the cell
     that has the lower left corner of its pieces' box."""
-    corners = "SELECT min(id), min(left), min(low), sum(points) FROM row WHERE is_cover AND is_kept GROUP BY parcel"
-    found = numpy.fromiter(base.execute(corners), dtype=[("id", "i8"), ("left", "f8"), ("low", "f8"), ("points", "i8")])
-    places = numpy.floor(numpy.stack([found["left"], found["low"]], axis=1) * 1000).astype(numpy.int64)
-    count = 0
-    for numbers in cells_of(places, found["points"], MOST_POINTS):
-        base.executemany("INSERT INTO cell SELECT parcel, ? FROM row WHERE id = ?", ((count, number) for number in found["id"][numbers].tolist()))
+    found, count = numpy.fromiter(base.execute(EXTENTS), dtype=EXTENT), 0
+    is_large = numpy.maximum(found["right"] - found["left"], found["high"] - found["low"]) > LARGE
+    usual = found[~is_large]
+    places = numpy.floor(numpy.stack([usual["left"], usual["low"]], axis=1) * 1000).astype(numpy.int64)
+    for ids in (*(usual["id"][numbers] for numbers in cells_of(places, usual["points"], MOST_POINTS)), *found["id"][is_large].reshape(-1, 1)):
+        base.executemany("INSERT INTO cell SELECT parcel, ? FROM row WHERE id = ?", ((count, number) for number in ids.tolist()))
         count += 1
     base.execute("CREATE INDEX by_cell ON cell (number)")
     base.commit()

@@ -35,6 +35,9 @@ class Folder:
         with open(os.path.join(self.path, f"{name}.csv"), encoding="latin-1", newline="") as file:
             yield from file
 
+    def size(self, name):
+        return os.path.getsize(os.path.join(self.path, f"{name}.csv"))
+
     def lineage(self):
         """The path of the table of lineage, or None."""
         path = os.path.join(self.path, "lineage.csv")
