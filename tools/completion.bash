@@ -52,12 +52,7 @@ _lpis_country() {
     return
   fi
   case ${COMP_WORDS[1]-} in
-    prepare) _lpis_options '--accept --accept-from --classes --epsg --name --identifiers --previous --tables --workers --snakemake --profile --quiet --lineage --parcels --covers --points --anew --help' ;;
-    split) _lpis_options '--lineage --parcels --covers --points --anew --help' -d ;;
-    cut) _lpis_options '--jobs --snakemake --profile --lpis --help' -d ;;
-    publish) _lpis_options '--lineage --new --year-anyway --jobs --snakemake --profile --lpis --help' ;;
-    *) _lpis_options '--parcels --lpis --help' -d ;;
-    prepare) _lpis_options '--accept --accept-from --classes --epsg --name --identifiers --tables --workers --snakemake --profile --lineage --parcels --covers --points --anew --quiet --help' ;;
+    prepare) _lpis_options '--accept --accept-from --classes --epsg --name --identifiers --previous --tables --workers --snakemake --profile --lineage --parcels --covers --points --anew --quiet --help' ;;
     split) _lpis_options '--lineage --parcels --covers --points --anew --quiet --help' -d ;;
     cut) _lpis_options '--jobs --snakemake --profile --lpis --quiet --help' -d ;;
     publish) _lpis_options '--lineage --new --year-anyway --jobs --snakemake --profile --lpis --quiet --help' ;;
