@@ -66,7 +66,6 @@ class Cell:
             own.add(one)
             if left is not None:
                 boxes.append((left - REACH, low - REACH, right + REACH, high + REACH))
-                numbers.update(other for (other,) in base.execute(BESIDE, (right + REACH, left - REACH, high + REACH, low - REACH)))
                 numbers.update(beside(base, one, left, low, right, high))
         rows = [Row(*fields) for one in sorted(numbers | own) for fields in base.execute(FIELDS, (one,))]
         self.wanted, self.then = {row["parcel"] for row in rows if row.id in own}, last_year.corners_in(base, boxes)
