@@ -1,9 +1,10 @@
 -- From what files hold to what an opening finds.
-use Rattle.std.proofs.Common.{◌≡◌, ◌∙◌, ◌<◌, ap, inl, inr, length, sym, subst, [], List, arith}
-use Rattle.lpis_register.proofs.Common.{Content, Entry, HasCleanDisk, HoldsRegister, IsBare, IsStored, Layout, Leaves, LeavesRegister, PublishFault, Shape, State, Trees}
+use Rattle.std.proofs.Common.{◌≡◌, ◌∙◌, ◌<◌, ap, inl, inr, false, length, sym, subst, [], IsTrue, List, arith}
+use Rattle.lpis_register.proofs.Common.{Content, Entry, HasCleanDisk, HoldsRegister, IsBare, IsStored, Layout, Leaves, LeavesRegister, PublishFault, Shape, State, Survives, Trees}
+use Rattle.lpis_register_sql.specs.Hiding.{hides_table}
 use Rattle.lpis_register_sql.specs.Layouts.{Origin}
 use Rattle.lpis_register.specs.Opening.{IsOpened, IsUnopened}
-use Rattle.lpis_register.specs.FileOpening.{AreOf, HoldsNoTable, HoldsContent, IsFileOpened, IsFileUnopened}
+use Rattle.lpis_register.specs.FileOpening.{AreOf, HoldsNoTable, HoldsContent, IsFileOpened, IsFileUnopened, StaysOf}
 use Rattle.lpis_register.specs.Saying.{SaysNone, SaysRegister}
 use Rattle.sqlite.specs.Effect.{Database}
 use Rattle.sqlite.specs.Files.{AreFoundIn}
@@ -29,14 +30,12 @@ module _ (image : Image) (old : State) (opened : HasCleanDisk old → Opens old 
   is_bare clean (inr none) = bare (opened clean).0 (opened clean).1 (none_in_nothing image old.committed.trees none (finds clean).reads)
 
   -- what an opening finds is what the files hold
-  is_of : HasCleanDisk old → (P : Database → Type 0) → P old.now → (db : Database) × AreOf image db × P db
-  is_of clean P holds =
-      let it = opened clean in
-      let now : old.now ≡ old.committed = it.0.clean in (
-        old.committed,
-        record { sound = (it.1 it.0.is_open).1; found = (finds clean).reads; only = (finds clean).holds },
-        subst P now holds,
-      )
+  module _ (clean : HasCleanDisk old) where
+    are_of : AreOf image old.committed
+    are_of = let it = opened clean in record { sound = (it.1 it.0.is_open).1; found = (finds clean).reads; only = (finds clean).holds }
+
+    shown : (P : Database → Type 0) → P old.now → P old.committed
+    shown P holds = subst P (opened clean).0.clean holds
 
   pub opened_file : (new : State) (h : List Entry) (shapes : List Shape) → ((o : Origin) → HoldsRegister o new h shapes → (db : Trees) → new.may_leave db → LeavesRegister o h shapes db)
       → IsOpened old new h shapes
@@ -44,16 +43,34 @@ module _ (image : Image) (old : State) (opened : HasCleanDisk old → Opens old 
   opened_file new h shapes left o = record {
     bare = λ up none. o.bare up (is_bare (o.clean up) none);
     found = λ up layout c rows. o.found up layout c (is_stored (o.clean up) layout c rows);
-    said = λ up. is_of (o.clean up) (λ db. SaysRegister db h shapes) (o.said up);
+    said = λ up.
+        let clean = o.clean up in
+        (old.committed, are_of clean, shown clean (λ db. hides_table db.schema ≡ false) o.seen, shown clean (λ db. SaysRegister db h shapes) (o.said up));
     left = left;
   }
 
-  pub unopened_file : (new : State) (e : PublishFault) → IsUnopened old new e → IsFileUnopened image new e
-  unopened_file new e o = record {
+  -- nothing else is left either, where the store leaves the last commit
+  stays_of : (settled : IsTrue old.is_open → (db : Trees) → old.may_leave db → db ≡ old.committed.trees) → HasCleanDisk old → (new : State) → HasCleanDisk new → new.now ≡ old.now
+      → Survives old new (λ _. ⊥) → StaysOf image new old.committed
+  stays_of settled clean new up same survives = record {
+    are = are_of clean;
+    now = same ∙ (opened clean).0.clean;
+    left = λ trees may. elim (survives.crash up trees may) [
+      | inl before ↦ settled (opened clean).0.is_open trees before
+      | inr never ↦ absurd never
+    ];
+  }
+
+  pub unopened_file : (settled : IsTrue old.is_open → (db : Trees) → old.may_leave db → db ≡ old.committed.trees) → (new : State) (e : PublishFault) → IsUnopened old new e
+      → IsFileUnopened image new e
+  unopened_file settled new e o = record {
     none = λ up alive none. o.none up alive (is_bare (o.clean up) none);
     same = λ up alive layout c rows. o.same up alive layout c (is_stored (o.clean up) layout c rows);
     unlawful = λ is up layout c rows. o.unlawful is up layout c (is_stored (o.clean up) layout c rows);
     lawful = λ is up none. o.lawful is up (is_bare (o.clean up) none);
-    refused = λ is up. is_of (o.clean up) SaysNone (o.refused is up).0;
+    refused = λ is up.
+        let clean = o.clean up in
+        let no = o.refused is up in
+        (old.committed, stays_of settled clean new up no.1.0 (o.untouched is), shown clean (λ db. hides_table db.schema ≡ false) (o.seen is), shown clean SaysNone no.0);
     kind = o.kind;
   }

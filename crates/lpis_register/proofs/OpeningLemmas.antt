@@ -89,6 +89,7 @@ unseen st = (
     unlawful = λ is. absurd (let e = is in cc);
     lawful = λ is. absurd (let e = is in cc);
     refused = λ is. absurd (let e = is in cc);
+    seen = λ is. absurd (let e = is in cc);
     untouched = λ is. absurd (let e = is in cc);
     clean = λ up. up;
     crash = nothing_done (LeavesOpened st) st;
@@ -123,6 +124,7 @@ opened_there found old new r with never seen there any o = by r o where
       unlawful = λ is up layout c r. o.unlawful up layout (with layout c r) c r is;
       lawful = λ is up bare. absurd (never bare);
       refused = λ is up. let no = o.refused up is in ((found, there, any, no.0), no.1);
+      seen = λ is. seen;
       untouched = o.untouched;
       clean = o.clean;
       crash = crash o.crash;
@@ -147,6 +149,7 @@ module _ (told_empty : HasHistory no_content []) (no_shape : ShapesAre [] []) wh
       unlawful = λ is up layout c r. absurd (never layout c r);
       lawful = λ is up bare. failure_lawful e failure is;
       refused = λ is. absurd (failure_lawful e failure is);
+      seen = λ is. absurd (failure_lawful e failure is);
       untouched = λ is. absurd (failure_lawful e failure is);
       clean = clean;
       crash = made_only;

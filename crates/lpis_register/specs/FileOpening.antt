@@ -1,5 +1,5 @@
 -- What an opening finds in files.
-use Rattle.std.specs.Prelude.{◌≡◌, ◌⊎◌, [], List, IsTrue}
+use Rattle.std.specs.Prelude.{◌≡◌, ◌⊎◌, [], false, List, IsTrue}
 use Rattle.sqlite_trees.specs.Objects.{catalog_tree}
 use Rattle.sqlite_wal.specs.Recovery.{Image}
 use Rattle.sqlite.specs.Effect.{Database, IsDatabase}
@@ -11,6 +11,7 @@ use Rattle.lpis_register_rows.specs.Content.{Content}
 use Rattle.lpis_register_rows.specs.Shapes.{Shape}
 use Rattle.lpis_register_sql.specs.Holding.{IsStored, Leaves}
 use Rattle.lpis_register_sql.specs.Beside.{nothing}
+use Rattle.lpis_register_sql.specs.Hiding.{hides_table}
 use Rattle.lpis_register_sql.specs.Layouts.{Layout, New, Origin, origin_of}
 use Rattle.lpis_register.specs.Faults.{IsOpeningFault}
 use Rattle.lpis_register.specs.Histories.{HoldsRegister, LeavesRegister}
@@ -34,6 +35,12 @@ pub record AreOf (image : Image) (db : Database) : Type 0 where
   pub found : AreFoundIn image db.trees
   pub only : (trees : Trees) → HoldsDatabase image trees → db.trees ≡ trees
 
+-- the files hold this database, and so it stays: the connection shows it, and a crash leaves it
+pub record StaysOf (image : Image) (new : State) (db : Database) : Type 0 where
+  pub are : AreOf image db
+  pub now : new.now ≡ db
+  pub left : (trees : Trees) → new.may_leave trees → trees ≡ db.trees
+
 -- an opening of these files that made this history and these shapes of them
 pub record IsFileOpened (image : Image) (new : State) (h : List Entry) (shapes : List Shape)
     : Type 0 where
@@ -41,8 +48,10 @@ pub record IsFileOpened (image : Image) (new : State) (h : List Entry) (shapes :
       → HoldsRegister (New nothing) new [] [] × (h ≡ []) × (shapes ≡ [])
   pub found : HasCleanDisk new → (layout : Layout) (c : Content) → HoldsContent image layout c
       → IsOpenedAs (origin_of layout) new c h shapes
-  -- they are what the tables in the files say, whatever these are
-  pub said : HasCleanDisk new → (db : Database) × AreOf image db × SaysRegister db h shapes
+  -- they are what the tables in the files say, whatever these are, and none of the register is
+  -- there unseen
+  pub said : HasCleanDisk new → (db : Database) × AreOf image db
+      × (hides_table db.schema ≡ false) × SaysRegister db h shapes
   -- right after it a crash leaves tables that hold both, and nothing else
   pub left : (o : Origin) → HoldsRegister o new h shapes → (db : Trees) → new.may_leave db
       → LeavesRegister o h shapes db
@@ -57,7 +66,8 @@ pub record IsFileUnopened (image : Image) (new : State) (fault : PublishFault) :
   pub unlawful : fault ≡ Unlawful → HasCleanDisk new → (layout : Layout) (c : Content)
       → HoldsContent image layout c → HasNoRegister c
   pub lawful : fault ≡ Unlawful → HasCleanDisk new → HoldsNoTable image → ⊥
-  -- and where the tables in the files say nothing, whatever these are
-  pub refused : fault ≡ Unlawful → HasCleanDisk new → (db : Database) × AreOf image db
-      × SaysNone db
+  -- and where the tables in the files say nothing, whatever these are, and none of the register is
+  -- there unseen; then nothing is changed, also after a crash
+  pub refused : fault ≡ Unlawful → HasCleanDisk new → (db : Database) × StaysOf image new db
+      × (hides_table db.schema ≡ false) × SaysNone db
   pub kind : IsOpeningFault fault

@@ -91,8 +91,10 @@ pub record IsUnopened (old new : State) (fault : PublishFault) : Type 0 where
   pub unlawful : fault ≡ Unlawful → HasCleanDisk new → (layout : Layout) (c : Content)
       → IsStored layout old c → HasNoRegister c
   pub lawful : fault ≡ Unlawful → HasCleanDisk new → IsBare old → ⊥
-  -- and where the tables that are there say nothing, whatever these are; then nothing is changed
+  -- and where the tables that are there say nothing, whatever these are; then nothing is changed,
+  -- and no table of the register is there unseen
   pub refused : fault ≡ Unlawful → HasCleanDisk new → SaysNone old.now × StaysSame old new
+  pub seen : fault ≡ Unlawful → hides_table old.now.schema ≡ false
   pub untouched : fault ≡ Unlawful → Survives old new (λ _. ⊥)
   pub clean : HasCleanDisk new → HasCleanDisk old
   pub crash : Survives old new (LeavesOpened old)

@@ -10,7 +10,8 @@ returns-in-Ok-clause-opened g c image finds =
 
 pub returns-in-Err-clause-unopened : goal.returns-in-Err-clause-unopened
 returns-in-Err-clause-unopened g c image finds =
-    unopened_file image (state g.S.Store c.args.conn) c.requires.opened finds c.what_is_left_is_found.ensures.stored c.what_is_left_is_found.ensures.bare _ _ c.in-Err.ensures.unopened
+    unopened_file image (state g.S.Store c.args.conn) c.requires.opened finds c.what_is_left_is_found.ensures.stored c.what_is_left_is_found.ensures.bare
+    (λ up db may. g.met.S.Store.settled c.args.conn.store db up may) _ _ c.in-Err.ensures.unopened
 
 pub returns-in-Err-clause-leaves : goal.returns-in-Err-clause-leaves
 returns-in-Err-clause-leaves g c =
