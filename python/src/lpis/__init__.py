@@ -14,9 +14,10 @@ from .backends import backend
 from .preparing import Prepared, prepare
 from .refusals import Error, Failed, Point, Refused
 from .registers import Ending, Publication, Register, Shape
+from .tables import table
 
 __all__ = ["Area", "Certificate", "Ending", "Error", "Failed", "LandClass", "Parcel", "Piece", "Point", "Prepared", "Publication", "Refused", "Register", "Report", "Shape",
-           "area", "backend", "check", "cut", "prepare"]
+           "area", "backend", "check", "cut", "prepare", "table"]
 
 for _name in __all__:
     globals()[_name].__module__ = __name__  # as what they are found, printed and pickled

@@ -15,7 +15,8 @@ from . import tree
 from .areas import Area
 from .backends import Answer, chosen
 from .refusals import Failed, Point, Refused
-from .tables import Table, columns_of, data_of, records_of
+from .tables import Table, columns_of, records_of
+from .tables import table as data_of
 
 KEYS = {"parcels": ("parcel",), "covers": ("piece", "parcel", "class"), "classes": ("class",), "lineage": ("old", "new"), "points": ("point",)}
 TOTAL = re.compile(r"(?m)^total area (\S+) eligible (\S+)$")

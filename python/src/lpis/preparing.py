@@ -15,7 +15,8 @@ from typing import Any, Iterable, Mapping
 from . import tree
 from .answers import frame_of
 from .refusals import Failed
-from .tables import SHAPE, Table, data_of, rows_of, text_of, written
+from .tables import SHAPE, Table, rows_of, text_of, written
+from .tables import table as data_of
 
 TABLES = ("parcels", "covers", "classes")
 USAGE = re.compile(r"(?ms)^usage: .*?(?=^prepare: )")

@@ -13,7 +13,8 @@ from . import tree
 from .answers import Certificate, CertificateSource, Report, refused, release_of, text_of
 from .backends import Answer, folder_of, run
 from .refusals import Failed
-from .tables import Table, data_of
+from .tables import Table
+from .tables import table as data_of
 
 
 LINEAGE = re.compile(r"(?m)^lineage (\S+) (\S+)( exact)?$")

@@ -31,8 +31,15 @@ HEADERS = {"area": [SHAPE], "parcels": ["parcel", SHAPE], "covers": ["piece", "p
 WHOLE = ("percent", "eligible", "exact")  # columns of whole numbers
 
 
-def data_of(source: Table, name: str) -> bytes:
-    """The bytes of a table: `name` is that of its kind, such as `parcels`."""
+def table(source: Table, name: str) -> bytes:
+    """The bytes of a table, as `cut` and `check` hand them to the proved code: what a yes is about, so keep them.
+
+    Args:
+        source: whatever is a table here.
+        name: its kind: `area`, `parcels`, `covers`, `classes` or `lineage`.
+    """
+    if name not in HEADERS:
+        raise ValueError(f"{name!r} is none of {', '.join(HEADERS)}")
     if isinstance(source, (bytes, bytearray, memoryview)):
         return bytes(source)
     if isinstance(source, (str, os.PathLike)):
@@ -79,9 +86,9 @@ def written(rows: Iterable[dict[str, Any]], name: str) -> bytes:
     known = [*tree.module("tables").COLUMNS[name]]
     columns = [key for key in every[0] if key.lower() in known] if every else HEADERS[name]
     text = io.StringIO(newline="")
-    table = csv.writer(text, lineterminator="\n")
-    table.writerow(columns)
-    table.writerows([text_of(row.get(key)) if key.lower() == SHAPE else field(row.get(key), key.lower()) for key in columns] for row in every)
+    writer = csv.writer(text, lineterminator="\n")
+    writer.writerow(columns)
+    writer.writerows([text_of(row.get(key)) if key.lower() == SHAPE else field(row.get(key), key.lower()) for key in columns] for row in every)
     return text.getvalue().encode("utf-8", "backslashreplace")
 
 
