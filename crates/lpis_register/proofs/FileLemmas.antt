@@ -5,7 +5,7 @@ use Rattle.lpis_register_sql.specs.Hiding.{hides_table}
 use Rattle.lpis_register_sql.specs.Layouts.{Origin}
 use Rattle.lpis_register.specs.Opening.{IsOpened, IsUnopened}
 use Rattle.lpis_register.specs.FileOpening.{AreOf, HoldsNoTable, HoldsContent, IsFileOpened, IsFileUnopened, StaysOf}
-use Rattle.lpis_register.specs.Saying.{SaysNone, SaysRegister}
+use Rattle.lpis_register.specs.Saying.{SaysNone, SaysRegister, StaysWhole}
 use Rattle.sqlite.specs.Effect.{Database}
 use Rattle.sqlite.specs.Files.{AreFoundIn}
 use Rattle.sqlite.specs.Start.{FindsIn}
@@ -45,7 +45,8 @@ module _ (image : Image) (old : State) (opened : HasCleanDisk old → Opens old 
     found = λ up layout c rows. o.found up layout c (is_stored (o.clean up) layout c rows);
     said = λ up.
         let clean = o.clean up in
-        (old.committed, are_of clean, shown clean (λ db. hides_table db.schema ≡ false) o.seen, shown clean (λ db. SaysRegister db h shapes) (o.said up));
+        let says = shown clean (λ db. SaysRegister db h shapes) (o.said up) in
+        (old.committed, are_of clean, shown clean (λ db. hides_table db.schema ≡ false) o.seen, says, shown clean (λ db. StaysWhole db new.now h shapes) (o.stays up));
     left = left;
   }
 

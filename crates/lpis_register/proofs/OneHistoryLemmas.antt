@@ -81,7 +81,8 @@ Lifeless = (c d : Content) (h : List Entry) → IsSameContent (without_texts (wi
 less_texts : (c d : Content) → IsSameContent (without_live c) (without_live d) → IsSameContent (without_texts (without_live c)) (without_texts (without_live d))
 less_texts c d s = record { formats = s.formats; years = s.years; spans = s.spans; lines = s.lines; live = s.live; texts = IsPermutation-refl []; marks = s.marks }
 
-same_itself : (c : Content) → IsSameContent c c
+-- rows are the same as themselves
+pub same_itself : (c : Content) → IsSameContent c c
 same_itself c = record {
   formats = IsPermutation-refl c.formats;
   years = IsPermutation-refl c.years;

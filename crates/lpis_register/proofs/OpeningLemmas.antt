@@ -1,5 +1,5 @@
 -- What the steps of an opening do, joined.
-use Rattle.std.proofs.Common.{◌≡◌, inl, inr, List, Result, Ok, Err, IfErr, IfOk, IsTrue, [], arith, false, true}
+use Rattle.std.proofs.Common.{◌≡◌, ◌∙◌, refl, sym, true≢false, inl, inr, List, Result, Ok, Err, IfErr, IfOk, IsTrue, [], arith, false, true}
 use Rattle.lpis_register.proofs.Common.{Trees, State, HasCleanDisk, Survives, survives_weaker, Entry, Content, IsBare, IsFailure, IsStored, Layout, Leaves, LeavesRegister}
 use Rattle.lpis_register.proofs.Common.{PublishFault, Shape, ShapesAre, HasHistory, Unlawful, Version, Whole}
 use Rattle.lpis_register_rows.specs.Content.{no_content}
@@ -8,6 +8,7 @@ use Rattle.lpis_register_sql.specs.Presence.{AreThere, is_any}
 use Rattle.lpis_register_sql.specs.Quiet.{IsFound}
 use Rattle.lpis_register.specs.Opening.{IsOpened, IsUnopened, HasNoRegister, HasRegister, LeavesOpened}
 use Rattle.lpis_register.specs.Faults.{IsOpeningFault}
+use Rattle.lpis_register.specs.Saying.{IsWhole}
 use Rattle.lpis_register_sql.specs.Beside.{nothing}
 use Rattle.lpis_register_sql.specs.Hiding.{hides_table}
 use Rattle.lpis_register.specs.declared.fault.PublishFault.TheVariants.{Store}
@@ -52,7 +53,7 @@ module _ (found : Found) (old mid new : State) where
       ok = λ up layout w c r. let now = says (two.clean up) layout w c r in (version, now.0, two.ok up layout w c told.shapes.items now.0 now.1);
       err = λ up on layout w c r. tt;
       unlawful = λ up layout w c r. tt;
-      said = λ up. (version, (sees.shows.ok (two.clean up)).0);
+      said = λ up. let it = sees.shows.ok (two.clean up) in (version, it.0, λ third whole. two.idle third whole ∙ it.1.0);
       refused = λ up. tt;
       untouched = tt;
       clean = λ up. let mid-up = two.clean up in omega (arith, mid-up, one.clean);
@@ -72,6 +73,10 @@ module _ (found : Found) (old mid new : State) where
       crash = crashed (Err e) two;
       kinds = opening_failure e two.failure;
     }
+
+-- where each is found, one is
+whole_any : (found : Found) → IsWhole found → is_any found ≡ true
+whole_any found whole = rw whole.format refl
 
 -- ---- what the calls promise
 
@@ -110,6 +115,7 @@ opened_there found old new r with never seen there any o = by r o where
       bare = λ up bare. absurd (never bare);
       found = λ up layout c r. o.ok up layout (with layout c r) c r;
       said = λ up. let it = o.said up in (found, there, inr (any, it.0, it.1));
+      stays = λ up. let it = o.said up in (found, there, λ whole. (it.0, it.1, λ third. it.2 third whole));
       seen = seen;
       clean = o.clean;
       crash = crash o.crash;
@@ -163,6 +169,7 @@ module _ (told_empty : HasHistory no_content []) (no_shape : ShapesAre [] []) wh
       bare = λ up bare. (holds_with (New nothing) no_content [] [] told_empty no_shape tt new (made up bare), no_release, no_shapes);
       found = λ up layout c r. absurd (never layout c r);
       said = λ up. (found, there, inl (none, no_release, no_shapes));
+      stays = λ up. (found, there, λ whole. absurd (true≢false (sym (whole_any found whole) ∙ none)));
       seen = seen;
       clean = clean;
       crash = made_only;

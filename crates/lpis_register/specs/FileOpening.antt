@@ -16,7 +16,7 @@ use Rattle.lpis_register_sql.specs.Layouts.{Layout, New, Origin, origin_of}
 use Rattle.lpis_register.specs.Faults.{IsOpeningFault}
 use Rattle.lpis_register.specs.Histories.{HoldsRegister, LeavesRegister}
 use Rattle.lpis_register.specs.Opening.{FindsNothing, HasNoRegister, IsOpenedAs}
-use Rattle.lpis_register.specs.Saying.{SaysNone, SaysRegister}
+use Rattle.lpis_register.specs.Saying.{SaysNone, SaysRegister, StaysWhole}
 use Rattle.lpis_register.specs.declared.fault.PublishFault.{PublishFault}
 use Rattle.lpis_register.specs.declared.fault.PublishFault.TheVariants.{Unlawful}
 
@@ -49,9 +49,9 @@ pub record IsFileOpened (image : Image) (new : State) (h : List Entry) (shapes :
   pub found : HasCleanDisk new → (layout : Layout) (c : Content) → HoldsContent image layout c
       → IsOpenedAs (origin_of layout) new c h shapes
   -- they are what the tables in the files say, whatever these are, and none of the register is
-  -- there unseen
+  -- there unseen. Where all of version 3 were there, the connection shows what the files hold
   pub said : HasCleanDisk new → (db : Database) × AreOf image db
-      × (hides_table db.schema ≡ false) × SaysRegister db h shapes
+      × (hides_table db.schema ≡ false) × SaysRegister db h shapes × StaysWhole db new.now h shapes
   -- right after it a crash leaves tables that hold both, and nothing else
   pub left : (o : Origin) → HoldsRegister o new h shapes → (db : Trees) → new.may_leave db
       → LeavesRegister o h shapes db

@@ -17,7 +17,7 @@ use Rattle.lpis_register_sql.specs.Layouts.{Layout, New, Origin, origin_of}
 use Rattle.lpis_register_sql.specs.Holding.{IsStored}
 use Rattle.lpis_register.specs.Faults.{IsOpeningFault}
 use Rattle.lpis_register.specs.Histories.{HoldsRegister, LeavesRegister}
-use Rattle.lpis_register.specs.Saying.{SaysNone, SaysRegister}
+use Rattle.lpis_register.specs.Saying.{SaysNone, SaysRegister, StaysWhole}
 use Rattle.lpis_register.specs.declared.fault.PublishFault.{PublishFault}
 use Rattle.lpis_register.specs.declared.fault.PublishFault.TheVariants.{Unlawful}
 
@@ -77,6 +77,8 @@ pub record IsOpened (old new : State) (h : List Entry) (shapes : List Shape) : T
       → IsOpenedAs (origin_of layout) new c h shapes
   -- they are what the tables that are there say, whatever these are
   pub said : HasCleanDisk new → SaysRegister old.now h shapes
+  -- where all of them were there, nothing is changed, whatever stands beside
+  pub stays : HasCleanDisk new → StaysWhole old.now new.now h shapes
   -- no table of the register is there unseen
   pub seen : hides_table old.now.schema ≡ false
   pub clean : HasCleanDisk new → HasCleanDisk old

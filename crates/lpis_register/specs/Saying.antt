@@ -61,6 +61,20 @@ SaysRegister db h shapes = (found : Found) × AreThere db.schema found
     × (((is_any found ≡ false) × (h ≡ []) × (shapes ≡ []))
     ⊎ ((is_any found ≡ true) × (version : Version) × SaysTables found db version h shapes))
 
+-- each table of version 3 is found
+pub record IsWhole (found : Found) : Type 0 where
+  pub format : found.format ≡ true
+  pub years : found.years ≡ true
+  pub spans : found.spans ≡ true
+  pub lines : found.lines ≡ true
+  pub texts : found.texts ≡ true
+  pub marks : found.marks ≡ true
+
+-- where it has each of these, and they say this as version 3, it is shown still
+abbrev pub StaysWhole : Database → Database → List Entry → List Shape → Type 0
+StaysWhole db now h shapes = (found : Found) × AreThere db.schema found × (IsWhole found
+    → (version : Version) × SaysTables found db version h shapes × (version ≡ Third → now ≡ db))
+
 -- it has some, and those that it has say none
 abbrev pub SaysNone : Database → Type 0
 SaysNone db = (found : Found) × AreThere db.schema found × (is_any found ≡ true)

@@ -12,6 +12,7 @@ ghost use Rattle.lpis_register_sql.specs.Layouts.{Origin};
 ghost use Rattle.lpis_register.specs.Calls.{AllLead, AreReleasesOf, Call, accepted};
 ghost use Rattle.lpis_register.specs.Histories.{HoldsRegister, LeavesRegister};
 ghost use Rattle.lpis_register.specs.Holdings.{Holdings, holdings};
+ghost use Rattle.lpis_register.specs.Saying.{SaysRegister};
 ghost use Rattle.lpis_register_rows.specs.Shapes.{Shape};
 ghost use Rattle.lpis_register_rows.specs.declared.version.Version.{Version};
 
@@ -67,6 +68,21 @@ pub fn a_database_holds_one_register<S: Alter>(conn: &Connection<S>)
         → HoldsRegister p (state S.Store conn.now) k others → shapes ≡ others }
 {
     a_database_holds_one_content(conn);
+    order_of_rows_is_free();
+    texts_keep_one_list_of_shapes();
+    tables_have_one_history();
+}
+
+/// Whatever the tables of a register show to SELECT, they say the history and the shapes that it
+/// holds.
+pub fn a_register_says_what_it_holds<S: Alter>(conn: &Connection<S>)
+    ensures history { (o : Origin) (h k : List Entry) (shapes others : List Shape)
+        → HoldsRegister o (state S.Store conn.now) h shapes
+        → SaysRegister (state S.Store conn.now).now k others → IsSameHistory h k }
+    ensures shapes { (o : Origin) (h k : List Entry) (shapes others : List Shape)
+        → HoldsRegister o (state S.Store conn.now) h shapes
+        → SaysRegister (state S.Store conn.now).now k others → shapes ≡ others }
+{
     order_of_rows_is_free();
     texts_keep_one_list_of_shapes();
     tables_have_one_history();

@@ -9,6 +9,7 @@ use Rattle.lpis_lineage.specs.declared.row.Entry.{Entry}
 use Rattle.lpis_register_rows.specs.Content.{Content}
 use Rattle.lpis_register_rows.specs.Shapes.{Shape}
 use Rattle.lpis_register_rows.specs.declared.version.Version.{Version}
+use Rattle.lpis_register_rows.specs.declared.version.Version.TheVariants.{Third}
 use Rattle.lpis_register_sql.specs.declared.found.Found.{Found}
 use Rattle.lpis_register_sql.specs.Layouts.{Layout, origin_of}
 use Rattle.lpis_register_sql.specs.Holding.{IsStored}
@@ -18,7 +19,7 @@ use Rattle.lpis_register.specs.FailingToOpen.{FailsToSettle}
 use Rattle.lpis_register.specs.Faults.{IsFailure, IsOpeningFault}
 use Rattle.lpis_register.specs.Histories.{HoldsRegister, LeavesRegister}
 use Rattle.lpis_register.specs.Opening.{IsOpenedAs, LeavesKept, HasNoRegister, HasRegister}
-use Rattle.lpis_register.specs.Saying.{SaysNoTables, SaysTables}
+use Rattle.lpis_register.specs.Saying.{IsWhole, SaysNoTables, SaysTables}
 use Rattle.lpis_register.specs.declared.fault.PublishFault.{PublishFault}
 use Rattle.lpis_register.specs.declared.fault.PublishFault.TheVariants.{Store, Unlawful}
 use Rattle.lpis_register.specs.declared.opening.Loaded.{Loaded}
@@ -45,6 +46,8 @@ pub record Settles (found : Found) (version : Version) (h : List Entry) (old new
   pub err : HasCleanDisk new → IsTrue new.is_open → (layout : Layout) → IsFound found layout
       → (c : Content) (shapes : List Shape) → HasRegister version c h shapes
       → IsStored layout old c → OnErr r (IsStored layout new c)
+  -- where all of them were there, nothing is done
+  pub idle : version ≡ Third → IsWhole found → new.now ≡ old.now
   pub clean : HasCleanDisk new → HasCleanDisk old
   pub crash : Survives old new (LeavesSettled found version h old)
   pub failure : IfErr r IsFailure
@@ -68,7 +71,8 @@ pub record OpensFound (found : Found) (old new : State) (r : Result Loaded Publi
     pub unlawful : HasCleanDisk new → (layout : Layout) → IsFound found layout → (c : Content)
         → IsStored layout old c → IfErr r (λ e. e ≡ Unlawful → HasNoRegister c)
     pub said : HasCleanDisk new → IfOk r (λ (told : Loaded). (version : Version)
-        × SaysTables found old.now version told.history told.shapes.items)
+        × SaysTables found old.now version told.history told.shapes.items
+        × (version ≡ Third → IsWhole found → new.now ≡ old.now))
     pub refused : HasCleanDisk new → IfErr r (λ e. e ≡ Unlawful → SaysNoTables found old.now
         × StaysSame old new)
     pub untouched : IfErr r (λ e. e ≡ Unlawful → Survives old new (λ _. ⊥))
