@@ -11,7 +11,7 @@ from shapely.geometry import Polygon
 from shapely.ops import unary_union
 
 from . import faces
-from .facing import TINY, Facing
+from .facing import TINY, Facing, straightened
 
 DEEP = 10  # times the width: strips up to this depth cross a few of the other side
 HAIR = 0.000_05  # metres that parts of one gap may be apart, of doubles
@@ -67,12 +67,18 @@ class Between:
         start = self.faces.start
         return self.points[start[halves]], self.points[start[halves ^ 1]]
 
+    def borders(self, halves, whose):
+        """The ends of borders, as lines that have a direction, and whose they are."""
+        following = self.faces.following[halves]
+        place = numpy.minimum(numpy.searchsorted(halves, following), max(0, len(halves) - 1))
+        return straightened(*(ends.astype(float) for ends in self.ends(halves)), whose, numpy.where(halves[place] == following, place, -1))
+
     def arms(self, halves):
         """The narrow arms between two parcels, among borders that nobody's wider land lies beside."""
         names = [self.held[there] for there in self.faces.cycle[halves ^ 1].tolist()]
         numbers = {name: number for number, name in enumerate(sorted(set(names)))}
         strips = {}
-        for one, other, *strip in Facing(*(ends.astype(float) for ends in self.ends(halves)), numpy.array([numbers[name] for name in names], int)).strips(self.width):
+        for one, other, *strip in Facing(*self.borders(halves, numpy.array([numbers[name] for name in names], int))).strips(self.width):
             strips.setdefault((min(one, other), max(one, other)), {}).setdefault(one, []).append(strip)
         gaps, names = [], list(numbers)
         for pair, sides in sorted(strips.items()):

@@ -10,6 +10,7 @@ from .noding import PART, cells_along, expanded, key_of, parts_of, size_of_cells
 OPPOSITE = -0.866  # of two borders' directions: they face each other within thirty degrees
 TINY = 1e-6  # millimetres, of doubles
 LEAST = 16  # millimetres: the side of a cell, and half of what is looked at first
+SHORT, ASIDE, LONGEST = 20.0, 1.5, 200.0  # millimetres: borders whose direction rounding has changed, and how far from a line that stands for them
 
 
 class Facing:
@@ -97,6 +98,53 @@ class Facing:
             pairs.append(numpy.unique((place[~apart] << 32) | other[~apart]))
         pairs = numpy.unique(numpy.concatenate(pairs))
         return pairs >> 32, pairs & 0xFFFFFFFF
+
+
+def straightened(a, b, whose, following):
+    """The borders with one in place of those that are short, lie in a row beside one line, and are the same one's. `following` has the next border of each, or -1."""
+    short = numpy.hypot(*(b - a).T) < SHORT
+    goes_on = (following >= 0) & short & short[following] & (whose == whose[following])
+    if not goes_on.any():
+        return a, b, whose
+    behind = numpy.zeros(len(a), bool)
+    behind[following[goes_on]] = True
+    ends, seen, lines = numpy.hstack([a, b]).tolist(), numpy.zeros(len(a), bool), []
+    goes, after = goes_on.tolist(), following.tolist()
+    for first in [*numpy.nonzero(~behind)[0].tolist(), *range(len(a))]:
+        way, at = [ends[first][:2]], first
+        while not seen[at]:
+            seen[at] = True
+            way.append(ends[at][2:])
+            at = after[at] if goes[at] else at
+        lines += [(first, *way[start], *way[end]) for start, end in along(way)]
+    lines.sort(key=lambda line: line[0])
+    number, lines = numpy.array([line[0] for line in lines]), numpy.array([line[1:] for line in lines])
+    return lines[:, :2], lines[:, 2:], whose[number]
+
+
+def along(way):
+    """The corners of a way that stay, by pairs: all between two of them lie beside the line between these."""
+    start = 0
+    while start < len(way) - 1:
+        end = start + 1
+        while end < len(way) - 1 and is_beside(way[start], way[end + 1], way[start + 1 : end + 1]):
+            end += 1
+        yield start, end
+        start = end
+
+
+def is_beside(one, other, corners):
+    """Whether corners lie beside the line from one to another, and in its turn."""
+    dx, dy = other[0] - one[0], other[1] - one[1]
+    length, last = (dx * dx + dy * dy) ** 0.5, 0.0
+    if not 0 < length <= LONGEST:
+        return False
+    for x, y in corners:
+        at = ((x - one[0]) * dx + (y - one[1]) * dy) / length
+        if not last <= at <= length or abs((x - one[0]) * dy - (y - one[1]) * dx) > ASIDE * length:
+            return False
+        last = at
+    return True
 
 
 def in_a_row(pieces):
