@@ -48,27 +48,35 @@ class Layer:
         self.name, self.rows = name, rows
 
 
-def beside(base, number, left, low, right, high):
-    """The ids of the rows that the rounding of a row hangs on: those whose boxes come within reach of its box, or of its shape where the box is large."""
-    near = base.execute(BESIDE, (right + REACH, left - REACH, high + REACH, low - REACH))
-    if max(right - left, high - low) <= store.LARGE:
-        return [one for one, *_ in near]
-    shape = prep(shapely_wkb.loads(base.execute("SELECT shape FROM shape WHERE id = ?", (number,)).fetchone()[0]))
-    return [one for one, west, south, east, north in near if shape.intersects(box(west - FAR, south - FAR, east + FAR, north + FAR))]
+class Near:
+    """What comes within reach of a row's box, or of its shape where the box is large: its rounding hangs on that."""
+
+    def __init__(self, base, number, left, low, right, high):
+        self.base, self.box, self.shape = base, (left - REACH, low - REACH, right + REACH, high + REACH), None
+        if max(right - left, high - low) > store.LARGE:
+            self.shape = prep(shapely_wkb.loads(base.execute("SELECT shape FROM shape WHERE id = ?", (number,)).fetchone()[0]))
+
+    def those(self, query):
+        """What a query gives of the rows of a table with boxes, which stand behind it."""
+        left, low, right, high = self.box
+        for one, west, south, east, north in self.base.execute(query, (right, left, high, low)):
+            if self.shape is None or self.shape.intersects(box(west - FAR, south - FAR, east + FAR, north + FAR)):
+                yield one
 
 
 class Cell:
     """A cell: the names of its parcels, its rows and those that their rounding hangs on."""
 
     def __init__(self, base, number):
-        own, numbers, boxes = set(), set(), []
+        own, numbers, then = set(), set(), []
         for one, left, low, right, high in base.execute(OWN, (number,)).fetchall():
             own.add(one)
             if left is not None:
-                boxes.append((left - REACH, low - REACH, right + REACH, high + REACH))
-                numbers.update(beside(base, one, left, low, right, high))
+                near = Near(base, one, left, low, right, high)
+                numbers.update(near.those(BESIDE))
+                then += last_year.corners_in(near.box, near.those(last_year.THEN))
         rows = [Row(*fields) for one in sorted(numbers | own) for fields in base.execute(FIELDS, (one,))]
-        self.wanted, self.then = {row["parcel"] for row in rows if row.id in own}, last_year.corners_in(base, boxes)
+        self.wanted, self.then = {row["parcel"] for row in rows if row.id in own}, last_year.different(then)
         self.own = {name: [row for row in rows if row.is_cover == is_cover and row.id in own] for is_cover, name in enumerate(("parcels", "covers"))}
         self.parcels, self.covers = ([row for row in rows if row.is_cover == is_cover and row.found] for is_cover in (0, 1))
 

@@ -9,7 +9,7 @@ import numpy
 
 from . import land, polygons, previous, streams, tables, years
 
-THEN = "SELECT places FROM box_of_corner JOIN corner USING (id) WHERE left <= ? AND right >= ? AND low <= ? AND high >= ?"
+THEN = "SELECT places, left, low, right, high FROM box_of_corner JOIN corner USING (id) WHERE left <= ? AND right >= ? AND low <= ? AND high >= ?"
 NUMBERS = bytes.maketrans(b"(),", b"   ")
 
 
@@ -21,14 +21,17 @@ def corners_of(text):
     return None if members is None else numpy.array(polygons.points(members), numpy.int64).reshape(-1, 2)
 
 
-def corners_in(base, boxes):
-    """The corners of a store that lie in some boxes in metres, each once and in order."""
-    found = [numpy.zeros((0, 2), numpy.int64)]
-    for left, low, right, high in boxes:
-        for (places,) in base.execute(THEN, (right, left, high, low)):
-            places = numpy.frombuffer(places, numpy.int64).reshape(-1, 2)
-            found.append(places[((places >= [1000 * left, 1000 * low]) & (places <= [1000 * right, 1000 * high])).all(axis=1)])
-    return numpy.unique(numpy.concatenate(found), axis=0)
+def corners_in(box, found):
+    """The corners of a box in metres, of pieces as a store has them."""
+    left, low, right, high = (1000 * side for side in box)
+    for places in found:
+        corners = numpy.frombuffer(places, numpy.int64).reshape(-1, 2)
+        yield corners[((corners >= [left, low]) & (corners <= [right, high])).all(axis=1)]
+
+
+def different(found):
+    """Each corner once, in order."""
+    return numpy.unique(numpy.concatenate([numpy.zeros((0, 2), numpy.int64), *found]), axis=0)
 
 
 class LastYear:
