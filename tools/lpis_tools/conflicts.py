@@ -10,7 +10,7 @@ from shapely.geometry import LineString, Polygon
 from shapely.ops import unary_union
 from shapely.validation import explain_validity, make_valid
 
-from . import identifiers, land, wkb
+from . import identifiers, land, progress, wkb
 from .between import width_of
 from .boxes import Boxes
 from .rounding import Map, shape_of
@@ -209,11 +209,11 @@ def find_conflicts(source, say, found=None, between=land.BETWEEN):
     is none."""
     found = found or Map(source.parcels, source.covers, say).conflicts(between)
     say(f"conflicts: {len(found.overlaps)} overlaps, {len(found.gaps)} gaps, {len(found.outsides)} pieces outside of their parcel to be measured")
-    for first, second in found.overlaps:
+    for first, second in progress.over(found.overlaps, "measuring", "overlaps"):
         find_overlap(source, first, second)
-    for row in found.gaps:
+    for row in progress.over(found.gaps, "measuring", "gaps"):
         find_gap(source, row)
-    for piece, row in found.outsides:
+    for piece, row in progress.over(found.outsides, "measuring", "outsides"):
         find_outside(source, piece, row)
     source.losses += [kept_of(border, rows) for border, rows in found.kept]
     source.losses += [loss for gap in found.between if (loss := between_of(gap)).width >= LEAST - ROUNDING]

@@ -12,7 +12,7 @@ import subprocess
 import sys
 import threading
 
-from . import ending, files, land
+from . import ending, files, land, progress
 
 FOLDER, PLAN, PARTS, COUNT, STORE = ".cells", "plan.json", "parts", "count", "rows.db"
 OWN = re.compile(r"[0-9a-f]{64}\.(jsonl|part)|\d+\.cell|plan\.json|parts|count|rows\.db(-journal)?|\.lpis-[0-9a-f]+\.new")  # names of results, and of what a killed worker left
@@ -44,14 +44,14 @@ class Worker:
 
 def work(folder, words):
     """Does the job that is named, or else those of standard input, a line each, and answers each by the name of its file."""
-    worker = Worker(folder)
+    worker, progress.Quiet.is_quiet = Worker(folder), True
     for line in [" ".join(words)] if words else sys.stdin:
         kind, number = line.split()
         print(worker.do(kind, int(number)), flush=True)
     return 0
 
 
-def do_all(folder, kind, count, workers, progress):
+def do_all(folder, kind, count, workers, shown):
     """Has the jobs of a kind done by worker processes; answers the names of their files, in order."""
     waiting, names, lock = queue.SimpleQueue(), [None] * count, threading.Lock()
     for number in range(count):
@@ -68,7 +68,7 @@ def do_all(folder, kind, count, workers, progress):
                 if names[number] is None:
                     break
                 with lock:
-                    progress.add()
+                    shown.add()
             with contextlib.suppress(BrokenPipeError):
                 worker.stdin.close()
 

@@ -9,7 +9,7 @@ from bisect import bisect_left, bisect_right
 
 from shapely.geometry import Point
 
-from . import land, polygons
+from . import land, polygons, progress
 from .conflicts import LEAST, Loss, Source, by_geos, number_of, parts_of, polygons_by, width_of
 from .snapping import pixel_of
 
@@ -74,7 +74,7 @@ class Outcome:
         for row in reversed(self.source.layers[name].rows):
             waiting.setdefault(row[column], []).append(row)
         self.found[name] = 0
-        for record, members, area in self.records(name):
+        for record, members, area in progress.each(self.records(name), progress.Quiet.tool, f"comparing {name}", len(self.source.layers[name].rows), "rows"):
             self.found[name] += 1
             self.whole.add_table(name, record, area)
             who = record[column]

@@ -5,7 +5,7 @@ from __future__ import annotations
 from shapely import wkb as shapely_wkb
 from shapely.validation import explain_validity
 
-from . import land, systems, unforeseen, wkb
+from . import land, progress, systems, unforeseen, wkb
 from .balance import area_of
 from .boxes import Boxes
 from .conflicts import members_of, polygons_by
@@ -109,7 +109,7 @@ class Preparation:
             layer = self.layers[name]
             self.say(f"testing {len(layer.rows)} rows of {name}")
             self.many(name, len(layer.rows))
-            self.test(name, layer.rows, are_metres)
+            self.test(name, progress.over(layer.rows, f"testing rows of {name}"), are_metres)
             if not are_metres and any(row.found for row in layer.rows):
                 self.all_degrees(name)
 
@@ -163,7 +163,7 @@ class Preparation:
         mended = []
         for name in KEYS:
             self.say(f"testing the shapes of {name}")
-            rows = self.make_valid(name, self.layers[name].rows)
+            rows = self.make_valid(name, progress.over(self.layers[name].rows, f"testing the shapes of {name}"))
             mended += rows if name == "covers" else []
             self.layers[name].is_valid = True
         if mended:

@@ -16,6 +16,7 @@ FIRST, ON_TERMINAL, IN_FILE = 10.0, 0.5, 60.0  # seconds: the first line of a st
 
 class Quiet:
     is_quiet = False  # set once, by the command line
+    tool = "lpis"  # whose steps these are, where it is not said
 
 
 class Progress:
@@ -59,6 +60,11 @@ class Progress:
 def time_of(seconds):
     """A length of time for people."""
     return f"{seconds:.0f} s" if seconds < 90 else f"{seconds / 60:.0f} min" if seconds < 5400 else f"{seconds / 3600:.1f} h"
+
+
+def over(rows, what, things="rows"):
+    """Rows of a list, with their progress."""
+    return each(rows, Quiet.tool, what, len(rows), things, 100)
 
 
 def each(rows, tool, what, count, things, at_once=1000):

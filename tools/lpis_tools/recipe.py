@@ -8,7 +8,7 @@ import sys
 import tempfile
 from collections import Counter
 
-from . import accepting, ending, files, land, shapely_there, sheets, unforeseen, words
+from . import accepting, ending, files, land, progress, shapely_there, sheets, unforeseen, words
 
 TROUBLE = 64
 MOST_WIDE = 100.0  # metres
@@ -56,6 +56,8 @@ def width(text):
 
 def teller(name):
     """Progress on standard error, which is also what the tool is doing where it fails."""
+    progress.Quiet.tool = name
+
     def say(told):
         unforeseen.PLACE.step = str(told)
         print(f"{name}: {told}", file=sys.stderr, flush=True)

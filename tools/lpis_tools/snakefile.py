@@ -81,7 +81,7 @@ rule cut:
     output:
         "{region}/cert.txt",
     resources:
-        mem_mb=4000,
+        mem_mb=1500,
         runtime=60,
     shell:
         "rm -f -- {output}.new {wildcards.region}/cut.txt; {LPIS} cut {wildcards.region} {output}.new >{wildcards.region}/cut.txt && mv -- {output}.new {output}"
@@ -91,7 +91,7 @@ rule check:
     input:
         rules.certificates.input,
     resources:
-        mem_mb=4000,
+        mem_mb=1500,
         runtime=120,
     shell:
         "{LPIS} country ."
