@@ -8,7 +8,7 @@ import subprocess
 
 SNAKEFILE = """# A country by Snakemake, which runs what is missing or whose inputs changed: the parts of its source and the cells (by `country prepare`), the
 # certificates of the regions of country.txt, and the check. snakemake -k -j 4 TARGET, or on a cluster snakemake -k --profile slurm TARGET.
-# TARGET is parts, cells, certificates or check. LPIS is the program, LPIS_COUNTRY the tool. Written by `country`.
+# TARGET is certificates or check; parts and cells are asked for by `country prepare`. LPIS is the program. Written by `country`.
 import os
 import sys
 

@@ -7,7 +7,7 @@ import sqlite3
 
 import numpy
 
-from . import files, wkb
+from . import files, land, wkb
 from .findings import Finding
 
 PAGE = 20_000  # rows in memory at once
@@ -146,7 +146,16 @@ def fields_of(finding):
 def merged(path, parts):
     """A new store of the parts of a source, in their order; and where each begins in it."""
     files.remove(path)
-    base = new(path, ROWS, WHOLE)
+    try:
+        base = new(path, ROWS, WHOLE)
+        return base, filled(base, parts)
+    except sqlite3.OperationalError as error:
+        files.remove(path)
+        raise land.Trouble(f"{path} cannot be written: {error}") from None
+
+
+def filled(base, parts):
+    """Takes the parts into the store; answers where each begins in it."""
     starts, count = [], 0
     for part in parts:
         base.execute("ATTACH ? AS part", (part,))
@@ -161,7 +170,7 @@ def merged(path, parts):
     base.execute("INSERT INTO box SELECT id, left, right, low, high FROM row WHERE left IS NOT NULL")
     base.executescript("CREATE INDEX by_parcel ON row (parcel, is_cover); CREATE INDEX by_name ON row (name, is_cover); CREATE INDEX odd ON row (id) WHERE is_odd; CREATE INDEX in_order ON finding (step, place, seq); CREATE INDEX gravest ON loss (is_stopping DESC, kind, size DESC, names, seq)")
     base.commit()
-    return base, starts
+    return starts
 
 
 # Cells.
