@@ -6,8 +6,8 @@ TOP = Path(__file__).resolve().parent.parent
 ALL_WORDS = 45_650
 PAGE_WORDS = {
     "README.md": 1_180,
-    "docs/IDEA.md": 1_150,
-    "docs/GUIDE.md": 7_300,
+    "docs/IDEA.md": 1_230,
+    "docs/GUIDE.md": 7_320,
     "docs/FORMATS.md": 8_300,
     "docs/PROOF.md": 6_950,
     "docs/ARCHITECTURE.md": 4_490,
