@@ -115,7 +115,7 @@ class Page:
     """The page, written chapter by chapter: what stands in one is not repeated in the next, and each stands after those that it uses."""
 
     def __init__(self, trust):
-        self.trust, self.done, self.printed, self.used, self.cycles = trust, set(), set(), {}, {}
+        self.trust, self.done, self.printed, self.used, self.cycles, self.later = trust, set(), set(), {}, {}, []
         self.places = {spec.key: place for place, spec in enumerate(self.in_order())}
         self.types = {node: name for crate in trust.crates.values() for (kind, name, _), node in crate.nodes.items() if kind == "type" and node.is_promise}
 
@@ -216,20 +216,6 @@ class Page:
         tied = ["", "```rust", "\n\n".join(laws), "```"] if laws else []
         return ["", f"### {spec.sentence()} (`{place}`)", "```text", *lines, "```", *tied]
 
-    def resting(self, words):
-        """What items rest on: CRATE/FILE.NAME, without what lies elsewhere."""
-        at = words.index("without") if "without" in words else len(words)
-        return self.trust.follow([self.trust.find(item) for item in words[:at]], words[at + 1 :])
-
-    def capped(self, words):
-        """What items rest on is counted, and may not be more than a number of lines."""
-        most, nodes = int(words[0]), self.resting(words[1:])
-        lines = sum(len(node.written) for node in nodes if isinstance(node, Definition) and not node.law())
-        lines += sum(node.lines - node.text.count("\n") + node.signature().count("\n") + 1 for node in nodes if isinstance(node, Definition) and node.law())
-        if lines > most:
-            self.trust.faults.append(f"docs/BELIEVE.md: {words[1]} .. rest on {lines} lines, and the page allows {most}")
-        return [f"These are {lines} lines of definitions, and the page allows {most}."]
-
     def promises(self, items):
         texts = []
         for item in items:
@@ -244,15 +230,18 @@ class Page:
         kind, *words = match.group(1).split()
         at = words.index("without") if "without" in words else len(words)
         if kind == "define":
-            lines = self.chapter(self.resting(words), words[at + 1 :])
+            has_star = re.findall(r"(?m)^## .*$", match.string[: match.start()])[-1].endswith(" *")
+            without = words[at + 1 :] + (self.later if has_star else [])
+            lines = self.chapter(self.trust.follow([self.trust.find(item) for item in words[:at]], without), without)
         elif kind == "files":
             lines = self.chapter(self.trust.follow([node for node in self.trust.reached if lies_in(words[:at], node)], words[at + 1 :]), words[at + 1 :])
         elif kind == "rest":
             lines = self.chapter(self.trust.reached)
         elif kind == "contents":
             return match.group(0)
-        elif kind == "lines":
-            lines = self.capped(words)
+        elif kind == "later":
+            self.later = words
+            return match.group(0)
         elif kind == "promise":
             lines = self.promises(words)
         else:

@@ -374,8 +374,11 @@ class Trust:
         return [spec for crate in self.crates.values() for spec in crate.specs.values()]
 
     def find(self, item):
+        """A definition, CRATE/FILE.NAME, or a type, CRATE/NAME."""
         crate, _, rest = item.partition("/")
         module, _, name = rest.rpartition(".")
+        if not module and crate in self.crates and (kind := self.crates[crate].type_of(name)):
+            return kind
         spec = self.crates[crate].specs.get(module.replace("/", ".")) if crate in self.crates else None
         if spec is None or name not in spec.definitions:
             raise SystemExit(f"docs/BELIEVE.md: there is no {item}")
