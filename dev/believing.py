@@ -117,6 +117,7 @@ class Page:
     def __init__(self, trust):
         self.trust, self.done, self.printed, self.used, self.cycles, self.later = trust, set(), set(), {}, {}, []
         self.places = {spec.key: place for place, spec in enumerate(self.in_order())}
+        self.titles, self.own = {}, {node.label.rpartition("'s ")[2].rpartition(".")[2] for node in trust.reached} - {"None"}
         self.types = {node: name for crate in trust.crates.values() for (kind, name, _), node in crate.nodes.items() if kind == "type" and node.is_promise}
 
     def in_order(self):
@@ -200,7 +201,7 @@ class Page:
         names = dict.fromkeys(node.label.split("'s ")[1] for node in nodes)
         texts = [text for name in names if (crate, name) not in self.printed and (text := type_of(self.trust.crates[crate], name))]
         self.printed |= {(crate, name) for name in names}
-        return ["", f"### Types of `{crate}`", "```rust", "\n\n".join(texts), "```"] if texts else []
+        return ["", self.heading(f"Types of `{crate}`"), "```rust", "\n\n".join(texts), "```"] if texts else []
 
     def file_of(self, spec, nodes):
         lines, head, wanted = [], "", set(nodes)
@@ -214,7 +215,22 @@ class Page:
         laws = [text for node in nodes if node.law() and (text := promise_of(self.trust.crates[spec.crate], node.law()))]
         place = spec.path.relative_to(TOP / "crates")
         tied = ["", "```rust", "\n\n".join(laws), "```"] if laws else []
-        return ["", f"### {spec.sentence()} (`{place}`)", "```text", *lines, "```", *tied]
+        return ["", self.heading(f"{spec.sentence()} (`{place}`)"), *self.named_otherwise(spec, nodes), "```text", *lines, "```", *tied]
+
+    def heading(self, title):
+        """A title, with the number of the part where the page has had some of it."""
+        self.titles[title] = self.titles.get(title, 0) + 1
+        return f"### {title}" + (f", part {self.titles[title]}" if self.titles[title] > 1 else "")
+
+    def named_otherwise(self, spec, nodes):
+        """What names of a file are elsewhere, where it gives them another name, or takes one of std or the kit that is also one of these crates."""
+        text, told = re.sub(r"--[^\n]*", "", "".join(node.head + node.text for node in nodes)), []
+        for name, (module, old) in spec.scope.names.items():
+            crate, *path = [part for part in module.split(".")[1:] if part not in ("specs", "TheVariants")]
+            is_told = name != old if crate.startswith("lpis_") else name in self.own
+            if is_told and re.search(rf"(?<![\w.-]){re.escape(name)}(?![\w-])", text):
+                told.append(f"`{name}` is {f'`{old}`' if name != old else 'that'} of `{'/'.join([crate, *(path[-1:] if path[0] == 'declared' else path)])}`")
+        return textwrap.wrap(f"Here {', '.join(told)}.", WIDTH, break_long_words=False, break_on_hyphens=False) if told else []
 
     def promises(self, items):
         texts = []
