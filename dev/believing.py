@@ -8,7 +8,7 @@ from definitions import TOP, Definition, closing, lies_in
 WIDTH = 120
 A_MINUTE = 120  # words of definitions that are read in a minute
 MARK = re.compile(r"(?ms)^<!-- trust: (?!end)(.*?) -->\n.*?^<!-- trust: end -->$")
-TYPE = r"(?m)^(?:[ \t]*(?:///|#\[)[^\n]*\n)*pub (?:struct|enum|trait) {name}\b"
+TYPE = r"(?m)^(?:[ \t]*(?:///|#\[)[^\n]*\n)*pub(?:\(\w+\))? (?:struct|enum|trait) {name}\b"
 FUNCTION = r"(?m)^(?:[ \t]*(?:///|#\[)[^\n]*\n)*[ \t]*pub fn {name}\b"
 CLAUSE = re.compile(r"\b(?:requires|ensures)(?:\s+\w+)?\s*$|\bghost\s+\w+\s*[=:]\s*$")
 
@@ -118,7 +118,7 @@ class Page:
         self.trust, self.done, self.printed, self.used, self.cycles, self.later = trust, set(), set(), {}, {}, []
         self.places = {spec.key: place for place, spec in enumerate(self.in_order())}
         self.titles, self.own = {}, {node.label.rpartition("'s ")[2].rpartition(".")[2] for node in trust.reached} - {"None"}
-        self.types = {node: name for crate in trust.crates.values() for (kind, name, _), node in crate.nodes.items() if kind == "type" and node.is_promise}
+        self.types = {node: name for crate in trust.crates.values() for (kind, name, _), node in crate.nodes.items() if kind == "type" and (node.is_promise or node in trust.reached)}
 
     def in_order(self):
         """All files of specs/, each after those that it imports."""
