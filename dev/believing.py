@@ -38,8 +38,8 @@ def promise_of(crate, name):
 
 def public_fields(body):
     """The fields that callers see, each with its comment."""
-    parts = re.findall(r"(?:[ \t]*///[^\n]*\n)*[ \t]*(?:pub )?(?:ghost )?\w+: (?:\{[^}]*\}|[^,{}]*(?:<[^>]*>)?),\n", body)
-    return "".join(part for part in parts if re.search(r"(?m)^\s*pub ", part))
+    parts = re.findall(r"(?:[ \t]*///[^\n]*\n)*[ \t]*(?:pub(?:\(crate\))? )?(?:ghost )?\w+: (?:\{[^}]*\}|[^,{}]*(?:<[^>]*>)?),\n", body)
+    return "".join(part for part in parts if re.search(r"(?m)^\s*pub\b", part))
 
 
 def type_of(crate, name):

@@ -384,10 +384,6 @@ class Trust:
             raise SystemExit(f"docs/BELIEVE.md: there is no {item}")
         return spec.definitions[name]
 
-    def count(self):
-        """How many definitions there are."""
-        return sum(len(spec.definitions) for spec in self.specs())
-
     def check_specs(self):
         for spec in self.specs():
             if not spec.sentence():
