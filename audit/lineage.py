@@ -3,7 +3,7 @@
 
 OLD and NEW are folders of releases, one behind the other, and CERT is the certificate with which NEW is published.
 Where it is good, the rows of NEW/lineage.csv fit, and no marked split or merge loses or gains a point, it prints how
-many there are: status 0. Else `no` and a fault: status 1. Whether a register keeps OLD's shapes tests register.py.
+many there are: status 0. Else `no` and a fault: status 1. Earlier years (76) and OLD's shapes: register.py.
 """
 
 from collections import Counter, defaultdict
