@@ -1,10 +1,10 @@
-"""Runs commands with the Nth request for memory refused, N from 1 to the last that they make: refusals.py REFUSE.SO [--all] [NAME..]
+"""Runs commands with the Nth request for memory refused, N from 1 to the last that they make: refusals.py REFUSE.SO [--all | --few] [NAME..]
 
 Each run that met a refusal has to end with status 3, `failed memory` (or `failed store`, where the database met it) and nothing on
 standard output, but for the lines of a country's regions that had passed. A certificate that was there, and the history and the shapes in the register, have to be as before, by SQLite; the same
 command afterwards has to answer as usual. A command over a register may also answer as usual and leave what it leaves as usual: the
 database does without room that only makes it faster. Each N is tried twice: alone, and with every later request refused too. A command
-over a register makes thousands of requests: SAMPLE of them are refused, from a fixed seed (--all: each).
+over a register makes thousands of requests: SAMPLE of them are refused, from a fixed seed (--all: each; --few: at most FEW of any command).
 NAME: the commands whose names contain it. The last line counts the runs that met a refusal: 'N passed, M failed'.
 """
 
@@ -27,7 +27,7 @@ from registers import VERSION_1, VERSION_2, VERSION_3, WITHOUT_MARKS, made, said
 
 EXAMPLES = TOP / "examples"
 LPIS = common.lpis()
-SECONDS, MANY, SAMPLE, SEED = 60, 1_000, 100, 20_261_123
+SECONDS, MANY, SAMPLE, FEW, SEED = 60, 1_000, 100, 25, 20_261_123
 # A file system in memory, where there is one: the register is put on its disk by each publish.
 FAST = "/dev/shm" if os.access("/dev/shm", os.W_OK) else None
 FAILURES = {(3, b"failed memory\n"): "memory", (3, b"failed store\n"): "store"}
@@ -249,10 +249,11 @@ class Refusals:
             *_, told = self.start(0, False, copy)
             self.requests = int(re.fullmatch(r"requests (\d+)\n", told).group(1))
 
-    def numbers(self, is_whole):
+    def numbers(self, option):
         """The requests to refuse: all, or a sample where there are many."""
+        most, sample = {"--all": (self.requests, 0), "--few": (FEW, FEW)}.get(option, (MANY, SAMPLE))
         every = range(1, self.requests + 1)
-        return every if is_whole or self.requests <= MANY else sorted(random.Random(SEED).sample(every, SAMPLE))
+        return every if self.requests <= most else sorted(random.Random(SEED).sample(every, sample))
 
     def start(self, number, goes_on, folder):
         """The answer where the request of this number is refused, and what refuse_nth.c told."""
@@ -298,14 +299,14 @@ REFUSALS = []  # before the processes begin that share them
 
 
 def main():
-    library, words = sys.argv[1], [word for word in sys.argv[2:] if word != "--all"]
-    is_whole = "--all" in sys.argv
+    library, words = sys.argv[1], [word for word in sys.argv[2:] if not word.startswith("--")]
+    option = next((word for word in sys.argv[2:] if word.startswith("--")), None)
     passed = failed = 0
     with tempfile.TemporaryDirectory(dir=FAST) as top:
         for number, command in enumerate(COMMANDS):
             if not words or any(word in command.name for word in words):
                 REFUSALS.append(Refusals(command, pathlib.Path(top, str(number)), library))
-        jobs = [(place, number, goes_on) for place, refusals in enumerate(REFUSALS) for number in refusals.numbers(is_whole) for goes_on in (False, True)]
+        jobs = [(place, number, goes_on) for place, refusals in enumerate(REFUSALS) for number in refusals.numbers(option) for goes_on in (False, True)]
         with multiprocessing.Pool() as pool:
             endings = pool.map(ending_of, jobs, chunksize=8)
     for place, refusals in enumerate(REFUSALS):
