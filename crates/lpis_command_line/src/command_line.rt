@@ -19,7 +19,7 @@ use clap::{Arg, ArgAction, Command};
 use std::alloc::{AllocError, Global};
 
 /// The version that `--version` prints.
-const VERSION: &str = "0.3.0";
+const VERSION: &str = "0.4.0";
 
 /// An argument with the text that help has for it.
 fn described<'a>(argument: Arg<'a>, text: &'a str) -> Arg<'a>
