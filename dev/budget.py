@@ -13,7 +13,7 @@ PAGE_WORDS = {
     "docs/ARCHITECTURE.md": 4_490,
     "docs/DECISIONS.md": 4_460,
     "CONTRIBUTING.md": 3_660,
-    "CHANGELOG.md": 1_650,
+    "CHANGELOG.md": 1_900,
     "bench/RESULTS.md": 1_650,
     "docs/*.1": 4_720,  # the pages of the manual together
 }
