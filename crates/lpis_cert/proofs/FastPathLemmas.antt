@@ -3,7 +3,7 @@ use Rattle.std.proofs.Common.{◌≡◌, ℕ, suc, ◌+◌, ◌-◌, ◌*◌, �
 use Rattle.std.proofs.Common.{◌∙◌, arith}
 use Rattle.std.proofs.Common.{append_assoc, length-append, drop-cons, add-one, decimal}
 use Rattle.lpis_cert.proofs.Common.{nat_tests, number_margin, Version, CornersFit, LineFits, Corners, spelling, words_of, text_of_lines, digits_on, cert_number, ReadsLines}
-use Rattle.lpis_cert.proofs.Common.{corner_line}
+use Rattle.lpis_cert.proofs.Common.{corner_line, CertLine, PairLine, Separator, SeparatorFits}
 use Rattle.std.proofs.lemmas.Fmt.{decimal_digit}
 use Rattle.std.proofs.lemmas.Str.{digit_value_digit}
 use Rattle.std.proofs.lemmas.List.{take_all, take-append-drop, take_more}
@@ -90,11 +90,30 @@ corner_fits v true c fits = fits
 corner_fits v false c fits = fits
 
 -- a line that begins the text was taken
-pub spelled_line_taken : (v : Version) (text : List ℕ) (n : ℕ) (flat : Bool) (c : Corners) (rest : List ℕ) → BeginsWithWord text (spelling v (corner_line flat c)) 10 rest
-    → CornersFit v c → ReadsLines v text n (corner_line flat c ∷ []) rest (n + 1)
+spelled_line_taken : (v : Version) (text : List ℕ) (n : ℕ) (l : CertLine) (rest : List ℕ) → BeginsWithWord text (spelling v l) 10 rest → LineFits v l
+    → ReadsLines v text n (l ∷ []) rest (n + 1)
 unfolding text_of_lines
-spelled_line_taken v text n flat c rest h fits =
-    record { parts = h ∙ sym (append_assoc (spelling v (corner_line flat c)) (10 ∷ []) rest); fits = (corner_fits v flat c fits, tt); next = refl }
+spelled_line_taken v text n l rest h fits =
+    record { parts = h ∙ sym (append_assoc (spelling v l) (10 ∷ []) rest); fits = (fits, tt); next = refl }
+
+-- a line of corners that begins the text was taken
+pub corners_taken : (v : Version) (text : List ℕ) (n : ℕ) (flat : Bool) (c : Corners) (rest : List ℕ) → BeginsWithWord text (spelling v (corner_line flat c)) 10 rest
+    → CornersFit v c → ReadsLines v text n (corner_line flat c ∷ []) rest (n + 1)
+corners_taken v text n flat c rest h fits = spelled_line_taken v text n (corner_line flat c) rest h (corner_fits v flat c fits)
+
+three : (a b c r : List ℕ) → (a ++ (32 ∷ (b ++ (32 ∷ c)))) ++ r ≡ a ++ (32 ∷ (b ++ (32 ∷ (c ++ r))))
+three a b c r = grind (arith, link)
+
+pair_spelled : (v : Version) (p : Separator) (rest : List ℕ)
+    → 115 ∷ 32 ∷ (decimal p.i ++ (32 ∷ (decimal p.j ++ (32 ∷ (decimal p.k ++ (10 ∷ rest)))))) ≡ spelling v (PairLine p) ++ (10 ∷ rest)
+unfolding spelling words_of
+pair_spelled v p rest = cc (three (decimal p.i) (decimal p.j) (decimal p.k) (10 ∷ rest))
+
+-- a text that begins with the letter, three numbers, each after a space, and a line end begins with a pair line, which was taken
+pub pair_line_taken : (v : Version) (text : List ℕ) (n : ℕ) (p : Separator) (rest : List ℕ) → SeparatorFits p
+    → text ≡ 115 ∷ 32 ∷ (decimal p.i ++ (32 ∷ (decimal p.j ++ (32 ∷ (decimal p.k ++ (10 ∷ rest))))))
+    → ReadsLines v text n (PairLine p ∷ []) rest (n + 1)
+pair_line_taken v text n p rest fits h = spelled_line_taken v text n (PairLine p) rest (h ∙ pair_spelled v p rest) fits
 
 -- what comes after a word and its line end is shorter than the text that begins with them
 pub shorter : (text : List ℕ) (w : List ℕ) (rest : List ℕ) → BeginsWithWord text w 10 rest → length rest + 1 ≤ length text

@@ -1,5 +1,5 @@
-//! Lines of corners as they are usually written, read in one pass. What is refused here is looked
-//! at again word by word.
+//! Lines of corners and pair lines as they are usually written, read in one pass. What is refused
+//! here is looked at again word by word.
 
 ghost use Rattle.std.specs.Prelude.{◌≡◌, ◌<◌, ◌≤◌, ◌++◌, ◌∷◌, cond, get_or, IfSome};
 ghost use Rattle.std.specs.Fmt.{decimal};
@@ -10,6 +10,8 @@ ghost use Rattle.lpis_cert.specs.Fitting.{CoordinateFits, CornersFit};
 ghost use Rattle.lpis_cert.specs.Contents.{corner_numbers};
 ghost use Rattle.lpis_cert.specs.private.Taken.{BeginsWithWord, corner_line};
 
+use crate::fields::{GREATEST_COUNT, LAST_EDGE};
+use crate::part::PairLine;
 use crate::version::Version;
 use lpis_points::{Point, Triangle};
 
@@ -142,4 +144,22 @@ pub(crate) fn leading_corners(
     let fields = skip(after, b' ')?;
     let (triangle, rest) = leading_triangle(version, fields)?;
     Some((triangle, rest))
+}
+
+/// A pair line, and the text after its end.
+pub(crate) fn leading_pair(text: &[u8]) -> Option<(PairLine, &[u8])>
+    ensures { IfSome result (λ p. text.now ≡ 115 ∷ 32 ∷ (decimal p.0.i
+        ++ (32 ∷ (decimal p.0.j ++ (32 ∷ (decimal p.0.k ++ (10 ∷ p.1.now))))))) }
+{
+    let after = skip(text, b's')?;
+    let fields = skip(after, b' ')?;
+    let (i, second) = leading_number(fields, b' ', GREATEST_COUNT)?;
+    let (j, third) = leading_number(second, b' ', GREATEST_COUNT)?;
+    let (k, rest) = leading_number(third, b'\n', LAST_EDGE)?;
+    let pair = PairLine {
+        i: i as u32,
+        j: j as u32,
+        k: k as u8,
+    };
+    Some((pair, rest))
 }

@@ -12,7 +12,7 @@ ghost use Rattle.lpis_cert.specs.private.Taken.{corner_kind as kind_of_corners};
 ghost use Rattle.lpis_cert.specs.private.Taken.{corner_line as line_of_corners, wanting};
 ghost use Rattle.lpis_cert.specs.Contents.{corner_numbers, triangle_corners, separator_of};
 
-use crate::fast_path::leading_corners;
+use crate::fast_path::{leading_corners, leading_pair};
 use crate::fault::{CertCode, CertFault};
 use crate::fields::{corners, separator};
 use crate::form::placed;
@@ -119,6 +119,13 @@ pub(crate) fn pair_line(version: Version, rest: Rest<'_>) -> Result<(PairLine, R
         (separator_line (separator_of x.0) ∷ []) x.1.text.now x.1.line)
         (λ e. LineFault version e rest.entry.line (One kind.Pair) rest.entry.text.now) }
 {
+    if let Some((pair, text)) = leading_pair(rest.text) {
+        let after = Rest {
+            text,
+            line: rest.line + 1,
+        };
+        return Ok((pair, after));
+    }
     let (_, words, after) = placed_line(version, Expected::One(Kind::Pair), rest)?;
     match separator(words) {
         Some(pair) => Ok((pair, after)),

@@ -1,7 +1,7 @@
 use Rattle.std.proofs.Common.{refl}
 use Rattle.lpis_cert.proofs.Common.{err_from_is_err_and, corner_numbers}
 use Rattle.lpis_cert.proofs.BlockLemmas.{corner_taken, corner_untaken}
-use Rattle.lpis_cert.proofs.FastPathLemmas.{spelled_line_taken}
+use Rattle.lpis_cert.proofs.FastPathLemmas.{corners_taken}
 use Rattle.lpis_cert.proofs.lines.corner_line.Goals as goal
 
 pub returns-in_err-words : goal.returns-in_err-words
@@ -23,4 +23,4 @@ returns-in-None c =
 
 pub returns-in-Some : goal.returns-in-Some
 returns-in-Some c =
-    spelled_line_taken c.args.version c.args.rest.text.now c.args.rest.line c.args.flat (corner_numbers c.in-Some.triangle) c.in-Some.text.now c.in-Some.ensures.line c.in-Some.ensures.fits
+    corners_taken c.args.version c.args.rest.text.now c.args.rest.line c.args.flat (corner_numbers c.in-Some.triangle) c.in-Some.text.now c.in-Some.ensures.line c.in-Some.ensures.fits
