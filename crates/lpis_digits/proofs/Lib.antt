@@ -1,0 +1,5 @@
+pub mod ByteLemmas
+pub mod LaneLemmas
+pub mod WordLemmas
+pub mod SpellingLemmas
+pub mod RunLemmas
