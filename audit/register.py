@@ -27,7 +27,8 @@ OTHERS = "SELECT type, name FROM sqlite_master WHERE type <> 'table' AND sql <> 
 def rows_of(base, name, version):
     """The rows of a table that is there. What it has in a register of another version says nothing."""
     key, others, versions = COLUMNS[name]
-    if version not in versions or not base.execute("SELECT 1 FROM sqlite_master WHERE name LIKE ?", [name]).fetchone():
+    is_there = base.execute("SELECT 1 FROM sqlite_master WHERE lower(name) = ?", [name]).fetchone()
+    if version not in versions or not is_there:
         return []
     rows = base.execute(f"SELECT {', '.join(key + others)} FROM {name} NOT INDEXED").fetchall()
     types = [str if column in ("id", "old", "new", "wkt") else int for column in key + others]
@@ -36,11 +37,25 @@ def rows_of(base, name, version):
     return rows
 
 
+def opened(path):
+    """A database for reading alone, now. Where SQLite may put no file beside it, it is read as one that nobody changes,
+    but for one with a log there, whose rows would be missing."""
+    path = Path(path).resolve()
+    base = sqlite3.connect(path.as_uri() + "?mode=ro", uri=True, isolation_level=None)
+    try:
+        base.execute("BEGIN").execute("SELECT 1 FROM sqlite_master").fetchone()
+    except sqlite3.OperationalError as fault:
+        logs = [log for log in (Path(f"{path}-wal"), Path(f"{path}-journal")) if log.exists() and log.stat().st_size]
+        if logs or not path.is_file() or "locked" in str(fault):
+            raise OSError(f"{fault}{''.join(f', so what {log} has was not read' for log in logs)}") from None
+        base = sqlite3.connect(path.as_uri() + "?immutable=1", uri=True, isolation_level=None)
+    base.text_factory = lambda data: data.decode("iso-8859-1")
+    return base
+
+
 def read_register(path):
     """Its years, spans, rows, marks and texts, and what others made in it, all of one moment."""
-    base = sqlite3.connect(Path(path).resolve().as_uri() + "?mode=ro", uri=True, isolation_level=None)
-    base.text_factory = lambda data: data.decode("iso-8859-1")
-    base.execute("BEGIN")
+    base = opened(path)
     others = sorted(base.execute(OTHERS))
     hiding = [name for kind, name in others if kind in ("trigger", "table") or name.lower().startswith("lpis_")]
     need(not hiding, "it has a trigger, a virtual table, or a view in place of a table:", *hiding)
@@ -52,6 +67,7 @@ def read_register(path):
     release, lives, spans, rows, texts, marks = (rows_of(base, name, str(version[0][1])) for name in COLUMNS)
     years = sorted(year for (year,) in release)
     spans += [(name, year, 0 if [year] == years[-1:] else year) for name, year in lives]
+    base.close()
     return years, spans, sorted(rows), set(marks), texts, others
 
 

@@ -180,8 +180,9 @@ def test_edges(codes, name, whole, parts, flats):
 
 
 def near_pairs(boxes):
-    """How many pairs of boxes are not apart. A line goes from left to right: where it meets a box, all boxes on it are
-    near but those above and those below. So as many as begin below its top, less those that end below its bottom."""
+    """How many pairs of boxes are not apart. A line goes from left to right. Where it meets a box, it has left those
+    that end there. Of the boxes on it all are near but those above and those below: as many as begin below its top,
+    less those that end at its bottom or below. Each box has a height, so that these are among the first."""
     begins = [(left, True, low, high) for left, _, low, high in boxes]
     ends = [(right, False, low, high) for _, right, low, high in boxes]
     count, lows, highs = 0, [], []

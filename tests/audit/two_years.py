@@ -1,6 +1,7 @@
 """Years of generated parcels in registers: audit/lineage.py beside `lpis publish`, and audit/register.py beside what `lpis` opens."""
 
 import contextlib
+import os
 import random
 import sqlite3
 
@@ -28,6 +29,8 @@ STATEMENTS = [
     "DELETE FROM lpis_text", "DELETE FROM lpis_mark; DELETE FROM lpis_row",
 ]
 
+DROP_ALL = "; ".join(f"DROP TABLE IF EXISTS lpis_{name}" for name in ("mark", "text", "live", "span", "row", "release", "format"))
+
 # Edits of two years in registers of each version: what others may put there, what is in the way of `lpis`, and what is no lawful history.
 BESIDE = [
     "", "CREATE VIEW now AS SELECT year FROM lpis_release", "CREATE VIEW some AS SELECT old FROM lpis_row WHERE old GLOB 'A*'", "CREATE TABLE notes (note); INSERT INTO notes VALUES (1)",
@@ -47,6 +50,8 @@ BESIDE = [
     "INSERT INTO lpis_release VALUES (2026); INSERT INTO lpis_live VALUES (2026, 'A'), (2026, 'B'), (2026, 'C')", "INSERT INTO lpis_release VALUES (2026); INSERT INTO lpis_live VALUES (2026, 'B'), (2026, 'C')",
     "DROP TABLE lpis_span; CREATE TABLE lpis_span (id TEXT, since INTEGER, until INTEGER);" + registers.SPANS + registers.SPANS,
     "DROP TABLE lpis_text; CREATE TABLE lpis_text (id TEXT, wkt TEXT);" + registers.TEXTS + registers.TEXTS, registers.TEXT + "INSERT INTO lpis_text VALUES ('X', 'no polygon')",
+    "DROP TABLE lpis_format; DROP TABLE IF EXISTS lpis_span", "DROP TABLE lpis_format; DROP TABLE IF EXISTS lpis_span; CREATE TABLE notes (note)",
+    *(f"{DROP_ALL}; CREATE TABLE notes (note); {table}" for table in ("", registers.RELEASE, registers.LIVE, registers.ROW, registers.TEXT, registers.MARK, registers.SPAN)),
     registers.SPAN + "INSERT INTO lpis_span VALUES ('X', 2024, 0)", registers.LIVE + "INSERT INTO lpis_live VALUES (2024, 'X')", registers.MARK + "INSERT INTO lpis_mark VALUES (2025, 1)",
 ]
 
@@ -136,6 +141,57 @@ def compare_versions(cases, lpis, folder):
             text = expect_register(cases, f"version {version}, {edit}", lpis, path, folder / "opened.db")
             for word, object_name in (("VIEW now", "now"), ("TRIGGER watch", "watch")):
                 cases.expect(f"version {version}, {edit}: named in {text!r}", word not in edit or object_name in text)
+
+
+@contextlib.contextmanager
+def not_writable(folder):
+    """A folder into which nobody may write: of root's, another user looks."""
+    folder.chmod(0o555)
+    is_root = os.geteuid() == 0
+    try:
+        if is_root:
+            os.seteuid(65534)
+        yield
+    finally:
+        if is_root:
+            os.seteuid(0)
+        folder.chmod(0o755)
+
+
+def expect_read(cases, name, folder, wanted):
+    """What the second checker says of the register in a folder that may not be written: that it is lawful, or which log it cannot read."""
+    with not_writable(folder):
+        try:
+            said = register.main(folder / "register.db", None)
+        except OSError as fault:
+            said = str(fault)
+    cases.expect(f"{name}, in a folder that is read-only: {said!r}", said.startswith(wanted) and said.count("\n") <= 1)
+
+
+def compare_read_only(cases, folder):
+    """A register in the mode WAL, where no file may be made beside it: alone, with an empty log, and with rows in the log."""
+    folder.mkdir()
+    folder.parent.chmod(0o755)
+    path, log, shared = (folder / f"register.db{end}" for end in ("", "-wal", "-shm"))
+    base = sqlite3.connect(path)
+    base.executescript("PRAGMA journal_mode = WAL;" + registers.VERSION_3)
+    base.close()
+    lawful = "lawful releases 2 identifiers 3 shapes 2\n"
+    expect_read(cases, "a register", folder, lawful)
+    log.touch()
+    expect_read(cases, "one with an empty log", folder, lawful)
+    base = sqlite3.connect(path)
+    base.execute("INSERT INTO lpis_release VALUES (2026)")
+    base.execute("UPDATE lpis_span SET until = 2025 WHERE id = 'C'")
+    base.execute("INSERT INTO lpis_row VALUES (2026, 0, 'C', '')")
+    base.execute("DELETE FROM lpis_text WHERE id = 'C'")
+    base.commit()
+    expect_read(cases, "one with rows in its log", folder, "lawful releases 3 identifiers 3 shapes 1\n")
+    data = log.read_bytes()
+    base.close()
+    log.write_bytes(data)
+    shared.unlink(missing_ok=True)
+    expect_read(cases, "one whose log cannot be read", folder, f"unable to open database file, so what {log} has was not read")
 
 
 def compare_lineage(cases, name, lpis, folder, path):
