@@ -3,3 +3,4 @@ pub mod LaneLemmas
 pub mod WordLemmas
 pub mod SpellingLemmas
 pub mod RunLemmas
+pub mod Shared

@@ -88,16 +88,3 @@ value_joined text m a b le first second =
     let back : digits_value_after 10 a (take m (drop 8 text)) ≡ a * 10 ^ length (take m (drop 8 text)) + digits_value 10 (take m (drop 8 text)) = value_behind a (take m (drop 8 text)) in
     let same : digits_value_after 10 a (take m (drop 8 text)) ≡ a * 10 ^ m + b = rw (long, ← second) at back in
     sym same ∙ ap (λ k. digits_value_after 10 k (take m (drop 8 text))) first ∙ sym (value-append 0 (take 8 text) (take m (drop 8 text))) ∙ ap (digits_value 10) (sym (take-add 8 m text))
-
--- the table of powers of ten
-pub power_at : (k : ℕ) → k ≤ 8 → get_or (1 ∷ 10 ∷ 100 ∷ 1000 ∷ 10000 ∷ 100000 ∷ 1000000 ∷ 10000000 ∷ 100000000 ∷ []) k 0 ≡ 10 ^ k
-power_at zero le = refl
-power_at (suc zero) le = refl
-power_at (suc (suc zero)) le = refl
-power_at (suc (suc (suc zero))) le = refl
-power_at (suc (suc (suc (suc zero)))) le = refl
-power_at (suc (suc (suc (suc (suc zero))))) le = refl
-power_at (suc (suc (suc (suc (suc (suc zero)))))) le = refl
-power_at (suc (suc (suc (suc (suc (suc (suc zero))))))) le = refl
-power_at (suc (suc (suc (suc (suc (suc (suc (suc zero)))))))) le = refl
-power_at (suc (suc (suc (suc (suc (suc (suc (suc (suc k))))))))) le = absurd (omega arith)

@@ -5,6 +5,8 @@
 #![tactic(auto)]
 
 mod eight;
+mod powers;
 mod reading;
 
+pub use powers::power_of_ten;
 pub use reading::{Digits, MOST_DIGITS, leading_digits};

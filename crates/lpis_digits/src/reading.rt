@@ -8,6 +8,7 @@ ghost use Rattle.std.specs.Str.Parse.{digits_value};
 ghost use Rattle.lpis_digits.specs.Digits.{digit_count};
 
 use crate::eight::{WORD, digits_among_eight, first_word, moved_to_end, spelled};
+use crate::powers::power_of_ten;
 
 /// The most digits that are read.
 pub const MOST_DIGITS: usize = 16;
@@ -20,18 +21,6 @@ pub struct Digits {
     /// The number that they spell.
     pub value: u64,
 }
-
-const POWERS: [u64; 9] = [
-    1,
-    10,
-    100,
-    1_000,
-    10_000,
-    100_000,
-    1_000_000,
-    10_000_000,
-    100_000_000,
-];
 
 /// The digits among the first eight bytes.
 #[inline(always)]
@@ -99,6 +88,6 @@ pub fn leading_digits(text: &[u8]) -> Digits
     let second = first_digits(&text[WORD..]);
     Digits {
         count: WORD + second.count,
-        value: first.value * POWERS[second.count] + second.value,
+        value: first.value * power_of_ten(second.count) + second.value,
     }
 }

@@ -5,7 +5,7 @@ use Rattle.std.specs.List.{prefix_len}
 use Rattle.std.specs.Char.{is_ascii_digit}
 use Rattle.std.specs.Str.Parse.{digits_value}
 use Rattle.lpis_digits.specs.Digits.{digit_count}
-use Rattle.lpis_digits.proofs.RunLemmas.{power_at, read, run_goes_on, value_below, value_joined}
+use Rattle.lpis_digits.proofs.RunLemmas.{read, run_goes_on, value_below, value_joined}
 use Rattle.lpis_digits.proofs.reading.leading_digits.Goals as goal
 
 -- the digits end among the first eight bytes
@@ -54,7 +54,7 @@ returns-clause-value c =
     let f = c.first_digits-first.ensures in
     let s = c.first_digits-second.ensures in
     let m = c.first_digits-second.result.count in
-    whole c.args.text.now _ _ _ _ _ f.count c.if-first-lt-WORD.false s.count f.value s.value (power_at m (omega (arith, s.count)))
+    whole c.args.text.now _ _ _ _ _ f.count c.if-first-lt-WORD.false s.count f.value s.value c.power_of_ten.ensures
 
 pub returns-clause-within : goal.returns-clause-within
 returns-clause-within c =
@@ -74,4 +74,4 @@ returns-clause-few c =
     let s = c.first_digits-second.ensures in
     let m = c.first_digits-second.result.count in
     let all : 8 + m ≡ digit_count c.args.text.now = long c.args.text.now _ _ f.count c.if-first-lt-WORD.false s.count in
-    value_below c.args.text.now (8 + m) _ (omega arith) (whole c.args.text.now _ _ _ _ _ f.count c.if-first-lt-WORD.false s.count f.value s.value (power_at m (omega (arith, s.count))))
+    value_below c.args.text.now (8 + m) _ (omega arith) (whole c.args.text.now _ _ _ _ _ f.count c.if-first-lt-WORD.false s.count f.value s.value c.power_of_ten.ensures)
