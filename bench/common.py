@@ -4,7 +4,8 @@ a table, and under it what was wanted and what was got. `bench/all` runs them, a
 
 `CUT=PROGRAM` in the environment names another program that knows `cut DIR CERT`, `LPIS=PROGRAM` another `lpis`; without them it is the one that
 ./lpis runs. `BEFORE=PROGRAM` names an `lpis` of before millimetres and
-percentages: bench/area, bench/check and bench/cut then run it in turns with the other on the same tables, and tell what the change costs."""
+percentages: bench/area, bench/check and bench/cut then run it in turns with the other on the same tables, and tell what the change costs. Of
+bench/beside_check it is one of the same formats."""
 
 import collections
 import contextlib
