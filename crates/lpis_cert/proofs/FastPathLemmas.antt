@@ -1,55 +1,61 @@
 -- Lines of corners, read in one pass.
-use Rattle.std.proofs.Common.{◌≡◌, ℕ, suc, ◌+◌, ◌-◌, ◌*◌, ◌<◌, ◌≤◌, Bool, true, false, cond, List, [], ◌∷◌, ◌++◌, length, take, drop, get_or, Some, refl, sym, ap}
+use Rattle.std.proofs.Common.{◌≡◌, ℕ, ◌+◌, ◌-◌, ◌*◌, ◌^◌, ◌<◌, ◌≤◌, Bool, true, false, cond, List, [], ◌∷◌, ◌++◌, length, take, drop, get_or, refl, sym, ap}
 use Rattle.std.proofs.Common.{◌∙◌, arith}
-use Rattle.std.proofs.Common.{append_assoc, length-append, drop-cons, add-one, decimal}
-use Rattle.lpis_cert.proofs.Common.{nat_tests, number_margin, Version, CornersFit, LineFits, Corners, spelling, words_of, text_of_lines, digits_on, cert_number, ReadsLines}
+use Rattle.std.proofs.Common.{append_assoc, length-append, length-take, length-take-le, drop-cons, add-one, decimal}
+use Rattle.lpis_cert.proofs.Common.{nat_tests, Version, CornersFit, LineFits, Corners, spelling, words_of, text_of_lines, ReadsLines}
 use Rattle.lpis_cert.proofs.Common.{corner_line, CertLine, PairLine, Separator, SeparatorFits}
-use Rattle.std.proofs.lemmas.Fmt.{decimal_digit}
+use Rattle.std.proofs.lemmas.Fmt.{decimal-digits_value}
+use Rattle.std.proofs.lemmas.Int.Digits.{digits_push, digits_value_more}
 use Rattle.std.proofs.lemmas.Str.{digit_value_digit}
-use Rattle.std.proofs.lemmas.List.{take_all, take-append-drop, take_more}
+use Rattle.std.proofs.lemmas.Str.Parse.{IsNumeralModel, numerals_by_value, tells_digits, digits_value_short}
+use Rattle.std.proofs.lemmas.List.{take_all, take-append-drop, take_more, get_or-take}
 use Rattle.std.specs.Char.{digit_value, is_ascii_digit}
+use Rattle.std.specs.Str.Parse.{AllDigits, digits_value}
 use Rattle.lpis_cert.specs.private.Taken.{BeginsWithWord}
 use Rattle.lpis_cert.specs.CertText.{coordinate_word}
-use Rattle.lpis_cert.proofs.NumberLemmas.{not-zero, number_takes}
 use Rattle.lpis_cert.proofs.SplittingLemmas.{rest_is}
 
-digits_on-append : (limit n : ℕ) (xs ys : List ℕ) (v : ℕ) → digits_on limit n xs ≡ Some v → digits_on limit n (xs ++ ys) ≡ digits_on limit v ys
-digits_on-append limit n [] ys v h = let e : n ≡ v = cc h in ap (λ (k : ℕ). digits_on limit k ys) e
-digits_on-append limit n (d ∷ xs) ys v h = grind (arith, digits_on-append limit (n * 10 + digit_value d) xs ys v)
+own : IsNumeralModel (AllDigits 10) (digits_value 10)
+own = numerals_by_value (AllDigits 10) tells_digits
 
 digit_is : (d : ℕ) → is_ascii_digit d ≡ true → digit_value d ≡ d - 48
 digit_is d h = grind (arith, nat_tests, digit_value_digit)
 
+digit_small : (d : ℕ) → is_ascii_digit d ≡ true → digit_value d < 10
+digit_small d h = grind (arith, nat_tests, digit_value_digit)
+
 -- one more digit
-pub digit_more : (limit i v r : ℕ) (xs : List ℕ) → i < length xs → digits_on limit 0 (take i xs) ≡ Some v → is_ascii_digit (get_or xs i 0) ≡ true
-    → r ≡ get_or xs i 0 - 48 → v * 10 + r ≤ limit
-    → digits_on limit 0 (take (i + 1) xs) ≡ Some (v * 10 + r)
-digit_more limit i v r xs lt h digit is le =
-    grind (arith, nat_tests, digit_is (get_or xs i 0) digit, take_more, digits_on-append limit 0 (take i xs) (get_or xs i 0 ∷ []) v h)
+pub digits_more : (i v r : ℕ) (xs : List ℕ) → i < length xs → AllDigits 10 (take i xs) → v ≡ digits_value 10 (take i xs) → is_ascii_digit (get_or xs i 0) ≡ true
+    → r ≡ get_or xs i 0 - 48 → AllDigits 10 (take (i + 1) xs) × (v * 10 + r ≡ digits_value 10 (take (i + 1) xs))
+digits_more i v r xs lt all value digit is =
+    let more = take_more xs i 0 lt in (
+      rw more (digits_push 10 (take i xs) (get_or xs i 0) all (digit_small (get_or xs i 0) digit)),
+      rw (value, is, digits_value_more 10 xs i lt, digit_is (get_or xs i 0) digit) refl,
+    )
 
-leading : (limit i end : ℕ) (xs : List ℕ) (v : ℕ) → i < length xs → end < 48 → 48 < get_or xs 0 0 → get_or xs i 0 ≡ end → digits_on limit 0 (take i xs) ≡ Some v
-    → cert_number limit (take i xs) ≡ Some v
-unfolding cert_number
-leading limit (suc i) end (d ∷ xs) v lt apart first last h = let no = not-zero d first in rw no h
-leading limit _ end _ v lt apart first last h = absurd (omega arith)
+-- what at most 16 digits spell leaves room for one more digit
+pub digits_room : (i v : ℕ) (xs : List ℕ) → i ≤ 16 → AllDigits 10 (take i xs) → v ≡ digits_value 10 (take i xs) → v < 10000000000000000
+digits_room i v xs few all value =
+    let len = length-take i xs in
+    rw value (digits_value_short own (take i xs) 16 all (omega (arith, len)))
 
--- the digits before a byte
-pub digits_begin : (limit i end : ℕ) (xs : List ℕ) (v : ℕ) → limit ≤ number_margin → i < length xs → end < 48 → 48 < get_or xs 0 0 → get_or xs i 0 ≡ end
-    → digits_on limit 0 (take i xs) ≡ Some v
-    → BeginsWithWord xs (decimal v) end (take (length xs - (i + 1)) (drop (i + 1) xs)) × (v ≤ limit)
-digits_begin limit i end xs v small lt apart first last h =
-    let is = number_takes limit (take i xs) v small (leading limit i end xs v lt apart first last h) in
-    let cons : drop i xs ≡ end ∷ drop (i + 1) xs = rw add-one (drop-cons xs i 0 lt) ∙ ap (λ (b : ℕ). b ∷ drop (i + 1) xs) last in
-    (rw (rest_is xs i) (sym (take-append-drop i xs) ∙ ap (λ (t : List ℕ). take i xs ++ t) cons ∙ ap (λ (w : List ℕ). w ++ (end ∷ drop (i + 1) xs)) is.0), is.1)
+-- digits before a byte, of which the first is not 0 where there are more
+pub number_begins : (xs : List ℕ) (n v end : ℕ) → AllDigits 10 (take n xs) → v ≡ digits_value 10 (take n xs) → 0 < n → n < length xs → get_or xs n 0 ≡ end
+    → (get_or xs 0 0 ≡ 48 → n ≤ 1) → v < 2 ^ 64 → BeginsWithWord xs (decimal v) end (take (length xs - (n + 1)) (drop (n + 1) xs))
+number_begins xs n v end all value some lt last first small =
+    let len : length (take n xs) ≡ n = length-take-le n xs (omega arith) in
+    let is : decimal v ≡ take n xs =
+    ap decimal value ∙ decimal-digits_value own (take n xs) all (rw len some) (λ z. one (first (sym (get_or-take n xs 0 0 some) ∙ z)) len) (rw value at small) in
+    let cons : drop n xs ≡ end ∷ drop (n + 1) xs = rw add-one (drop-cons xs n 0 lt) ∙ ap (λ (b : ℕ). b ∷ drop (n + 1) xs) last in
+    rw (rest_is xs n, is) (sym (take-append-drop n xs) ∙ ap (λ (t : List ℕ). take n xs ++ t) cons)
+  where
+    one : n ≤ 1 → length (take n xs) ≡ n → length (take n xs) ≡ 1
+    one le len = omega (arith, some)
 
 -- the first byte
 pub first_byte : (xs : List ℕ) (b : ℕ) → 1 ≤ length xs → get_or xs 0 0 ≡ b → xs ≡ b ∷ take (length xs - 1) (drop 1 xs)
 first_byte [] b some first = absurd (omega arith)
 first_byte (x ∷ xs) b some first = grind (arith, take_all)
-
--- a text whose first byte is the digit 0, with another byte after it, begins with the number 0 and that byte
-pub zero_begins : (text after rest : List ℕ) (end limit : ℕ) → text ≡ 48 ∷ after → after ≡ end ∷ rest → BeginsWithWord text (decimal 0) end rest × (0 ≤ limit)
-zero_begins text after rest end limit h k = grind (arith, decimal_digit)
 
 -- ---- a line of corners
 

@@ -1,10 +1,11 @@
 //! Lines of corners and pair lines as they are usually written, read in one pass. What is refused
 //! here is looked at again word by word.
 
-ghost use Rattle.std.specs.Prelude.{◌≡◌, ◌<◌, ◌≤◌, ◌++◌, ◌∷◌, cond, get_or, IfSome};
+ghost use Rattle.std.specs.Prelude.{◌≡◌, ◌≤◌, ◌++◌, ◌∷◌, cond, false, get_or, length, take};
+ghost use Rattle.std.specs.Prelude.{IfSome};
 ghost use Rattle.std.specs.Fmt.{decimal};
+ghost use Rattle.std.specs.Str.Parse.{AllDigits, digits_value};
 ghost use Rattle.lpis_points.specs.Range.{IsInRange};
-ghost use Rattle.lpis_cert.specs.Limits.{number_margin};
 ghost use Rattle.lpis_cert.specs.CertText.{coordinate_word, spelling};
 ghost use Rattle.lpis_cert.specs.Fitting.{CoordinateFits, CornersFit};
 ghost use Rattle.lpis_cert.specs.Contents.{corner_numbers};
@@ -15,30 +16,25 @@ use crate::part::PairLine;
 use crate::version::Version;
 use lpis_points::{Point, Triangle};
 
-/// The number that digits up to a byte spell, where they don't begin with 0.
-fn leading_digits(text: &[u8], end: u8, limit: u64) -> Option<(u64, &[u8])>
-    requires small { limit ≤ number_margin }
-    requires apart { end < 48 }
-    requires first { 48 < get_or text.now 0 0 }
-    ensures { IfSome result (λ x. BeginsWithWord text.now (decimal x.0) end x.1.now
-        × (x.0 ≤ limit)) }
+/// The most digits that are read at once: a longer number is above each limit.
+const MOST_DIGITS: usize = 16;
+
+/// How many digits a text begins with, `MOST_DIGITS` at most, and the number that they spell.
+#[inline(always)]
+fn leading_digits(text: &[u8]) -> (usize, u64)
+    ensures within { result.0 ≤ length text.now }
+    ensures digits { AllDigits 10 (take result.0 text.now) }
+    ensures value { result.1 ≡ digits_value 10 (take result.0 text.now) }
 {
+    let most = text.len().min(MOST_DIGITS);
     let mut value = 0;
-    let mut at = 0;
-    for b in text {
-        if *b == end {
-            return Some((value, &text[at + 1..]));
+    for at in 0..most {
+        if !text[at].is_ascii_digit() {
+            return (at, value);
         }
-        if !b.is_ascii_digit() {
-            return None;
-        }
-        value = value * 10 + u64::from(*b - b'0');
-        if value > limit {
-            return None;
-        }
-        at += 1;
+        value = value * 10 + u64::from(text[at] - b'0');
     }
-    None
+    (most, value)
 }
 
 /// What comes after a byte, where the text begins with it.
@@ -51,32 +47,33 @@ fn skip(text: &[u8], byte: u8) -> Option<&[u8]>
     }
 }
 
+/// Whether digits begin with a 0 that does not stand alone.
+#[inline(always)]
+fn is_padded(digits: &[u8], count: usize) -> bool
+    requires { count ≤ length digits.now }
+    ensures { result ≡ false → get_or digits.now 0 0 ≡ 48 → count ≤ 1 }
+{
+    count > 1 && digits[0] == b'0'
+}
+
 /// The number that a word up to a byte spells.
+#[inline(always)]
 fn leading_number(text: &[u8], end: u8, limit: u64) -> Option<(u64, &[u8])>
-    requires small { limit ≤ number_margin }
-    requires apart { end < 48 }
     ensures { IfSome result (λ x. BeginsWithWord text.now (decimal x.0) end x.1.now
         × (x.0 ≤ limit)) }
 {
-    if let Some(after) = skip(text, b'0') {
-        let rest = skip(after, end)?;
-        return Some((0, rest));
+    let (count, value) = leading_digits(text);
+    if count == 0 || count == text.len() || value > limit {
+        return None;
     }
-    match text {
-        [first, ..] => {
-            if *first > b'0' {
-                leading_digits(text, end, limit)
-            } else {
-                None
-            }
-        }
-        [] => None,
+    if text[count] != end || is_padded(text, count) {
+        return None;
     }
+    Some((value, &text[count + 1..]))
 }
 
 /// The coordinate in millimetres that a word up to a byte spells.
 fn leading_coordinate(version: Version, text: &[u8], end: u8) -> Option<(i64, &[u8])>
-    requires { end < 48 }
     ensures word { IfSome result (λ x. BeginsWithWord text.now
         (coordinate_word version x.0) end x.1.now) }
     ensures fits { IfSome result (λ x. CoordinateFits version x.0) }
@@ -97,7 +94,6 @@ fn leading_coordinate(version: Version, text: &[u8], end: u8) -> Option<(i64, &[
 
 /// The point that two words spell, the second up to a byte.
 fn leading_point(version: Version, text: &[u8], end: u8) -> Option<(Point, &[u8])>
-    requires { end < 48 }
     ensures words { IfSome result (λ p. text.now ≡ coordinate_word version p.0.x
         ++ (32 ∷ (coordinate_word version p.0.y ++ (end ∷ p.1.now)))) }
     ensures fits { IfSome result

@@ -1,6 +1,6 @@
-use Rattle.std.proofs.Common.{◌≡◌, ◌≤◌, take, Some}
-use Rattle.lpis_cert.proofs.Common.{digits_on}
+use Rattle.std.proofs.Common.{◌≡◌, take}
+use Rattle.std.specs.Str.Parse.{AllDigits, digits_value}
 use Rattle.lpis_cert.proofs.fast_path.leading_digits.Given as goal
 
-abbrev pub invariant-loop-b : goal.invariant-loop-b
-invariant-loop-b l = (l.at ≡ l.b-index) × (l.value ≤ l.limit) × (digits_on l.limit 0 (take l.b-index l.text) ≡ Some l.value)
+abbrev pub invariant-loop-at : goal.invariant-loop-at
+invariant-loop-at l = AllDigits 10 (take l.at l.text) × (l.value ≡ digits_value 10 (take l.at l.text))

@@ -1,5 +1,14 @@
-use Rattle.lpis_cert.proofs.FastPathLemmas.{zero_begins}
+use Rattle.std.proofs.Common.{arith}
+use Rattle.lpis_cert.proofs.FastPathLemmas.{number_begins}
 use Rattle.lpis_cert.proofs.fast_path.leading_number.Goals as goal
 
-pub returns-in-Some : goal.returns-in-Some
-returns-in-Some c = zero_begins c.args.text.now c.in-Some.after.now c.in_ok-rest.rest.now c.args.end c.args.limit c.in-Some.ensures c.in_ok-rest.ensures
+pub returns : goal.returns
+returns c =
+    let read = c.leading_digits-count in
+    let some = c.if-count-eq0.false in
+    let within = read.ensures.within in
+    let short = c.if-count-text.false in (
+      number_begins c.args.text.now read.result.0 read.result.1 c.args.end read.ensures.digits read.ensures.value (omega (arith, some)) (omega (arith, within, short))
+          c.if-text-count.false (c.is_padded.ensures c.if-is_padded.false) (omega arith),
+      c.if-value-limit.false,
+    )
