@@ -9,7 +9,7 @@ pub use Rattle.lpis_cert.specs.Fitting.{CoordinateFits, CornersFit, LineFits, Se
 pub use Rattle.lpis_cert.specs.Limits.{greatest_count, most_flats, number_margin}
 pub use Rattle.lpis_points.specs.Triangles.{most_triangles}
 pub use Rattle.lpis_cert.specs.LineKinds.{line_kind}
-pub use Rattle.lpis_cert.specs.Reading.{can_stand, digits_on, is_empty, is_gap, words}
+pub use Rattle.lpis_cert.specs.Reading.{can_stand, is_empty, is_gap, words}
 unfoldable pub use Rattle.lpis_cert.specs.Reading.{cert_number, read_line, values}
 pub use Rattle.lpis_cert.specs.Versions.{first_line, version_named, written}
 pub use Rattle.lpis_cert.specs.declared.cert.Cert.{Cert}

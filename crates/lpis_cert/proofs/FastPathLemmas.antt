@@ -1,15 +1,15 @@
 -- Lines of corners, read in one pass.
-use Rattle.std.proofs.Common.{◌≡◌, ℕ, ◌+◌, ◌-◌, ◌*◌, ◌^◌, ◌<◌, ◌≤◌, Bool, true, false, cond, List, [], ◌∷◌, ◌++◌, length, take, drop, get_or, refl, sym, ap}
+use Rattle.std.proofs.Common.{◌≡◌, ℕ, ◌+◌, ◌-◌, ◌^◌, ◌<◌, ◌≤◌, Bool, true, false, cond, List, [], ◌∷◌, ◌++◌, length, take, drop, get_or, refl, sym, ap}
 use Rattle.std.proofs.Common.{◌∙◌, arith}
-use Rattle.std.proofs.Common.{append_assoc, length-append, length-take, length-take-le, drop-cons, add-one, decimal}
-use Rattle.lpis_cert.proofs.Common.{nat_tests, Version, CornersFit, LineFits, Corners, spelling, words_of, text_of_lines, ReadsLines}
+use Rattle.std.proofs.Common.{append_assoc, length-append, length-take-le, drop-cons, add-one, decimal}
+use Rattle.lpis_cert.proofs.Common.{nat_tests, and_parts, Version, CornersFit, LineFits, Corners, spelling, words_of, text_of_lines, ReadsLines}
 use Rattle.lpis_cert.proofs.Common.{corner_line, CertLine, PairLine, Separator, SeparatorFits}
 use Rattle.std.proofs.lemmas.Fmt.{decimal-digits_value}
-use Rattle.std.proofs.lemmas.Int.Digits.{digits_push, digits_value_more}
 use Rattle.std.proofs.lemmas.Str.{digit_value_digit}
-use Rattle.std.proofs.lemmas.Str.Parse.{IsNumeralModel, numerals_by_value, tells_digits, digits_value_short}
-use Rattle.std.proofs.lemmas.List.{take_all, take-append-drop, take_more, get_or-take}
+use Rattle.std.proofs.lemmas.Str.Parse.{IsNumeralModel, numerals_by_value, tells_digits}
+use Rattle.std.proofs.lemmas.List.{take_all, take-append-drop, get_or-take}
 use Rattle.std.specs.Char.{digit_value, is_ascii_digit}
+use Rattle.std.specs.List.{list_all}
 use Rattle.std.specs.Str.Parse.{AllDigits, digits_value}
 use Rattle.lpis_cert.specs.private.Taken.{BeginsWithWord}
 use Rattle.lpis_cert.specs.CertText.{coordinate_word}
@@ -18,34 +18,22 @@ use Rattle.lpis_cert.proofs.SplittingLemmas.{rest_is}
 own : IsNumeralModel (AllDigits 10) (digits_value 10)
 own = numerals_by_value (AllDigits 10) tells_digits
 
-digit_is : (d : ℕ) → is_ascii_digit d ≡ true → digit_value d ≡ d - 48
-digit_is d h = grind (arith, nat_tests, digit_value_digit)
-
 digit_small : (d : ℕ) → is_ascii_digit d ≡ true → digit_value d < 10
 digit_small d h = grind (arith, nat_tests, digit_value_digit)
 
--- one more digit
-pub digits_more : (i v r : ℕ) (xs : List ℕ) → i < length xs → AllDigits 10 (take i xs) → v ≡ digits_value 10 (take i xs) → is_ascii_digit (get_or xs i 0) ≡ true
-    → r ≡ get_or xs i 0 - 48 → AllDigits 10 (take (i + 1) xs) × (v * 10 + r ≡ digits_value 10 (take (i + 1) xs))
-digits_more i v r xs lt all value digit is =
-    let more = take_more xs i 0 lt in (
-      rw more (digits_push 10 (take i xs) (get_or xs i 0) all (digit_small (get_or xs i 0) digit)),
-      rw (value, is, digits_value_more 10 xs i lt, digit_is (get_or xs i 0) digit) refl,
-    )
-
--- what at most 16 digits spell leaves room for one more digit
-pub digits_room : (i v : ℕ) (xs : List ℕ) → i ≤ 16 → AllDigits 10 (take i xs) → v ≡ digits_value 10 (take i xs) → v < 10000000000000000
-digits_room i v xs few all value =
-    let len = length-take i xs in
-    rw value (digits_value_short own (take i xs) 16 all (omega (arith, len)))
+all_digits : (ds : List ℕ) → list_all is_ascii_digit ds ≡ true → AllDigits 10 ds
+all_digits [] h = tt
+all_digits (d ∷ ds) h =
+    let both = and_parts (is_ascii_digit d) (list_all is_ascii_digit ds) h in
+    (digit_small d both.0, all_digits ds both.1)
 
 -- digits before a byte, of which the first is not 0 where there are more
-pub number_begins : (xs : List ℕ) (n v end : ℕ) → AllDigits 10 (take n xs) → v ≡ digits_value 10 (take n xs) → 0 < n → n < length xs → get_or xs n 0 ≡ end
+pub number_begins : (xs : List ℕ) (n v end : ℕ) → list_all is_ascii_digit (take n xs) ≡ true → v ≡ digits_value 10 (take n xs) → 0 < n → n < length xs → get_or xs n 0 ≡ end
     → (get_or xs 0 0 ≡ 48 → n ≤ 1) → v < 2 ^ 64 → BeginsWithWord xs (decimal v) end (take (length xs - (n + 1)) (drop (n + 1) xs))
 number_begins xs n v end all value some lt last first small =
     let len : length (take n xs) ≡ n = length-take-le n xs (omega arith) in
     let is : decimal v ≡ take n xs =
-    ap decimal value ∙ decimal-digits_value own (take n xs) all (rw len some) (λ z. one (first (sym (get_or-take n xs 0 0 some) ∙ z)) len) (rw value at small) in
+    ap decimal value ∙ decimal-digits_value own (take n xs) (all_digits (take n xs) all) (rw len some) (λ z. one (first (sym (get_or-take n xs 0 0 some) ∙ z)) len) (rw value at small) in
     let cons : drop n xs ≡ end ∷ drop (n + 1) xs = rw add-one (drop-cons xs n 0 lt) ∙ ap (λ (b : ℕ). b ∷ drop (n + 1) xs) last in
     rw (rest_is xs n, is) (sym (take-append-drop n xs) ∙ ap (λ (t : List ℕ). take n xs ++ t) cons)
   where

@@ -2,7 +2,7 @@
 use Rattle.std.proofs.Common.{◌≡◌, ℕ, zero, suc, ◌+◌, ◌*◌, ◌/◌, ◌<◌, ◌≤◌, Bool, true, false, cond, ◌&&◌, List, [], ◌∷◌, length, get_or, Option, Some, None}
 use Rattle.std.proofs.Common.{refl, sym, ap, ◌∙◌, arith, nat_le, eqb}
 use Rattle.std.proofs.Common.{ℤ, pos, negsuc, neg_ℤ, nat_abs, decimal}
-use Rattle.lpis_cert.proofs.Common.{nat_tests, and_parts, number_margin, Version, written, digits_on, cert_number, CoordinateFits}
+use Rattle.lpis_cert.proofs.Common.{nat_tests, and_parts, number_margin, Version, written, cert_number, CoordinateFits}
 use Rattle.std.proofs.lemmas.Bool.{eqb-true}
 use Rattle.std.proofs.lemmas.Int.{ints}
 use Rattle.std.proofs.lemmas.Fmt.{decimal_digit, decimal_is_IsNumeral, first_decimal, decimal-digits_value}
@@ -15,7 +15,7 @@ use Rattle.lpis_cert.specs.declared.version.Version.TheVariants.{One, Two}
 use Rattle.std.specs.Fmt.{signed_decimal}
 use Rattle.lpis_cert.specs.CertText.{coordinate_word}
 use Rattle.lpis_cert.specs.Versions.{greatest_in_version, factor, units}
-use Rattle.lpis_cert.specs.Reading.{cert_coordinate, minus, plus}
+use Rattle.lpis_cert.specs.Reading.{cert_coordinate, digits_on, minus, plus}
 
 -- a value that is given only where a test passes, and is given, shows that the test passed
 pub some_needs_true : {A : Type 0} (b : Bool) (x : Option A) (y : A) → cond b x None ≡ Some y → (b ≡ true) × (x ≡ Some y)

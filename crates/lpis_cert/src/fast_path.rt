@@ -1,10 +1,8 @@
 //! Lines of corners and pair lines as they are usually written, read in one pass. What is refused
 //! here is looked at again word by word.
 
-ghost use Rattle.std.specs.Prelude.{◌≡◌, ◌≤◌, ◌++◌, ◌∷◌, cond, false, get_or, length, take};
-ghost use Rattle.std.specs.Prelude.{IfSome};
+ghost use Rattle.std.specs.Prelude.{◌≡◌, ◌≤◌, ◌++◌, ◌∷◌, cond, false, get_or, length, IfSome};
 ghost use Rattle.std.specs.Fmt.{decimal};
-ghost use Rattle.std.specs.Str.Parse.{AllDigits, digits_value};
 ghost use Rattle.lpis_points.specs.Range.{IsInRange};
 ghost use Rattle.lpis_cert.specs.CertText.{coordinate_word, spelling};
 ghost use Rattle.lpis_cert.specs.Fitting.{CoordinateFits, CornersFit};
@@ -14,28 +12,8 @@ ghost use Rattle.lpis_cert.specs.private.Taken.{BeginsWithWord, corner_line};
 use crate::fields::{GREATEST_COUNT, LAST_EDGE};
 use crate::part::PairLine;
 use crate::version::Version;
+use lpis_digits::{Digits, leading_digits};
 use lpis_points::{Point, Triangle};
-
-/// The most digits that are read at once: a longer number is above each limit.
-const MOST_DIGITS: usize = 16;
-
-/// How many digits a text begins with, `MOST_DIGITS` at most, and the number that they spell.
-#[inline(always)]
-fn leading_digits(text: &[u8]) -> (usize, u64)
-    ensures within { result.0 ≤ length text.now }
-    ensures digits { AllDigits 10 (take result.0 text.now) }
-    ensures value { result.1 ≡ digits_value 10 (take result.0 text.now) }
-{
-    let most = text.len().min(MOST_DIGITS);
-    let mut value = 0;
-    for at in 0..most {
-        if !text[at].is_ascii_digit() {
-            return (at, value);
-        }
-        value = value * 10 + u64::from(text[at] - b'0');
-    }
-    (most, value)
-}
 
 /// What comes after a byte, where the text begins with it.
 fn skip(text: &[u8], byte: u8) -> Option<&[u8]>
@@ -62,7 +40,7 @@ fn leading_number(text: &[u8], end: u8, limit: u64) -> Option<(u64, &[u8])>
     ensures { IfSome result (λ x. BeginsWithWord text.now (decimal x.0) end x.1.now
         × (x.0 ≤ limit)) }
 {
-    let (count, value) = leading_digits(text);
+    let Digits { count, value } = leading_digits(text);
     if count == 0 || count == text.len() || value > limit {
         return None;
     }

@@ -8,7 +8,7 @@ returns c =
     let some = c.if-count-eq0.false in
     let within = read.ensures.within in
     let short = c.if-count-text.false in (
-      number_begins c.args.text.now read.result.0 read.result.1 c.args.end read.ensures.digits read.ensures.value (omega (arith, some)) (omega (arith, within, short))
+      number_begins c.args.text.now read.result.count read.result.value c.args.end read.ensures.digits read.ensures.value (omega (arith, some)) (omega (arith, within, short))
           c.if-text-count.false (c.is_padded.ensures c.if-is_padded.false) (omega arith),
       c.if-value-limit.false,
     )

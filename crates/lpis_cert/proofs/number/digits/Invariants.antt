@@ -1,5 +1,5 @@
 use Rattle.std.proofs.Common.{◌≡◌, ◌≤◌, drop}
-use Rattle.lpis_cert.proofs.Common.{digits_on}
+use Rattle.lpis_cert.specs.Reading.{digits_on}
 use Rattle.lpis_cert.proofs.number.digits.Given as goal
 
 abbrev pub invariant-loop-d : goal.invariant-loop-d
