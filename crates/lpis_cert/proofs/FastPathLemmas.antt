@@ -4,7 +4,7 @@ use Rattle.std.proofs.Common.{◌∙◌, arith}
 use Rattle.std.proofs.Common.{append_assoc, length-append, length-take-le, drop-cons, add-one, decimal}
 use Rattle.lpis_cert.proofs.Common.{nat_tests, and_parts, Version, CornersFit, LineFits, Corners, spelling, words_of, text_of_lines, ReadsLines}
 use Rattle.lpis_cert.proofs.Common.{corner_line, CertLine, PairLine, Separator, SeparatorFits}
-use Rattle.std.proofs.lemmas.Fmt.{decimal-digits_value}
+use Rattle.std.proofs.lemmas.Fmt.{decimal-digits_value, decimal_digit}
 use Rattle.std.proofs.lemmas.Str.{digit_value_digit}
 use Rattle.std.proofs.lemmas.Str.Parse.{IsNumeralModel, numerals_by_value, tells_digits}
 use Rattle.std.proofs.lemmas.List.{take_all, take-append-drop, get_or-take}
@@ -44,6 +44,19 @@ number_begins xs n v end all value some lt last first small =
 pub first_byte : (xs : List ℕ) (b : ℕ) → 1 ≤ length xs → get_or xs 0 0 ≡ b → xs ≡ b ∷ take (length xs - 1) (drop 1 xs)
 first_byte [] b some first = absurd (omega arith)
 first_byte (x ∷ xs) b some first = grind (arith, take_all)
+
+-- a number after a minus or not begins a text with the word of a coordinate
+pub word_begins : (negative : Bool) (text digits rest word : List ℕ) (n end : ℕ) → text ≡ cond negative (45 ∷ digits) digits → BeginsWithWord digits (decimal n) end rest
+    → word ≡ cond negative (45 ∷ decimal n) (decimal n) → BeginsWithWord text word end rest
+word_begins true text digits rest word n end h k is = rw (h, k, is) refl
+word_begins false text digits rest word n end h k is = rw (h, k, is) refl
+
+-- a digit before a line end
+pub edge_begins : (text after rest : List ℕ) (d : ℕ) → text ≡ d ∷ after → after ≡ 10 ∷ rest → 48 ≤ d → d ≤ 53 → BeginsWithWord text (decimal (d - 48)) 10 rest
+edge_begins text after rest d h k low high =
+    let spelled = decimal_digit (d - 48) (omega arith) in
+    let same : 48 + (d - 48) ≡ d = omega arith in
+    rw (h, k, spelled) (ap (λ (b : ℕ). b ∷ 10 ∷ rest) (sym same))
 
 -- ---- a line of corners
 

@@ -4,12 +4,14 @@
 ghost use Rattle.std.specs.Prelude.{◌≡◌, ◌≤◌, ◌++◌, ◌∷◌, cond, false, get_or, length, IfSome};
 ghost use Rattle.std.specs.Fmt.{decimal};
 ghost use Rattle.lpis_points.specs.Range.{IsInRange};
+ghost use Rattle.lpis_cert.specs.Limits.{last_edge};
+ghost use Rattle.lpis_cert.specs.Versions.{greatest_in_version};
 ghost use Rattle.lpis_cert.specs.CertText.{coordinate_word, spelling};
 ghost use Rattle.lpis_cert.specs.Fitting.{CoordinateFits, CornersFit};
 ghost use Rattle.lpis_cert.specs.Contents.{corner_numbers};
 ghost use Rattle.lpis_cert.specs.private.Taken.{BeginsWithWord, corner_line};
 
-use crate::fields::{GREATEST_COUNT, LAST_EDGE};
+use crate::fields::GREATEST_COUNT;
 use crate::part::PairLine;
 use crate::version::Version;
 use lpis_digits::{Digits, leading_digits};
@@ -50,24 +52,45 @@ fn leading_number(text: &[u8], end: u8, limit: u64) -> Option<(u64, &[u8])>
     Some((value, &text[count + 1..]))
 }
 
+/// Whether a text begins with a minus, and what comes after that.
+#[inline(always)]
+fn without_minus(text: &[u8]) -> (bool, &[u8])
+    ensures { text.now ≡ cond result.0 (45 ∷ result.1.now) result.1.now }
+{
+    match text {
+        [b'-', digits @ ..] => (true, digits),
+        _ => (false, text),
+    }
+}
+
+/// The coordinate in millimetres that a number spells, after a minus or not; 0 has no minus.
+#[inline(always)]
+fn signed(version: Version, negative: bool, number: u64) -> Option<i64>
+    requires { number ≤ greatest_in_version version }
+    ensures word { IfSome result (λ z. coordinate_word version z
+        ≡ cond negative (45 ∷ decimal number) (decimal number)) }
+    ensures fits { IfSome result (λ z. CoordinateFits version z) }
+    ensures range { IfSome result (λ z. IsInRange z) }
+{
+    let size = version.scaled(number) as i64;
+    if !negative {
+        return Some(size);
+    }
+    if number == 0 { None } else { Some(-size) }
+}
+
 /// The coordinate in millimetres that a word up to a byte spells.
+#[inline(always)]
 fn leading_coordinate(version: Version, text: &[u8], end: u8) -> Option<(i64, &[u8])>
     ensures word { IfSome result (λ x. BeginsWithWord text.now
         (coordinate_word version x.0) end x.1.now) }
     ensures fits { IfSome result (λ x. CoordinateFits version x.0) }
     ensures range { IfSome result (λ x. IsInRange x.0) }
 {
-    let limit = version.greatest();
-    match text {
-        [b'-', digits @ ..] => match leading_number(digits, end, limit) {
-            None | Some((0, _)) => None,
-            Some((n, rest)) => Some((-(version.scaled(n) as i64), rest)),
-        },
-        _ => match leading_number(text, end, limit) {
-            None => None,
-            Some((n, rest)) => Some((version.scaled(n) as i64, rest)),
-        },
-    }
+    let (negative, digits) = without_minus(text);
+    let (number, rest) = leading_number(digits, end, version.greatest())?;
+    let coordinate = signed(version, negative, number)?;
+    Some((coordinate, rest))
 }
 
 /// The point that two words spell, the second up to a byte.
@@ -120,6 +143,24 @@ pub(crate) fn leading_corners(
     Some((triangle, rest))
 }
 
+/// The number of an edge, with which a pair line ends, and the text after its end.
+#[inline(always)]
+fn leading_edge(text: &[u8]) -> Option<(u8, &[u8])>
+    ensures { IfSome result (λ x. BeginsWithWord text.now (decimal x.0) 10 x.1.now
+        × (x.0 ≤ last_edge)) }
+{
+    match text {
+        [digit, after @ ..] => {
+            if *digit < b'0' || *digit > b'5' {
+                return None;
+            }
+            let rest = skip(after, b'\n')?;
+            Some((*digit - b'0', rest))
+        }
+        [] => None,
+    }
+}
+
 /// A pair line, and the text after its end.
 pub(crate) fn leading_pair(text: &[u8]) -> Option<(PairLine, &[u8])>
     ensures { IfSome result (λ p. text.now ≡ 115 ∷ 32 ∷ (decimal p.0.i
@@ -129,11 +170,11 @@ pub(crate) fn leading_pair(text: &[u8]) -> Option<(PairLine, &[u8])>
     let fields = skip(after, b' ')?;
     let (i, second) = leading_number(fields, b' ', GREATEST_COUNT)?;
     let (j, third) = leading_number(second, b' ', GREATEST_COUNT)?;
-    let (k, rest) = leading_number(third, b'\n', LAST_EDGE)?;
+    let (k, rest) = leading_edge(third)?;
     let pair = PairLine {
         i: i as u32,
         j: j as u32,
-        k: k as u8,
+        k,
     };
     Some((pair, rest))
 }

@@ -19,7 +19,7 @@ use lpis_points::{Point, Triangle};
 pub const GREATEST_COUNT: u64 = 4_294_967_295;
 
 /// The number of the last edge of a pair of triangles.
-pub(crate) const LAST_EDGE: u64 = 5;
+const LAST_EDGE: u64 = 5;
 
 fn next_coordinate(version: Version, words: &mut Words<'_>) -> Option<i64>
     ensures { MatchOption result (front (coordinate_of version) words.old ≡ None)

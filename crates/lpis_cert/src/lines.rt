@@ -87,6 +87,7 @@ pub(crate) fn corner_line(
 }
 
 /// So many triangle lines or flat lines.
+#[inline(never)]
 pub(crate) fn corner_lines(
     alloc: Global,
     version: Version,
@@ -137,6 +138,7 @@ pub(crate) fn pair_line(version: Version, rest: Rest<'_>) -> Result<(PairLine, R
 }
 
 /// So many pair lines.
+#[inline(never)]
 pub(crate) fn pair_lines(
     alloc: Global,
     version: Version,
