@@ -6,7 +6,16 @@ import pathlib
 import sqlite3
 import sys
 
-OWN = {"lpis_" + name for name in ("format", "release", "span", "live", "row", "text", "mark")}
+COLUMNS = {
+    "lpis_format": {"one": "integer", "version": "integer"},
+    "lpis_release": {"year": "integer"},
+    "lpis_span": {"id": "text", "since": "integer", "until": "integer"},
+    "lpis_live": {"year": "integer", "id": "text"},
+    "lpis_row": {"year": "integer", "pos": "integer", "old": "text", "new": "text"},
+    "lpis_text": {"id": "text", "wkt": "text"},
+    "lpis_mark": {"year": "integer", "pos": "integer"},
+}
+OWN = COLUMNS.keys()
 EXPRESSION = -2  # the column of an index that is none of its table's
 PERHAPS = "it is there, and using it failed: perhaps {}, or another process held it just now"
 
@@ -19,6 +28,17 @@ def odd_indexes(base, table):
             yield name, "a part of its rows"
         elif (EXPRESSION,) in columns:
             yield name, "an expression"
+
+
+def odd_values(base, tables):
+    """Columns of the register's tables that are missing, or have a value of another type. Beside `lpis_span` none of `lpis_live` is read."""
+    for table in sorted(OWN & tables - ({"lpis_live"} if "lpis_span" in tables else set())):
+        there = {name.lower() for (name,) in base.execute("SELECT name FROM pragma_table_info(?)", (table,))}
+        for column, kind in COLUMNS[table].items():
+            if column not in there:
+                yield f"the table {table} has no column {column}: take the register from its last copy"
+            elif base.execute(f"SELECT 1 FROM {table} WHERE typeof({column}) <> ? LIMIT 1", (kind,)).fetchone():
+                yield f"the table {table} has a value of {column} that is no {kind}: take the register from its last copy"
 
 
 def hindrances(base):
@@ -38,6 +58,7 @@ def hindrances(base):
     for table, sql in texts.items():
         for name, what in odd_indexes(base, table) if table in OWN or "references" in sql else ():
             yield f"the index {name} on {table}, of {what}: drop it"
+    yield from odd_values(base, texts.keys())
 
 
 def refusals(base):
