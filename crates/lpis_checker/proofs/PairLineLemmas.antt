@@ -8,6 +8,7 @@ use Rattle.lpis_parcels.proofs.Shared.{item-within}
 use Rattle.lpis_pairs.specs.NearPairs.{IsNear, IsNearList, IsBelow}
 use Rattle.lpis_checker.specs.declared.condition.Site.TheVariants as site
 use Rattle.lpis_checker.specs.GoodCertificate.{ConditionHolds, IsNamedPair, IsInOrder}
+use Rattle.lpis_checker.specs.private.Marking.{NamesAt}
 use Rattle.lpis_checker.specs.private.Searches.{AreLinesInOrder}
 
 -- ---- the order of pairs
@@ -17,12 +18,13 @@ below_trans a b c d e f (inl h) (inr k) = inl (let k₀ = k.0 in omega arith)
 below_trans a b c d e f (inr h) (inl k) = inl (let h₀ = h.0 in omega arith)
 below_trans a b c d e f (inr h) (inr k) = inr (h.0 ∙ k.0, (let h₁ = h.1 in let k₁ = k.1 in omega arith))
 
-below_not : (a b c d : ℕ) → IsBelow a b c d → a ≡ c → b ≡ d → ⊥
+-- a pair does not stand before itself
+pub below_not : (a b c d : ℕ) → IsBelow a b c d → a ≡ c → b ≡ d → ⊥
 below_not a b c d (inl h) e f = omega arith
 below_not a b c d (inr h) e f = let k = h.1 in omega arith
 
 -- the lines ascend
-lines_ascend : (c : Cert) → AreLinesInOrder c → (k m : ℕ) (p q : PairLine) → k < m → slice_get c.pairs k ≡ Some p → slice_get c.pairs m ≡ Some q → IsBelow p.i p.j q.i q.j
+pub lines_ascend : (c : Cert) → AreLinesInOrder c → (k m : ℕ) (p q : PairLine) → k < m → slice_get c.pairs k ≡ Some p → slice_get c.pairs m ≡ Some q → IsBelow p.i p.j q.i q.j
 lines_ascend c h k zero p q l e f = absurd (omega arith)
 lines_ascend c h k (suc m) p q l e f = by (split l) (λ x w g. lines_ascend c h k m p x w e g)
   where
@@ -70,10 +72,6 @@ skips_over c lines from at i j e high before stop = record {
   before = λ m l p q f. before m l p q (ap (λ (ls : List PairLine). slice_get ls m) e ∙ f);
   stop = λ l f. stop l (ap (λ (ls : List PairLine). slice_get ls at) e ∙ f);
 }
-
--- at this index there is a pair line, and it names the pair i, j
-abbrev pub NamesAt : List PairLine → ℕ → ℕ → ℕ → Type 0
-NamesAt lines at i j = (l : PairLine) × (slice_get lines at ≡ Some l) × (l.i ≡ i) × (l.j ≡ j)
 
 -- the lines below the next index stand before the pair
 skipped : (c : Cert) (near : List (ℕ × ℕ)) (from at k : ℕ) (p : ℕ × ℕ) → WalkAt c near from k

@@ -1,3 +1,4 @@
 -- Machinery, cited by private contracts alone: no promise rests on it.
 pub mod ExactSearches
 pub mod Searches
+pub mod Marking

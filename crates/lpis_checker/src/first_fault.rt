@@ -1,14 +1,19 @@
 //! The fault that is reported: the first place of the lowest code that fails.
 
-ghost use Rattle.std.specs.Prelude.{◌≡◌, ◌+◌, IfOk};
+ghost use Rattle.std.specs.Prelude.{◌≡◌, ◌+◌, ◌≤◌, IfOk, length};
+ghost use Rattle.lpis_points.specs.Triangles.{most_triangles};
 ghost use Rattle.lpis_pairs.specs.NearPairs.{IsNearList};
 ghost use Rattle.lpis_checker.specs.GoodCertificate.{triangles_of};
-ghost use Rattle.lpis_checker.specs.private.Searches.{FindsUntil, HoldUntil, all_searches};
-ghost use Rattle.lpis_checker.specs.private.Searches.{part_searches, search_of};
+ghost use Rattle.lpis_checker.specs.private.Marking.{Names, NotApartAt};
+ghost use Rattle.lpis_checker.specs.private.Searches.{FindsPlace, FindsUntil, HoldUntil};
+ghost use Rattle.lpis_checker.specs.private.Searches.{all_searches, part_searches, search_of};
+ghost use Rattle.lpis_checker.specs.declared.condition.LineCondition.TheVariants.{NotApart};
+ghost use Rattle.lpis_checker.specs.declared.marks.Naming.TheVariants.{Named};
 ghost use Rattle.lpis_checker.specs.declared.condition.Site.TheVariants.{Line, Order, Parcel, Piece};
 
 use crate::condition::{LineCondition, ParcelCondition, PieceCondition, Site};
 use crate::lines::{disordered_line, first_line, triangle_count};
+use crate::marks::{Naming, naming_of};
 use crate::near_pairs::unnamed_pair;
 use crate::parcels::ParcelPlaces;
 use crate::places::first_place;
@@ -142,8 +147,8 @@ pub(crate) fn part_fault(
     failing_parcel(alloc, release, cert, ParcelCondition::Edges)
 }
 
-/// The fault of the lowest code, where it is none of the parts.
-fn pair_fault(
+/// The fault of the lowest code, where it is none of the parts: the near pairs are listed.
+fn listed_fault(
     release: &Release,
     cert: &Cert,
     triangles: &[Triangle],
@@ -161,6 +166,66 @@ fn pair_fault(
         return Some(found);
     }
     failing_line(release, cert, triangles, LineCondition::Separating)
+}
+
+/// The first pair line that names two triangles that are apart, as it was found.
+fn apart_line(
+    release: &Release,
+    cert: &Cert,
+    triangles: &[Triangle],
+    apart: Option<usize>,
+) -> Option<Site>
+    requires below { HoldUntil release.now cert.now (search_of (Line NotApart 0)) }
+    requires numbered { triangles.now ≡ triangles_of cert.now.pieces }
+    requires first { FindsPlace (NotApartAt cert.now triangles.now) apart }
+    ensures { FindsUntil release.now cert.now (search_of (Line NotApart 0) + 1) result }
+{
+    match apart {
+        Some(index) => Some(Site::Line(LineCondition::NotApart, index)),
+        None => None,
+    }
+}
+
+/// The fault of the lowest code, where each near pair has a line.
+fn line_fault(
+    release: &Release,
+    cert: &Cert,
+    triangles: &[Triangle],
+    apart: Option<usize>,
+) -> Option<Site>
+    requires parts { HoldUntil release.now cert.now part_searches }
+    requires numbered { triangles.now ≡ triangles_of cert.now.pieces }
+    requires named { Names release.now cert.now triangles.now (Named apart) }
+    ensures { FindsUntil release.now cert.now all_searches result }
+{
+    if let Some(found) = apart_line(release, cert, triangles, apart) {
+        return Some(found);
+    }
+    failing_line(release, cert, triangles, LineCondition::Separating)
+}
+
+/// The fault of the lowest code, where it is none of the parts. The near pairs are listed in order
+/// only where one of them has no line.
+fn pair_fault<S: PairSource>(
+    alloc: Global,
+    release: &Release,
+    cert: &Cert,
+    triangles: &[Triangle],
+    source: &S,
+) -> Result<Option<Site>, AllocError>
+    requires parts { HoldUntil release.now cert.now part_searches }
+    requires numbered { triangles.now ≡ triangles_of cert.now.pieces }
+    requires few { length triangles.now ≤ most_triangles }
+    ensures { IfOk result (FindsUntil release.now cert.now all_searches) }
+{
+    let found = source.unordered_pairs(alloc, triangles)?;
+    match naming_of(alloc, release, cert, triangles, found.as_slice())? {
+        Naming::Named(apart) => Ok(line_fault(release, cert, triangles, apart)),
+        Naming::Unnamed => {
+            let near = source.pairs(alloc, triangles)?;
+            Ok(listed_fault(release, cert, triangles, near.as_slice()))
+        }
+    }
 }
 
 /// The triangles of a certificate, in the order of their numbers.
@@ -187,6 +252,5 @@ pub(crate) fn first_fault<S: PairSource>(
         return Ok(Some(found));
     }
     let triangles = numbered(alloc, cert)?;
-    let near = source.pairs(alloc, triangles.as_slice())?;
-    Ok(pair_fault(release, cert, triangles.as_slice(), near.as_slice()))
+    pair_fault(alloc, release, cert, triangles.as_slice(), source)
 }

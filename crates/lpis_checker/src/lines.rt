@@ -1,6 +1,7 @@
 //! The pair lines: their order, and the triangles that they name.
 
-ghost use Rattle.std.specs.Prelude.{◌≡◌, ◌↔◌, ◌<◌, ℕ, IsTrue, length};
+ghost use Rattle.std.specs.Prelude.{◌≡◌, ◌↔◌, ◌<◌, ℕ, All, IsTrue, length};
+ghost use Rattle.lpis_points.specs.Triangles.{IsCounterClockwise};
 ghost use Rattle.lpis_pairs.specs.NearPairs.{IsBelow};
 ghost use Rattle.lpis_checker.specs.GoodCertificate.{EdgeSeparates, IsInOrder, LineSeparates};
 ghost use Rattle.lpis_checker.specs.GoodCertificate.{OfLine, OfTriangles, OnLine, triangles_of};
@@ -8,7 +9,7 @@ ghost use Rattle.lpis_checker.specs.private.Searches.{FindsPlace};
 
 use crate::condition::LineCondition;
 use lpis_cert::{Cert, PairLine};
-use lpis_points::{Triangle, apart, edge, separates};
+use lpis_points::{Triangle, apart, edge, is_right};
 
 /// Whether a line names a pair that stands before (i, j).
 pub(crate) fn is_before(line: &PairLine, i: u32, j: u32) -> bool
@@ -65,18 +66,22 @@ pub(crate) fn disordered_line(cert: &Cert) -> Option<usize>
     None
 }
 
-/// Whether edge `k` of a triangle has it on its left and another on its right.
+/// Whether edge `k` of a counter-clockwise triangle, which has it on its left, has another on its
+/// right.
 fn edge_separates(k: u8, left: &Triangle, right: &Triangle) -> bool
+    requires { IsCounterClockwise left.now }
     ensures { IsTrue result ↔ EdgeSeparates k left.now right.now }
 {
     match edge(left, k) {
-        Some(line) => separates(line, left, right),
+        Some((start, end)) => is_right(start, end, right),
         None => false,
     }
 }
 
 /// Whether edge `k` of two triangles, 0 to 2 of the first and 3 to 5 of the second, separates them.
 fn separates_by(k: u8, first: &Triangle, second: &Triangle) -> bool
+    requires first_turned { IsCounterClockwise first.now }
+    requires second_turned { IsCounterClockwise second.now }
     ensures { IsTrue result ↔ LineSeparates k first.now second.now }
 {
     if k < 3 {
@@ -93,6 +98,8 @@ fn holds_of_two(
     first: &Triangle,
     second: &Triangle,
 ) -> bool
+    requires first_turned { IsCounterClockwise first.now }
+    requires second_turned { IsCounterClockwise second.now }
     ensures { IsTrue result ↔ OnLine condition line.now first.now second.now }
 {
     match condition {
@@ -103,6 +110,7 @@ fn holds_of_two(
 
 /// Whether a line names two triangles of which a condition holds.
 fn holds_of_line(triangles: &[Triangle], condition: LineCondition, line: &PairLine) -> bool
+    requires { All IsCounterClockwise triangles.now }
     ensures { IsTrue result ↔ OfTriangles triangles.now line.now (OnLine condition line.now) }
 {
     match (
@@ -120,6 +128,7 @@ pub(crate) fn first_line(
     triangles: &[Triangle],
     condition: LineCondition,
 ) -> Option<usize>
+    requires { All IsCounterClockwise triangles.now }
     ensures { FindsPlace (λ k. OfLine cert.now k (λ l. OfTriangles triangles.now l
         (OnLine condition l))) result }
 {

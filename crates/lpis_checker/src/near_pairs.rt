@@ -4,6 +4,7 @@ ghost use Rattle.std.specs.Prelude.{◌≡◌, ◌↔◌, ◌<◌, ◌≤◌, �
 ghost use Rattle.lpis_cert.specs.declared.part.PairLine.{PairLine};
 ghost use Rattle.lpis_pairs.specs.NearPairs.{IsBelow, IsNearList};
 ghost use Rattle.lpis_checker.specs.GoodCertificate.{triangles_of};
+ghost use Rattle.lpis_checker.specs.private.Marking.{NamesAt};
 ghost use Rattle.lpis_checker.specs.private.Searches.{AreLinesInOrder, FindsPair};
 
 use crate::lines::is_before;
@@ -12,7 +13,7 @@ use lpis_parcels::Release;
 use lpis_points::Triangle;
 
 /// The first line from an index on that names (i, j) or a later pair.
-fn skip_to(lines: &[PairLine], from: usize, i: u32, j: u32) -> usize
+pub(crate) fn skip_to(lines: &[PairLine], from: usize, i: u32, j: u32) -> usize
     requires { from ≤ length lines.now }
     ensures low { from ≤ result }
     ensures high { result ≤ length lines.now }
@@ -36,9 +37,8 @@ fn names_pair(line: &PairLine, i: u32, j: u32) -> bool
 }
 
 /// Whether there is a line at an index, and it names (i, j).
-fn names_at(lines: &[PairLine], index: usize, i: u32, j: u32) -> bool
-    ensures { IsTrue result ↔ ((l : PairLine) × (slice_get lines.now index ≡ Some l) × (l.i ≡ i)
-        × (l.j ≡ j)) }
+pub(crate) fn names_at(lines: &[PairLine], index: usize, i: u32, j: u32) -> bool
+    ensures { IsTrue result ↔ NamesAt lines.now index i j }
 {
     match lines.get(index) {
         Some(line) => names_pair(line, i, j),

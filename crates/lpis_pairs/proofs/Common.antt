@@ -1,6 +1,7 @@
 -- The names that most proofs of this crate cite, passed on from one place. Declares nothing.
 pub use Rattle.lpis_pairs.specs.NearPairs.{IsNear}
 pub use Rattle.lpis_pairs.specs.declared.events.Event.{Event}
+pub use Rattle.lpis_pairs.specs.declared.extents.Extent.{Extent}
 pub use Rattle.lpis_pairs.specs.private.Strips.{extent_of}
 pub use Rattle.lpis_pairs.specs.private.Sweeping.{AreNear, Joins, event}
 pub use Rattle.lpis_points.specs.declared.triangle.Triangle.{Triangle}

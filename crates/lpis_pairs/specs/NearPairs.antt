@@ -22,3 +22,8 @@ pub record IsNearList (ts : List Triangle) (ps : List (ℕ × ℕ)) : Type 0 whe
       → slice_get ps m ≡ Some q → IsBelow p.0 p.1 q.0 q.1
   pub near : (k : ℕ) (p : ℕ × ℕ) → slice_get ps k ≡ Some p → IsNear ts p.0 p.1
   pub all : (i j : ℕ) → IsNear ts i j → (k : ℕ) × (slice_get ps k ≡ Some (i, j))
+
+-- the list of all such pairs, and nothing else, in whatever order, each once or more
+pub record HasNearPairs (ts : List Triangle) (ps : List (ℕ × ℕ)) : Type 0 where
+  pub near : (k : ℕ) (p : ℕ × ℕ) → slice_get ps k ≡ Some p → IsNear ts p.0 p.1
+  pub all : (i j : ℕ) → IsNear ts i j → (k : ℕ) × (slice_get ps k ≡ Some (i, j))

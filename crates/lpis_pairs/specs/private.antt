@@ -1,3 +1,4 @@
 -- Machinery, cited by private contracts alone: no promise rests on it.
 pub mod Sweeping
 pub mod Strips
+pub mod Overlaps

@@ -1,6 +1,6 @@
 //! Boxes measured from the corner of the range of coordinates.
 
-ghost use Rattle.std.specs.Prelude.{◌≡◌, ◌<◌, ◌≤◌};
+ghost use Rattle.std.specs.Prelude.{◌≡◌, ◌-◌, ◌<◌, ◌≤◌, IfOk, map};
 ghost use Rattle.lpis_points.specs.Range.{IsInRange};
 ghost use Rattle.lpis_pairs.specs.private.Strips.{extent_of as extent_of_spec};
 ghost use Rattle.lpis_pairs.specs.private.Strips.{most_offset, offset as offset_spec};
@@ -8,6 +8,7 @@ ghost use Rattle.lpis_pairs.specs.private.Strips.{rounded_down as down_spec};
 ghost use Rattle.lpis_pairs.specs.private.Strips.{rounded_up as up_spec};
 
 use lpis_points::{LIMIT, Triangle, box_of};
+use std::alloc::{AllocError, Global};
 
 /// A box, measured from the least x and the least y in range, in whole centimetres, so that 32 bits
 /// hold it. It is rounded outwards, so boxes that overlap do so here too; whether two that do so
@@ -58,18 +59,35 @@ pub fn extent_of(triangle: &Triangle) -> Extent
     }
 }
 
+/// The boxes of triangles.
+pub fn extents_of(alloc: Global, triangles: &[Triangle]) -> Result<Vec<Extent>, AllocError>
+    ensures { IfOk result (λ extents. extents.items ≡ map extent_of_spec triangles.now) }
+{
+    let mut extents = Vec::with_capacity(alloc, triangles.len())?;
+    for triangle in triangles {
+        extents.push(extent_of(triangle))?;
+    }
+    Ok(extents)
+}
+
 /// The height of a strip: more than the mean height of a box, so that there are fewer than three
 /// events a triangle.
-pub fn strip_height(triangles: &[Triangle]) -> u32
+pub fn strip_height(extents: &[Extent]) -> u32
     ensures { 0 < result }
 {
     let mut sum: u64 = 0;
-    for triangle in triangles {
-        let extent = extent_of(triangle);
+    for extent in extents {
         sum = sum.saturating_add(extent.top.saturating_sub(extent.bottom) as u64);
     }
-    let count = triangles.len().max(1) as u64;
+    let count = extents.len().max(1) as u64;
     u32::try_from(sum / count)
         .unwrap_or(u32::MAX)
         .saturating_add(1)
+}
+
+/// How wide a box is.
+pub fn width(extent: &Extent) -> u64
+    ensures { result ≡ extent.now.right - extent.now.left }
+{
+    extent.right.saturating_sub(extent.left) as u64
 }

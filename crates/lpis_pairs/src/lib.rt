@@ -9,6 +9,7 @@ mod events;
 mod extents;
 mod near;
 mod order;
+mod overlaps;
 mod source;
 mod sweep;
 

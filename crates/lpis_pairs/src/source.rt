@@ -1,7 +1,7 @@
 //! Where near pairs come from.
 
 ghost use Rattle.std.specs.Prelude.{◌≤◌, length, IfOk};
-ghost use Rattle.lpis_pairs.specs.NearPairs.{IsNearList};
+ghost use Rattle.lpis_pairs.specs.NearPairs.{HasNearPairs, IsNearList};
 ghost use Rattle.lpis_points.specs.Triangles.{most_triangles};
 
 use lpis_points::Triangle;
@@ -18,4 +18,17 @@ pub trait PairSource {
     fn pairs(&self, alloc: Global, triangles: &[Triangle]) -> Result<Vec<(u32, u32)>, AllocError>
         requires { length triangles.now ≤ most_triangles }
         ensures { IfOk result (λ pairs. IsNearList triangles.now pairs.items) };
+
+    /// The same pairs in whatever order, maybe one of them more than once. The only error is out
+    /// of memory.
+    fn unordered_pairs(
+        &self,
+        alloc: Global,
+        triangles: &[Triangle],
+    ) -> Result<Vec<(u32, u32)>, AllocError>
+        requires { length triangles.now ≤ most_triangles }
+        ensures { IfOk result (λ pairs. HasNearPairs triangles.now pairs.items) }
+    {
+        self.pairs(alloc, triangles)
+    }
 }

@@ -8,6 +8,7 @@ pub mod SmallProductLemmas
 pub mod CrossingLemmas
 pub mod TriangleLemmas
 pub mod SeparationLemmas
+pub mod OwnEdgeLemmas
 pub mod ApartBoxLemmas
 pub mod ShiftLemmas
 pub mod ChainLemmas

@@ -5,6 +5,7 @@ pub use Rattle.lpis_points.proofs.CrossingLemmas.{both_above, both_below, down_n
 pub use Rattle.lpis_points.proofs.IntRingLemmas.{var, ◌⊕◌, ◌⊖◌, ◌⊗◌, ring}
 pub use Rattle.lpis_points.proofs.NetCountLemmas.{reversed_count}
 pub use Rattle.lpis_points.proofs.OddLemmas.{crossing-cases, crossing-odd, crossing-small, shoelace_term-odd}
+pub use Rattle.lpis_points.proofs.OwnEdgeLemmas.{own_edge_separates}
 pub use Rattle.lpis_points.proofs.PointLemmas.{point_eq, same_point-equality}
 pub use Rattle.lpis_points.proofs.SeparationLemmas.{separated_share_nothing}
 pub use Rattle.lpis_points.proofs.ShiftLemmas.{crossing-shifted, shifted_off}

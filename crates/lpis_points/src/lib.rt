@@ -14,6 +14,7 @@
 //! | `is_ccw`, `is_flat` | whether a triangle is counter-clockwise; whether it is three different points of one line |
 //! | `edge` | from a to b for 0, b to c for 1, c to a for 2, `None` above |
 //! | `box_of`, `apart` | the least and greatest x and y; whether two boxes share no inner point |
+//! | `is_right` | whether each corner of a triangle is right of the directed line from u to v, or on it |
 //! | `separates` | whether a line through two different points has one triangle on its left and the other on its right |
 //!
 //! Each answer is proved to be that of the definitions in `specs/Plane.antt` and
@@ -32,6 +33,6 @@ mod triangle;
 pub use boxes::{Box4, apart, box_of};
 pub use point::{LIMIT, Point};
 pub use rational::RatPoint;
-pub use separating::separates;
+pub use separating::{is_right, separates};
 pub use side::{crossing, orient, orient_at};
 pub use triangle::{Triangle, edge, is_ccw, is_flat};

@@ -30,8 +30,8 @@ fn is_left(u: Point, v: Point, triangle: &Triangle) -> bool
     )
 }
 
-/// Whether each corner is right of the directed line from `u` to `v`, or on it.
-fn is_right(u: Point, v: Point, triangle: &Triangle) -> bool
+/// Whether each corner of a triangle is right of the directed line from `u` to `v`, or on it.
+pub fn is_right(u: Point, v: Point, triangle: &Triangle) -> bool
     ensures { IsTrue result ↔ IsRight u v triangle.now }
 {
     none_above(

@@ -12,27 +12,27 @@ use crate::point::Point;
 use crate::rational::RatPoint;
 
 /// How far it is from one coordinate to another.
-fn step(from: i64, to: i64) -> i128
+fn step(from: i64, to: i64) -> i64
     requires from_in { unsigned_abs from ≤ coordinate_margin }
     requires to_in { unsigned_abs to ≤ coordinate_margin }
     ensures value { result ≡ to -ℤ from }
     ensures small { unsigned_abs result ≤ step_margin }
 {
-    to as i128 - from as i128
+    to - from
 }
 
 /// A coordinate in parts of `d`.
-fn height(y: i64, d: i64) -> i128
+fn height(y: i64, d: i64) -> i64
     requires y_in { unsigned_abs y ≤ coordinate_margin }
     requires d_in { unsigned_abs d ≤ denominator_margin }
     ensures value { result ≡ y *ℤ d }
     ensures small { unsigned_abs result ≤ height_margin }
 {
-    y as i128 * d as i128
+    y * d
 }
 
 /// How far it is from a coordinate to one in parts of `d`.
-fn offset(from: i64, to: i64, d: i64) -> i128
+fn offset(from: i64, to: i64, d: i64) -> i64
     requires from_in { unsigned_abs from ≤ coordinate_margin }
     requires to_in { unsigned_abs to ≤ height_margin }
     requires d_in { unsigned_abs d ≤ denominator_margin }
@@ -40,20 +40,21 @@ fn offset(from: i64, to: i64, d: i64) -> i128
     ensures small { unsigned_abs result ≤ offset_margin }
 {
     let start = height(from, d);
-    to as i128 - start
+    to - start
 }
 
-fn product(x: i128, y: i128) -> i128
+/// Two numbers of 64 bits have a product of 128.
+fn product(x: i64, y: i64) -> i128
     requires x_in { unsigned_abs x ≤ step_margin }
     requires y_in { unsigned_abs y ≤ offset_margin }
     ensures value { result ≡ x *ℤ y }
     ensures small { unsigned_abs result ≤ product_margin }
 {
-    x * y
+    x as i128 * y as i128
 }
 
 /// The first times the second, less the third times the fourth.
-fn turn(x: i128, y: i128, z: i128, w: i128) -> i128
+fn turn(x: i64, y: i64, z: i64, w: i64) -> i128
     requires x_in { unsigned_abs x ≤ step_margin }
     requires y_in { unsigned_abs y ≤ offset_margin }
     requires z_in { unsigned_abs z ≤ step_margin }
@@ -64,7 +65,7 @@ fn turn(x: i128, y: i128, z: i128, w: i128) -> i128
 }
 
 /// How an edge from one height to another passes a point, which lies on that side of it.
-fn passing(from: i128, to: i128, y: i128, side: i128) -> i8
+fn passing(from: i64, to: i64, y: i64, side: i128) -> i8
     ensures { result ≡ crossing_of from to y side }
 {
     if from <= y && y < to && 0 < side {
@@ -111,5 +112,5 @@ pub fn crossing(a: Point, b: Point, p: &RatPoint) -> i8
     ensures { result ≡ crossing_spec a b (rational_of p.now) }
 {
     let side = orient_at(a, b, p);
-    passing(height(a.y, p.d), height(b.y, p.d), p.y as i128, side)
+    passing(height(a.y, p.d), height(b.y, p.d), p.y, side)
 }

@@ -18,12 +18,12 @@ same_grows ts old new e = subst (λ (ps : List (ℕ × ℕ)). GrowNear ts old ps
 pub returns-in_ok-push-clause-grows : goal.returns-in_ok-push-clause-grows
 returns-in_ok-push-clause-grows c =
     let ts = c.args.triangles.now in
-    grown ts c.args.pairs.now.items _ (c.args.i, c.args.j) c.in_ok-push.ensures.items (c.is_near.ensures.0 c.if-is_near.true)
+    grown ts c.args.pairs.now.items _ (c.args.i, c.args.j) c.in_ok-push.ensures.items (c.is_near_by_extents.ensures.0 c.if-is_near_by_extents.true)
 
 pub returns-in_ok-push-2-clause-grows : goal.returns-in_ok-push-2-clause-grows
 returns-in_ok-push-2-clause-grows c =
     let ts = c.args.triangles.now in
-    grown ts c.args.pairs.now.items _ (c.args.j, c.args.i) c.in_ok-push-2.ensures.items (c.is_near-else-is_near.ensures.0 c.if-is_near-2.true)
+    grown ts c.args.pairs.now.items _ (c.args.j, c.args.i) c.in_ok-push-2.ensures.items (c.is_near_by_extents-else-is_near_by_extents.ensures.0 c.if-is_near_by_extents-2.true)
 
 pub returns-in_err-push-clause-grows : goal.returns-in_err-push-clause-grows
 returns-in_err-push-clause-grows c = same_grows c.args.triangles.now c.args.pairs.now.items _ c.in_err-push.ensures.items
