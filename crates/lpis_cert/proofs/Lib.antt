@@ -13,5 +13,6 @@ pub mod CertEqualityLemmas
 pub mod LawLemmas
 pub mod ContentLemmas
 pub mod ReadbackLemmas
+pub mod SpellingLemmas
 pub mod WriteLemmas
 pub mod Shared

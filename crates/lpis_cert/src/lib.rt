@@ -32,4 +32,4 @@ pub use laws::{
 };
 pub use part::{ExactBlock, PairLine, ParcelPart, PiecePart};
 pub use reading::read_cert;
-pub use writing::{WriteFault, write_cert};
+pub use writing::append_cert;

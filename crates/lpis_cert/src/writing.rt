@@ -1,19 +1,17 @@
 //! The text of a certificate.
 
-ghost use Rattle.std.specs.Prelude.{◌≡◌, ◌≢◌, ◌++◌, OnOk, length};
+ghost use Rattle.std.specs.Prelude.{◌≡◌, ◌+◌, ◌≤◌, ◌∷◌, ◌++◌, [], ℕ, List, OnOk, length};
+ghost use Rattle.std.specs.Prelude.{drop};
+ghost use Rattle.std.specs.Fmt.{decimal, signed_decimal};
 ghost use Rattle.std.specs.List.{flat_map};
-ghost use Rattle.std.specs.Io.KnownBytes.{Appends};
-ghost use Rattle.std.specs.IoError.{error_kind};
-ghost use Rattle.std.specs.declared.io.ErrorKind.TheVariants.{OutOfMemory};
 ghost use Rattle.lpis_cert.specs.CertText.{PairLine as separator_line, PieceLine, PairsLine};
 ghost use Rattle.lpis_cert.specs.CertText.{EndLine};
-ghost use Rattle.lpis_cert.specs.declared.writing.WriteFault.TheVariants.{Memory, Write};
 ghost use Rattle.lpis_cert.specs.private.Taken.{corner_line};
 ghost use Rattle.lpis_cert.specs.Contents.{corner_numbers, separator_of, cert_text};
 ghost use Rattle.lpis_cert.specs.private.Drafts.{flats_line};
 ghost use Rattle.lpis_cert.specs.private.Written.{line_text, corners_text, piece_text, parcel_text};
 ghost use Rattle.lpis_cert.specs.private.Written.{flats_text, exact_block_text, pairs_text};
-ghost use Rattle.lpis_cert.specs.private.Written.{tail_text};
+ghost use Rattle.lpis_cert.specs.private.Written.{corner_letter, tail_text};
 ghost use Rattle.lpis_cert.specs.private.Written.{version_text, parts_text};
 
 use crate::cert::Cert;
@@ -22,234 +20,268 @@ use crate::head::Owner;
 use crate::part::{ExactBlock, PairLine, ParcelPart, PiecePart};
 use crate::version::Version;
 use lpis_covers::Id;
-use lpis_points::Triangle;
-use std::io::{self, ErrorKind, Write};
-use thiserror::Error;
+use lpis_digits::{append_decimal, put_byte, put_decimal, put_signed};
+use lpis_points::{Point, Triangle};
+use std::alloc::AllocError;
 
-/// Why a text was not written.
-#[derive(Clone, Copy, Debug, PartialEq, Eq, Error)]
-pub enum WriteFault {
-    /// Memory ran out.
-    #[error("out of memory")]
-    Memory,
-    /// The writer refused.
-    #[error("the writer refused")]
-    Write,
+/// How many bytes a line of numbers alone has at most: a letter, six numbers, a space before each,
+/// and the line end. A line is made from its end.
+const MOST_LINE: usize = 128;
+
+/// Puts a number and the space before it in front of a line's end.
+fn put_number(value: u64, line: &mut [u8], end: usize) -> usize
+    requires { (21 ≤ end) × (end ≤ length line.old) }
+    ensures room { end ≤ result + 21 }
+    ensures within { result ≤ end }
+    ensures written { drop result line.new ≡ 32 ∷ (decimal value ++ drop end line.old) }
+{
+    let start = put_decimal(value, line, end);
+    put_byte(b' ', line, start)
 }
 
-impl From<io::Error> for WriteFault {
-    ghost from_gives = { λ error fault.
-        (error_kind error ≡ OutOfMemory → fault ≡ Memory)
-        × (error_kind error ≢ OutOfMemory → fault ≡ Write) };
+/// Puts a coordinate and the space before it in front of a line's end.
+fn put_coordinate(value: i64, line: &mut [u8], end: usize) -> usize
+    requires { (21 ≤ end) × (end ≤ length line.old) }
+    ensures room { end ≤ result + 21 }
+    ensures within { result ≤ end }
+    ensures written { drop result line.new ≡ 32 ∷ (signed_decimal value ++ drop end line.old) }
+{
+    let start = put_signed(value, line, end);
+    put_byte(b' ', line, start)
+}
 
-    fn from(error: io::Error) -> WriteFault {
-        if error.kind() == ErrorKind::OutOfMemory {
-            WriteFault::Memory
-        } else {
-            WriteFault::Write
+fn put_point(point: Point, line: &mut [u8], end: usize) -> usize
+    requires { (42 ≤ end) × (end ≤ length line.old) }
+    ensures room { end ≤ result + 42 }
+    ensures within { result ≤ end }
+    ensures written { drop result line.new
+        ≡ 32 ∷ (signed_decimal point.x ++ 32 ∷ (signed_decimal point.y ++ drop end line.old)) }
+{
+    let start = put_coordinate(point.y, line, end);
+    put_coordinate(point.x, line, start)
+}
+
+/// The letter of a triangle or a flat.
+fn letter(flat: bool) -> u8
+    ensures { result ≡ corner_letter flat }
+{
+    if flat { b'f' } else { b't' }
+}
+
+/// Makes the line of a triangle or a flat, and returns where it begins.
+fn put_corners(flat: bool, t: Triangle, line: &mut [u8; MOST_LINE]) -> usize
+    ensures within { result ≤ 128 }
+    ensures written { drop result line.new ≡ line_text (corner_line flat (corner_numbers t)) }
+{
+    let mut start = put_byte(b'\n', line, MOST_LINE);
+    start = put_point(t.c, line, start);
+    start = put_point(t.b, line, start);
+    start = put_point(t.a, line, start);
+    put_byte(letter(flat), line, start)
+}
+
+/// Makes the line of a pair, and returns where it begins.
+fn put_pair(pair: PairLine, line: &mut [u8; MOST_LINE]) -> usize
+    ensures within { result ≤ 128 }
+    ensures written { drop result line.new ≡ line_text (separator_line (separator_of pair)) }
+{
+    let mut start = put_byte(b'\n', line, MOST_LINE);
+    start = put_number(u64::from(pair.k), line, start);
+    start = put_number(u64::from(pair.j), line, start);
+    start = put_number(u64::from(pair.i), line, start);
+    put_byte(b's', line, start)
+}
+
+fn append_all_corners(
+    flat: bool,
+    triangles: &[Triangle],
+    out: &mut Vec<u8>,
+) -> Result<(), AllocError>
+    ensures { OnOk result (out.new.items ≡ out.old.items ++ corners_text flat triangles.now) }
+{
+    let mut line = [0; MOST_LINE];
+    for t in triangles {
+        let start = put_corners(flat, *t, &mut line);
+        out.extend_from_slice(&line[start..])?;
+    }
+    Ok(())
+}
+
+/// Appends a number and the space before it.
+fn append_number(value: usize, out: &mut Vec<u8>) -> Result<(), AllocError>
+    ensures { OnOk result (out.new.items ≡ out.old.items ++ 32 ∷ decimal value) }
+{
+    out.extend_from_slice(b" ")?;
+    append_decimal(out, value as u64)
+}
+
+#[tactic(auto, unfolding(crate::specs::private::Written::line_text, crate::specs::CertText::spelling, crate::specs::CertText::words_of, crate::specs::CertText::text_of_lines))]
+fn append_piece_line(piece: &PiecePart, out: &mut Vec<u8>) -> Result<(), AllocError>
+    ensures { OnOk result (out.new.items ≡ out.old.items ++ line_text (PieceLine piece.now.id
+        (length piece.now.triangles) (length piece.now.flats))) }
+{
+    out.extend_from_slice(b"piece ")?;
+    out.extend_from_slice(piece.id.as_str().as_bytes())?;
+    append_number(piece.triangles.as_slice().len(), out)?;
+    append_number(piece.flats.as_slice().len(), out)?;
+    out.extend_from_slice(b"\n")
+}
+
+fn append_piece(piece: &PiecePart, out: &mut Vec<u8>) -> Result<(), AllocError>
+    ensures { OnOk result (out.new.items ≡ out.old.items ++ piece_text piece.now) }
+{
+    append_piece_line(piece, out)?;
+    append_all_corners(false, piece.triangles.as_slice(), out)?;
+    append_all_corners(true, piece.flats.as_slice(), out)
+}
+
+#[tactic(auto, unfolding(crate::specs::private::Written::line_text, crate::specs::CertText::spelling, crate::specs::CertText::words_of, crate::specs::CertText::text_of_lines))]
+/// The words before the identifier in the first line of a block of flats alone.
+fn owner_words(owner: Owner) -> &'static [u8]
+    ensures { (id : List ℕ) (count : ℕ) → line_text (flats_line owner id count)
+        ≡ result.now ++ (id ++ 32 ∷ (decimal count ++ 10 ∷ [])) }
+{
+    match owner {
+        Owner::Parcel => b"parcel ",
+        Owner::Exact { merge } => {
+            if merge {
+                b"exact merge "
+            } else {
+                b"exact split "
+            }
         }
     }
 }
 
 #[tactic(auto, unfolding(crate::specs::private::Written::line_text, crate::specs::CertText::spelling, crate::specs::CertText::words_of, crate::specs::CertText::text_of_lines))]
-fn write_pair<W: Write>(pair: PairLine, out: &mut W) -> Result<(), WriteFault>
-    ensures { OnOk result (Appends (W.contents out.old) (W.contents out.new)
-        (line_text (separator_line (separator_of pair)))) }
-{
-    let PairLine { i, j, k } = pair;
-    write!(out, "s {i} {j} {k}\n")?;
-    Ok(())
-}
-
-#[tactic(auto, unfolding(crate::specs::private::Written::line_text, crate::specs::CertText::spelling, crate::specs::CertText::words_of, crate::specs::CertText::text_of_lines))]
-fn write_corners<W: Write>(flat: bool, t: Triangle, out: &mut W) -> Result<(), WriteFault>
-    ensures { OnOk result (Appends (W.contents out.old) (W.contents out.new)
-        (line_text (corner_line flat (corner_numbers t)))) }
-{
-    let (x1, y1, x2, y2, x3, y3) = (t.a.x, t.a.y, t.b.x, t.b.y, t.c.x, t.c.y);
-    if flat {
-        write!(out, "f {x1} {y1} {x2} {y2} {x3} {y3}\n")?;
-    } else {
-        write!(out, "t {x1} {y1} {x2} {y2} {x3} {y3}\n")?;
-    }
-    Ok(())
-}
-
-fn write_all_corners<W: Write>(
-    flat: bool,
-    triangles: &[Triangle],
-    out: &mut W,
-) -> Result<(), WriteFault>
-    ensures { OnOk result (Appends (W.contents out.old) (W.contents out.new)
-        (corners_text flat triangles.now)) }
-{
-    for t in triangles {
-        write_corners(flat, *t, out)?;
-    }
-    Ok(())
-}
-
-#[tactic(auto, unfolding(crate::specs::private::Written::line_text, crate::specs::CertText::spelling, crate::specs::CertText::words_of, crate::specs::CertText::text_of_lines))]
-fn write_piece_line<W: Write>(piece: &PiecePart, out: &mut W) -> Result<(), WriteFault>
-    ensures { OnOk result (Appends (W.contents out.old) (W.contents out.new)
-        (line_text (PieceLine piece.now.id (length piece.now.triangles)
-        (length piece.now.flats)))) }
-{
-    let id = piece.id.as_str();
-    let triangles = piece.triangles.as_slice().len();
-    let flats = piece.flats.as_slice().len();
-    write!(out, "piece {id} {triangles} {flats}\n")?;
-    Ok(())
-}
-
-fn write_piece<W: Write>(piece: &PiecePart, out: &mut W) -> Result<(), WriteFault>
-    ensures { OnOk result (Appends (W.contents out.old) (W.contents out.new)
-        (piece_text piece.now)) }
-{
-    write_piece_line(piece, out)?;
-    write_all_corners(false, piece.triangles.as_slice(), out)?;
-    write_all_corners(true, piece.flats.as_slice(), out)
-}
-
-#[tactic(auto, unfolding(crate::specs::private::Written::line_text, crate::specs::CertText::spelling, crate::specs::CertText::words_of, crate::specs::CertText::text_of_lines))]
-fn write_flats_line<W: Write>(
+fn append_flats_line(
     owner: Owner,
     id: &Id,
     count: usize,
-    out: &mut W,
-) -> Result<(), WriteFault>
-    ensures { OnOk result (Appends (W.contents out.old) (W.contents out.new)
-        (line_text (flats_line owner id.now count))) }
+    out: &mut Vec<u8>,
+) -> Result<(), AllocError>
+    ensures { OnOk result (out.new.items ≡ out.old.items
+        ++ line_text (flats_line owner id.now count)) }
 {
-    let id = id.as_str();
-    match owner {
-        Owner::Parcel => write!(out, "parcel {id} {count}\n")?,
-        Owner::Exact { merge } => {
-            let side = side(merge);
-            write!(out, "exact {side} {id} {count}\n")?;
-        }
-    }
-    Ok(())
+    out.extend_from_slice(owner_words(owner))?;
+    out.extend_from_slice(id.as_str().as_bytes())?;
+    append_number(count, out)?;
+    out.extend_from_slice(b"\n")
 }
 
 /// A block of flats alone.
-fn write_flats<W: Write>(
+fn append_flats(
     owner: Owner,
     id: &Id,
     flats: &[Triangle],
-    out: &mut W,
-) -> Result<(), WriteFault>
-    ensures { OnOk result (Appends (W.contents out.old) (W.contents out.new)
-        (flats_text owner id.now flats.now)) }
+    out: &mut Vec<u8>,
+) -> Result<(), AllocError>
+    ensures { OnOk result (out.new.items ≡ out.old.items ++ flats_text owner id.now flats.now) }
 {
-    write_flats_line(owner, id, flats.len(), out)?;
-    write_all_corners(true, flats, out)
+    append_flats_line(owner, id, flats.len(), out)?;
+    append_all_corners(true, flats, out)
 }
 
-fn write_pieces<W: Write>(pieces: &[PiecePart], out: &mut W) -> Result<(), WriteFault>
-    ensures { OnOk result (Appends (W.contents out.old) (W.contents out.new)
-        (flat_map piece_text pieces.now)) }
+fn append_pieces(pieces: &[PiecePart], out: &mut Vec<u8>) -> Result<(), AllocError>
+    ensures { OnOk result (out.new.items ≡ out.old.items ++ flat_map piece_text pieces.now) }
 {
     for piece in pieces {
-        write_piece(piece, out)?;
+        append_piece(piece, out)?;
     }
     Ok(())
 }
 
-fn write_parcels<W: Write>(parcels: &[ParcelPart], out: &mut W) -> Result<(), WriteFault>
-    ensures { OnOk result (Appends (W.contents out.old) (W.contents out.new)
-        (flat_map parcel_text parcels.now)) }
+fn append_parcels(parcels: &[ParcelPart], out: &mut Vec<u8>) -> Result<(), AllocError>
+    ensures { OnOk result (out.new.items ≡ out.old.items ++ flat_map parcel_text parcels.now) }
 {
     for parcel in parcels {
-        write_flats(Owner::Parcel, &parcel.id, parcel.flats.as_slice(), out)?;
+        append_flats(Owner::Parcel, &parcel.id, parcel.flats.as_slice(), out)?;
     }
     Ok(())
 }
 
-fn write_exacts<W: Write>(blocks: &[ExactBlock], out: &mut W) -> Result<(), WriteFault>
-    ensures { OnOk result (Appends (W.contents out.old) (W.contents out.new)
-        (flat_map exact_block_text blocks.now)) }
+fn append_exacts(blocks: &[ExactBlock], out: &mut Vec<u8>) -> Result<(), AllocError>
+    ensures { OnOk result (out.new.items ≡ out.old.items ++ flat_map exact_block_text blocks.now) }
 {
     for block in blocks {
         let owner = Owner::Exact { merge: block.merge };
-        write_flats(owner, &block.id, block.flats.as_slice(), out)?;
+        append_flats(owner, &block.id, block.flats.as_slice(), out)?;
     }
     Ok(())
 }
 
-fn write_pairs<W: Write>(pairs: &[PairLine], out: &mut W) -> Result<(), WriteFault>
-    ensures { OnOk result (Appends (W.contents out.old) (W.contents out.new)
-        (pairs_text pairs.now)) }
+fn append_pairs(pairs: &[PairLine], out: &mut Vec<u8>) -> Result<(), AllocError>
+    ensures { OnOk result (out.new.items ≡ out.old.items ++ pairs_text pairs.now) }
 {
+    let mut line = [0; MOST_LINE];
     for pair in pairs {
-        write_pair(*pair, out)?;
+        let start = put_pair(*pair, &mut line);
+        out.extend_from_slice(&line[start..])?;
     }
     Ok(())
 }
 
 #[tactic(auto, unfolding(crate::specs::private::Written::line_text, crate::specs::CertText::spelling, crate::specs::CertText::words_of, crate::specs::CertText::text_of_lines))]
-fn write_pairs_line<W: Write>(count: usize, out: &mut W) -> Result<(), WriteFault>
-    ensures { OnOk result (Appends (W.contents out.old) (W.contents out.new)
-        (line_text (PairsLine count))) }
+fn append_pairs_line(count: usize, out: &mut Vec<u8>) -> Result<(), AllocError>
+    ensures { OnOk result (out.new.items ≡ out.old.items ++ line_text (PairsLine count)) }
 {
-    write!(out, "pairs {count}\n")?;
-    Ok(())
+    out.extend_from_slice(b"pairs")?;
+    append_number(count, out)?;
+    out.extend_from_slice(b"\n")
 }
 
 #[tactic(auto, unfolding(crate::specs::private::Written::line_text, crate::specs::CertText::spelling, crate::specs::CertText::words_of, crate::specs::CertText::text_of_lines))]
-fn write_end<W: Write>(out: &mut W) -> Result<(), WriteFault>
-    ensures { OnOk result (Appends (W.contents out.old) (W.contents out.new) (line_text EndLine)) }
+fn append_end(out: &mut Vec<u8>) -> Result<(), AllocError>
+    ensures { OnOk result (out.new.items ≡ out.old.items ++ line_text EndLine) }
 {
-    out.write_all(b"end\n")?;
-    Ok(())
+    out.extend_from_slice(b"end\n")
 }
 
 #[tactic(auto, unfolding(crate::specs::private::Written::version_text))]
-fn write_version<W: Write>(out: &mut W) -> Result<(), WriteFault>
-    ensures { OnOk result (Appends (W.contents out.old) (W.contents out.new) version_text) }
+fn append_version(out: &mut Vec<u8>) -> Result<(), AllocError>
+    ensures { OnOk result (out.new.items ≡ out.old.items ++ version_text) }
 {
-    let first = Version::Two.first_line();
-    write!(out, "{first}\n")?;
-    Ok(())
+    out.extend_from_slice(Version::Two.first_line().as_bytes())?;
+    out.extend_from_slice(b"\n")
 }
 
-fn write_tail<W: Write>(cert: &Cert, out: &mut W) -> Result<(), WriteFault>
-    ensures { OnOk result (Appends (W.contents out.old) (W.contents out.new) (tail_text cert.now)) }
+fn append_tail(cert: &Cert, out: &mut Vec<u8>) -> Result<(), AllocError>
+    ensures { OnOk result (out.new.items ≡ out.old.items ++ tail_text cert.now) }
 {
-    write_pairs_line(cert.pairs.as_slice().len(), out)?;
-    write_pairs(cert.pairs.as_slice(), out)?;
-    write_end(out)
+    append_pairs_line(cert.pairs.as_slice().len(), out)?;
+    append_pairs(cert.pairs.as_slice(), out)?;
+    append_end(out)
 }
 
-fn write_from_exacts<W: Write>(cert: &Cert, out: &mut W) -> Result<(), WriteFault>
-    ensures { OnOk result (Appends (W.contents out.old) (W.contents out.new)
-        (flat_map exact_block_text cert.now.exact ++ tail_text cert.now)) }
+fn append_from_exacts(cert: &Cert, out: &mut Vec<u8>) -> Result<(), AllocError>
+    ensures { OnOk result (out.new.items ≡ out.old.items
+        ++ (flat_map exact_block_text cert.now.exact ++ tail_text cert.now)) }
 {
-    write_exacts(cert.exact.as_slice(), out)?;
-    write_tail(cert, out)
+    append_exacts(cert.exact.as_slice(), out)?;
+    append_tail(cert, out)
 }
 
-fn write_from_parcels<W: Write>(cert: &Cert, out: &mut W) -> Result<(), WriteFault>
-    ensures { OnOk result (Appends (W.contents out.old) (W.contents out.new)
-        (flat_map parcel_text cert.now.parcels ++ (flat_map exact_block_text cert.now.exact
+fn append_from_parcels(cert: &Cert, out: &mut Vec<u8>) -> Result<(), AllocError>
+    ensures { OnOk result (out.new.items ≡ out.old.items
+        ++ (flat_map parcel_text cert.now.parcels ++ (flat_map exact_block_text cert.now.exact
         ++ tail_text cert.now))) }
 {
-    write_parcels(cert.parcels.as_slice(), out)?;
-    write_from_exacts(cert, out)
+    append_parcels(cert.parcels.as_slice(), out)?;
+    append_from_exacts(cert, out)
 }
 
-fn write_parts<W: Write>(cert: &Cert, out: &mut W) -> Result<(), WriteFault>
-    ensures { OnOk result (Appends (W.contents out.old) (W.contents out.new)
-        (parts_text cert.now)) }
+fn append_parts(cert: &Cert, out: &mut Vec<u8>) -> Result<(), AllocError>
+    ensures { OnOk result (out.new.items ≡ out.old.items ++ parts_text cert.now) }
 {
-    write_version(out)?;
-    write_pieces(cert.pieces.as_slice(), out)?;
-    write_from_parcels(cert, out)
+    append_version(out)?;
+    append_pieces(cert.pieces.as_slice(), out)?;
+    append_from_parcels(cert, out)
 }
 
-/// Writes the text of a certificate, in version 2.
-pub fn write_cert<W: Write>(cert: &Cert, out: &mut W) -> Result<(), WriteFault>
-    ensures { OnOk result (Appends (W.contents out.old) (W.contents out.new) (cert_text cert.now)) }
+/// Appends the text of a certificate, in version 2. Where memory runs out a beginning of it may
+/// stand in the list.
+pub fn append_cert(cert: &Cert, out: &mut Vec<u8>) -> Result<(), AllocError>
+    ensures { OnOk result (out.new.items ≡ out.old.items ++ cert_text cert.now) }
 {
-    write_parts(cert, out)
+    append_parts(cert, out)
 }

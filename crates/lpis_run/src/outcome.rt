@@ -9,7 +9,7 @@ ghost use Rattle.lpis_run.specs.declared.failure.Name.{Name};
 use crate::answer::Answer;
 use crate::failure::{Failure, Name};
 use crate::outputs::write_text;
-use lpis_cert::{Cert, write_cert};
+use lpis_cert::{Cert, append_cert};
 use std::alloc::{AllocError, Global};
 use std::io::Write;
 
@@ -28,10 +28,8 @@ fn cert_text_of(alloc: Global, cert: &Cert) -> Result<Vec<u8>, AllocError>
     ensures { IfOk result (λ v. v.items ≡ cert_text cert.now) }
 {
     let mut text = Vec::new(alloc);
-    match write_cert(cert, &mut text) {
-        Ok(()) => Ok(text),
-        Err(_) => Err(AllocError),
-    }
+    append_cert(cert, &mut text)?;
+    Ok(text)
 }
 
 impl Outcome {

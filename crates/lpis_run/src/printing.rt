@@ -1,15 +1,40 @@
 //! Printed areas.
 
-ghost use Rattle.std.specs.Prelude.{◌≡◌, ◌≤◌, OnOk, nat_abs};
+ghost use Rattle.std.specs.Prelude.{◌≡◌, ◌≢◌, ◌≤◌, OnOk, nat_abs};
 ghost use Rattle.std.specs.Io.KnownBytes.{Appends};
+ghost use Rattle.std.specs.IoError.{error_kind};
+ghost use Rattle.std.specs.declared.io.ErrorKind.TheVariants.{OutOfMemory};
 ghost use Rattle.lpis_run.specs.Area.{area_line, area_text, eligible_text, most_printed};
+ghost use Rattle.lpis_run.specs.declared.printing.PrintFault.TheVariants.{Memory, Write};
 ghost use Rattle.lpis_points.specs.Decimals.{sign_text};
 
-use std::io::Write;
+use std::io::{self, ErrorKind, Write};
+use thiserror::Error;
 
-/// Why a text was not written: `Memory` where the writer's error is of the kind `OutOfMemory`, else
-/// `Write`.
-pub use lpis_cert::WriteFault as PrintFault;
+/// Why a text was not written.
+#[derive(Clone, Copy, Debug, PartialEq, Eq, Error)]
+pub enum PrintFault {
+    /// Memory ran out.
+    #[error("out of memory")]
+    Memory,
+    /// The writer refused.
+    #[error("the writer refused")]
+    Write,
+}
+
+impl From<io::Error> for PrintFault {
+    ghost from_gives = { λ error fault.
+        (error_kind error ≡ OutOfMemory → fault ≡ Memory)
+        × (error_kind error ≢ OutOfMemory → fault ≡ Write) };
+
+    fn from(error: io::Error) -> PrintFault {
+        if error.kind() == ErrorKind::OutOfMemory {
+            PrintFault::Memory
+        } else {
+            PrintFault::Write
+        }
+    }
+}
 
 /// How many units of its last decimal are printed for one unit of a number: that decimal is a fifth
 /// of a doubled square millimetre, or of a hundredth of one.

@@ -1,4 +1,4 @@
-pub mod NumberLemmas
 pub mod ReadingLemmas
+pub mod NumberLemmas
 pub mod WordLemmas
 pub mod SpellingLemmas

@@ -1,49 +1,49 @@
--- The text of a coordinate, as it is printed.
-use Rattle.std.proofs.Common.{◌≡◌, ◌≤◌, ◌<◌, ◌+◌, ◌-◌, ◌/◌, ◌%◌, ◌^◌, ◌++◌, ◌∷◌, [], ℕ, List, false, arith, refl, ap, ◌∙◌, inl, inr}
-use Rattle.std.proofs.Common.{decimal, ℤ, nat_abs}
-use Rattle.std.specs.Fmt.{char_count, format_spec, padded_integral}
-use Rattle.std.proofs.lemmas.Fmt.{decimal_digit, decimal_step}
-use Rattle.std.proofs.lemmas.Bool.{cases_lt}
-use Rattle.lpis_wkt_writer.specs.Text.{number_text}
-use Rattle.lpis_points.specs.Decimals.{last_digits, sign_text}
+-- The text of a coordinate, as it is written.
+use Rattle.std.proofs.Common.{◌≡◌, ◌<◌, ◌+◌, ◌/◌, ◌%◌, ◌^◌, ◌++◌, ◌∷◌, [], ℕ, suc, List, true, false, arith, sym, ap, ◌∙◌, append_assoc}
+use Rattle.std.proofs.Common.{decimal, ℤ, pos, negsuc, nat_abs, int_le, true≢false, IsAscii}
+use lib.Dec.{leb-zero}
+use Rattle.std.proofs.lemmas.Fmt.{IsAscii-decimal}
+use Rattle.std.proofs.lemmas.Str.{IsAscii-append}
+use Rattle.std.proofs.lemmas.Str.Ascii.{IsAscii-cons, IsAscii-nil}
+use Rattle.lpis_points.specs.declared.point.Point.{Point}
+use Rattle.lpis_wkt_writer.specs.Text.{number_text, polygon_point_text}
+use Rattle.lpis_wkt_writer.proofs.ReadingLemmas.{size-small}
+use Rattle.lpis_points.specs.Decimals.{last_digits}
 
--- a numeral of one, two or three digits
-short : (n : ℕ) → n < 10 → decimal n ≡ (48 + n) ∷ []
-short n low = decimal_digit n low
+-- a number of millimetres in metres, and a text behind it
+abbrev size_text : ℕ → List ℕ → List ℕ
+size_text n rest = decimal (n / 1000) ++ (46 ∷ (last_digits 3 n ++ rest))
 
-middle : (n : ℕ) → 10 ≤ n → n < 100 → decimal n ≡ (48 + n / 10) ∷ (48 + n % 10) ∷ []
-middle n high low =
-    let front : decimal (n / 10) ≡ (48 + n / 10) ∷ [] = decimal_digit (n / 10) (omega arith) in
-    decimal_step n high (omega arith) ∙ ap (λ (ds : List ℕ). ds ++ (48 + n % 10) ∷ []) front
+joined : (n : ℕ) (rest : List ℕ) → size_text n rest ≡ (decimal (n / 1000) ++ (46 ∷ last_digits 3 n)) ++ rest
+joined n rest = sym (append_assoc (decimal (n / 1000)) (46 ∷ last_digits 3 n) rest)
 
-long : (n : ℕ) → 100 ≤ n → n < 1000 → decimal n ≡ (48 + n / 10 / 10) ∷ (48 + n / 10 % 10) ∷ (48 + n % 10) ∷ []
-long n high low =
-    let front : decimal (n / 10) ≡ (48 + n / 10 / 10) ∷ (48 + n / 10 % 10) ∷ [] = middle (n / 10) (omega arith) (omega arith) in
-    decimal_step n (omega arith) (omega arith) ∙ ap (λ (ds : List ℕ). ds ++ (48 + n % 10) ∷ []) front
-
-three : (a b c d e f : ℕ) → a ≡ d → b ≡ e → c ≡ f → ◌≡◌ {A = List ℕ} ((48 + a) ∷ (48 + b) ∷ (48 + c) ∷ []) ((48 + d) ∷ (48 + e) ∷ (48 + f) ∷ [])
-three a b c d e f p q r = rw (p, q, r) refl
-
--- what `{:03}` writes
-padded-three : (n : ℕ) → n < 1000 → padded_integral (format_spec 32 0 4 3 (2 ^ 64 - 1)) false [] (decimal n) ≡ last_digits 3 n
-unfolding padded_integral char_count
-padded-three n low = elim (cases_lt n 10) [
-  | inl few ↦ rw (short n few) (three 0 0 n (n / 10 / 10 % 10) (n / 10 % 10) (n % 10) (omega arith) (omega arith) (omega arith))
-  | inr some ↦ elim (cases_lt n 100) [
-    | inl few ↦ rw (middle n some few) (three 0 (n / 10) (n % 10) (n / 10 / 10 % 10) (n / 10 % 10) (n % 10) (omega arith) (omega arith) refl)
-    | inr many ↦ rw (long n many low) (three (n / 10 / 10) (n / 10 % 10) (n % 10) (n / 10 / 10 % 10) (n / 10 % 10) (n % 10) (omega arith) refl refl)
-  ]
-]
-
--- the last digits of a number and of its remainder
-rest-three : (n : ℕ) → last_digits 3 (n % 1000) ≡ last_digits 3 n
-rest-three n = three (n % 1000 / 10 / 10 % 10) (n % 1000 / 10 % 10) (n % 1000 % 10) (n / 10 / 10 % 10) (n / 10 % 10) (n % 10)
-    (omega arith) (omega arith) (omega arith)
-
--- the text of a coordinate, as it is written
-pub number-shown : (z : ℤ) (n : ℕ) (sign : List ℕ) → n ≡ nat_abs z → sign ≡ sign_text z
-    → sign ++ (decimal (n / 1000) ++ (46 ∷ padded_integral (format_spec 32 0 4 3 (2 ^ 64 - 1)) false [] (decimal (n % 1000)))) ≡ number_text z
+-- the text of a coordinate that is not below zero
+pub plain-text : (z : ℤ) (n : ℕ) (rest : List ℕ) → int_le (pos 0) z ≡ true → n ≡ nat_abs z → size_text n rest ≡ number_text z ++ rest
 unfolding number_text
-number-shown z n sign a b =
-    let size = nat_abs z in
-    rw (a, b) (ap (λ (x : List ℕ). sign_text z ++ (decimal (size / 1000) ++ (46 ∷ x))) (padded-three (size % 1000) (omega arith) ∙ rest-three size))
+plain-text (pos m) n rest h e = rw e (joined m rest)
+plain-text (negsuc m) n rest h e = absurd (true≢false (sym h))
+
+-- the text of a coordinate below zero
+pub minus-text : (z : ℤ) (n : ℕ) (rest : List ℕ) → int_le (pos 0) z ≡ false → n ≡ nat_abs z → 45 ∷ size_text n rest ≡ number_text z ++ rest
+unfolding number_text
+minus-text (pos m) n rest h e = absurd (true≢false (sym (leb-zero m) ∙ h))
+minus-text (negsuc m) n rest h e = rw e (ap (λ (t : List ℕ). 45 ∷ t) (joined (suc m) rest))
+
+-- its bytes are ASCII
+decimals-ascii : (n : ℕ) → IsAscii (last_digits 3 n)
+decimals-ascii n =
+    IsAscii-cons (48 + n / 10 / 10 % 10) ((48 + n / 10 % 10) ∷ (48 + n % 10) ∷ []) (omega arith)
+    (IsAscii-cons (48 + n / 10 % 10) ((48 + n % 10) ∷ []) (omega arith) (IsAscii-cons (48 + n % 10) [] (omega arith) IsAscii-nil))
+
+size-ascii : (n : ℕ) → n < 2 ^ 64 → IsAscii (decimal (n / 1000) ++ (46 ∷ last_digits 3 n))
+size-ascii n h = IsAscii-append (decimal (n / 1000)) (46 ∷ last_digits 3 n) (IsAscii-decimal (n / 1000) (omega arith)) (IsAscii-cons 46 (last_digits 3 n) (omega arith) (decimals-ascii n))
+
+number-ascii : (z : ℤ) → nat_abs z < 2 ^ 64 → IsAscii (number_text z)
+unfolding number_text
+number-ascii (pos n) h = size-ascii n h
+number-ascii (negsuc n) h = IsAscii-cons 45 (decimal (suc n / 1000) ++ (46 ∷ last_digits 3 (suc n))) (omega arith) (size-ascii (suc n) h)
+
+-- the bytes of a point's text are ASCII
+pub point-ascii : (p : Point) → IsAscii (polygon_point_text p)
+point-ascii p = IsAscii-append (number_text p.x) (32 ∷ number_text p.y) (number-ascii p.x (omega (arith, size-small p.x p.x_in_range)))
+    (IsAscii-cons 32 (number_text p.y) (omega arith) (number-ascii p.y (omega (arith, size-small p.y p.y_in_range))))

@@ -147,7 +147,8 @@ plain ds n h some value few = record {
   few = few;
 }
 
-size-small : (z : ℤ) → IsInRange z → nat_abs z ≤ greatest_coordinate
+-- the size of a coordinate is within the limit
+pub size-small : (z : ℤ) → IsInRange z → nat_abs z ≤ greatest_coordinate
 size-small (pos n) h = let a = h.1 in omega (arith, ints)
 size-small (negsuc n) h = let a = h.0 in omega (arith, ints)
 

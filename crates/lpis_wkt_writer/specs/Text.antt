@@ -1,5 +1,5 @@
 -- The text of a polygon.
-use Rattle.std.specs.Prelude.{◌+◌, ◌/◌, ◌%◌, ◌^◌, ◌++◌, ◌∷◌, ℕ, zero, suc, ℤ, pos, negsuc, nat_abs}
+use Rattle.std.specs.Prelude.{◌/◌, ◌^◌, ◌++◌, ◌∷◌, ℕ, ℤ, nat_abs}
 use Rattle.std.specs.Prelude.{List, [], codes}
 use Rattle.std.specs.List.{All, flat_map}
 use Rattle.std.specs.Fmt.{decimal}

@@ -1,14 +1,15 @@
 //! The text of a polygon.
 
-ghost use Rattle.std.specs.Prelude.{◌≡◌, ◌<◌, ◌++◌, IfOk, OnOk, length, string_bytes, codes};
+ghost use Rattle.std.specs.Prelude.{◌≡◌, ◌<◌, ◌≤◌, ◌+◌, ◌++◌, IfOk, OnOk, length, drop};
+ghost use Rattle.std.specs.Prelude.{string_bytes, codes};
 ghost use Rattle.std.specs.List.{All, flat_map};
 ghost use Rattle.lpis_rings.specs.Ring.{IsRing};
 ghost use Rattle.lpis_wkt.specs.Text.{PolygonText};
 ghost use Rattle.lpis_wkt_writer.specs.Text.{number_text, polygon_point_text, ring_text};
-ghost use Rattle.lpis_points.specs.Decimals.{sign_text};
 ghost use Rattle.lpis_wkt_writer.specs.Text.{member_text, polygon_text, with_commas, after_commas};
 ghost use Rattle.lpis_wkt_writer.specs.Text.{HasRings, HaveRings};
 
+use lpis_digits::{put_byte, put_decimal, put_last_digits};
 use lpis_points::Point;
 use lpis_rings::{Member, Polygon, Ring};
 use std::alloc::{AllocError, Global};
@@ -17,31 +18,51 @@ use std::alloc::{AllocError, Global};
 /// text in metres.
 const METRE: u64 = 1000;
 
-/// A minus below zero.
-fn sign_of(value: i64) -> &'static str
-    ensures { result.now ≡ sign_text value }
+/// How many bytes a number has at most: a minus, 20 digits, the point and three decimals.
+const MOST_NUMBER: usize = 25;
+
+/// How many bytes a point has at most: two numbers and the space between them.
+const MOST_POINT: usize = 2 * MOST_NUMBER + 1;
+
+/// Puts a coordinate, with its three decimals, in front of the text that begins at `end`, and
+/// returns where it begins now.
+fn put_number(value: i64, text: &mut [u8], end: usize) -> usize
+    requires { (25 ≤ end) × (end ≤ length text.old) }
+    ensures room { end ≤ result + 25 }
+    ensures within { result ≤ end }
+    ensures written { drop result text.new ≡ number_text value ++ drop end text.old }
 {
-    if value < 0 { "-" } else { "" }
+    let size = value.unsigned_abs();
+    let mut start = put_last_digits(size, 3, text, end);
+    start = put_byte(b'.', text, start);
+    start = put_decimal(size / METRE, text, start);
+    if value >= 0 {
+        return start;
+    }
+    put_byte(b'-', text, start)
 }
 
-/// A coordinate, with its three decimals.
-fn write_number(value: i64, out: &mut String) -> Result<(), AllocError>
-    ensures { OnOk result (string_bytes out.new ≡ string_bytes out.old ++ number_text value) }
+/// Makes the text of a point, and returns where it begins.
+fn put_point(point: Point, text: &mut [u8; MOST_POINT]) -> usize
+    ensures within { result ≤ 51 }
+    ensures written { drop result text.new ≡ polygon_point_text point }
 {
-    let sign = sign_of(value);
-    let size = value.unsigned_abs();
-    let metres = size / METRE;
-    let rest = size % METRE;
-    write!(out, "{sign}{metres}.{rest:03}")
+    let mut start = put_number(point.y, text, MOST_POINT);
+    start = put_byte(b' ', text, start);
+    put_number(point.x, text, start)
 }
 
 fn write_point(point: Point, out: &mut String) -> Result<(), AllocError>
     ensures { OnOk result (string_bytes out.new ≡ string_bytes out.old
         ++ polygon_point_text point) }
 {
-    write_number(point.x, out)?;
-    out.push_str(" ")?;
-    write_number(point.y, out)
+    let mut text = [0; MOST_POINT];
+    let start = put_point(point, &mut text);
+    match str::from_utf8(&text[start..]) {
+        Ok(text) => out.push_str(text),
+        // Its bytes are ASCII.
+        Err(_) => unreachable!(),
+    }
 }
 
 /// Points that follow another.

@@ -19,6 +19,11 @@ use Rattle.lpis_cert.specs.Contents.{corner_numbers, separator_of}
 unfoldable pub line_text : CertLine → List ℕ
 line_text l = text_of_lines written (l ∷ [])
 
+-- the first letter of a triangle's line, or of a flat's
+abbrev pub corner_letter : Bool → ℕ
+corner_letter false = 116
+corner_letter true = 102
+
 abbrev pub corners_text : Bool → List Triangle → List ℕ
 corners_text flat ts = flat_map (λ t. line_text (corner_line flat (corner_numbers t))) ts
 

@@ -1,0 +1,11 @@
+use Rattle.std.proofs.Common.{◌≡◌, ◌+◌, ◌≤◌, ◌++◌, length, drop}
+use Rattle.std.specs.Fmt.{decimal}
+use Rattle.lpis_digits.proofs.writing.put_decimal.Given as goal
+
+abbrev pub invariant-loop-left : goal.invariant-loop-left
+invariant-loop-left l =
+    (length (decimal l.left) ≤ l.at) × (l.at ≤ l.end) × (l.at + length (decimal l.value) ≡ l.end + length (decimal l.left))
+    × (decimal l.left ++ drop l.at l.text ≡ decimal l.value ++ drop l.end l.fn.text)
+
+abbrev pub decreases-loop-left : goal.decreases-loop-left
+decreases-loop-left l = l.left
