@@ -1,13 +1,14 @@
 -- Lines of corners, read in one pass.
-use Rattle.std.proofs.Common.{◌≡◌, ℕ, ◌+◌, ◌-◌, ◌^◌, ◌<◌, ◌≤◌, Bool, true, false, cond, List, [], ◌∷◌, ◌++◌, length, take, drop, get_or, refl, sym, ap}
+use Rattle.std.proofs.Common.{◌≡◌, ℕ, ◌+◌, ◌-◌, ◌*◌, ◌^◌, ◌<◌, ◌≤◌, Bool, true, false, cond, List, [], ◌∷◌, ◌++◌, length, take, drop, get_or, refl, sym, ap}
 use Rattle.std.proofs.Common.{◌∙◌, arith}
-use Rattle.std.proofs.Common.{append_assoc, length-append, length-take-le, drop-cons, add-one, decimal}
+use Rattle.std.proofs.Common.{append_assoc, length-append, length-take, length-take-le, drop-cons, add-one, decimal}
 use Rattle.lpis_cert.proofs.Common.{nat_tests, and_parts, Version, CornersFit, LineFits, Corners, spelling, words_of, text_of_lines, ReadsLines}
 use Rattle.lpis_cert.proofs.Common.{corner_line, CertLine, PairLine, Separator, SeparatorFits}
 use Rattle.std.proofs.lemmas.Fmt.{decimal-digits_value, decimal_digit}
+use Rattle.std.proofs.lemmas.Int.Digits.{digits_push, digits_value_more}
 use Rattle.std.proofs.lemmas.Str.{digit_value_digit}
-use Rattle.std.proofs.lemmas.Str.Parse.{IsNumeralModel, numerals_by_value, tells_digits}
-use Rattle.std.proofs.lemmas.List.{take_all, take-append-drop, get_or-take}
+use Rattle.std.proofs.lemmas.Str.Parse.{IsNumeralModel, numerals_by_value, tells_digits, digits_value_short}
+use Rattle.std.proofs.lemmas.List.{take_all, take-append-drop, take-take, take_more, get_or-take}
 use Rattle.std.specs.Char.{digit_value, is_ascii_digit}
 use Rattle.std.specs.List.{list_all}
 use Rattle.std.specs.Str.Parse.{AllDigits, digits_value}
@@ -18,6 +19,9 @@ use Rattle.lpis_cert.proofs.SplittingLemmas.{rest_is}
 own : IsNumeralModel (AllDigits 10) (digits_value 10)
 own = numerals_by_value (AllDigits 10) tells_digits
 
+digit_is : (d : ℕ) → is_ascii_digit d ≡ true → digit_value d ≡ d - 48
+digit_is d h = grind (arith, nat_tests, digit_value_digit)
+
 digit_small : (d : ℕ) → is_ascii_digit d ≡ true → digit_value d < 10
 digit_small d h = grind (arith, nat_tests, digit_value_digit)
 
@@ -27,13 +31,37 @@ all_digits (d ∷ ds) h =
     let both = and_parts (is_ascii_digit d) (list_all is_ascii_digit ds) h in
     (digit_small d both.0, all_digits ds both.1)
 
+-- digits among the first bytes are digits of the text
+pub first_digits_are : (xs : List ℕ) (m n v : ℕ) → n ≤ length (take m xs) → list_all is_ascii_digit (take n (take m xs)) ≡ true → v ≡ digits_value 10 (take n (take m xs))
+    → (n ≤ length xs) × (n ≤ m) × AllDigits 10 (take n xs) × (v ≡ digits_value 10 (take n xs))
+first_digits_are xs m n v within all value =
+    let len = length-take m xs in
+    let few : n ≤ m = omega (arith, len, within) in
+    let same : take n (take m xs) ≡ take n xs = take-take n m xs few in
+    (omega (arith, len, within), few, all_digits (take n xs) (rw same at all), rw same at value)
+
+-- one more digit
+pub digits_more : (i v r : ℕ) (xs : List ℕ) → i < length xs → AllDigits 10 (take i xs) → v ≡ digits_value 10 (take i xs) → is_ascii_digit (get_or xs i 0) ≡ true
+    → r ≡ get_or xs i 0 - 48 → AllDigits 10 (take (i + 1) xs) × (v * 10 + r ≡ digits_value 10 (take (i + 1) xs))
+digits_more i v r xs lt all value digit is =
+    let more = take_more xs i 0 lt in (
+      rw more (digits_push 10 (take i xs) (get_or xs i 0) all (digit_small (get_or xs i 0) digit)),
+      rw (value, is, digits_value_more 10 xs i lt, digit_is (get_or xs i 0) digit) refl,
+    )
+
+-- what at most 16 digits spell leaves room for one more digit
+pub digits_room : (i v : ℕ) (xs : List ℕ) → i ≤ 16 → AllDigits 10 (take i xs) → v ≡ digits_value 10 (take i xs) → v < 10000000000000000
+digits_room i v xs few all value =
+    let len = length-take i xs in
+    rw value (digits_value_short own (take i xs) 16 all (omega (arith, len)))
+
 -- digits before a byte, of which the first is not 0 where there are more
-pub number_begins : (xs : List ℕ) (n v end : ℕ) → list_all is_ascii_digit (take n xs) ≡ true → v ≡ digits_value 10 (take n xs) → 0 < n → n < length xs → get_or xs n 0 ≡ end
+pub number_begins : (xs : List ℕ) (n v end : ℕ) → AllDigits 10 (take n xs) → v ≡ digits_value 10 (take n xs) → 0 < n → n < length xs → get_or xs n 0 ≡ end
     → (get_or xs 0 0 ≡ 48 → n ≤ 1) → v < 2 ^ 64 → BeginsWithWord xs (decimal v) end (take (length xs - (n + 1)) (drop (n + 1) xs))
 number_begins xs n v end all value some lt last first small =
     let len : length (take n xs) ≡ n = length-take-le n xs (omega arith) in
     let is : decimal v ≡ take n xs =
-    ap decimal value ∙ decimal-digits_value own (take n xs) (all_digits (take n xs) all) (rw len some) (λ z. one (first (sym (get_or-take n xs 0 0 some) ∙ z)) len) (rw value at small) in
+    ap decimal value ∙ decimal-digits_value own (take n xs) all (rw len some) (λ z. one (first (sym (get_or-take n xs 0 0 some) ∙ z)) len) (rw value at small) in
     let cons : drop n xs ≡ end ∷ drop (n + 1) xs = rw add-one (drop-cons xs n 0 lt) ∙ ap (λ (b : ℕ). b ∷ drop (n + 1) xs) last in
     rw (rest_is xs n, is) (sym (take-append-drop n xs) ∙ ap (λ (t : List ℕ). take n xs ++ t) cons)
   where
@@ -44,12 +72,6 @@ number_begins xs n v end all value some lt last first small =
 pub first_byte : (xs : List ℕ) (b : ℕ) → 1 ≤ length xs → get_or xs 0 0 ≡ b → xs ≡ b ∷ take (length xs - 1) (drop 1 xs)
 first_byte [] b some first = absurd (omega arith)
 first_byte (x ∷ xs) b some first = grind (arith, take_all)
-
--- a number after a minus or not begins a text with the word of a coordinate
-pub word_begins : (negative : Bool) (text digits rest word : List ℕ) (n end : ℕ) → text ≡ cond negative (45 ∷ digits) digits → BeginsWithWord digits (decimal n) end rest
-    → word ≡ cond negative (45 ∷ decimal n) (decimal n) → BeginsWithWord text word end rest
-word_begins true text digits rest word n end h k is = rw (h, k, is) refl
-word_begins false text digits rest word n end h k is = rw (h, k, is) refl
 
 -- a digit before a line end
 pub edge_begins : (text after rest : List ℕ) (d : ℕ) → text ≡ d ∷ after → after ≡ 10 ∷ rest → 48 ≤ d → d ≤ 53 → BeginsWithWord text (decimal (d - 48)) 10 rest

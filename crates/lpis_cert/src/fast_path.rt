@@ -1,7 +1,9 @@
 //! Lines of corners and pair lines as they are usually written, read in one pass. What is refused
 //! here is looked at again word by word.
 
-ghost use Rattle.std.specs.Prelude.{◌≡◌, ◌≤◌, ◌++◌, ◌∷◌, cond, false, get_or, length, IfSome};
+ghost use Rattle.std.specs.Prelude.{◌≡◌, ◌≤◌, ◌++◌, ◌∷◌, cond, false, get_or, length, take};
+ghost use Rattle.std.specs.Prelude.{IfSome};
+ghost use Rattle.std.specs.Str.Parse.{AllDigits, digits_value};
 ghost use Rattle.std.specs.Fmt.{decimal};
 ghost use Rattle.lpis_points.specs.Range.{IsInRange};
 ghost use Rattle.lpis_cert.specs.Limits.{last_edge};
@@ -14,7 +16,7 @@ ghost use Rattle.lpis_cert.specs.private.Taken.{BeginsWithWord, corner_line};
 use crate::fields::GREATEST_COUNT;
 use crate::part::PairLine;
 use crate::version::Version;
-use lpis_digits::{Digits, leading_digits};
+use lpis_digits::{Digits, MOST_DIGITS, leading_digits};
 use lpis_points::{Point, Triangle};
 
 /// What comes after a byte, where the text begins with it.
@@ -25,6 +27,42 @@ fn skip(text: &[u8], byte: u8) -> Option<&[u8]>
         [first, rest @ ..] => { if *first == byte { Some(rest) } else { None } }
         [] => None,
     }
+}
+
+/// The digits that a text begins with, by the number that the first eight of them spell.
+#[inline(always)]
+fn digits_after_eight(text: &[u8], eight: u64) -> Digits
+    requires long { 8 ≤ length text.now }
+    requires digits { AllDigits 10 (take 8 text.now) }
+    requires value { eight ≡ digits_value 10 (take 8 text.now) }
+    ensures within { result.count ≤ length text.now }
+    ensures digits { AllDigits 10 (take result.count text.now) }
+    ensures value { result.value ≡ digits_value 10 (take result.count text.now) }
+{
+    let most = text.len().min(MOST_DIGITS);
+    let mut value = eight;
+    for at in 8..most {
+        if !text[at].is_ascii_digit() {
+            return Digits { count: at, value };
+        }
+        value = value * 10 + u64::from(text[at] - b'0');
+    }
+    Digits { count: most, value }
+}
+
+/// The digits that a text begins with: eight at once, and the few that mostly come after them one
+/// by one.
+#[inline(always)]
+fn digits_of(text: &[u8]) -> Digits
+    ensures within { result.count ≤ length text.now }
+    ensures digits { AllDigits 10 (take result.count text.now) }
+    ensures value { result.value ≡ digits_value 10 (take result.count text.now) }
+{
+    let first = leading_digits(&text[..text.len().min(8)]);
+    if first.count < 8 {
+        return first;
+    }
+    digits_after_eight(text, first.value)
 }
 
 /// Whether digits begin with a 0 that does not stand alone.
@@ -42,7 +80,7 @@ fn leading_number(text: &[u8], end: u8, limit: u64) -> Option<(u64, &[u8])>
     ensures { IfSome result (λ x. BeginsWithWord text.now (decimal x.0) end x.1.now
         × (x.0 ≤ limit)) }
 {
-    let Digits { count, value } = leading_digits(text);
+    let Digits { count, value } = digits_of(text);
     if count == 0 || count == text.len() || value > limit {
         return None;
     }
@@ -94,6 +132,7 @@ fn leading_coordinate(version: Version, text: &[u8], end: u8) -> Option<(i64, &[
 }
 
 /// The point that two words spell, the second up to a byte.
+#[inline(always)]
 fn leading_point(version: Version, text: &[u8], end: u8) -> Option<(Point, &[u8])>
     ensures words { IfSome result (λ p. text.now ≡ coordinate_word version p.0.x
         ++ (32 ∷ (coordinate_word version p.0.y ++ (end ∷ p.1.now)))) }

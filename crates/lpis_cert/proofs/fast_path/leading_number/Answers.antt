@@ -4,7 +4,7 @@ use Rattle.lpis_cert.proofs.fast_path.leading_number.Goals as goal
 
 pub returns : goal.returns
 returns c =
-    let read = c.leading_digits-count in
+    let read = c.digits_of-count in
     let some = c.if-count-eq0.false in
     let within = read.ensures.within in
     let short = c.if-count-text.false in (
