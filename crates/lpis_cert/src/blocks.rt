@@ -117,8 +117,16 @@ fn piece_block<'a>(
             line: start.line,
         });
     }
-    let (own_triangles, middle) = corner_lines(alloc, draft.version, false, triangle_count, after)?;
-    let (own_flats, rest) = corner_lines(alloc, draft.version, true, flat_count, middle)?;
+    let (version, scratch) = (draft.version, &mut draft.scratch);
+    let (own_triangles, middle) = corner_lines(
+        alloc,
+        scratch,
+        version,
+        false,
+        triangle_count,
+        after,
+    )?;
+    let (own_flats, rest) = corner_lines(alloc, scratch, version, true, flat_count, middle)?;
     draft.pieces.push(piece_part(id, own_triangles, own_flats))?;
     draft.triangles = all_triangles;
     draft.flats = all_flats;
@@ -173,7 +181,8 @@ fn flat_block<'a>(
             line: start.line,
         });
     }
-    let (own_flats, rest) = corner_lines(alloc, draft.version, true, flat_count, after)?;
+    let (version, scratch) = (draft.version, &mut draft.scratch);
+    let (own_flats, rest) = corner_lines(alloc, scratch, version, true, flat_count, after)?;
     add_flats(&mut draft.parcels, &mut draft.exact, owner, id, own_flats)?;
     draft.stage = owner.stage();
     draft.flats = all_flats;
@@ -211,6 +220,7 @@ pub(crate) fn finish(
         triangles: _,
         flats: _,
         version: _,
+        scratch: _,
     } = draft;
     let pieces = without_spare(pieces)?;
     let parcels = without_spare(parcels)?;

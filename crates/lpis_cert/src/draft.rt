@@ -12,8 +12,10 @@ use crate::kind::Stage;
 use crate::part::{ExactBlock, ParcelPart, PiecePart};
 use crate::rest::Rest;
 use crate::version::Version;
+use lpis_points::Triangle;
 
 /// The blocks so far, how many triangles and flats they have, and the version of their text.
+/// `scratch` is the list that a block's triangles are read into before their number is known.
 #[derive(Drop)]
 pub(crate) struct Draft {
     pub pieces: Vec<PiecePart>,
@@ -23,6 +25,7 @@ pub(crate) struct Draft {
     pub triangles: u64,
     pub flats: u64,
     pub version: Version,
+    pub scratch: Vec<Triangle>,
     pub ghost triangles_counted: { triangles ≡ sum_by (λ p. length p.triangles) pieces.items },
     pub ghost flats_counted: { flats ≡ sum_by (λ p. length p.flats) pieces.items + sum_by
         (λ p. length p.flats) parcels.items + sum_by (λ b. length b.flats) exact.items },

@@ -86,15 +86,17 @@ pub(crate) fn corner_line(
     }
 }
 
-/// So many triangle lines or flat lines.
+/// So many triangle lines or flat lines. They are read into a list that is lent, and the answer has
+/// a list of their number.
 #[inline(never)]
-pub(crate) fn corner_lines(
+pub(crate) fn corner_lines<'a>(
     alloc: Global,
+    scratch: &mut Vec<Triangle>,
     version: Version,
     flat: bool,
     count: u32,
-    rest: Rest<'_>,
-) -> Result<(Vec<Triangle>, Rest<'_>), CertFault>
+    rest: Rest<'a>,
+) -> Result<(Vec<Triangle>, Rest<'a>), CertFault>
     ensures ok { IfOk result
         (λ x. ReadsLines version rest.entry.text.now rest.entry.line
         (map (line_of_corners flat) (triangle_corners x.0.items)) x.1.text.now x.1.line) }
@@ -102,15 +104,14 @@ pub(crate) fn corner_lines(
     ensures err { IfErr result (λ e. (s : Stage) (f : ℕ) (d : Declared)
         → FaultFrom version e rest.entry.line (wanting flat count s f d) rest.entry.text.now) }
 {
-    let mut triangles = Vec::new(alloc);
+    scratch.clear();
     let mut left = rest;
     for _ in 0..count {
         let (triangle, after) = corner_line(version, flat, left)?;
-        triangles.push(triangle)?;
+        scratch.push(triangle)?;
         left = after;
     }
-    // A list that is cut to its length where it lies leaves a gap that few lists fit.
-    Ok((Vec::from_slice(alloc, triangles.as_slice())?, left))
+    Ok((Vec::from_slice(alloc, scratch.as_slice())?, left))
 }
 
 /// A pair line.

@@ -59,6 +59,7 @@ fn no_blocks(alloc: Global, version: Version) -> Draft
         triangles: 0,
         flats: 0,
         version,
+        scratch: Vec::new(alloc),
     }
 }
 
