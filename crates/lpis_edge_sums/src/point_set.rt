@@ -1,45 +1,68 @@
 //! Sets of points.
 
-ghost use Rattle.std.specs.Prelude.{◌↔◌, ◌++◌, IsTrue, Contains};
+ghost use Rattle.std.specs.Prelude.{◌↔◌, ◌++◌, ◌<◌, IsTrue, Contains, length};
+ghost use Rattle.std.specs.List.Sorted.{IsSorted};
 ghost use Rattle.lpis_points.specs.declared.point.Point.{Point};
 ghost use Rattle.lpis_edge_sums.specs.Making.{HasCorners, HaveCorners};
+ghost use Rattle.lpis_edge_sums.specs.private.SignedEdges.{few, point_order};
 
 use lpis_points::{Point, Triangle};
 use std::marker::Model;
 
+/// The most points that are looked for one by one.
+const FEW: usize = 16;
+
 /// A set of points, which contracts see as a list of them.
 #[derive(Drop)]
 pub(crate) struct PointSet {
-    sorted: Vec<Point>,
+    /// Sorted, unless they are few.
+    points: Vec<Point>,
 }
 
 impl Model for PointSet {
-    ghost use Rattle.std.specs.Prelude.{List};
+    ghost use Rattle.std.specs.Prelude.{List, ◌<◌, length};
     ghost use Rattle.std.specs.List.Sorted.{IsSorted};
     ghost use Rattle.lpis_points.specs.declared.point.Point.{Point};
-    ghost use Rattle.lpis_edge_sums.specs.private.SignedEdges.{point_order};
+    ghost use Rattle.lpis_edge_sums.specs.private.SignedEdges.{few, point_order};
 
     ghost Value = { List Point };
 
-    ghost view = { λ s. s.sorted.items };
+    ghost view = { λ s. s.points.items };
 
-    ghost invariant = { λ s. IsSorted point_order s.sorted.items };
+    ghost invariant = { λ s. few < length s.points.items
+        → IsSorted point_order s.points.items };
+}
+
+/// The same points, sorted where they are many.
+fn sorted_if_many(mut points: Vec<Point>) -> Vec<Point>
+    ensures same { (p : Point) → Contains result.items p ↔ Contains points.items p }
+    ensures sorted { few < length result.items → IsSorted point_order result.items }
+{
+    if points.len() <= FEW {
+        return points;
+    }
+    points.sort_unstable();
+    points
 }
 
 impl PointSet {
     /// The set of these points.
-    pub(crate) fn of(mut points: Vec<Point>) -> PointSet
+    pub(crate) fn of(points: Vec<Point>) -> PointSet
         ensures { (p : Point) → Contains result p ↔ Contains points.items p }
     {
-        points.sort_unstable();
-        PointSet { sorted: points }
+        let points = sorted_if_many(points);
+        PointSet { points }
     }
 
     /// Whether a point is in the set.
     fn contains(&self, point: Point) -> bool
         ensures { IsTrue result ↔ Contains self.now point }
     {
-        self.sorted.binary_search(&point).is_ok()
+        if self.points.len() <= FEW {
+            self.points.contains(&point)
+        } else {
+            self.points.binary_search(&point).is_ok()
+        }
     }
 
     /// Whether the corners of a triangle are in the set.

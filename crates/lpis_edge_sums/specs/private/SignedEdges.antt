@@ -39,6 +39,10 @@ abbrev pub EndsRun : List SignedEdge → ℕ → Type 0
 EndsRun xs k = (x y : SignedEdge) → slice_get xs k ≡ Some x → slice_get xs (k + 1) ≡ Some y
     → same_ends x y ≡ false
 
+-- so many points are looked for one by one
+abbrev pub few : ℕ
+few = 16
+
 -- the derived order of points: by x, and then by y
 abbrev pub point_order : Point → Point → Ordering
 point_order a b = ordering_then (int_cmp a.x b.x) (int_cmp a.y b.y)
