@@ -1,0 +1,226 @@
+"""Makers of hostile registers: schemas and rows that no program makes. Each fills the folder's register."""
+
+import functools
+import shutil
+import sqlite3
+
+from hostile_pages import NAME
+from registers import SQUARE, TEXT
+
+
+def changed(folder, base, script, of="small"):
+    """A register, after statements of SQLite that mind no rule."""
+    shutil.copy(getattr(base, of), folder / NAME)
+    connection = sqlite3.connect(folder / NAME)
+    connection.executescript("PRAGMA foreign_keys = OFF; PRAGMA writable_schema = ON; PRAGMA ignore_check_constraints = ON;")
+    connection.executescript(script)
+    connection.commit()
+    connection.close()
+
+
+def with_object(kind, name, text, root=0):
+    """A row of the schema with any text."""
+    return f"INSERT INTO sqlite_schema (type, name, tbl_name, rootpage, sql) VALUES ('{kind}', '{name}', '{name}', {root}, '{text}')"
+
+
+def with_text(table, text):
+    """Another text of a table that is there."""
+    quoted = text.replace("'", "''")
+    return f"UPDATE sqlite_schema SET sql = '{quoted}' WHERE name = '{table}'"
+
+
+def beside(table, columns, key, rows):
+    """Other rows of a table, under its key or without it: sqlite3 writes them to tables of other names, whose pages take its place."""
+    return (f"CREATE TABLE other ({columns}) STRICT; INSERT INTO other {rows}; CREATE TABLE another ({columns}) STRICT; {key};"
+            f"UPDATE sqlite_schema SET rootpage = (SELECT rootpage FROM sqlite_schema WHERE name = 'other') WHERE name = '{table}';"
+            "UPDATE sqlite_schema SET rootpage = (SELECT rootpage FROM sqlite_schema WHERE name = 'key')"
+            f" WHERE name = 'sqlite_autoindex_{table}_1'; DELETE FROM sqlite_schema WHERE tbl_name IN ('other', 'another')")
+
+
+def beside_texts(rows, keyed="other"):
+    return beside("lpis_text", "id TEXT NOT NULL, wkt TEXT NOT NULL", f"CREATE INDEX key ON {keyed} (id)", rows)
+
+
+def beside_marks(rows, keyed="other"):
+    return beside("lpis_mark", "year INTEGER NOT NULL, pos INTEGER NOT NULL", f"CREATE INDEX key ON {keyed} (year, pos)", rows)
+
+
+def schemas(base):
+    """Schemas that no program makes."""
+    columns = ", ".join(f"c{number}" for number in range(2_000))
+    texts = {
+        "a view of itself": with_object("view", "v", "CREATE VIEW v AS SELECT * FROM v"),
+        "two views of each other":
+            ";".join(with_object("view", one, f"CREATE VIEW {one} AS SELECT * FROM {other}") for one, other in ("vw", "wv")),
+        "a view that never ends": "CREATE VIEW v AS WITH RECURSIVE n(i) AS (SELECT 1 UNION ALL SELECT i + 1 FROM n) SELECT i FROM n",
+        "spans are a view": "DROP TABLE lpis_span; CREATE VIEW lpis_span AS SELECT 'north' AS id, 2024 AS since, 0 AS until",
+        "spans are a view that never ends":
+            "DROP TABLE lpis_span; CREATE VIEW lpis_span AS WITH RECURSIVE n(i) AS (SELECT 1 UNION ALL SELECT i + 1 FROM n) "
+            "SELECT 'n' || i AS id, 2024 AS since, 0 AS until FROM n",
+        "a trigger that calls itself":
+            "CREATE TRIGGER t AFTER INSERT ON lpis_release BEGIN INSERT INTO lpis_release VALUES (new.year + 1); END",
+        "a trigger that takes back": "CREATE TRIGGER t AFTER INSERT ON lpis_span BEGIN DELETE FROM lpis_span WHERE id = new.id; END",
+        "spans without a row's number":
+            "DROP TABLE lpis_span; CREATE TABLE lpis_span (id TEXT NOT NULL PRIMARY KEY, since INTEGER NOT NULL, until INTEGER NOT NULL) "
+            "WITHOUT ROWID",
+        "texts are a view": f"DROP TABLE lpis_text; CREATE VIEW lpis_text AS SELECT 'grove' AS id, '{SQUARE}' AS wkt",
+        "texts are a view that never ends":
+            "DROP TABLE lpis_text; CREATE VIEW lpis_text AS WITH RECURSIVE n(i) AS (SELECT 1 UNION ALL SELECT i + 1 FROM n) "
+            f"SELECT 'n' || i AS id, '{SQUARE}' AS wkt FROM n",
+        "texts without their key, each twice":
+            "CREATE TABLE other AS SELECT * FROM lpis_text; DROP TABLE lpis_text; CREATE TABLE lpis_text (id TEXT NOT NULL, wkt TEXT NOT NULL) STRICT;"
+            "INSERT INTO lpis_text SELECT * FROM other; INSERT INTO lpis_text SELECT * FROM other; DROP TABLE other",
+        "texts that may be numbers": "DROP TABLE lpis_text; CREATE TABLE lpis_text (id PRIMARY KEY, wkt); INSERT INTO lpis_text VALUES ('grove', 1), (2, 'x')",
+        "a text twice under its key": beside_texts("SELECT * FROM lpis_text UNION ALL SELECT * FROM lpis_text WHERE id = 'grove'"),
+        "two texts of an identifier under its key":
+            beside_texts(f"SELECT * FROM lpis_text UNION ALL SELECT id, '{SQUARE}' FROM lpis_text WHERE id = 'grove'"),
+        "a text that its key does not have": beside_texts("SELECT * FROM lpis_text", "another"),
+        "a key of texts that are gone": "CREATE TABLE other (id TEXT NOT NULL, wkt TEXT NOT NULL) STRICT;"
+            "UPDATE sqlite_schema SET rootpage = (SELECT rootpage FROM sqlite_schema WHERE name = 'other') WHERE name = 'lpis_text';"
+            "DELETE FROM sqlite_schema WHERE name = 'other'",
+        "no table lpis_text": "DROP TABLE lpis_text",
+        "no table lpis_mark": "DROP TABLE lpis_mark",
+        "no texts and no marks": "DROP TABLE lpis_text; DROP TABLE lpis_mark",
+        "no releases, texts and marks": "DROP TABLE lpis_release; DROP TABLE lpis_text; DROP TABLE lpis_mark",
+        "no tables but texts and marks": "DROP TABLE lpis_format; DROP TABLE lpis_release; DROP TABLE lpis_span; DROP TABLE lpis_row",
+        **{f"no table {table}": f"DROP TABLE {table}" for table in ("lpis_format", "lpis_release", "lpis_span", "lpis_row")},
+        "marks before texts": f"DROP TABLE lpis_text; {TEXT}",
+        "texts without a row's number": "DROP TABLE lpis_text; CREATE TABLE lpis_text (id TEXT NOT NULL PRIMARY KEY, wkt TEXT NOT NULL) "
+            f"STRICT, WITHOUT ROWID; INSERT INTO lpis_text VALUES ('grove', '{SQUARE}')",
+        "marks of no table": "DROP TABLE lpis_mark; CREATE TABLE lpis_mark (year INTEGER NOT NULL, pos INTEGER NOT NULL, PRIMARY KEY (year, pos), "
+            "FOREIGN KEY (year, pos) REFERENCES other (year, pos)) STRICT",
+        "marks that refer to themselves": "DROP TABLE lpis_mark; CREATE TABLE lpis_mark (year INTEGER NOT NULL, pos INTEGER NOT NULL, PRIMARY KEY (year, pos), "
+            "FOREIGN KEY (pos, year) REFERENCES lpis_mark (year, pos)) STRICT; INSERT INTO lpis_mark VALUES (2025, 2025)",
+        "a trigger that puts texts back": "CREATE TRIGGER t AFTER DELETE ON lpis_text BEGIN INSERT INTO lpis_text VALUES (old.id, old.wkt); END",
+        "version 2 with texts and marks": "UPDATE lpis_format SET version = 2; UPDATE lpis_text SET wkt = 'no polygon'; INSERT INTO lpis_mark VALUES (2025, 0)",
+        "a column more": "ALTER TABLE lpis_span ADD COLUMN more TEXT DEFAULT 'x'",
+        "a column less": "ALTER TABLE lpis_row DROP COLUMN new",
+        "a column computed": "ALTER TABLE lpis_span ADD COLUMN more AS (id || id)",
+        "a unique index over years": "CREATE UNIQUE INDEX i ON lpis_row (year, pos, new)",
+        "an index over an expression": "CREATE INDEX i ON lpis_span (length(id))",
+        "a rule that fails":
+            with_text("lpis_release", "CREATE TABLE lpis_release (year INTEGER NOT NULL PRIMARY KEY CHECK (year < 2026)) STRICT"),
+        "a text that is no SQL": with_text("lpis_release", "CREATE TABLE lpis_release ((((("),
+        "no text": "UPDATE sqlite_schema SET sql = NULL WHERE name = 'lpis_release'",
+        "two tables on one page": "UPDATE sqlite_schema SET rootpage = 2",
+        "a root past the end": "UPDATE sqlite_schema SET rootpage = 100000 WHERE name = 'lpis_span'",
+        "a root of 0": "UPDATE sqlite_schema SET rootpage = 0 WHERE name = 'lpis_span'",
+        "a root of -1": "UPDATE sqlite_schema SET rootpage = -1 WHERE name = 'lpis_span'",
+        "the root of the schema": "UPDATE sqlite_schema SET rootpage = 1 WHERE name = 'lpis_span'",
+        "a table twice": "INSERT INTO sqlite_schema SELECT * FROM sqlite_schema WHERE name = 'lpis_span'",
+        "a name of a megabyte": f"CREATE TABLE {'x' * 1_000_000} (a)",
+        "a text of a megabyte": f"CREATE TABLE t (a DEFAULT '{'x' * 1_000_000}')",
+        "2,000 columns": f"CREATE TABLE t ({columns})",
+        "an index of 2,000 columns": f"CREATE TABLE t ({columns}); CREATE INDEX i ON t ({columns})",
+        "1,000 tables": ";".join(f"CREATE TABLE t{number} (a)" for number in range(1_000)),
+        "1,000 views": ";".join(f"CREATE VIEW v{number} AS SELECT year FROM lpis_release" for number in range(1_000)),
+        "200 views, each twice the one before": "CREATE VIEW v0 AS SELECT year FROM lpis_release;"
+            + ";".join(f"CREATE VIEW v{number} AS SELECT a.year FROM v{number - 1} AS a, v{number - 1} AS b" for number in range(1, 200)),
+        "a version of another program": "PRAGMA user_version = 7; PRAGMA application_id = 7",
+    }
+    for depth in (100, 900, 10_000, 300_000):
+        deep = "(" * depth + "1" + ")" * depth
+        texts[f"{depth} brackets in a rule"] = with_object("table", "t", f"CREATE TABLE t (a CHECK ({deep}))", 2)
+        texts[f"{depth} brackets in a view"] = with_object("view", "v", f"CREATE VIEW v AS SELECT {deep}")
+        texts[f"{depth} signs in a view"] = with_object("view", "v", f"CREATE VIEW v AS SELECT {'- ' * depth} 1")
+        nested = f"{'SELECT * FROM (' * depth} SELECT 1{')' * depth}"
+        texts[f"{depth} selects in a view"] = with_object("view", "v", f"CREATE VIEW v AS {nested}")
+        for name, rule in (("cases", f"{'NOT ' * depth} 0"), ("sums", f"1{' + 1' * depth}")):
+            texts[f"{depth} {name} in a rule"] = with_text(
+                "lpis_release", f"CREATE TABLE lpis_release (year INTEGER NOT NULL PRIMARY KEY CHECK ({rule})) STRICT")
+    return [(name, functools.partial(changed, base=base, script=text)) for name, text in texts.items()]
+
+
+def contents(base):
+    """Rows that no program writes, many or large ones."""
+    texts = {
+        "an identifier of a megabyte": f"INSERT INTO lpis_span VALUES ('{'x' * 1_000_000}', 2024, 0)",
+        "an old identifier of a megabyte": f"INSERT INTO lpis_row VALUES (2025, 5, '{'x' * 1_000_000}', 'valley')",
+        "20,000 releases": "WITH n(i) AS (SELECT 50000 UNION ALL SELECT i + 1 FROM n LIMIT 20000) INSERT INTO lpis_release SELECT i FROM n",
+        "2,000 releases": "WITH n(i) AS (SELECT 2026 UNION ALL SELECT i + 1 FROM n LIMIT 2000) INSERT INTO lpis_release SELECT i FROM n",
+        "1,000,000 spans of no release":
+            "WITH n(i) AS (SELECT 1 UNION ALL SELECT i + 1 FROM n LIMIT 1000000) INSERT INTO lpis_span SELECT 'P' || i, 2023, 0 FROM n",
+        "100,000 spans":
+            "WITH n(i) AS (SELECT 1 UNION ALL SELECT i + 1 FROM n LIMIT 100000) INSERT INTO lpis_span SELECT 'P' || i, 2025, 0 FROM n",
+        "100,000 rows":
+            "WITH n(i) AS (SELECT 5 UNION ALL SELECT i + 1 FROM n LIMIT 100000) "
+            "INSERT INTO lpis_row SELECT 2025, i, 'north', 'P' || i FROM n",
+        "a chain of 500 years":
+            "WITH n(i) AS (SELECT 2026 UNION ALL SELECT i + 1 FROM n LIMIT 500) INSERT INTO lpis_release SELECT i FROM n;"
+            "UPDATE lpis_span SET until = 2025 WHERE id = 'north-1'; INSERT INTO lpis_row VALUES (2026, 0, 'north-1', 'c2026');"
+            "WITH n(i) AS (SELECT 2026 UNION ALL SELECT i + 1 FROM n LIMIT 499) "
+            "INSERT INTO lpis_row SELECT i + 1, 0, 'c' || i, 'c' || (i + 1) FROM n;"
+            "WITH n(i) AS (SELECT 2026 UNION ALL SELECT i + 1 FROM n LIMIT 500) "
+            "INSERT INTO lpis_span SELECT 'c' || i, i, CASE i WHEN 2525 THEN 0 ELSE i END FROM n;",
+        "a text of a megabyte that is no polygon": f"UPDATE lpis_text SET wkt = '{'x' * 1_000_000}' WHERE id = 'grove'",
+        "a text of a million brackets": f"UPDATE lpis_text SET wkt = 'POLYGON{'(' * 1_000_000}' WHERE id = 'grove'",
+        "a text of a million blanks": f"UPDATE lpis_text SET wkt = 'POLYGON{' ' * 1_000_000}((0 0,1 0,1 1,0 0))' WHERE id = 'grove'",
+        "a number of a million digits": f"UPDATE lpis_text SET wkt = 'POLYGON(({'9' * 1_000_000} 0' WHERE id = 'grove'",
+        "a text of 100,000 points": f"UPDATE lpis_text SET wkt = 'POLYGON(({'0 0,' * 99_999}0 0))' WHERE id = 'grove'",
+        "a text of 100,001 points": f"UPDATE lpis_text SET wkt = 'POLYGON(({'0 0,' * 100_000}0 0))' WHERE id = 'grove'",
+        "a text of 25,000 members": f"UPDATE lpis_text SET wkt = 'MULTIPOLYGON({'((0 0,1 0,1 1,0 0)),' * 24_999}((0 0,1 0,1 1,0 0)))' WHERE id = 'grove'",
+        "a text that is empty": "UPDATE lpis_text SET wkt = '' WHERE id = 'grove'",
+        "a text with a nought": "UPDATE lpis_text SET wkt = wkt || char(0) || 'b' WHERE id = 'grove'",
+        "a text of bytes that are no text": "UPDATE lpis_text SET wkt = CAST(x'c328ff' AS TEXT) WHERE id = 'grove'",
+        "a text that is no polygon": "UPDATE lpis_text SET wkt = 'no polygon' WHERE id = 'grove'",
+        "a text cut off": "UPDATE lpis_text SET wkt = substr(wkt, 1, length(wkt) - 1) WHERE id = 'grove'",
+        "a text with more behind it": "UPDATE lpis_text SET wkt = wkt || ')' WHERE id = 'grove'",
+        "a ring that is not closed": "UPDATE lpis_text SET wkt = 'POLYGON((0 0,1 0,1 1,0 1))' WHERE id = 'grove'",
+        "a coordinate finer than a millimetre": "UPDATE lpis_text SET wkt = 'POLYGON((0 0,1.0001 0,1 1,0 0))' WHERE id = 'grove'",
+        "a coordinate out of range": "UPDATE lpis_text SET wkt = 'POLYGON((0 0,20000000.001 0,1 1,0 0))' WHERE id = 'grove'",
+        "texts in another spelling": "UPDATE lpis_text SET wkt = replace(lower(wkt), '.000', '')",
+        "the same text of each parcel": f"UPDATE lpis_text SET wkt = '{SQUARE}'",
+        "a text of a dropped identifier": f"INSERT INTO lpis_text VALUES ('north', '{SQUARE}')",
+        "a text of an identifier in no release": f"INSERT INTO lpis_text VALUES ('nowhere', '{SQUARE}')",
+        "a text of no identifier": f"INSERT INTO lpis_text VALUES ('no identifier', '{SQUARE}')",
+        "a text of an identifier in another case": "UPDATE lpis_text SET id = 'Grove' WHERE id = 'grove'",
+        "a text of an identifier of a megabyte": f"INSERT INTO lpis_text VALUES ('{'x' * 1_000_000}', '{SQUARE}')",
+        "a text of an identifier with a nought": "UPDATE lpis_text SET id = id || char(0) WHERE id = 'grove'",
+        "100,000 texts of no parcel":
+            f"WITH n(i) AS (SELECT 1 UNION ALL SELECT i + 1 FROM n LIMIT 100000) INSERT INTO lpis_text SELECT 'P' || i, '{SQUARE}' FROM n",
+        "no texts": "DELETE FROM lpis_text",
+        "a mark of each row": "INSERT INTO lpis_mark SELECT year, pos FROM lpis_row",
+        "marks of a split and a merge": "INSERT INTO lpis_mark SELECT year, pos FROM lpis_row WHERE pos < 4",
+        "a mark of an ending": "INSERT INTO lpis_mark SELECT year, pos FROM lpis_row WHERE new = ''",
+        "a mark of no row": "INSERT INTO lpis_mark VALUES (2025, 5)",
+        "a mark of a year without rows": "INSERT INTO lpis_mark VALUES (2024, 0)",
+        "a mark of no release": "INSERT INTO lpis_mark VALUES (2030, 0)",
+        "a mark at the ends of numbers": "INSERT INTO lpis_mark VALUES (9223372036854775807, -9223372036854775808)",
+        "100,000 marks of no row":
+            "WITH n(i) AS (SELECT 5 UNION ALL SELECT i + 1 FROM n LIMIT 100000) INSERT INTO lpis_mark SELECT 2025, i FROM n",
+        "numbers at the ends": "UPDATE lpis_span SET since = 9223372036854775807, until = -9223372036854775808",
+        "texts with a nought": "UPDATE lpis_span SET id = 'a' || char(0) || 'b' WHERE id = 'grove'",
+        "bytes that are no text": "UPDATE lpis_span SET id = CAST(x'c328ff' AS TEXT) WHERE id = 'grove'",
+    }
+    return [(name, functools.partial(changed, base=base, script=text)) for name, text in texts.items()]
+
+
+def marks(base):
+    """A register with an exact split and an exact merge, whose marks, rows or tables were changed."""
+    texts = {
+        "nothing changed": "",
+        "no marks": "DELETE FROM lpis_mark",
+        "no table lpis_mark": "DROP TABLE lpis_mark",
+        "no table lpis_text": "DROP TABLE lpis_text",
+        "no table lpis_row": "DROP TABLE lpis_row",
+        "one row of a split marked": "DELETE FROM lpis_mark WHERE pos = 1",
+        "a mark of each row": "INSERT OR IGNORE INTO lpis_mark SELECT year, pos FROM lpis_row",
+        "a mark of no row": "INSERT INTO lpis_mark VALUES (2025, 5)",
+        "marks of no row alone": "UPDATE lpis_mark SET pos = pos + 10",
+        "marks of a year without rows": "UPDATE lpis_mark SET year = 2024",
+        "marks of rows that are gone": "DELETE FROM lpis_row",
+        "marked rows in another order": "UPDATE lpis_row SET pos = -pos; UPDATE lpis_row SET pos = pos + 4",
+        "a mark twice under its key": beside_marks("SELECT * FROM lpis_mark UNION ALL SELECT * FROM lpis_mark WHERE pos = 0"),
+        "marks that their key does not have": beside_marks("SELECT * FROM lpis_mark", "another"),
+        "a mark of no row, without the key": "DROP TABLE lpis_mark; CREATE TABLE lpis_mark (year INTEGER NOT NULL, pos INTEGER NOT NULL) STRICT;"
+            "INSERT INTO lpis_mark VALUES (2025, 5)",
+        "marks twice, without the key": "CREATE TABLE other AS SELECT * FROM lpis_mark; DROP TABLE lpis_mark;"
+            "CREATE TABLE lpis_mark (year INTEGER NOT NULL, pos INTEGER NOT NULL) STRICT;"
+            "INSERT INTO lpis_mark SELECT * FROM other; INSERT INTO lpis_mark SELECT * FROM other; DROP TABLE other",
+        "marks that may be texts": "DROP TABLE lpis_mark; CREATE TABLE lpis_mark (year, pos); INSERT INTO lpis_mark VALUES ('2025', '0'), (2025.0, x'01')",
+        "marks are a view": "DROP TABLE lpis_mark; CREATE VIEW lpis_mark AS SELECT year, pos FROM lpis_row",
+        "marks are a view that never ends":
+            "DROP TABLE lpis_mark; CREATE VIEW lpis_mark AS WITH RECURSIVE n(i) AS (SELECT 0 UNION ALL SELECT i + 1 FROM n) SELECT 2025 AS year, i AS pos FROM n",
+        "the format is of version 2": "UPDATE lpis_format SET version = 2",
+    }
+    return [(name, functools.partial(changed, base=base, script=text, of="marked")) for name, text in texts.items()]
