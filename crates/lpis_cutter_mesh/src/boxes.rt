@@ -21,11 +21,6 @@ pub(crate) fn meet(first: &Box4, second: &Box4) -> bool {
     first.x0 < second.x1 && second.x0 < first.x1 && first.y0 < second.y1 && second.y0 < first.y1
 }
 
-/// 1 where two boxes meet.
-pub(crate) fn overlap(first: &Box4, second: &Box4) -> u32 {
-    if meet(first, second) { 1 } else { 0 }
-}
-
 /// The square of the distance of two points.
 pub(crate) fn length2(a: Point, b: Point) -> i128 {
     let x = a.x.wrapping_sub(b.x) as i128;
@@ -36,6 +31,32 @@ pub(crate) fn length2(a: Point, b: Point) -> i128 {
 /// The box of three points.
 pub(crate) fn box_round(a: Point, b: Point, c: Point) -> Box4 {
     box_of(&Triangle { a, b, c })
+}
+
+/// The box of two points.
+pub(crate) fn box_of_edge(a: Point, b: Point) -> Box4 {
+    Box4 {
+        x0: a.x.min(b.x),
+        y0: a.y.min(b.y),
+        x1: a.x.max(b.x),
+        y1: a.y.max(b.y),
+    }
+}
+
+/// The least box around a box and a point.
+fn box_with(sides: &Box4, p: Point) -> Box4 {
+    Box4 {
+        x0: sides.x0.min(p.x),
+        y0: sides.y0.min(p.y),
+        x1: sides.x1.max(p.x),
+        y1: sides.y1.max(p.y),
+    }
+}
+
+/// The boxes of the triangles that an edge makes with each of two points.
+pub(crate) fn boxes_beside(a: Point, b: Point, first: Point, second: Point) -> [Box4; 2] {
+    let edge = box_of_edge(a, b);
+    [box_with(&edge, first), box_with(&edge, second)]
 }
 
 /// The least box around two.

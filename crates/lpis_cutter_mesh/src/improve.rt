@@ -1,8 +1,9 @@
 //! Diagonals exchanged, so that fewer boxes overlap.
 
-use crate::boxes::{box_round, box_round_both, girth, length2, meet, overlap, size_of};
+use crate::boxes::{box_of_edge, box_round, boxes_beside, girth, length2, size_of};
 use crate::halt::{Halt, number_of};
-use crate::mesh::{Mesh, Side, side_after};
+use crate::mesh::{Mesh, MeshTriangle, Side};
+use crate::trade::Trade;
 use lpis_points::{Box4, Point, orient};
 use std::alloc::Global;
 
@@ -27,13 +28,24 @@ const CENTIMETRE: i128 = 10;
 /// Two triangles on either side of a diagonal from a to b: (a, b, c) and (b, a, d).
 #[derive(Clone, Copy)]
 struct Quad {
-    /// The diagonal as a side of the first triangle, and of the second.
-    side: Side,
-    other: Side,
+    /// The two triangles.
+    first: u32,
+    second: u32,
     a: u32,
     b: u32,
     c: u32,
     d: u32,
+    /// What lies across the sides from a to d, d to b, b to c and c to a.
+    around: [Option<Side>; 4],
+}
+
+/// The corners of a quad.
+#[derive(Clone, Copy)]
+struct Corners {
+    a: Point,
+    b: Point,
+    c: Point,
+    d: Point,
 }
 
 /// Exchanges the diagonals of triangles. No exchange can spoil a cut; they only decide how many
@@ -43,8 +55,8 @@ pub(crate) struct Improver {
     waiting: Vec<Side>,
     /// Whether each side of each triangle waits.
     waits: Vec<[bool; 3]>,
-    /// The boxes of the triangles in their order, then those of the edges on the border, whose
-    /// neighbour is at least as wide: for `AllOverlaps`.
+    /// The boxes of the triangles in their order; for `AllOverlaps` then those of the edges on the
+    /// border, whose neighbour is at least as wide.
     boxes: Vec<Box4>,
 }
 
@@ -57,49 +69,59 @@ fn corners_of(points: &[Point], corners: [u32; 3]) -> Option<(Point, Point, Poin
     ))
 }
 
-/// The box of what lies across a side from a to b: of a triangle, or of the bare edge.
-fn box_across(points: &[Point], mesh: &Mesh, side: Side, a: Point, b: Point) -> Box4 {
-    if let Some(other) = mesh.across(side)
-        && let Some(triangle) = mesh.triangles.get(other.triangle as usize)
-        && let Some((p, q, r)) = corners_of(points, triangle.corners)
-    {
-        return box_round(p, q, r);
+/// A triangle whose first corner is the one from which a side goes.
+fn turned(triangle: &MeshTriangle, k: u8) -> MeshTriangle {
+    let [a, b, c] = triangle.corners;
+    let [over_ab, over_bc, over_ca] = triangle.across;
+    match k {
+        0 => *triangle,
+        1 => MeshTriangle {
+            corners: [b, c, a],
+            across: [over_bc, over_ca, over_ab],
+        },
+        _ => MeshTriangle {
+            corners: [c, a, b],
+            across: [over_ca, over_ab, over_bc],
+        },
     }
-    box_round(a, b, a)
 }
 
 /// The two triangles on either side of a side, if it is a diagonal.
 fn quad_at(mesh: &Mesh, side: Side) -> Option<Quad> {
-    let other = mesh.across(side)?;
+    let first = turned(mesh.triangles.get(side.triangle as usize)?, side.k);
+    let [a, b, c] = first.corners;
+    let [other, over_bc, over_ca] = first.across;
+    let other = other?;
+    let second = turned(mesh.triangles.get(other.triangle as usize)?, other.k);
+    let [_, _, d] = second.corners;
+    let [_, over_ad, over_db] = second.across;
     Some(Quad {
-        side,
-        other,
-        a: mesh.corner(side)?,
-        b: mesh.corner(other)?,
-        c: mesh.corner(side_after(side_after(side)))?,
-        d: mesh.corner(side_after(side_after(other)))?,
+        first: side.triangle,
+        second: other.triangle,
+        a,
+        b,
+        c,
+        d,
+        around: [over_ad, over_db, over_bc, over_ca],
     })
 }
 
-/// The overlaps of two boxes with each other and with four others.
-fn overlaps(boxes: &[Box4; 2], around: &[Box4; 4]) -> u32 {
-    let [first, second] = boxes;
-    let mut count = overlap(first, second);
-    for other in around {
-        count = count.wrapping_add(overlap(first, other));
-        count = count.wrapping_add(overlap(second, other));
+/// The corners of a quad, if the other diagonal lies inside it.
+fn convex_corners(points: &[Point], quad: &Quad) -> Option<Corners> {
+    let a = *points.get(quad.a as usize)?;
+    let b = *points.get(quad.b as usize)?;
+    let c = *points.get(quad.c as usize)?;
+    let d = *points.get(quad.d as usize)?;
+    if orient(a, d, c) <= 0 || orient(d, b, c) <= 0 {
+        return None;
     }
-    count
+    Some(Corners { a, b, c, d })
 }
 
 /// Puts the other diagonal: the triangles become (a, d, c) and (d, b, c).
 fn exchange(mesh: &mut Mesh, quad: &Quad) {
-    let t = quad.side.triangle;
-    let u = quad.other.triangle;
-    let from_a_to_d = mesh.across(side_after(quad.other));
-    let from_d_to_b = mesh.across(side_after(side_after(quad.other)));
-    let from_b_to_c = mesh.across(side_after(quad.side));
-    let from_c_to_a = mesh.across(side_after(side_after(quad.side)));
+    let (t, u) = (quad.first, quad.second);
+    let [from_a_to_d, from_d_to_b, from_b_to_c, from_c_to_a] = quad.around;
     mesh.set_corners(t, [quad.a, quad.d, quad.c]);
     mesh.set_corners(u, [quad.d, quad.b, quad.c]);
     mesh.glue(Side { triangle: t, k: 0 }, from_a_to_d);
@@ -109,18 +131,24 @@ fn exchange(mesh: &mut Mesh, quad: &Quad) {
     mesh.glue(Side { triangle: u, k: 1 }, from_b_to_c);
 }
 
-/// An eighth of the mean of w + h over the boxes of triangles, rounded down to whole centimetres.
-fn mean_girth(points: &[Point], mesh: &Mesh) -> i128 {
+/// An eighth of the mean of w + h over boxes, rounded down to whole centimetres.
+fn mean_girth(boxes: &[Box4]) -> i128 {
     let mut sum: i128 = 0;
-    for triangle in &mesh.triangles {
-        if let Some((a, b, c)) = corners_of(points, triangle.corners) {
-            sum = sum.wrapping_add(girth(&box_round(a, b, c)));
-        }
+    for sides in boxes {
+        sum = sum.wrapping_add(girth(sides));
     }
-    let count = mesh.triangles.len().max(1) as i128;
+    let count = boxes.len().max(1) as i128;
     let eighths = count.wrapping_mul(8).wrapping_mul(CENTIMETRE);
     let centimetres = sum.checked_div(eighths).unwrap_or(0);
     centimetres.wrapping_mul(CENTIMETRE)
+}
+
+/// Whether a later triangle than this one is across.
+fn is_to_later(across: Option<Side>, number: u32) -> bool {
+    match across {
+        Some(other) => other.triangle > number,
+        None => false,
+    }
 }
 
 impl Improver {
@@ -137,16 +165,16 @@ impl Improver {
     pub(crate) fn improve(&mut self, points: &[Point], mesh: &mut Mesh) -> Result<(), Halt> {
         let count = mesh.triangles.len();
         let looks = count.saturating_mul(12);
-        self.boxes.clear();
         if count < 2 {
             return Ok(());
         }
+        self.fill_boxes(points, mesh)?;
         if count <= FEW {
             self.round(points, mesh, Goal::Overlaps, looks)?;
-            self.fill_boxes(points, mesh)?;
+            self.add_borders(points, mesh)?;
             return self.round(points, mesh, Goal::AllOverlaps, looks);
         }
-        let scale = mean_girth(points, mesh);
+        let scale = mean_girth(&self.boxes);
         self.round(points, mesh, Goal::Size(scale), count.saturating_mul(60))?;
         self.round(points, mesh, Goal::Overlaps, looks)
     }
@@ -167,81 +195,97 @@ impl Improver {
             };
             self.set_waits(side, false);
             if let Some(quad) = quad_at(mesh, side)
-                && self.is_better(points, mesh, &quad, goal) == Some(true)
+                && let Some(corners) = convex_corners(points, &quad)
+                && let Some(new) = self.better(&quad, &corners, goal)
             {
                 exchange(mesh, &quad);
-                self.set_box(points, mesh, quad.side.triangle);
-                self.set_box(points, mesh, quad.other.triangle);
+                let [first, second] = new;
+                self.set_box(quad.first, first);
+                self.set_box(quad.second, second);
                 self.wait_around(mesh, &quad)?;
             }
         }
         Ok(())
     }
 
-    /// Whether the other diagonal is better.
-    fn is_better(&self, points: &[Point], mesh: &Mesh, quad: &Quad, goal: Goal) -> Option<bool> {
-        let a = *points.get(quad.a as usize)?;
-        let b = *points.get(quad.b as usize)?;
-        let c = *points.get(quad.c as usize)?;
-        let d = *points.get(quad.d as usize)?;
-        if orient(a, d, c) <= 0 || orient(d, b, c) <= 0 {
-            return Some(false);
-        }
-        let old = [box_round(a, b, c), box_round(b, a, d)];
-        let new = [box_round(a, d, c), box_round(d, b, c)];
-        match goal {
+    /// The boxes of the triangles on either side of the other diagonal, if that is better.
+    fn better(&self, quad: &Quad, corners: &Corners, goal: Goal) -> Option<[Box4; 2]> {
+        let old = [
+            *self.boxes.get(quad.first as usize)?,
+            *self.boxes.get(quad.second as usize)?,
+        ];
+        let Corners { a, b, c, d } = *corners;
+        let new = boxes_beside(c, d, a, b);
+        let is_better = match goal {
             Goal::Size(scale) => {
                 let less = size_of(&old, scale).wrapping_sub(size_of(&new, scale));
-                Some(less > 0 || less == 0 && length2(c, d) < length2(a, b))
+                less > 0 || less == 0 && length2(c, d) < length2(a, b)
             }
             Goal::Overlaps => {
-                let around = [
-                    box_across(points, mesh, side_after(quad.other), a, d),
-                    box_across(points, mesh, side_after(side_after(quad.other)), d, b),
-                    box_across(points, mesh, side_after(quad.side), b, c),
-                    box_across(points, mesh, side_after(side_after(quad.side)), c, a),
-                ];
-                let was = overlaps(&old, &around);
-                let will = overlaps(&new, &around);
-                Some(will < was || will == was && size_of(&new, 0) < size_of(&old, 0))
+                let gain = self.gain_nearby(quad, corners, &Trade::of(&old, &new));
+                gain > 0 || gain == 0 && size_of(&new, 0) < size_of(&old, 0)
             }
-            Goal::AllOverlaps => Some(self.has_fewer(quad, &old, &new)),
-        }
+            Goal::AllOverlaps => self.gain_in_all(quad, &Trade::of(&old, &new)) > 0,
+        };
+        if is_better { Some(new) } else { None }
     }
 
-    /// Whether the new boxes of two triangles overlap less among all than the old ones.
-    fn has_fewer(&self, quad: &Quad, old: &[Box4; 2], new: &[Box4; 2]) -> bool {
-        let [old_first, old_second] = old;
-        let [new_first, new_second] = new;
-        let room = box_round_both(old_first, old_second);
-        let mut was = overlap(old_first, old_second);
-        let mut will = overlap(new_first, new_second);
+    /// By how much the overlaps among the boxes of two triangles and of what lies across their
+    /// sides fall.
+    fn gain_nearby(&self, quad: &Quad, corners: &Corners, trade: &Trade) -> i32 {
+        let Corners { a, b, c, d } = *corners;
+        let [over_ad, over_db, over_bc, over_ca] = quad.around;
+        let mut gain = trade.own_gain();
+        for (across, from, to) in [
+            (over_ad, a, d),
+            (over_db, d, b),
+            (over_bc, b, c),
+            (over_ca, c, a),
+        ] {
+            let sides = match across {
+                Some(side) => self.boxes.get(side.triangle as usize).copied(),
+                None => None,
+            };
+            let sides = sides.unwrap_or(box_of_edge(from, to));
+            gain = gain.wrapping_add(trade.gain(&sides));
+        }
+        gain
+    }
+
+    /// By how much the overlaps of the boxes of two triangles with each other and with all others
+    /// fall.
+    fn gain_in_all(&self, quad: &Quad, trade: &Trade) -> i32 {
+        let mut gain = trade.own_gain();
         for (index, other) in self.boxes.iter().enumerate() {
-            let is_one = index == quad.side.triangle as usize
-                || index == quad.other.triangle as usize;
-            if !is_one && meet(&room, other) {
-                was = was.wrapping_add(overlap(old_first, other));
-                was = was.wrapping_add(overlap(old_second, other));
-                will = will.wrapping_add(overlap(new_first, other));
-                will = will.wrapping_add(overlap(new_second, other));
+            if trade.is_near(other)
+                && index != quad.first as usize
+                && index != quad.second as usize
+            {
+                gain = gain.wrapping_add(trade.gain_near(other));
             }
         }
-        will < was
+        gain
     }
 
-    /// Makes the list of all boxes.
+    /// Makes the list of the triangles' boxes.
     fn fill_boxes(&mut self, points: &[Point], mesh: &Mesh) -> Result<(), Halt> {
+        self.boxes.clear();
         for triangle in &mesh.triangles {
             if let Some((a, b, c)) = corners_of(points, triangle.corners) {
                 self.boxes.push(box_round(a, b, c))?;
             }
         }
+        Ok(())
+    }
+
+    /// Lists the boxes of the edges on the border behind those of the triangles.
+    fn add_borders(&mut self, points: &[Point], mesh: &Mesh) -> Result<(), Halt> {
         for triangle in &mesh.triangles {
             if let Some((a, b, c)) = corners_of(points, triangle.corners) {
                 let [over_ab, over_bc, over_ca] = triangle.across;
                 for (across, from, to) in [(over_ab, a, b), (over_bc, b, c), (over_ca, c, a)] {
                     if across.is_none() {
-                        self.boxes.push(box_round(from, to, from))?;
+                        self.boxes.push(box_of_edge(from, to))?;
                     }
                 }
             }
@@ -249,13 +293,10 @@ impl Improver {
         Ok(())
     }
 
-    /// Sets a triangle's box to that of its corners, where boxes are listed.
-    fn set_box(&mut self, points: &[Point], mesh: &Mesh, number: u32) {
-        if let Some(sides) = self.boxes.get_mut(number as usize)
-            && let Some(triangle) = mesh.triangles.get(number as usize)
-            && let Some((a, b, c)) = corners_of(points, triangle.corners)
-        {
-            *sides = box_round(a, b, c);
+    /// Sets a triangle's box.
+    fn set_box(&mut self, number: u32, new: Box4) {
+        if let Some(sides) = self.boxes.get_mut(number as usize) {
+            *sides = new;
         }
     }
 
@@ -278,28 +319,30 @@ impl Improver {
     fn fill(&mut self, mesh: &Mesh) -> Result<(), Halt> {
         self.waiting.clear();
         self.waits.clear();
-        for _ in 0..mesh.triangles.len() {
-            self.waits.push([false; 3])?;
-        }
-        for index in 0..mesh.triangles.len() {
-            let triangle = number_of(index)?;
-            for k in 0..3 {
-                let side = Side { triangle, k };
-                if let Some(other) = mesh.across(side)
-                    && other.triangle > triangle
-                {
-                    self.waiting.push(side)?;
-                    self.set_waits(side, true);
+        for (index, triangle) in mesh.triangles.iter().enumerate() {
+            let number = number_of(index)?;
+            let [ab, bc, ca] = triangle.across;
+            let waits = [
+                is_to_later(ab, number),
+                is_to_later(bc, number),
+                is_to_later(ca, number),
+            ];
+            for (k, is_waiting) in waits.iter().enumerate() {
+                if *is_waiting {
+                    self.waiting.push(Side {
+                        triangle: number,
+                        k: k as u8,
+                    })?;
                 }
             }
+            self.waits.push(waits)?;
         }
         Ok(())
     }
 
     /// Lets the four sides of an exchanged pair wait.
     fn wait_around(&mut self, mesh: &Mesh, quad: &Quad) -> Result<(), Halt> {
-        let t = quad.side.triangle;
-        let u = quad.other.triangle;
+        let (t, u) = (quad.first, quad.second);
         for side in [
             Side { triangle: t, k: 0 },
             Side { triangle: t, k: 2 },

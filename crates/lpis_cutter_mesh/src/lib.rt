@@ -15,5 +15,6 @@ mod mesher;
 mod plane;
 mod replacing;
 mod sweep;
+mod trade;
 
 pub use mesher::{Cut, Mesher};

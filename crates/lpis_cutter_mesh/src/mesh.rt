@@ -24,19 +24,6 @@ pub(crate) struct Mesh {
     pub(crate) triangles: Vec<MeshTriangle>,
 }
 
-/// The next side of a triangle.
-pub(crate) fn side_after(side: Side) -> Side {
-    let k = match side.k {
-        0 => 1,
-        1 => 2,
-        _ => 0,
-    };
-    Side {
-        triangle: side.triangle,
-        k,
-    }
-}
-
 impl Mesh {
     pub(crate) fn new(alloc: Global) -> Mesh {
         Mesh {
@@ -52,12 +39,6 @@ impl Mesh {
             across: [None; 3],
         })?;
         Ok(number)
-    }
-
-    /// The corner from which a side goes.
-    pub(crate) fn corner(&self, side: Side) -> Option<u32> {
-        let triangle = self.triangles.get(side.triangle as usize)?;
-        triangle.corners.get(side.k as usize).copied()
     }
 
     /// The side across a side.

@@ -60,6 +60,9 @@ impl Mesher {
     }
 
     fn try_cut(&mut self) -> Result<Cut, Halt> {
+        if let Some(triangle) = self.sweep.plane.lone_triangle() {
+            return self.cut_of(triangle);
+        }
         self.sweep.run(Rooms::Once)?;
         if self.sweep.chains.mesh.triangles.is_empty() {
             return Err(Halt::NoCut);
@@ -69,6 +72,16 @@ impl Mesher {
         Ok(Cut {
             triangles: self.triangles()?,
             flats: self.flats()?,
+        })
+    }
+
+    /// The cut of one triangle.
+    fn cut_of(&self, triangle: Triangle) -> Result<Cut, Halt> {
+        let mut triangles = Vec::with_capacity(self.alloc, 1)?;
+        triangles.push(triangle)?;
+        Ok(Cut {
+            triangles,
+            flats: Vec::new(self.alloc),
         })
     }
 

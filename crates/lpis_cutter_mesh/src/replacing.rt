@@ -10,13 +10,13 @@ pub(crate) fn replace(
     new: &[u32],
 ) -> Result<(), Halt> {
     let both = count.min(new.len());
+    let end = at.saturating_add(both);
     for (k, item) in new.iter().take(both).enumerate() {
         if let Some(old) = items.get_mut(at.saturating_add(k)) {
             *old = *item;
         }
     }
-    let end = at.saturating_add(both);
-    for item in new.iter().skip(both).rev() {
+    for item in new.get(both..).unwrap_or(&[]).iter().rev() {
         if end <= items.len() {
             items.insert(end, *item)?;
         }

@@ -175,7 +175,7 @@ impl Sweep {
         self.add_flats(edge.low, edge.high, point, edge.count)?;
         self.plane.add_edge(point, edge.high, edge.count)?;
         self.drop_end(edge.high);
-        self.plane.set_end(number, point);
+        self.plane.set_end(number, point)?;
         self.add_end(point);
         Ok(())
     }
