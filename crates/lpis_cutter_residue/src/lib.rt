@@ -8,7 +8,10 @@
 //! Nothing is promised of a point or a flat: who uses one tests it. Every call returns.
 #![tactic(auto)]
 
+mod cone;
+mod fractions;
 mod net;
+mod overlap;
 mod rooms;
 mod shared;
 mod vectors;

@@ -1,5 +1,6 @@
 //! Points of rooms that residual edges bound.
 
+use crate::cone::step_between;
 use crate::net::NetEdge;
 use crate::vectors::{CENTIMETRE, Vector, along, cross, floor_div, product, rational, step};
 use lpis_cutter_mesh::Mesher;
@@ -143,7 +144,7 @@ fn half_way(corner: Point, m: Vector, reach: i64, unit: i64, d: i64) -> Option<R
 }
 
 /// Points a way from a corner between two residual edges that leave it, half as far as the first
-/// edge that is met.
+/// edge that is met, and as little as whole numbers can name.
 fn points_between(
     alloc: Global,
     rest: &[NetEdge],
@@ -170,6 +171,13 @@ fn points_between(
     }
     if let Some(p) = half_way(corner, m, reach, 1, 1_000_000) {
         points.push(p)?;
+    }
+    if let Some(simplest) = step_between(u, w) {
+        for d in [1000, 1_000_000] {
+            if let Some(p) = along(corner, simplest, 1, d) {
+                points.push(p)?;
+            }
+        }
     }
     Ok(points)
 }

@@ -1,5 +1,6 @@
 //! Points that two triangles share, as far as whole numbers can name them.
 
+use crate::overlap::common_point;
 use crate::vectors::{
     CENTIMETRE, Vector, along, cross, floor_div, product, rational, step, turns_of,
 };
@@ -142,7 +143,7 @@ fn push_inner(
 }
 
 /// Points that may lie in both of two triangles that overlap: of any overlap with a little width
-/// the first does.
+/// the first does, and of a thin one the last, where its denominator is in range.
 pub fn points_in_both(
     alloc: Global,
     s: &Triangle,
@@ -164,6 +165,9 @@ pub fn points_in_both(
     }
     let (unit, d) = (1, 1_000_000);
     if let Some(p) = mean(s, t, Grid { unit, d }) {
+        points.push(p)?;
+    }
+    if let Some(p) = common_point(alloc, s, t)? {
         points.push(p)?;
     }
     Ok(points)
