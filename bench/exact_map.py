@@ -6,10 +6,10 @@ rule. Nothing here triangulates, and no order of a sweep is kept from strip to s
 
 from fractions import Fraction
 
+from least_points import MOST, on_line, point_in
 from tables import orient
 
 LIMIT = 20_000_000_000  # the range of a coordinate, in millimetres
-MOST = 1_000_000  # the greatest denominator of a point that is told
 
 
 def shoelace(ring):
@@ -60,6 +60,30 @@ def meeting(s, t):
     (a, b), (c, d) = s, t
     part = Fraction(orient(c, d, a), orient(c, d, a) - orient(c, d, b))
     return a[0] + part * (b[0] - a[0]), a[1] + part * (b[1] - a[1])
+
+
+def at_height(segment, y):
+    (x0, y0), (x1, y1) = segment
+    return x0 + (y - y0) * (x1 - x0) / Fraction(y1 - y0), y
+
+
+def trapezoid(left, right, low, high):
+    """The part of a strip between two segments that pass it."""
+    low, high = Fraction(low), Fraction(high)
+    return [at_height(left, low), at_height(right, low), at_height(right, high), at_height(left, high)]
+
+
+def points_of(corners):
+    """Points of least denominators in a trapezoid, and on its level sides, which part no face."""
+    found = point_in(corners)
+    if found:
+        yield found
+    for height in {corners[0][1], corners[2][1]}:
+        if height.denominator <= MOST:
+            level = on_line(corners, lambda p: p[1], lambda p: p[0], height)
+            if level:
+                d, y, x = level
+                yield x, y, d
 
 
 def area2(polygon):
@@ -152,8 +176,10 @@ class Truth:
                     self.bad.add(number)
             self.uneven |= {parcel for parcel, value in excess.items() if value}
             if place + 1 < len(met) and self.is_wrong(inside):
-                width = met[place + 1][0] - x
-                self.faces.append((width * thickness, x + width / 2, height))
+                right, beyond = met[place + 1]
+                width = right - x
+                corners = trapezoid(passed[0], beyond[0], height - thickness / 2, height + thickness / 2)
+                self.faces.append((width * thickness, x + width / 2, height, corners))
 
     def is_wrong(self, inside):
         parcels = {number for number in range(self.first) if inside[number]}
@@ -172,12 +198,13 @@ class Truth:
 
     def fault_point(self):
         """A point with whole numbers, the denominator at most a million, in one of the largest wrong faces."""
-        for _, x, y in sorted(self.faces, reverse=True)[:8]:
-            for d in (1, 10, 1_000, MOST):
-                point = (round(x * d), round(y * d), d)
-                if is_point(*point) and self.is_wrong([contains(polygon, point) for polygon in self.polygons]):
-                    return point
-        return None
+        largest = sorted(self.faces, reverse=True)
+        near = ((round(x * d), round(y * d), d) for _, x, y, _ in largest[:8] for d in (1, 10, 1_000, MOST))
+        found = next(filter(self.shows_fault, near), None)
+        return found or next(filter(self.shows_fault, (point for *_, corners in largest[:50] for point in points_of(corners))), None)
+
+    def shows_fault(self, point):
+        return is_point(*point) and self.is_wrong([contains(polygon, point) for polygon in self.polygons])
 
     def report(self, percents):
         """The report of the release, where it is sound: half a square millimetre is 5 / 10^7 square metres."""

@@ -11,6 +11,7 @@ import random
 from exact_map import LIMIT, shoelace
 from tables import orient
 
+THIN = 10_000_000  # from this number on each mutation is a thin overlap
 WIDTHS = [[1], [1, 2, 3], [1, 1, 2, 7, 1_000], [1, 40, 90_000], [5, 6, 7], [400, 500, 600]]
 
 
@@ -213,14 +214,16 @@ class Release:
             heaps.pop()  # nobody's
         self.heaps = [[set(heap), [share for share in self.mesh.deal(heap, self.numbers.randint(1, 3)) if share]] for heap in heaps]
         changes = [self.numbers.choice(HEAP_MUTATIONS + POLYGON_MUTATIONS)] if mutated else []
-        if mutated and self.numbers.random() < 0.2:
+        if mutated and number >= THIN:
+            changes = [thin_overlap]
+        elif mutated and self.numbers.random() < 0.2:
             changes += [self.numbers.choice(POLYGON_MUTATIONS) for _ in range(self.numbers.randint(1, 3))]
         for change in changes:
             if change in HEAP_MUTATIONS:
                 change(self)
         self.draw()
         for change in changes:
-            if change in POLYGON_MUTATIONS:
+            if change not in HEAP_MUTATIONS:
                 change(self)
         if changes:
             self.mutation = "several" if len(changes) > 1 else changes[0].__name__.replace("_", " ")
@@ -372,6 +375,44 @@ def parcels_on_a_hair(release):
     low = [(0, 0), (length, release.numbers.randint(-1, 1)), (length, -20), (0, -20)]
     high = [(0, 0), (length, release.numbers.randint(-1, 1)), (length + 3, 40), (1, 30)]
     replaced(release, low=low, high=high)
+
+
+def thin_overlap(release):
+    """Two parcels, triangles: they nearly share a long edge, or a corner of one is by a hair on the wrong side of an edge of the other."""
+    numbers = release.numbers
+    length = numbers.choice([60, 3_000, 10**5, 10**6, 10**7, 10**9 // 3])
+
+    def somewhere(most):
+        return numbers.randint(-most, most), numbers.randint(-most, most)
+
+    def beside(point, most):
+        return tuple(value + step for value, step in zip(point, somewhere(most)))
+
+    end = numbers.choice([somewhere(length), (length, numbers.randint(-3, 3)), (length, numbers.randint(1, length))])
+    part, wide = numbers.random(), numbers.choice([3, 50, length])
+    low = [(0, 0), end, beside([round(part * value) for value in end], wide)]
+    if numbers.random() < 0.4:
+        high = [beside((0, 0), 1), beside(end, 1), beside([round(part * value) for value in end], wide)]
+    else:
+        corner = close_point(end, numbers.randint(1, 5), part)
+        high = [corner, beside(corner, numbers.choice([3, 50, length])), beside(corner, length)]
+    rings = {name: ring if orient(*ring) > 0 else ring[::-1] for name, ring in (("low", low), ("high", high))}
+    if all(orient(*ring) > 0 for ring in rings.values()):
+        replaced(release, **rings)
+
+
+def close_point(end, off, part):
+    """A point near the line from the origin to an end: so many times as far from it as the nearest that is not on it, about that part of
+    the way along."""
+    x, y = end
+    shared = math.gcd(x, y)
+    if abs(x) <= 1 or shared == 0:
+        return end
+    x, y = x // shared, y // shared
+    there = pow(y, -1, abs(x)) * -off % abs(x)  # y * there + off is a multiple of x
+    point = there, (y * there + off) // x
+    times = round(part * shared)
+    return point[0] + times * x, point[1] + times * y
 
 
 HEAP_MUTATIONS = [lost_triangle, triangle_given_twice]
