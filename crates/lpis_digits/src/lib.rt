@@ -11,7 +11,7 @@ mod reading;
 mod writing;
 
 pub use powers::power_of_ten;
-pub use reading::{Digits, MOST_DIGITS, leading_digits};
+pub use reading::{Digits, MOST_DIGITS, leading_digits, short_digits};
 pub use writing::{
     MOST_BYTES, append_decimal, append_signed, put_byte, put_decimal, put_last_digits, put_signed,
 };

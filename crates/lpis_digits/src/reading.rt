@@ -1,7 +1,7 @@
 //! The digits that a text begins with.
 
 ghost use Rattle.std.specs.Prelude.{◌≡◌, ◌<◌, ◌≤◌, ◌^◌, length, take, min, true, false};
-ghost use Rattle.std.specs.Prelude.{get_or};
+ghost use Rattle.std.specs.Prelude.{get_or, IfSome};
 ghost use Rattle.std.specs.List.{list_all, prefix_len};
 ghost use Rattle.std.specs.Char.{is_ascii_digit};
 ghost use Rattle.std.specs.Str.Parse.{digits_value};
@@ -65,6 +65,26 @@ fn first_digits(text: &[u8]) -> Digits
         digits_of_short(text)
     } else {
         digits_of_word(text)
+    }
+}
+
+/// The digits that a text of eight bytes or more begins with, if they are one to seven: the quickest
+/// way to read them.
+#[inline(always)]
+pub fn short_digits(text: &[u8]) -> Option<Digits>
+    requires { 8 ≤ length text.now }
+    ensures some { IfSome result (λ d. (0 < d.count) × (d.count < 8)) }
+    ensures count { IfSome result (λ d. d.count ≡ prefix_len is_ascii_digit text.now) }
+    ensures value { IfSome result (λ d. d.value ≡ digits_value 10 (take d.count text.now)) }
+    ensures digits { IfSome result
+        (λ d. list_all is_ascii_digit (take d.count text.now) ≡ true) }
+    ensures few { IfSome result (λ d. d.value < 10 ^ d.count) }
+{
+    let digits = digits_of_word(text);
+    if digits.count == 0 || digits.count == WORD {
+        None
+    } else {
+        Some(digits)
     }
 }
 

@@ -1,4 +1,3 @@
-pub mod DigitLemmas
 pub mod SlotLemmas
 pub mod StripLemmas
 pub mod PointsLemmas

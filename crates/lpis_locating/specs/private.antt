@@ -1,5 +1,4 @@
 -- Machinery, cited by private contracts alone: no promise rests on it.
-pub mod Digits
 pub mod Insides
 pub mod Reaches
 pub mod Slots

@@ -1,6 +1,7 @@
 -- Each state that is reached has tokens that complete it, so each prefix that the machine takes begins a text of the
 -- grammar.
 use Rattle.std.proofs.Common.{◌≡◌, ℕ, ◌-◌, ◌<◌, Bool, true, false, cond, List, [], ◌∷◌, ◌++◌, length, pos, Some, Ok, refl, sym, subst, ◌∙◌, append_assoc, arith, length-append, codes, slice_get}
+use Rattle.lpis_wkt.specs.Number.{number_within}
 use Rattle.lpis_wkt.proofs.Common.{Point, Member, IsRing, Coordinate, Token, Open, Close, Comma, Word, End, number, coordinate_in_range, point_of, PointText, Commas, Context, ParserState, AtKeyword}
 use Rattle.lpis_wkt.proofs.Common.{AfterKeyword}
 use Rattle.lpis_wkt.proofs.Common.{AtBody, AtRing, AtX, AtY, AfterPoint, AfterRing, AfterBody, AtEnd, Finished, with_ring, close_body, open_text, member_of, parse_then, run}
@@ -108,7 +109,7 @@ abbrev pub origin : Coordinate
 origin = record { value = pos 0; in_range = (omega (arith, ints), omega (arith, ints)) }
 
 zero-number : number (codes "0") ≡ Ok (pos 0)
-unfolding number
+unfolding number number_within
 zero-number = refl
 
 -- the word `0` spells the coordinate 0

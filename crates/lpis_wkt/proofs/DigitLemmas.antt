@@ -1,11 +1,15 @@
 -- Digits and the number that they write.
-use Rattle.std.proofs.Common.{suc, add-zero, get_or-drop, ◌≡◌, ℕ, ◌+◌, ◌-◌, ◌*◌, ◌<◌, ◌≤◌, Bool, true, false, cond, List, [], ◌∷◌, ◌++◌, length, take, drop, get_or, Option, Some, None, refl, sym, ap}
+use Rattle.std.proofs.Common.{zero, suc, ◌^◌, add-zero, get_or-drop, ◌≡◌, ℕ, ◌+◌, ◌-◌, ◌*◌, ◌<◌, ◌≤◌, Bool, true, false, cond}
+use Rattle.std.proofs.Common.{List, [], ◌∷◌, ◌++◌, length, take, drop, get_or, Option, Some, None, refl, sym, ap}
 use Rattle.std.proofs.Common.{◌∙◌, arith, nat_lt, drop-cons, add-one, length-drop, MatchOption, position}
-use Rattle.lpis_wkt.proofs.Common.{and_parts, nat_tests, list_all, digits_value_after, is_ascii_digit, greatest_coordinate, padded}
+use Rattle.lpis_wkt.proofs.Common.{and_parts, nat_tests, list_all, digits_value, digits_value_after, is_ascii_digit, padded}
 use Rattle.std.proofs.lemmas.Str.{digit_value_digit}
 use Rattle.std.proofs.lemmas.List.{drop_all, take_all, drop-drop}
 use Rattle.std.specs.List.{position_or_len, before_first, after_first}
 use Rattle.std.specs.Char.{digit_value}
+use Rattle.std.proofs.Math.Nat.{add-mul, mul_assoc, pow-succ'}
+use Rattle.std.proofs.lemmas.Nat.{mul-le, pow-add}
+use Rattle.lpis_digits.proofs.Shared.{value_behind}
 use Rattle.lpis_wkt.specs.Number.{is_point}
 
 -- digits behind a number never make it less
@@ -89,13 +93,57 @@ decimal_above v n total ds i lt e =
 pub size_after : (ds more : List ℕ) → digits_value_after 10 0 (ds ++ more) ≡ digits_value_after 10 (digits_value_after 10 0 ds) more
 size_after ds more = value-append 0 ds more
 
--- where digits are past the greatest coordinate, so are they with more digits, and `None` is the right answer
-pub whole_above : (ds more : List ℕ) (r : Option ℕ) (P : ℕ → Type 0) → greatest_coordinate < digits_value_after 10 0 ds → r ≡ None
-    → MatchOption r (greatest_coordinate < digits_value_after 10 0 (ds ++ more)) P
-whole_above ds more r P h e =
+-- where digits are past the greatest number, so are they with more digits, and `None` is the right answer
+pub whole_above : (greatest : ℕ) (ds more : List ℕ) (r : Option ℕ) (P : ℕ → Type 0) → greatest < digits_value_after 10 0 ds → r ≡ None
+    → MatchOption r (greatest < digits_value_after 10 0 (ds ++ more)) P
+whole_above greatest ds more r P h e =
     let ge : digits_value_after 10 0 ds ≤ digits_value_after 10 0 (ds ++ more) = rw (size_after ds more) (value-ge (digits_value_after 10 0 ds) more) in
     rw e (omega arith)
 
--- the byte of a digit less 48 is at most 9
-pub digit-low : (b : ℕ) → is_ascii_digit b ≡ true → b - 48 ≤ 9
-digit-low b h = let d = digit_between b h in omega arith
+one-more : (v d p : ℕ) → (v * 10 + d) * p ≡ v * (10 * p) + d * p
+one-more v d p = omega arith
+
+-- decimals with zeros behind them are worth so many powers of ten more
+padded_value : (n v : ℕ) (ds : List ℕ) → length ds ≤ n → digits_value_after 10 v (padded n ds) ≡ digits_value_after 10 v ds * 10 ^ (n - length ds)
+padded_value zero v [] le = omega arith
+padded_value zero v (d ∷ ds) le = absurd (omega arith)
+padded_value (suc n) v [] le =
+    let later : digits_value_after 10 (v * 10 + 0) (padded n []) ≡ (v * 10 + 0) * 10 ^ (n - 0) = padded_value n (v * 10 + 0) [] (omega arith) in
+    let same : n - 0 ≡ n = omega arith in
+    let less : suc n - 0 ≡ suc n = omega arith in
+    let power : 10 ^ suc n ≡ 10 * 10 ^ n = pow-succ' 10 n in
+    let whole : (v * 10 + 0) * 10 ^ n ≡ v * (10 * 10 ^ n) + 0 * 10 ^ n = one-more v 0 (10 ^ n) in
+    later ∙ rw (same, less, power, whole) (omega arith)
+padded_value (suc n) v (d ∷ ds) le =
+    let less : suc n - suc (length ds) ≡ n - length ds = omega arith in
+    padded_value n (v * 10 + digit_value d) ds (omega arith) ∙ ap (λ k. digits_value_after 10 (v * 10 + digit_value d) ds * 10 ^ k) (sym less)
+
+-- digits, and decimals behind them with zeros: what the digits are worth, and what the decimals are worth
+pub size_is : (n : ℕ) (ds more : List ℕ) → length more ≤ n
+    → digits_value 10 (ds ++ padded n more) ≡ digits_value 10 ds * 10 ^ n + digits_value 10 more * 10 ^ (n - length more)
+size_is n ds more le =
+    let v : ℕ = digits_value 10 ds in
+    let r : ℕ = digits_value 10 more in
+    let k : ℕ = length more in
+    let scaled : digits_value_after 10 v (padded n more) ≡ digits_value_after 10 v more * 10 ^ (n - k) = padded_value n v more le in
+    let behind : digits_value_after 10 v more ≡ v * 10 ^ k + r = value_behind v more in
+    let parts : (v * 10 ^ k + r) * 10 ^ (n - k) ≡ v * 10 ^ k * 10 ^ (n - k) + r * 10 ^ (n - k) = add-mul (v * 10 ^ k) r (10 ^ (n - k)) in
+    let sum : k + (n - k) ≡ n = omega arith in
+    let power : 10 ^ k * 10 ^ (n - k) ≡ 10 ^ n = sym (pow-add 10 k (n - k)) ∙ ap (λ j. 10 ^ j) sum in
+    let whole : v * 10 ^ k * 10 ^ (n - k) ≡ v * 10 ^ n = mul_assoc v (10 ^ k) (10 ^ (n - k)) ∙ ap (λ x. v * x) power in
+    size_after ds (padded n more) ∙ scaled ∙ ap (λ x. x * 10 ^ (n - k)) behind ∙ parts ∙ ap (λ x. x + r * 10 ^ (n - k)) whole
+
+-- a power of ten is not 0
+pub ten_positive : (n : ℕ) → 0 < 10 ^ n
+ten_positive zero = omega arith
+ten_positive (suc n) = let less = ten_positive n in let power : 10 ^ suc n ≡ 10 * 10 ^ n = pow-succ' 10 n in omega arith
+
+-- what k of n decimals are worth is below one
+pub scaled_below : (a k n : ℕ) → a < 10 ^ k → k ≤ n → a * 10 ^ (n - k) < 10 ^ n
+scaled_below a k n lt le =
+    let p : ℕ = 10 ^ (n - k) in
+    let some : 0 < p = ten_positive (n - k) in
+    let sum : k + (n - k) ≡ n = omega arith in
+    let power : 10 ^ k * p ≡ 10 ^ n = sym (pow-add 10 k (n - k)) ∙ ap (λ j. 10 ^ j) sum in
+    let above : (a + 1) * p ≤ 10 ^ k * p = mul-le (a + 1) p (10 ^ k) p (omega arith) (omega arith) in
+    omega (arith, above, power, some)

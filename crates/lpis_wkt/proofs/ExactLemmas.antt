@@ -3,7 +3,7 @@ use Rattle.std.proofs.Common.{◌≡◌, ℕ, zero, suc, ◌+◌, ◌*◌, ◌^�
 use Rattle.std.proofs.Common.{nat_lt}
 use Rattle.lpis_wkt.proofs.Common.{and_parts, nat_tests, list_all, digits_value, digits_value_after, WktCode, coordinate_decimals, greatest_coordinate, number, padded}
 use Rattle.std.specs.Char.{digit_value}
-use Rattle.lpis_wkt.specs.Number.{whole, decimals, size, is_numeral, is_fine, is_negative, signed}
+use Rattle.lpis_wkt.specs.Number.{number_within, whole, decimals, size, is_numeral, is_fine, is_negative, signed}
 use Rattle.lpis_wkt.specs.private.Runs.{is_zero_digit}
 use Rattle.lpis_wkt.proofs.DigitLemmas.{value-append}
 
@@ -49,27 +49,29 @@ accepted-by : (a b c : Bool) (x y z : WktCode) (n v : ℤ) → cond (not a) (Err
 accepted-by true true false x y z n v h = (refl, cc)
 accepted-by _ _ _ x y z n v h = cc
 
-abs-signed : (negative : Bool) (n : ℕ) → nat_abs (signed negative n) ≡ n
+-- a number with a sign has its amount
+pub abs-signed : (negative : Bool) (n : ℕ) → nat_abs (signed negative n) ≡ n
 abs-signed true (suc n) = refl
 abs-signed _ _ = refl
 
 -- the amount of a number, times ten for each decimal of its word, is a thousand times the value of all its digits
 pub number_is_exact : (w : List ℕ) (z : ℤ) → number w ≡ Ok z → nat_abs z * 10 ^ length (decimals w) ≡ 10 ^ coordinate_decimals * digits_value 10 (whole w ++ decimals w)
-unfolding number
+unfolding number number_within
 number_is_exact w z h =
-    let c = accepted-by (is_numeral w) (is_fine w) (nat_lt greatest_coordinate (size w)) _ _ _ (signed (is_negative w) (size w)) z h in
-    let amount : nat_abs z ≡ size w = ap nat_abs (sym c.1) ∙ abs-signed (is_negative w) (size w) in
-    let front : size w ≡ digits_value_after 10 (digits_value_after 10 0 (whole w)) (padded coordinate_decimals (decimals w)) = value-append 0 (whole w) (padded coordinate_decimals (decimals w)) in
+    let c = accepted-by (is_numeral w) (is_fine coordinate_decimals w) (nat_lt greatest_coordinate (size coordinate_decimals w)) _ _ _ (signed (is_negative w) (size coordinate_decimals w)) z h in
+    let amount : nat_abs z ≡ size coordinate_decimals w = ap nat_abs (sym c.1) ∙ abs-signed (is_negative w) (size coordinate_decimals w) in
+    let front : size coordinate_decimals w ≡ digits_value_after 10 (digits_value_after 10 0 (whole w)) (padded coordinate_decimals (decimals w)) =
+    value-append 0 (whole w) (padded coordinate_decimals (decimals w)) in
     let back : digits_value 10 (whole w ++ decimals w) ≡ digits_value_after 10 (digits_value_after 10 0 (whole w)) (decimals w) = value-append 0 (whole w) (decimals w) in
     rw (amount, front, back) (scaled coordinate_decimals (digits_value_after 10 0 (whole w)) (decimals w) c.0)
 
 -- a number is its amount with its sign
 with_sign : (w : List ℕ) (z : ℤ) (negative : Bool) → is_negative w ≡ negative → number w ≡ Ok z → z ≡ signed negative (nat_abs z)
-unfolding number
+unfolding number number_within
 with_sign w z negative is h =
-    let c = accepted-by (is_numeral w) (is_fine w) (nat_lt greatest_coordinate (size w)) _ _ _ (signed (is_negative w) (size w)) z h in
-    let amount : nat_abs z ≡ size w = ap nat_abs (sym c.1) ∙ abs-signed (is_negative w) (size w) in
-    sym c.1 ∙ ap (λ (b : Bool). signed b (size w)) is ∙ ap (λ (n : ℕ). signed negative n) (sym amount)
+    let c = accepted-by (is_numeral w) (is_fine coordinate_decimals w) (nat_lt greatest_coordinate (size coordinate_decimals w)) _ _ _ (signed (is_negative w) (size coordinate_decimals w)) z h in
+    let amount : nat_abs z ≡ size coordinate_decimals w = ap nat_abs (sym c.1) ∙ abs-signed (is_negative w) (size coordinate_decimals w) in
+    sym c.1 ∙ ap (λ (b : Bool). signed b (size coordinate_decimals w)) is ∙ ap (λ (n : ℕ). signed negative n) (sym amount)
 
 -- the number of a word that begins with `-` is not above 0
 pub minus_not_positive : (rest : List ℕ) (z : ℤ) → number (45 ∷ rest) ≡ Ok z → z ≡ neg_ℤ (pos (nat_abs z))

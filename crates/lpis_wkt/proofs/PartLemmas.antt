@@ -1,14 +1,15 @@
 -- Parts of a text that grow by a byte, and the numerals that they are.
-use Rattle.std.proofs.Common.{◌≡◌, ℕ, suc, ◌+◌, ◌-◌, ◌*◌, ◌<◌, ◌≤◌, Bool, true, false, cond, not, ◌&&◌, ◌||◌, ◌==◌, List, [], ◌∷◌, ◌++◌, length, take, drop, get_or, refl, sym, ap, ◌∙◌, arith}
-use Rattle.std.proofs.Common.{append_assoc, append-nil, length-append, drop-cons, add-one, one-add, nat_lt, ℤ, Ok, Err, slice_range}
-use Rattle.lpis_wkt.proofs.Common.{and_parts, nat_tests, list_all, is_ascii_digit, digits_value, coordinate_decimals, greatest_coordinate, padded, number, IsPart, Word, tokens_from, is_word, WktCode}
+use Rattle.std.proofs.Common.{◌≡◌, ℕ, suc, ◌+◌, ◌-◌, ◌*◌, ◌^◌, ◌<◌, ◌≤◌, Bool, true, false, cond, not, ◌&&◌, ◌||◌, ◌==◌, List, [], ◌∷◌, ◌++◌, length, take, drop, get_or, refl, sym, ap, ◌∙◌, arith}
+use Rattle.std.proofs.Common.{append_assoc, append-nil, length-append, length-drop, drop-cons, add-one, one-add, nat_lt, ℤ, Ok, Err}
+use Rattle.lpis_wkt.proofs.Common.{and_parts, nat_tests, list_all, is_ascii_digit, digits_value, padded, IsPart, Word, tokens_from, is_word, WktCode}
 use Rattle.std.proofs.Math.Seq.{take-append_seam, take-length}
-use Rattle.std.proofs.lemmas.List.{drop_all, take_at}
+use Rattle.std.proofs.lemmas.List.{drop_all, drop-drop, length-take-le, take-append-drop, take_all}
 use Rattle.std.specs.List.{position_or_len, before_first, after_first}
-use Rattle.lpis_wkt.specs.Number.{is_point, is_numeral, is_fine, size, signed, unsigned, is_negative}
-use Rattle.lpis_wkt.specs.private.Runs.{IsPlain, AllWord, Stops, IsSign, none, plus, minus}
+use Rattle.lpis_wkt.specs.Number.{number_within, is_point, is_numeral, is_fine, size, signed, unsigned, is_negative}
+use Rattle.lpis_wkt.specs.private.Runs.{IsPlain, IsTail, nothing, point, SpellsAt, AllWord, Stops, IsSign, none, plus, minus}
 use Rattle.lpis_wkt.specs.declared.fault.WktCode.TheVariants.{NotANumber, TooFine, OutOfRange}
-use Rattle.lpis_wkt.proofs.DigitLemmas.{value-append, digit_between, is-digit}
+use Rattle.lpis_wkt.proofs.DigitLemmas.{digit_between, size_is}
+use Rattle.std.proofs.Math.Nat.{zero-mul}
 use Rattle.lpis_wkt.proofs.SplittingLemmas.{whole_word, stops-at}
 
 -- from an offset up to itself stand no bytes
@@ -31,16 +32,20 @@ parts_joined text a b c first second p q = record {
   within = q.within;
 }
 
--- digits
+-- a slice from an offset on is what is left there
+pub rest_is : (at : ℕ) (text : List ℕ) → take (length text - at) (drop at text) ≡ drop at text
+rest_is at text = take_all (length text - at) (drop at text) (omega (arith, length-drop at text))
 
--- digits with one digit more are all digits
-pub digits-push : (ds : List ℕ) (b : ℕ) → list_all is_ascii_digit ds ≡ true → is_ascii_digit b ≡ true → list_all is_ascii_digit (ds ++ b ∷ []) ≡ true
-digits-push [] b h d = rw d refl
-digits-push (x ∷ ds) b h d = let both = and_parts (is_ascii_digit x) (list_all is_ascii_digit ds) h in rw both.0 (digits-push ds b both.1 d)
-
--- with one digit more, the value is ten times the one before, and the digit
-pub value-push : (ds : List ℕ) (b : ℕ) → is_ascii_digit b ≡ true → digits_value 10 (ds ++ b ∷ []) ≡ digits_value 10 ds * 10 + (b - 48)
-value-push ds b d = value-append 0 ds (b ∷ []) ∙ rw (is-digit b d) refl
+-- the first n bytes of a slice are a part of the text
+pub part_of : (text : List ℕ) (at n : ℕ) → at ≤ length text → n ≤ length (take (length text - at) (drop at text)) → IsPart text at (at + n) (take n (take (length text - at) (drop at text)))
+part_of text at n le within =
+    let same = rest_is at text in
+    let short : n ≤ length (drop at text) = rw same at within in
+    rw same (record {
+      from = sym (take-append-drop n (drop at text)) ∙ ap (λ l. take n (drop at text) ++ l) (drop-drop n at text);
+      past = omega (arith, length-take-le n (drop at text) short);
+      within = omega (arith, length-drop at text);
+    })
 
 -- what a digit is not
 no_point : (b : ℕ) → is_ascii_digit b ≡ true → is_point b ≡ false
@@ -93,19 +98,19 @@ plain_sign : (ds more : List ℕ) → list_all is_ascii_digit ds ≡ true → 0 
 plain_sign [] more h some = absurd (omega arith)
 plain_sign (b ∷ ds) more h some = let both = and_parts (is_ascii_digit b) (list_all is_ascii_digit ds) h in let d = no_sign b both.0 in (rw (d.0, d.1) refl, d.1)
 
--- digits, a point and no more decimals than a coordinate has
-pub plain_decimals : (ds more : List ℕ) (n : ℕ) → list_all is_ascii_digit ds ≡ true → 0 < length ds → list_all is_ascii_digit more ≡ true → length more ≤ coordinate_decimals
-    → n ≡ digits_value 10 (ds ++ padded coordinate_decimals more) → n ≤ greatest_coordinate → IsPlain (ds ++ 46 ∷ more) n
-plain_decimals ds more n h some k few size le =
+-- digits, a point and no more decimals than are read
+plain_decimals : (most greatest : ℕ) (ds more : List ℕ) (n : ℕ) → list_all is_ascii_digit ds ≡ true → 0 < length ds → list_all is_ascii_digit more ≡ true → length more ≤ most
+    → n ≡ digits_value 10 (ds ++ padded most more) → n ≤ greatest → IsPlain most greatest (ds ++ 46 ∷ more) n
+plain_decimals most greatest ds more n h some k few is le =
     let parts = whole_of ds more h in
     let sign = plain_sign ds (46 ∷ more) h some in
-    let none : drop coordinate_decimals more ≡ [] = drop_all coordinate_decimals more few in
+    let none : drop most more ≡ [] = drop_all most more few in
     record {
       whole = rw parts.0 h;
       decimals = rw parts.1 k;
       some = rw parts.0 some;
       fine = rw (parts.1, none) refl;
-      size = rw (parts.0, parts.1) size;
+      size = rw (parts.0, parts.1) is;
       few = le;
       without_sign = sign.0;
       positive = sign.1;
@@ -113,8 +118,9 @@ plain_decimals ds more n h some k few size le =
     }
 
 -- digits alone
-pub plain_whole : (ds : List ℕ) (n : ℕ) → list_all is_ascii_digit ds ≡ true → 0 < length ds → n ≡ digits_value 10 (ds ++ padded coordinate_decimals []) → n ≤ greatest_coordinate → IsPlain ds n
-plain_whole ds n h some size le =
+plain_whole : (most greatest : ℕ) (ds : List ℕ) (n : ℕ) → list_all is_ascii_digit ds ≡ true → 0 < length ds → n ≡ digits_value 10 (ds ++ padded most []) → n ≤ greatest
+    → IsPlain most greatest ds n
+plain_whole most greatest ds n h some is le =
     let parts = whole_only ds h in
     let same : ds ++ [] ≡ ds = append-nil ds in
     let sign = plain_sign ds [] h some in
@@ -122,19 +128,27 @@ plain_whole ds n h some size le =
       whole = rw parts.0 h;
       decimals = rw parts.1 refl;
       some = rw parts.0 some;
-      fine = rw parts.1 refl;
-      size = rw (parts.0, parts.1) size;
+      fine = rw (parts.1, drop_all {X = ℕ} most [] (omega arith)) refl;
+      size = rw (parts.0, parts.1) is;
       few = le;
       without_sign = rw same at sign.0;
       positive = rw same at sign.1;
       word = digits-word ds h;
     }
 
--- the slice between the two offsets of a part is the part
-pub part_is : (text : List ℕ) (at end : ℕ) (part : List ℕ) → IsPart text at end part → slice_range text at end ≡ part
-part_is text at end part p =
-    let n : end - at ≡ length part = let e = p.past in omega arith in
-    ap (take (end - at)) p.from ∙ take_at part (drop end text) (end - at) (sym n)
+-- digits, and a tail of decimals or none
+pub plain_tail : (most greatest : ℕ) (ds tail : List ℕ) (part n : ℕ) → list_all is_ascii_digit ds ≡ true → 0 < length ds → IsTail most tail part
+    → n ≡ digits_value 10 ds * 10 ^ most + part → n ≤ greatest → IsPlain most greatest (ds ++ tail) n
+plain_tail most greatest ds tail part n h some nothing is le =
+    let none : 0 * 10 ^ (most - 0) ≡ 0 = zero-mul (10 ^ (most - 0)) in
+    let value : digits_value 10 ds * 10 ^ most + 0 ≡ digits_value 10 (ds ++ padded most []) = sym (size_is most ds [] (omega arith) ∙ ap (λ x. digits_value 10 ds * 10 ^ most + x) none) in
+    rw (append-nil ds) (plain_whole most greatest ds n h some (is ∙ value) le)
+plain_tail most greatest ds tail part n h some (point more all few) is le = plain_decimals most greatest ds more n h some all few (is ∙ sym (size_is most ds more few)) le
+
+-- decimals, by their number and their value
+pub tail_of : (most : ℕ) (ds : List ℕ) (value power count : ℕ) → list_all is_ascii_digit ds ≡ true → count ≡ length ds → count ≤ most → value ≡ digits_value 10 ds
+    → power ≡ 10 ^ (most - count) → IsTail most (46 ∷ ds) (value * power)
+tail_of most ds value power count all is le v p = rw (v, p, is) (point {most = most} ds all (omega arith))
 
 -- the number of a word
 
@@ -144,44 +158,59 @@ number-by a b c x y z v ha hb hc = rw (ha, hb, hc) refl
 numeral : (a b : Bool) (m n : ℕ) → a ≡ true → b ≡ true → 0 < m → (a && b && nat_lt 0 (m + n)) ≡ true
 numeral a b m n ha hb lt = let some : nat_lt 0 (m + n) ≡ true = grind (arith, nat_tests) in rw (ha, hb, some) refl
 
-below : (n m : ℕ) → n ≡ m → n ≤ greatest_coordinate → nat_lt greatest_coordinate m ≡ false
-below n m e le = grind (arith, nat_tests)
+below : (greatest n m : ℕ) → n ≡ m → n ≤ greatest → nat_lt greatest m ≡ false
+below greatest n m e le = grind (arith, nat_tests)
 
-number_of : (negative : Bool) (w body : List ℕ) (n : ℕ) → unsigned w ≡ body → is_negative w ≡ negative → IsPlain body n → number w ≡ Ok (signed negative n)
-unfolding number
-number_of negative w body n e f p =
-    let amount : size w ≡ n = rw e (sym p.size) in
-    number-by (is_numeral w) (is_fine w) (nat_lt greatest_coordinate (size w)) NotANumber TooFine OutOfRange (signed (is_negative w) (size w))
+number_of : (most greatest : ℕ) (negative : Bool) (w body : List ℕ) (n : ℕ) → unsigned w ≡ body → is_negative w ≡ negative → IsPlain most greatest body n
+    → number_within most greatest w ≡ Ok (signed negative n)
+unfolding number_within
+number_of most greatest negative w body n e f p =
+    let amount : size most w ≡ n = rw e (sym p.size) in
+    number-by (is_numeral w) (is_fine most w) (nat_lt greatest (size most w)) NotANumber TooFine OutOfRange (signed (is_negative w) (size most w))
     (rw e (numeral _ _ (length (before_first is_point body)) (length (after_first is_point body)) p.whole p.decimals p.some))
     (rw e p.fine)
-    (rw e (below n _ p.size p.few))
+    (rw e (below greatest n _ p.size p.few))
     ∙ rw (f, amount) refl
 
 -- a plain numeral with a sign, or with none, spells its number with that sign
-pub signed_number : (sign body : List ℕ) (negative : Bool) (n : ℕ) → IsSign sign negative → IsPlain body n → number (sign ++ body) ≡ Ok (signed negative n)
-signed_number sign body negative n none p = number_of false body body n p.without_sign p.positive p
-signed_number sign body negative n plus p = number_of false (43 ∷ body) body n refl refl p
-signed_number sign body negative n minus p = number_of true (45 ∷ body) body n refl refl p
+signed_number : (most greatest : ℕ) (sign body : List ℕ) (negative : Bool) (n : ℕ) → IsSign sign negative → IsPlain most greatest body n
+    → number_within most greatest (sign ++ body) ≡ Ok (signed negative n)
+signed_number most greatest sign body negative n none p = number_of most greatest false body body n p.without_sign p.positive p
+signed_number most greatest sign body negative n plus p = number_of most greatest false (43 ∷ body) body n refl refl p
+signed_number most greatest sign body negative n minus p = number_of most greatest true (45 ∷ body) body n refl refl p
 
 sign-words : (sign : List ℕ) (negative : Bool) → IsSign sign negative → AllWord sign
 sign-words sign negative none = tt
 sign-words sign negative plus = (refl, tt)
 sign-words sign negative minus = (refl, tt)
 
-some-body : (body : List ℕ) (n : ℕ) → IsPlain body n → 0 < length body
-some-body [] n p = let some = p.some in absurd (omega arith)
-some-body (b ∷ body) n p = omega (arith)
+some-body : (most greatest : ℕ) (body : List ℕ) (n : ℕ) → IsPlain most greatest body n → 0 < length body
+some-body most greatest [] n p = let some = p.some in absurd (omega arith)
+some-body most greatest (b ∷ body) n p = omega (arith)
+
+-- where a sign and a plain numeral stand, a word of both stands that spells its number
+pub spells_at : (most greatest : ℕ) (text : List ℕ) (at start end : ℕ) (sign body : List ℕ) (negative : Bool) (n : ℕ) → IsSign sign negative → IsPart text at start sign → IsPart text start end body
+    → IsPlain most greatest body n → SpellsAt most greatest text at end negative n (sign ++ body)
+spells_at most greatest text at start end sign body negative n is p q plain = record {
+  part = parts_joined text at start end sign body p q;
+  some = let some = some-body most greatest body n plain in omega (arith, length-append sign body);
+  letters = words-append sign body (sign-words sign negative is) plain.word;
+  number = signed_number most greatest sign body negative n is plain;
+  few = plain.few;
+}
 
 first_letter : (w rest : List ℕ) (at end : ℕ) → AllWord w → 0 < length w → Stops rest → end ≡ at + length w → tokens_from at (w ++ rest) ≡ (at, Word w) ∷ tokens_from end rest
 first_letter [] rest at end all some stops e = absurd (omega arith)
 first_letter (b ∷ w) rest at end all some stops e = rw e (whole_word at b w rest all.0 all.1 stops)
 
--- where a sign and a plain numeral stand, and no word goes on behind them, the next token is the word of both
-pub signed_word : (text : List ℕ) (at start end : ℕ) (sign body : List ℕ) (negative : Bool) (n : ℕ) → IsSign sign negative → IsPart text at start sign → IsPart text start end body → IsPlain body n
-    → (end < length text → is_word (get_or text end 0) ≡ false) → tokens_from at (drop at text) ≡ (at, Word (sign ++ body)) ∷ tokens_from end (drop end text)
-signed_word text at start end sign body negative n is p q plain stop =
-    let whole = parts_joined text at start end sign body p q in
-    let some = some-body body n plain in
-    ap (tokens_from at) whole.from ∙ first_letter (sign ++ body) (drop end text) at end
-    (words-append sign body (sign-words sign negative is) plain.word) (omega (arith, length-append sign body))
-    (stops-at end text stop) whole.past
+-- where a word stands that spells a number, and no word goes on behind it, it is the next token
+pub found_word : (most greatest : ℕ) (text : List ℕ) (at end : ℕ) (negative : Bool) (n : ℕ) (word : List ℕ) → SpellsAt most greatest text at end negative n word
+    → (end < length text → is_word (get_or text end 0) ≡ false) → tokens_from at (drop at text) ≡ (at, Word word) ∷ tokens_from end (drop end text)
+found_word most greatest text at end negative n word s stop =
+    ap (tokens_from at) s.part.from ∙ first_letter word (drop end text) at end s.letters s.some (stops-at end text stop) s.part.past
+
+-- a word that ends where the text does is all of it
+pub whole_text : (text : List ℕ) (end : ℕ) (word : List ℕ) → IsPart text 0 end word → end ≡ length text → text ≡ word
+whole_text text end word p e =
+    let none : drop end text ≡ [] = drop_all end text (omega arith) in
+    p.from ∙ ap (λ l. word ++ l) none ∙ append-nil word

@@ -13,6 +13,14 @@ use Rattle.lpis_wkt.specs.declared.fault.WktCode.TheVariants.{NotANumber, TooFin
 abbrev pub coordinate_decimals : ℕ
 coordinate_decimals = 3
 
+-- the most decimals that numbers are read with, and the greatest limit that they are read under:
+-- ten times it fits 64 bits
+abbrev pub most_decimals : ℕ
+most_decimals = 9
+
+abbrev pub greatest_limit : ℕ
+greatest_limit = 100000000000000000
+
 -- the word without its `+` or `-`
 abbrev pub unsigned : List ℕ → List ℕ
 unsigned [] = []
@@ -37,9 +45,9 @@ abbrev pub is_numeral : List ℕ → Bool
 is_numeral w = list_all is_ascii_digit (whole w) && list_all is_ascii_digit (decimals w)
     && nat_lt 0 (length (whole w) + length (decimals w))
 
--- each digit past the decimals of a coordinate is 0
-abbrev pub is_fine : List ℕ → Bool
-is_fine w = list_all (λ b. b == 48) (drop coordinate_decimals (decimals w))
+-- each digit past so many decimals is 0
+abbrev pub is_fine : ℕ → List ℕ → Bool
+is_fine n w = list_all (λ b. b == 48) (drop n (decimals w))
 
 -- the first n digits, with zeros for those that are not there
 abbrev pub padded : ℕ → List ℕ → List ℕ
@@ -51,17 +59,22 @@ padded (suc n) (d ∷ ds) = d ∷ padded n ds
 abbrev pub greatest_coordinate : ℕ
 greatest_coordinate = nat_abs limit
 
--- the number in units of the last decimal of a coordinate, without its sign
-abbrev pub size : List ℕ → ℕ
-size w = digits_value 10 (whole w ++ padded coordinate_decimals (decimals w))
+-- the number in units of the last of so many decimals, without its sign
+abbrev pub size : ℕ → List ℕ → ℕ
+size n w = digits_value 10 (whole w ++ padded n (decimals w))
 
 abbrev pub signed : Bool → ℕ → ℤ
 signed negative n = cond negative (neg_ℤ (pos n)) (pos n)
 
--- the coordinate of a word, or what is wrong with it: no number, too many decimals, out of range
-unfoldable pub number : List ℕ → Result ℤ WktCode
-number w =
+-- the number of a word in units of the last of so many decimals, if it is not past the greatest, or
+-- what is wrong with it: no number, too many decimals, out of range
+unfoldable pub number_within : ℕ → ℕ → List ℕ → Result ℤ WktCode
+number_within n greatest w =
     cond (not (is_numeral w)) (Err NotANumber)
-    (cond (not (is_fine w)) (Err TooFine)
-    (cond (nat_lt greatest_coordinate (size w)) (Err OutOfRange)
-    (Ok (signed (is_negative w) (size w)))))
+    (cond (not (is_fine n w)) (Err TooFine)
+    (cond (nat_lt greatest (size n w)) (Err OutOfRange)
+    (Ok (signed (is_negative w) (size n w)))))
+
+-- the coordinate of a word, or what is wrong with it
+unfoldable pub number : List ℕ → Result ℤ WktCode
+number w = number_within coordinate_decimals greatest_coordinate w

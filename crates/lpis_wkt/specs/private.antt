@@ -1,4 +1,5 @@
 -- Machinery, cited by private contracts alone: no promise rests on it.
+pub mod Coming
 pub mod Coordinates
 pub mod Machine
 pub mod Parsing

@@ -16,4 +16,5 @@ mod tokens;
 mod words;
 
 pub use fault::{WktCode, WktFault};
+pub use number::number_within;
 pub use reading::read;

@@ -1,18 +1,17 @@
-//! The coordinate that a word spells.
+//! The number that a word spells.
 
 ghost use Rattle.std.specs.Prelude.{◌≡◌, ◌<◌, ◌≤◌, ◌++◌, true, get_or, MatchOption};
-ghost use Rattle.std.specs.Prelude.{position, IfOk};
+ghost use Rattle.std.specs.Prelude.{nat_abs, position, IfOk};
 ghost use Rattle.std.specs.List.{list_all};
 ghost use Rattle.std.specs.Char.{digit_value, is_ascii_digit};
 ghost use Rattle.std.specs.Str.Parse.{digits_value, digits_value_after};
-ghost use Rattle.lpis_points.specs.Range.{IsInRange};
-ghost use Rattle.lpis_wkt.specs.Number.{coordinate_decimals, is_point, unsigned};
-ghost use Rattle.lpis_wkt.specs.Number.{is_negative, whole, decimals, padded};
-ghost use Rattle.lpis_wkt.specs.Number.{size, number};
+ghost use Rattle.lpis_wkt.specs.Number.{greatest_limit, is_point, most_decimals, number_within};
+ghost use Rattle.lpis_wkt.specs.Number.{is_negative, whole, decimals, padded, unsigned};
 ghost use Rattle.lpis_wkt.specs.private.Coordinates.{coordinate_in_range};
 ghost use Rattle.lpis_wkt.specs.private.Runs.{is_zero_digit};
 
 use crate::coordinate::Coordinate;
+use crate::fast_path::{common_number, signed};
 use crate::fault::WktCode;
 
 /// The decimals of a coordinate: the text is in metres, a coordinate in millimetres.
@@ -66,15 +65,16 @@ fn are_zeros(bytes: &[u8]) -> bool
 }
 
 /// The number of these digits, if it is not above the greatest.
-fn whole_number(digits: &[u8]) -> Option<u64>
-    requires { list_all is_ascii_digit digits.now ≡ true }
-    ensures { MatchOption result (GREATEST < digits_value 10 digits.now)
-        (λ n. (n ≡ digits_value 10 digits.now) × (n ≤ GREATEST)) }
+fn whole_number(digits: &[u8], greatest: u64) -> Option<u64>
+    requires limit { greatest ≤ greatest_limit }
+    requires digits { list_all is_ascii_digit digits.now ≡ true }
+    ensures { MatchOption result (greatest < digits_value 10 digits.now)
+        (λ n. (n ≡ digits_value 10 digits.now) × (n ≤ greatest)) }
 {
     let mut value = 0;
     for b in digits {
         value = value * 10 + u64::from(*b - b'0');
-        if value > GREATEST {
+        if value > greatest {
             return None;
         }
     }
@@ -94,19 +94,20 @@ fn digit_at(digits: &[u8], i: usize) -> u64
     }
 }
 
-/// The number with the decimals of a coordinate after it, if it is not above the greatest.
-pub fn with_decimals(front: u64, digits: &[u8]) -> Option<u64>
-    requires front { front ≤ GREATEST }
+/// The number with so many decimals after it, if it is not above the greatest.
+fn with_decimals(front: u64, digits: &[u8], decimals: usize, greatest: u64) -> Option<u64>
+    requires limit { greatest ≤ greatest_limit }
+    requires front { front ≤ greatest }
     requires digits { list_all is_ascii_digit digits.now ≡ true }
     ensures { MatchOption result
-        (GREATEST < digits_value_after 10 front (padded coordinate_decimals digits.now))
-        (λ n. (n ≡ digits_value_after 10 front (padded coordinate_decimals digits.now))
-        × (n ≤ GREATEST)) }
+        (greatest < digits_value_after 10 front (padded decimals digits.now))
+        (λ n. (n ≡ digits_value_after 10 front (padded decimals digits.now))
+        × (n ≤ greatest)) }
 {
     let mut value = front;
-    for i in 0..DECIMALS {
+    for i in 0..decimals {
         value = value * 10 + digit_at(digits, i);
-        if value > GREATEST {
+        if value > greatest {
             return None;
         }
     }
@@ -114,35 +115,50 @@ pub fn with_decimals(front: u64, digits: &[u8]) -> Option<u64>
 }
 
 /// The size of the number of these parts, if it is not above the greatest.
-fn size(whole: &[u8], decimals: &[u8]) -> Option<u64>
+fn size(whole: &[u8], fraction: &[u8], decimals: usize, greatest: u64) -> Option<u64>
+    requires limit { greatest ≤ greatest_limit }
     requires whole { list_all is_ascii_digit whole.now ≡ true }
-    requires decimals { list_all is_ascii_digit decimals.now ≡ true }
+    requires fraction { list_all is_ascii_digit fraction.now ≡ true }
     ensures { MatchOption result
-        (GREATEST < digits_value 10 (whole.now ++ padded coordinate_decimals decimals.now))
-        (λ n. (n ≡ digits_value 10 (whole.now ++ padded coordinate_decimals decimals.now))
-        × (n ≤ GREATEST)) }
+        (greatest < digits_value 10 (whole.now ++ padded decimals fraction.now))
+        (λ n. (n ≡ digits_value 10 (whole.now ++ padded decimals fraction.now))
+        × (n ≤ greatest)) }
 {
-    let metres = whole_number(whole)?;
-    with_decimals(metres, decimals)
+    let front = whole_number(whole, greatest)?;
+    with_decimals(front, fraction, decimals, greatest)
 }
 
-/// The number that a word spells.
-#[tactic(auto, unfolding(crate::specs::Number::number))]
-fn number(word: &[u8]) -> Result<i64, WktCode>
-    ensures is { result ≡ number word.now }
-    ensures range { IfOk result IsInRange }
+/// The number that a word spells, in whichever form.
+#[tactic(auto, unfolding(crate::specs::Number::number_within))]
+fn any_number(word: &[u8], decimals: usize, greatest: u64) -> Result<i64, WktCode>
+    requires limit { greatest ≤ greatest_limit }
+    ensures is { result ≡ number_within decimals greatest word.now }
+    ensures range { IfOk result (λ z. nat_abs z ≤ greatest) }
 {
-    let (whole, decimals) = parts(word);
-    if !(are_digits(whole) && are_digits(decimals) && whole.len() + decimals.len() > 0) {
+    let (whole, fraction) = parts(word);
+    if !(are_digits(whole) && are_digits(fraction) && whole.len() + fraction.len() > 0) {
         return Err(WktCode::NotANumber);
     }
-    if decimals.len() > DECIMALS && !are_zeros(&decimals[DECIMALS..]) {
+    if fraction.len() > decimals && !are_zeros(&fraction[decimals..]) {
         return Err(WktCode::TooFine);
     }
-    match size(whole, decimals) {
+    match size(whole, fraction, decimals, greatest) {
         None => Err(WktCode::OutOfRange),
-        Some(n) if is_negative(word) => Ok(-(n as i64)),
-        Some(n) => Ok(n as i64),
+        Some(n) => Ok(signed(is_negative(word), n)),
+    }
+}
+
+/// The number that a word spells in units of the last of so many decimals, if its size is not above
+/// the greatest.
+pub fn number_within(word: &[u8], decimals: usize, greatest: u64) -> Result<i64, WktCode>
+    requires decimals { decimals ≤ most_decimals }
+    requires limit { greatest ≤ greatest_limit }
+    ensures is { result ≡ number_within decimals greatest word.now }
+    ensures range { IfOk result (λ z. nat_abs z ≤ greatest) }
+{
+    match common_number(word, 0, decimals, greatest) {
+        Some(number) if number.end == word.len() => Ok(signed(number.negative, number.size)),
+        _ => any_number(word, decimals, greatest),
     }
 }
 
@@ -150,7 +166,7 @@ fn number(word: &[u8]) -> Result<i64, WktCode>
 pub fn coordinate_of(word: &[u8]) -> Result<Coordinate, WktCode>
     ensures { result ≡ coordinate_in_range word.now }
 {
-    match number(word) {
+    match any_number(word, DECIMALS, GREATEST) {
         Ok(value) => Ok(Coordinate { value }),
         Err(code) => Err(code),
     }

@@ -17,7 +17,7 @@ ghost use Rattle.lpis_wkt.specs.private.Parsing.{IsAfterRing, SameOutcome};
 use crate::coordinate::Coordinate;
 use crate::fault::{WktCode, WktFault};
 use crate::number::coordinate_of;
-use crate::tokens::{Placed, Token, Tokens};
+use crate::tokens::{Ahead, Placed, Token, Tokens};
 use crate::words::{is_dimension, is_empty, is_multi, is_polygon, keyword_code};
 use lpis_memory::{Sequence, without_spare};
 use lpis_points::Point;
@@ -289,22 +289,24 @@ impl Parser {
         if !matches!(self.expecting, Expecting::X) || self.count >= MOST_POINTS {
             return Ok(false);
         }
-        let Some(x) = tokens.next_coordinate() else {
-            return Ok(false);
-        };
-        let Some(y) = tokens.next_coordinate() else {
-            self.expecting = Expecting::Y(x);
-            return Ok(false);
-        };
-        self.points.push(point_of(x, y))?;
-        self.count += 1;
-        let more = tokens.next_comma();
-        self.expecting = if more {
-            Expecting::X
-        } else {
-            Expecting::PointEnd
-        };
-        Ok(more)
+        match tokens.next_coordinates() {
+            Ahead::Nothing => Ok(false),
+            Ahead::X(x) => {
+                self.expecting = Expecting::Y(x);
+                Ok(false)
+            }
+            Ahead::Point(x, y) => {
+                self.points.push(point_of(x, y))?;
+                self.count += 1;
+                let more = tokens.next_comma();
+                self.expecting = if more {
+                    Expecting::X
+                } else {
+                    Expecting::PointEnd
+                };
+                Ok(more)
+            }
+        }
     }
 
     /// Takes points as long as they are written as most are.

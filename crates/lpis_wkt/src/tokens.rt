@@ -1,15 +1,15 @@
 //! The tokens of a text, one at a time.
 
 ghost use Rattle.std.specs.Bool.{MatchBool};
-ghost use Rattle.std.specs.Prelude.{◌≡◌, ℕ, ◌<◌, ◌≤◌, List, [], ◌∷◌, false, true, Ok, length, drop};
+ghost use Rattle.std.specs.Prelude.{◌≡◌, ℕ, ◌<◌, ◌≤◌, [], ◌∷◌, false, true, length, drop};
 ghost use Rattle.std.specs.Prelude.{slice_index, slice_range, MatchOption};
 ghost use Rattle.lpis_wkt.specs.Tokens.{Comma, Word, is_space, tokens_from};
 ghost use Rattle.lpis_wkt.specs.private.Runs.{is_word};
-ghost use Rattle.lpis_wkt.specs.private.Coordinates.{coordinate_in_range};
+ghost use Rattle.lpis_wkt.specs.private.Coming.{ComeFirst, ComesFirst, Took};
 ghost use Rattle.lpis_wkt.specs.private.Views.{token_placed};
 
 use crate::coordinate::Coordinate;
-use crate::fast_path::common_coordinate;
+use crate::fast_path::{SHORT_ROOM, common_coordinate, short_coordinate};
 use std::marker::Model;
 
 /// A `(`, a `)`, a `,` or a word, which is borrowed from the text.
@@ -26,6 +26,17 @@ pub enum Token<'a> {
 pub struct Placed<'a> {
     pub token: Token<'a>,
     pub offset: usize,
+}
+
+/// The coordinates that were taken where a point may come.
+#[derive(Clone, Copy)]
+pub enum Ahead {
+    /// None.
+    Nothing,
+    /// An x, with no y behind it.
+    X(Coordinate),
+    /// An x and a y.
+    Point(Coordinate, Coordinate),
 }
 
 /// The tokens of a text that are not taken yet.
@@ -132,9 +143,9 @@ impl<'a> Tokens<'a> {
 
     /// The coordinate of the next token, if it is a word that is written as most are; else nothing
     /// is taken.
-    pub fn next_coordinate(&mut self) -> Option<Coordinate>
-        ensures { MatchOption result (self.new ≡ self.old) (λ z. (offset : ℕ) × (word : List ℕ)
-            × (coordinate_in_range word ≡ Ok z) × (self.old ≡ (offset, Word word) ∷ self.new)) }
+    fn next_coordinate(&mut self) -> Option<Coordinate>
+        ensures { MatchOption result (self.new ≡ self.old)
+            (λ z. ComesFirst z self.old self.new) }
     {
         let offset = past_space(self.text, self.at);
         if offset == self.text.len() {
@@ -143,6 +154,43 @@ impl<'a> Tokens<'a> {
         let (value, end) = common_coordinate(self.text, offset)?;
         self.at = end;
         Some(value)
+    }
+
+    /// The coordinates of the next two tokens, if they are words as short as nearly all are; else
+    /// nothing is taken.
+    fn next_point(&mut self) -> Option<(Coordinate, Coordinate)>
+        ensures { MatchOption result (self.new ≡ self.old)
+            (λ p. ComeFirst p.0 p.1 self.old self.new) }
+    {
+        let first = past_space(self.text, self.at);
+        if self.text.len() - first < SHORT_ROOM {
+            return None;
+        }
+        let (x, after) = short_coordinate(self.text, first)?;
+        let second = past_space(self.text, after);
+        if self.text.len() - second < SHORT_ROOM {
+            return None;
+        }
+        let (y, end) = short_coordinate(self.text, second)?;
+        self.at = end;
+        Some((x, y))
+    }
+
+    /// Takes the next two tokens, or the next one, as far as they are words that spell coordinates
+    /// and are written as most are.
+    pub fn next_coordinates(&mut self) -> Ahead
+        ensures { Took result self.old self.new }
+    {
+        if let Some((x, y)) = self.next_point() {
+            return Ahead::Point(x, y);
+        }
+        let Some(x) = self.next_coordinate() else {
+            return Ahead::Nothing;
+        };
+        match self.next_coordinate() {
+            Some(y) => Ahead::Point(x, y),
+            None => Ahead::X(x),
+        }
     }
 
     /// Whether the next token is a `,`, which is taken then; else nothing is.

@@ -12,7 +12,7 @@ use Rattle.std.specs.Char.{digit_value, is_ascii_digit}
 use Rattle.std.specs.List.{after_first, before_first, list_all, position_or_len}
 use Rattle.std.specs.Str.Parse.{AllDigits, digits_value, digits_value_after}
 use Rattle.lpis_points.specs.Range.{IsInRange}
-use Rattle.lpis_wkt.specs.Number.{greatest_coordinate, is_fine, is_negative, is_numeral, is_point, number, signed, size, unsigned}
+use Rattle.lpis_wkt.specs.Number.{coordinate_decimals, greatest_coordinate, is_fine, is_negative, is_numeral, is_point, number, number_within, signed, size, unsigned}
 use Rattle.lpis_wkt.specs.declared.fault.WktCode.{WktCode}
 use Rattle.lpis_wkt.specs.declared.fault.WktCode.TheVariants.{NotANumber, OutOfRange, TooFine}
 use Rattle.lpis_wkt.proofs.Shared.{AllWord, is_word}
@@ -128,11 +128,12 @@ record IsPlain (body : List ℕ) (n : ℕ) : Type 0 where
   few : n ≤ greatest_coordinate
 
 reads : (negative : Bool) (w body : List ℕ) (n : ℕ) → unsigned w ≡ body → is_negative w ≡ negative → IsPlain body n → number w ≡ Ok (signed negative n)
-unfolding number
+unfolding number number_within
 reads negative w body n e f p =
     let three = p.decimals in
-    let sized : size w ≡ n = rw (e, three) p.value in
-    number-by (is_numeral w) (is_fine w) (nat_lt greatest_coordinate (size w)) NotANumber TooFine OutOfRange (signed (is_negative w) (size w))
+    let sized : size coordinate_decimals w ≡ n = rw (e, three) p.value in
+    number-by (is_numeral w) (is_fine coordinate_decimals w) (nat_lt greatest_coordinate (size coordinate_decimals w)) NotANumber TooFine OutOfRange
+    (signed (is_negative w) (size coordinate_decimals w))
     (rw (e, three) (numeral _ _ (length (before_first is_point body)) (length (last_digits 3 n)) p.digits (decimals-are-digits n) p.some))
     (rw (e, three) refl)
     (rw sized (not-above n p.few))

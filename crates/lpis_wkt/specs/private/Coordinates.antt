@@ -8,8 +8,8 @@ use Rattle.lpis_points.specs.Range.{IsInRange}
 use Rattle.lpis_points.specs.declared.point.Point.{Point}
 use Rattle.lpis_wkt.specs.declared.fault.WktCode.{WktCode}
 use Rattle.lpis_wkt.specs.declared.coordinate.Coordinate.{Coordinate}
-use Rattle.lpis_wkt.specs.Number.{number, is_numeral, is_fine, is_negative, size, signed}
-use Rattle.lpis_wkt.specs.Number.{greatest_coordinate}
+use Rattle.lpis_wkt.specs.Number.{number, number_within, is_numeral, is_fine, is_negative, size}
+use Rattle.lpis_wkt.specs.Number.{coordinate_decimals, greatest_coordinate, signed}
 
 signed-in_range : (negative : Bool) (n : ℕ) → n ≤ greatest_coordinate
     → IsInRange (signed negative n)
@@ -31,10 +31,11 @@ within n h = grind (arith, nat_tests)
 
 -- a number is in range
 pub number-in_range : (w : List ℕ) (z : ℤ) → number w ≡ Ok z → IsInRange z
-unfolding number
+unfolding number number_within
 number-in_range w z h =
-    in_range-by (is_numeral w) (is_fine w) (nat_lt greatest_coordinate (size w)) _ _ _
-    (is_negative w) (size w) z (within (size w)) h
+    in_range-by (is_numeral w) (is_fine coordinate_decimals w)
+    (nat_lt greatest_coordinate (size coordinate_decimals w)) _ _ _
+    (is_negative w) (size coordinate_decimals w) z (within (size coordinate_decimals w)) h
 
 abbrev pub with_range : (r : Result ℤ WktCode) → ((z : ℤ) → r ≡ Ok z → IsInRange z)
     → Result Coordinate WktCode
