@@ -1,6 +1,6 @@
-use Rattle.std.proofs.Common.{◌≡◌, ℕ, ◌+◌, ◌-◌, ◌*◌, ◌^◌, ◌≤◌, true, List, [], ◌∷◌, length, subst, arith}
-use Rattle.lpis_wkt.proofs.Common.{digits_value, is_ascii_digit, list_all, IsPart}
-use Rattle.lpis_wkt.specs.private.Runs.{IsTail, nothing, point}
+use Rattle.std.proofs.Common.{◌≡◌, ℕ, ◌+◌, ◌-◌, List, [], ◌∷◌, length, subst, arith}
+use Rattle.lpis_wkt.proofs.Common.{IsPart}
+use Rattle.lpis_wkt.specs.private.Runs.{nothing}
 use Rattle.lpis_wkt.proofs.DigitLemmas.{scaled_below, ten_positive}
 use Rattle.lpis_wkt.proofs.PartLemmas.{no_part, part_grows, parts_joined, tail_of}
 use Rattle.lpis_wkt.proofs.fast_path.decimals_at.Goals as goal

@@ -1,4 +1,4 @@
-use Rattle.std.proofs.Common.{ℕ, List, ◌++◌, ◌+◌, ◌*◌, ◌≡◌, ap, arith}
+use Rattle.std.proofs.Common.{ℕ, List, ◌++◌, ◌+◌, ◌*◌, ap, arith}
 use Rattle.lpis_wkt.proofs.Common.{coordinate_decimals, greatest_coordinate}
 use Rattle.lpis_wkt.proofs.PartLemmas.{parts_joined, plain_tail}
 use Rattle.lpis_wkt.proofs.fast_path.short_size.Goals as goal
