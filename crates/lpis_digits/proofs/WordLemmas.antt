@@ -180,3 +180,57 @@ pub moved : (n : ℕ) (bytes : List ℕ) → n < 8 → length bytes ≡ 8 → Al
     → word_of bytes * 256 % 18446744073709551616 * 2 ^ (8 * (7 - n)) % 18446744073709551616 ≡ word_of (behind_zeros n bytes)
 moved n (a ∷ b ∷ c ∷ d ∷ e ∷ f ∷ g ∷ h ∷ []) lt long all = moved_eight n a b c d e f g h lt all
 moved n _ lt long all = absurd (omega arith)
+
+-- the same by one shift, where some bytes are kept
+shifted_eight : (n : ℕ) (a b c d e f g h : ℕ) → 0 < n → n < 8 → AllBytes (a ∷ b ∷ c ∷ d ∷ e ∷ f ∷ g ∷ h ∷ [])
+    → word_of (a ∷ b ∷ c ∷ d ∷ e ∷ f ∷ g ∷ h ∷ []) * 2 ^ (8 * (8 - n)) % 18446744073709551616 ≡ word_of (behind_zeros n (a ∷ b ∷ c ∷ d ∷ e ∷ f ∷ g ∷ h ∷ []))
+shifted_eight zero a b c d e f g h some lt all = absurd (omega arith)
+shifted_eight (suc zero) a b c d e f g h some lt all =
+    let front : ℕ = (a) * 72057594037927936 in
+    let rest : ℕ = b + 256 * (c + 256 * (d + 256 * (e + 256 * (f + 256 * (g + 256 * h))))) in
+    let back : front ≡ word_of (behind_zeros 1 (a ∷ b ∷ c ∷ d ∷ e ∷ f ∷ g ∷ h ∷ [])) = omega arith in
+    let whole : word_of (a ∷ b ∷ c ∷ d ∷ e ∷ f ∷ g ∷ h ∷ []) * 72057594037927936 ≡ rest * 18446744073709551616 + front = omega arith in
+    ap (λ x. x % 18446744073709551616) whole ∙ mod_low rest 64 front (omega arith) ∙ back
+shifted_eight (suc (suc zero)) a b c d e f g h some lt all =
+    let front : ℕ = (a + 256 * b) * 281474976710656 in
+    let rest : ℕ = c + 256 * (d + 256 * (e + 256 * (f + 256 * (g + 256 * h)))) in
+    let back : front ≡ word_of (behind_zeros 2 (a ∷ b ∷ c ∷ d ∷ e ∷ f ∷ g ∷ h ∷ [])) = omega arith in
+    let whole : word_of (a ∷ b ∷ c ∷ d ∷ e ∷ f ∷ g ∷ h ∷ []) * 281474976710656 ≡ rest * 18446744073709551616 + front = omega arith in
+    ap (λ x. x % 18446744073709551616) whole ∙ mod_low rest 64 front (omega arith) ∙ back
+shifted_eight (suc (suc (suc zero))) a b c d e f g h some lt all =
+    let front : ℕ = (a + 256 * (b + 256 * c)) * 1099511627776 in
+    let rest : ℕ = d + 256 * (e + 256 * (f + 256 * (g + 256 * h))) in
+    let back : front ≡ word_of (behind_zeros 3 (a ∷ b ∷ c ∷ d ∷ e ∷ f ∷ g ∷ h ∷ [])) = omega arith in
+    let whole : word_of (a ∷ b ∷ c ∷ d ∷ e ∷ f ∷ g ∷ h ∷ []) * 1099511627776 ≡ rest * 18446744073709551616 + front = omega arith in
+    ap (λ x. x % 18446744073709551616) whole ∙ mod_low rest 64 front (omega arith) ∙ back
+shifted_eight (suc (suc (suc (suc zero)))) a b c d e f g h some lt all =
+    let front : ℕ = (a + 256 * (b + 256 * (c + 256 * d))) * 4294967296 in
+    let rest : ℕ = e + 256 * (f + 256 * (g + 256 * h)) in
+    let back : front ≡ word_of (behind_zeros 4 (a ∷ b ∷ c ∷ d ∷ e ∷ f ∷ g ∷ h ∷ [])) = omega arith in
+    let whole : word_of (a ∷ b ∷ c ∷ d ∷ e ∷ f ∷ g ∷ h ∷ []) * 4294967296 ≡ rest * 18446744073709551616 + front = omega arith in
+    ap (λ x. x % 18446744073709551616) whole ∙ mod_low rest 64 front (omega arith) ∙ back
+shifted_eight (suc (suc (suc (suc (suc zero))))) a b c d e f g h some lt all =
+    let front : ℕ = (a + 256 * (b + 256 * (c + 256 * (d + 256 * e)))) * 16777216 in
+    let rest : ℕ = f + 256 * (g + 256 * h) in
+    let back : front ≡ word_of (behind_zeros 5 (a ∷ b ∷ c ∷ d ∷ e ∷ f ∷ g ∷ h ∷ [])) = omega arith in
+    let whole : word_of (a ∷ b ∷ c ∷ d ∷ e ∷ f ∷ g ∷ h ∷ []) * 16777216 ≡ rest * 18446744073709551616 + front = omega arith in
+    ap (λ x. x % 18446744073709551616) whole ∙ mod_low rest 64 front (omega arith) ∙ back
+shifted_eight (suc (suc (suc (suc (suc (suc zero)))))) a b c d e f g h some lt all =
+    let front : ℕ = (a + 256 * (b + 256 * (c + 256 * (d + 256 * (e + 256 * f))))) * 65536 in
+    let rest : ℕ = g + 256 * h in
+    let back : front ≡ word_of (behind_zeros 6 (a ∷ b ∷ c ∷ d ∷ e ∷ f ∷ g ∷ h ∷ [])) = omega arith in
+    let whole : word_of (a ∷ b ∷ c ∷ d ∷ e ∷ f ∷ g ∷ h ∷ []) * 65536 ≡ rest * 18446744073709551616 + front = omega arith in
+    ap (λ x. x % 18446744073709551616) whole ∙ mod_low rest 64 front (omega arith) ∙ back
+shifted_eight (suc (suc (suc (suc (suc (suc (suc zero))))))) a b c d e f g h some lt all =
+    let front : ℕ = (a + 256 * (b + 256 * (c + 256 * (d + 256 * (e + 256 * (f + 256 * g)))))) * 256 in
+    let rest : ℕ = h in
+    let back : front ≡ word_of (behind_zeros 7 (a ∷ b ∷ c ∷ d ∷ e ∷ f ∷ g ∷ h ∷ [])) = omega arith in
+    let whole : word_of (a ∷ b ∷ c ∷ d ∷ e ∷ f ∷ g ∷ h ∷ []) * 256 ≡ rest * 18446744073709551616 + front = omega arith in
+    ap (λ x. x % 18446744073709551616) whole ∙ mod_low rest 64 front (omega arith) ∙ back
+shifted_eight n a b c d e f g h some lt all = absurd (omega arith)
+
+-- shifted so, a word keeps its first bytes, behind zeros
+pub shifted : (n : ℕ) (bytes : List ℕ) → 0 < n → n < 8 → length bytes ≡ 8 → AllBytes bytes
+    → word_of bytes * 2 ^ (8 * (8 - n)) % 18446744073709551616 ≡ word_of (behind_zeros n bytes)
+shifted n (a ∷ b ∷ c ∷ d ∷ e ∷ f ∷ g ∷ h ∷ []) some lt long all = shifted_eight n a b c d e f g h some lt all
+shifted n _ some lt long all = absurd (omega arith)

@@ -57,3 +57,13 @@ pub fn moved_to_end(word: u64, count: usize) -> u64
 {
     (word << 8) << (8 * (7 - count as u32))
 }
+
+/// The same of a word of which some bytes are kept, by one shift.
+#[inline(always)]
+pub fn some_moved_to_end(word: u64, count: usize) -> u64
+    requires { (0 < count) × (count < WORD) }
+    ensures { (bytes : List ℕ) → length bytes ≡ WORD → AllBytes bytes → word ≡ word_of bytes
+        → result ≡ word_of (behind_zeros count bytes) }
+{
+    word << (8 * (8 - count as u32))
+}

@@ -7,7 +7,9 @@ ghost use Rattle.std.specs.Char.{is_ascii_digit};
 ghost use Rattle.std.specs.Str.Parse.{digits_value};
 ghost use Rattle.lpis_digits.specs.Digits.{digit_count};
 
-use crate::eight::{WORD, digits_among_eight, first_word, moved_to_end, spelled};
+use crate::eight::{
+    WORD, digits_among_eight, first_word, moved_to_end, some_moved_to_end, spelled,
+};
 use crate::powers::power_of_ten;
 
 /// The most digits that are read.
@@ -80,12 +82,12 @@ pub fn short_digits(text: &[u8]) -> Option<Digits>
         (λ d. list_all is_ascii_digit (take d.count text.now) ≡ true) }
     ensures few { IfSome result (λ d. d.value < 10 ^ d.count) }
 {
-    let digits = digits_of_word(text);
-    if digits.count == 0 || digits.count == WORD {
-        None
-    } else {
-        Some(digits)
+    let count = digits_among_eight(text);
+    if count == 0 || count == WORD {
+        return None;
     }
+    let value = spelled(some_moved_to_end(first_word(text), count));
+    Some(Digits { count, value })
 }
 
 /// The digits that a text begins with, and their number; `MOST_DIGITS` of them where there are

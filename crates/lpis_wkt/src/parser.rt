@@ -25,6 +25,9 @@ use lpis_rings::{MOST_POINTS, Member, Polygon, Ring, RingFault};
 use std::alloc::{AllocError, Global};
 use std::marker::Model;
 
+/// How many points there is room for when a ring begins: most rings have no more.
+const USUAL_POINTS: usize = 16;
+
 /// What is expected next.
 #[derive(Clone, Copy)]
 pub enum Expecting {
@@ -190,6 +193,7 @@ impl Parser {
             },
             Expecting::Ring => match next.token {
                 Token::Open => {
+                    self.points.reserve(USUAL_POINTS)?;
                     self.expecting = Expecting::X;
                     return Ok(());
                 }
