@@ -1,6 +1,7 @@
 //! The run of `cut`, over any readers and writers.
 
 ghost use Rattle.std.specs.Prelude.{◌≡◌, IfErr, IfOk, Ok};
+ghost use Rattle.lpis_cutter.specs.Refusals.{RefusesRightly};
 ghost use Rattle.lpis_run.specs.CheckAnswer.{release_in};
 ghost use Rattle.lpis_run_check.specs.CutAnswer.{Cuts, CutHalts, CertIsCut, IsCutAnswer};
 ghost use Rattle.lpis_run_check.specs.CutAnswer.{counts_text};
@@ -48,11 +49,18 @@ fn outcome_of(alloc: Global, cert: &Cert) -> Result<Outcome, AllocError>
     Outcome::with_cert(alloc, cert, printed)
 }
 
-/// The answer to a release.
-fn answer_to_release(alloc: Global, release: &Release) -> Result<Outcome, AllocError>
-    ensures { IfOk result (λ o. IsCutAnswer (Ok release.now) (outputs_of o)) }
+/// Cuts a release and lets it go, so that it does not lie beside the certificate's text.
+fn cut_alone(alloc: Global, release: Release) -> Result<Cert, CutFault>
+    ensures { IfErr result (RefusesRightly release) }
 {
-    match cut(alloc, release) {
+    cut(alloc, &release)
+}
+
+/// The answer to a release.
+fn answer_to_release(alloc: Global, release: Release) -> Result<Outcome, AllocError>
+    ensures { IfOk result (λ o. IsCutAnswer (Ok release) (outputs_of o)) }
+{
+    match cut_alone(alloc, release) {
         Ok(cert) => outcome_of(alloc, &cert),
         Err(CutFault::Memory) => Err(AllocError),
         Err(CutFault::Refused(refusal)) => {
@@ -67,7 +75,7 @@ fn answer_to(alloc: Global, tables: TableBytes) -> Result<Outcome, AllocError>
     ensures { IfOk result (λ o. IsCutAnswer (release_in (tables_of tables)) (outputs_of o)) }
 {
     match release_in(alloc, tables) {
-        Ok(release) => answer_to_release(alloc, &release),
+        Ok(release) => answer_to_release(alloc, release),
         Err(stop) => Ok(Outcome::without_cert(stop.into_answer()?)),
     }
 }
