@@ -1,6 +1,6 @@
 //! The cut of a piece.
 
-ghost use Rattle.std.specs.Prelude.{◌≡◌, ◌≤◌, IfOk, MatchOption, IsTrue, ◌↔◌, length};
+ghost use Rattle.std.specs.Prelude.{◌≤◌, IfOk, MatchOption, IsTrue, ◌↔◌, length};
 ghost use Rattle.lpis_rings.specs.Edges.{edges_of};
 ghost use Rattle.lpis_rings.specs.Polygon.{points_of};
 ghost use Rattle.lpis_cutter.specs.Fans.{IsFan};
@@ -25,22 +25,20 @@ impl Cutter {
             mesher: Mesher::new(alloc, MOST_FLATS as usize),
         }
     }
-
-    /// The cut of a polygon's edges; `None` where none is found.
-    fn swept(&mut self, polygon: &Polygon) -> Result<Option<Cut>, AllocError> {
-        self.mesher.clear();
-        for (a, b) in edges(polygon) {
-            self.mesher.add(a, b)?;
-        }
-        self.mesher.cut()
-    }
 }
 
-/// How many edges a polygon has.
-fn edge_count(polygon: &Polygon) -> usize
-    ensures { result ≡ length (edges_of polygon.now) }
+/// Takes the edges of a polygon in place of those of the one before, and counts them.
+fn load(cutter: &mut Cutter, polygon: &Polygon) -> Result<usize, AllocError>
+    ensures { IfOk result (λ count. count ≤ length (edges_of polygon.now)) }
 {
-    edges(polygon).count()
+    cutter.mesher.clear();
+    let mut count: usize = 0;
+    for edge in edges(polygon) {
+        let (a, b) = edge;
+        cutter.mesher.add(a, b)?;
+        count = count.saturating_add(1);
+    }
+    Ok(count)
 }
 
 /// Whether a cut has no more triangles, and no more flats, than this.
@@ -61,9 +59,10 @@ pub(crate) fn cut_of(cutter: &mut Cutter, polygon: &Polygon) -> Result<Option<Cu
         → MatchOption o ⊥ (λ cut. length cut.flats.items ≤ points_of polygon.now)) }
 {
     let alloc = cutter.alloc;
-    let swept = cutter.swept(polygon)?;
+    let count = load(cutter, polygon)?;
+    let swept = cutter.mesher.cut()?;
     if let Some(cut) = &swept
-        && is_small(cut, edge_count(polygon))
+        && is_small(cut, count)
     {
         return Ok(swept);
     }

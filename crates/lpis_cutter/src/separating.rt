@@ -42,6 +42,8 @@ struct Placed {
     x: i64,
     y: i64,
     number: u32,
+    /// Where its box ends in the east.
+    end: i64,
 }
 
 /// The first triangle of each piece, from west to east.
@@ -54,6 +56,7 @@ fn firsts_in_order(alloc: Global, numbered: &Numbered) -> Result<Vec<Placed>, Al
                 x: sides.x0,
                 y: sides.y0,
                 number: *number,
+                end: sides.x1,
             })?;
         }
     }
@@ -69,21 +72,21 @@ fn do_overlap(numbered: &Numbered, i: u32, j: u32) -> bool {
     }
 }
 
-/// The overlap of the triangle at an index with one of the next, where a point is found.
+/// The overlap of a triangle with one of the next, where a point is found.
 fn overlap_with_next(
     alloc: Global,
     budget: &mut Budget,
     release: &Release,
     numbered: &Numbered,
-    placed: &[Placed],
-    index: usize,
+    own: &Placed,
+    others: &[Placed],
 ) -> Result<Option<Refusal>, AllocError>
     ensures { IfOk result (ReportsIfAny release.now) }
 {
-    let Some(own) = placed.get(index) else {
-        return Ok(None);
-    };
-    for other in placed.iter().skip(index.saturating_add(1)).take(NEXT) {
+    for other in others.iter().take(NEXT) {
+        if own.end <= other.x {
+            return Ok(None);
+        }
         let (i, j) = (own.number.min(other.number), own.number.max(other.number));
         if do_overlap(numbered, i, j) && budget.search() {
             let found = overlap_of(alloc, budget, release, numbered, i, j)?;
@@ -106,8 +109,9 @@ pub(crate) fn early_overlap(
     ensures { IfOk result (ReportsIfAny release.now) }
 {
     let placed = firsts_in_order(alloc, numbered)?;
-    for index in 0..placed.len() {
-        let found = overlap_with_next(alloc, budget, release, numbered, &placed, index)?;
+    for (index, own) in placed.iter().enumerate() {
+        let others = &placed[index + 1..];
+        let found = overlap_with_next(alloc, budget, release, numbered, own, others)?;
         if found.is_some() {
             return Ok(found);
         }
