@@ -63,8 +63,8 @@ pub record IsLocatedText (x : LocateInputs) (text : List ℕ) : Type 0 where
   pub is : text ≡ lines ++ codes "yes\n"
 
 -- a run that locates: these inputs are what five readers reported, as far as it is known, and this
--- is an answer to them; where it is done, the release is a sound map, and each point has the line of
--- its own place
+-- is an answer to them; where it is done, the release is a sound map, and each point has the line
+-- of its own place
 pub record Locates (given : LocateTexts) (a : Answer) : Type 0 where
   pub inputs : LocateInputs
   pub read : AreLocateRead inputs given

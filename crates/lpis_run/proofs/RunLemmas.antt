@@ -28,6 +28,7 @@ runs_written Stops Answers text status old new (Err f) answers is written begun 
 pub both_stopped : (Stops : Failure → Type 0) (Answers : Outputs → Type 0) (outs : Held) (failure : Failure) → Stops failure → RunsBoth Stops Answers outs outs (Err failure)
 both_stopped Stops Answers outs failure stops = record { answer = tt; failure = inl (stops, Keeps-refl outs.cert, Keeps-refl outs.out) }
 
+-- and so if it has an answer
 pub both_written : (Stops : Failure → Type 0) (Answers : Outputs → Type 0) (a : Outputs) (old new : Held) (result : Result ℕ Failure) → Answers a
     → IfOk result (λ status. Writes a status old new) → IfErr result (λ failure. BreaksOff a failure old new) → RunsBoth Stops Answers old new result
 both_written Stops Answers a old new result answers written broken = record {
