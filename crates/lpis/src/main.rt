@@ -34,11 +34,11 @@ use std::{env, fs, io};
 /// Ends with the status of the command, or reports on standard error why there is none.
 fn main(rt: HostRuntime) -> ExitCode {
     let ran = run(&rt);
-    if let Err(failure) = ran {
+    if let Err(failure) = &ran {
         // Where standard error is closed, the status alone says so.
         let _ = print_failure(failure, &mut rt.stderr());
     }
-    ExitCode::from(status_of(ran))
+    ExitCode::from(status_of(&ran))
 }
 
 /// Runs the command that the words of the command line ask for.

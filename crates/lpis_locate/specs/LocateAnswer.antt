@@ -1,16 +1,15 @@
 -- The answer to points in a release: text and status, of the bytes of the release's files and of
 -- the table of points.
 use Rattle.std.specs.Prelude.{◌≡◌, ◌⊎◌, ◌++◌, ℕ, List, Option, Result, Ok, Err, codes}
-use Rattle.std.specs.Io.KnownBytes.{Appends, Keeps}
 use Rattle.lpis_parcels.specs.Release.{Contents}
 use Rattle.lpis_run.specs.CheckAnswer.{Answer, AreRead, Inputs, IsProvedOf, IsRefusal}
 use Rattle.lpis_run.specs.Failures.{AreWithin, IsUnchecked}
 use Rattle.lpis_run.specs.Folders.{IsFolderUntouched, IsUntouched, folder_names, folder_texts}
 use Rattle.lpis_run.specs.Status.{done, unreadable}
-use Rattle.lpis_run.specs.Streams.{Begins, FolderTexts, IsRead, IsWithin}
+use Rattle.lpis_run.specs.Streams.{FolderTexts, IsRead, IsWithin}
 use Rattle.lpis_run.specs.declared.failure.Failure.{Failure}
-use Rattle.lpis_run.specs.declared.failure.Failure.TheVariants.{Read, Write}
-use Rattle.lpis_run.specs.declared.failure.Name.TheVariants.{Out, Points}
+use Rattle.lpis_run.specs.declared.failure.Failure.TheVariants.{Read}
+use Rattle.lpis_run.specs.declared.failure.Name.TheVariants.{Points}
 use Rattle.lpis_run.specs.declared.folder.Folder.{Folder}
 use Rattle.lpis_locating.specs.declared.fault.PointsFault.{PointsFault}
 use Rattle.lpis_locating.specs.Points.{Given, points_of}
@@ -63,29 +62,23 @@ pub record IsLocatedText (x : LocateInputs) (text : List ℕ) : Type 0 where
   pub are : AreLines release points lines
   pub is : text ≡ lines ++ codes "yes\n"
 
--- the run answered with this status, and wrote the text; where it is done, the release is a sound
--- map, and each point has the line of its own place
-pub record LocateEnds (x : LocateInputs) (status : ℕ) (old new : Option (List ℕ)) : Type 0 where
-  pub text : List ℕ
-  pub answer : IsLocateAnswer x (text, status)
-  pub written : Appends old new text
-  pub located : status ≡ done → IsLocatedText x text
+-- a run that locates: these inputs are what five readers reported, as far as it is known, and this
+-- is an answer to them; where it is done, the release is a sound map, and each point has the line
+-- of its own place
+pub record Locates (given : LocateTexts) (a : Answer) : Type 0 where
+  pub inputs : LocateInputs
+  pub read : AreLocateRead inputs given
+  pub answer : IsLocateAnswer inputs a
+  pub located : a.1 ≡ done → IsLocatedText inputs a.0
 
 -- an input was not read, or memory ran out
-abbrev pub IsUnlocated : FolderTexts → Failure → Type 0
-IsUnlocated folder failure =
-    IsUnchecked folder failure
-    ⊎ (AreWithin folder.tables × IsWithin folder.cert × (failure ≡ Read Points))
+abbrev pub IsUnlocated : LocateTexts → Failure → Type 0
+IsUnlocated given failure =
+    IsUnchecked given.folder failure
+    ⊎ (AreWithin given.folder.tables × IsWithin given.folder.cert × (failure ≡ Read Points))
 
 -- the readers behind the one that the failure names are as they were: those of the folder, which
 -- comes first, and that of the points
 abbrev pub AreLocateUntouched : {R : Type 0} → Folder R → Folder R → R → R → Failure → Type 0
 AreLocateUntouched old new points_old points_new failure =
     IsFolderUntouched old new failure × IsUntouched folder_names points_old points_new failure
-
--- the run gave no answer: a reader failed, or the writer did after a beginning of the answer
-abbrev pub LocateHalts : Failure → LocateTexts → Option (List ℕ) → Option (List ℕ) → Type 0
-LocateHalts failure given old new =
-    ((x : LocateInputs) × AreLocateRead x given
-    × (failure ≡ Write Out) × ((a : Answer) × IsLocateAnswer x a × Begins old new a.0))
-    ⊎ (IsUnlocated given.folder failure × Keeps old new)

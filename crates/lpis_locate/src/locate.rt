@@ -2,15 +2,14 @@
 
 ghost use Rattle.std.specs.Prelude.{◌≡◌, All, IfErr, IfOk, None, Ok, Option, length};
 ghost use Rattle.lpis_checker.specs.SoundMap.{IsSoundMap};
-ghost use Rattle.lpis_run.specs.Folders.{folder_texts};
 ghost use Rattle.lpis_run.specs.Inputs.{inputs_of};
+ghost use Rattle.lpis_run.specs.Run.{Runs};
 ghost use Rattle.lpis_run.specs.Status.{done};
 ghost use Rattle.lpis_locating.specs.Points.{points_of};
 ghost use Rattle.lpis_locating.specs.declared.place.Place.{Place};
 ghost use Rattle.lpis_locate.specs.LocateAnswer.{AreLocateRead, AreLocateUntouched, IsLocateAnswer};
 ghost use Rattle.lpis_locate.specs.LocateAnswer.{IsLocatedText, IsPointsAnswer, IsUnlocated};
-ghost use Rattle.lpis_locate.specs.LocateAnswer.{LocateEnds, LocateHalts, LocateInputs};
-ghost use Rattle.lpis_locate.specs.LocateAnswer.{locate_texts};
+ghost use Rattle.lpis_locate.specs.LocateAnswer.{Locates, locate_texts};
 ghost use Rattle.lpis_locate.specs.private.LocateRuns.{locate_inputs_of};
 
 use crate::printing::{refuse_points, report_points};
@@ -93,7 +92,8 @@ fn read_all_inputs<R: Read + Drop>(
 ) -> Result<LocateBytes, Failure>
     ensures read { IfOk result (λ i. AreLocateRead (locate_inputs_of i)
         (locate_texts R.remaining folder.old points.old)) }
-    ensures failure { IfErr result (IsUnlocated (folder_texts R.remaining folder.old)) }
+    ensures failure { IfErr result
+        (IsUnlocated (locate_texts R.remaining folder.old points.old)) }
     ensures untouched { IfErr result
         (AreLocateUntouched folder.old folder.new points.old points.new) }
 {
@@ -116,13 +116,9 @@ pub fn run_locate<R: Read + Drop, W: Write>(
     points: &mut R,
     out: &mut W,
 ) -> Result<u8, Failure>
-    ensures answer { IfOk result (λ status. (x : LocateInputs)
-        × AreLocateRead x (locate_texts R.remaining folder.old points.old)
-        × LocateEnds x status (W.contents out.old) (W.contents out.new)) }
-    // A beginning of the answer was written, or nothing.
-    ensures failure { IfErr result (λ failure. LocateHalts failure
-        (locate_texts R.remaining folder.old points.old) (W.contents out.old)
-        (W.contents out.new)) }
+    ensures runs { Runs (IsUnlocated (locate_texts R.remaining folder.old points.old))
+        (Locates (locate_texts R.remaining folder.old points.old)) (W.contents out.old)
+        (W.contents out.new) result }
     ensures untouched { IfErr result
         (AreLocateUntouched folder.old folder.new points.old points.new) }
 {

@@ -1,37 +1,22 @@
 -- How a run over a register ends.
-use Rattle.std.proofs.Common.{◌≡◌, ◌⊎◌, inl, inr, refl, sym, subst, ℕ, List, Option, Result, Ok, Err, IfErr, IfOk, OnOk}
-use Rattle.std.proofs.KnownBytes.{Keeps-refl}
+use Rattle.std.proofs.Common.{◌≡◌, ◌⊎◌, inl, inr, refl, ℕ, List, Option, Result, Ok, Err, IfErr, IfOk, OnOk}
 use Rattle.std.proofs.lemmas.Result.{IfErr-weaker}
 use Rattle.sqlite_trees.specs.declared.store.Store.{Ghosts}
 use Rattle.lpis_register.specs.Failing.{FailsToStore}
-use Rattle.lpis_register.specs.Holdings.{Holdings, RegisterState}
+use Rattle.lpis_register.specs.Holdings.{RegisterState}
 use Rattle.lpis_run.specs.Streams.{Begins}
 use Rattle.lpis_run.specs.declared.answer.Answer.{Answer as Answered}
 use Rattle.lpis_run.specs.declared.failure.Failure.{Failure}
 use Rattle.lpis_run.specs.declared.failure.Failure.TheVariants.{Memory, Read, Store, Write}
 use Rattle.lpis_run.specs.declared.failure.Name.{Name}
 use Rattle.lpis_run.specs.declared.failure.Name.TheVariants.{Cert, Classes, Covers, Lineage, Out, Parcels}
-use Rattle.lpis_publishing.proofs.Common.{Appends, Answer}
+use Rattle.lpis_run.proofs.Shared.{runs_stopped, runs_written}
+use Rattle.lpis_publishing.proofs.Common.{Appends}
 use Rattle.lpis_publishing.specs.Output.{output}
 use Rattle.lpis_publishing.specs.Publication.{IsMemoryOrStore}
-use Rattle.lpis_publishing.specs.PublishAnswer.{IsPublishAnswer, IsSoundSubmission, MovesRegister, PublishAnswers, PublishRequest, RunsPublish, candidate_of}
+use Rattle.lpis_publishing.specs.PublishAnswer.{IsPublishAnswer, IsSoundSubmission, MovesRegister, PublishRequest, RunsPublish, candidate_of}
 use Rattle.lpis_publishing.specs.Stored.{IsStoreFailure, Stays}
 use Rattle.lpis_publishing.specs.Submission.{AreAllRead, IsUnreadSubmission, Submission, SubmissionTexts, Submitted}
-
--- what was written is the answer, and the status is reported
-answers-of : (asked : PublishRequest) (x : Submission) (a : Answer) (before after : Holdings) (old new : Option (List ℕ)) (r : Result ℕ Failure) → AreAllRead asked.given x
-    → IsPublishAnswer asked.year x before a → MovesRegister asked.year x before after a.1
-    → IfOk r (λ status. status ≡ a.1) → OnOk r (Appends old new a.0) → IfOk r (PublishAnswers asked before after (output old new))
-answers-of asked x a before after old new (Ok status) read answer moves is written =
-    record {
-      submission = x;
-      read = read;
-      text = a.0;
-      answer = subst (λ (n : ℕ). IsPublishAnswer asked.year x before (a.0, n)) (sym is) answer;
-      written = written;
-      moves = subst (λ (n : ℕ). MovesRegister asked.year x before after n) (sym is) moves;
-    }
-answers-of asked x a before after old new (Err failure) read answer moves is written = tt
 
 -- where an input is not read that is the failure, or memory ran out
 unread-is : (given : SubmissionTexts) (failure : Failure) → IsUnreadSubmission given failure → (failure ≡ Memory) ⊎ ((name : Name) × (failure ≡ Read name))
@@ -61,8 +46,7 @@ module _ {S : Type 0} (g : Ghosts S) (asked : PublishRequest) where
   -- where an input is not read all is as it was
   pub runs-unread : (old : RegisterState S) (out : Option (List ℕ)) (failure : Failure) → IsUnreadSubmission asked.given failure → RunsPublish g asked old old (output out out) (Err failure)
   runs-unread old out failure unread = record {
-    answer = tt;
-    failure = inr (inl unread, refl, Keeps-refl out);
+    runs = runs_stopped _ _ out failure (record { stopped = inl unread; same = refl });
     stored = record { holds = λ clean opened o held. held; served = λ other clean o held. held };
     cause = λ is. absurd (unread-no-store asked.given failure unread is);
   }
@@ -73,20 +57,18 @@ module _ {S : Type 0} (g : Ghosts S) (asked : PublishRequest) where
       → (IsStoreFailure failure → (said : Submitted) × IsSoundSubmission x said × FailsToStore g (candidate_of asked.year said) old new (failure ≡ Store))
       → RunsPublish g asked old new (output out out) (Err failure)
   runs-failed old new out x failure read why stays fails = record {
-    answer = tt;
-    failure = inr (no-answer-of asked.given failure why.0, why.1, Keeps-refl out);
+    runs = runs_stopped _ _ out failure (record { stopped = no-answer-of asked.given failure why.0; same = why.1 });
     stored = record { holds = stays.holds; served = stays.served };
     cause = λ is. let failed = fails is in record { submission = x; read = read; said = failed.0; proved = failed.1; fails = failed.2 };
   }
 
   -- where there is an answer it is written, or a beginning of it
-  pub runs-written : (old new : RegisterState S) (before after : Option (List ℕ)) (x : Submission) (a : Answer) (answered : Answered) (r : Result ℕ Failure) → AreAllRead asked.given x
-      → IsPublishAnswer asked.year x old.held a → MovesRegister asked.year x old.held new.held a.1 → Stays g old new (Ok answered)
-      → IfOk r (λ status. status ≡ a.1) → OnOk r (Appends before after a.0) → IfErr r (λ failure. (failure ≡ Write Out) × Begins before after a.0)
+  pub runs-written : (old new : RegisterState S) (before after : Option (List ℕ)) (x : Submission) (text : List ℕ) (status : ℕ) (answered : Answered) (r : Result ℕ Failure)
+      → AreAllRead asked.given x → IsPublishAnswer asked.year x old.held (text, status) → MovesRegister asked.year x old.held new.held status → Stays g old new (Ok answered)
+      → IfOk r (λ s. s ≡ status) → OnOk r (Appends before after text) → IfErr r (λ failure. (failure ≡ Write Out) × Begins before after text)
       → RunsPublish g asked old new (output before after) r
-  runs-written old new before after x a answered r read answer moves stays is written begun = record {
-    answer = answers-of asked x a old.held new.held before after r read answer moves is written;
-    failure = IfErr-weaker r _ _ (λ failure part. inl (part.0, record { submission = x; read = read; whole = a; answer = answer; written = part.1; moves = moves })) begun;
+  runs-written old new before after x text status answered r read answer moves stays is written begun = record {
+    runs = runs_written _ _ text status before after r (record { submission = x; read = read; answer = answer; moves = moves }) is written begun;
     stored = record { holds = stays.holds; served = λ other. stays.served tt };
     cause = IfErr-weaker r _ _ (λ failure part of. write-no-store failure part.0 of) begun;
   }

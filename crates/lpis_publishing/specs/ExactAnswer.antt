@@ -1,9 +1,8 @@
 -- The answer to what is asked for the blocks of marked rows: the certificate with them, or the line
 -- that says why there is none; and the status.
 use Rattle.std.specs.Prelude.{◌≡◌, ◌≢◌, ◌⊎◌, ◌++◌, Bool, true, ℕ, List, codes, length, map, Option}
-use Rattle.std.specs.Prelude.{None, Some, IfErr, IfOk, Result}
+use Rattle.std.specs.Prelude.{None, Some}
 use Rattle.std.specs.Fmt.{decimal}
-use Rattle.std.specs.Io.KnownBytes.{Keeps}
 use Rattle.lpis_covers.specs.Ids.{has_id}
 use Rattle.lpis_parcels.specs.Release.{parcel_ids}
 use Rattle.lpis_cert.specs.declared.cert.Cert.{Cert}
@@ -18,12 +17,11 @@ use Rattle.lpis_exact_lineage.specs.Asking.{AsksFor, IsUnkept}
 use Rattle.lpis_register.specs.Holdings.{Holdings}
 use Rattle.lpis_register.specs.declared.fault.PublishFault.TheVariants.{Lineage, NotKept}
 use Rattle.lpis_run.specs.CheckAnswer.{Answer}
-use Rattle.lpis_run.specs.Outputs.{BreaksOff, Held, Outputs, Writes}
+use Rattle.lpis_run.specs.Outputs.{Outputs}
 use Rattle.lpis_run.specs.Status.{done, refused}
-use Rattle.lpis_run.specs.declared.failure.Failure.{Failure}
 use Rattle.lpis_publishing.specs.LineageLines.{publish_refusal_text}
-use Rattle.lpis_publishing.specs.Submission.{AreAllRead, IsSubmissionAnswer, IsUnreadSubmission}
-use Rattle.lpis_publishing.specs.Submission.{Submission, SubmissionTexts, Submitted}
+use Rattle.lpis_publishing.specs.Submission.{AreAllRead, IsSubmissionAnswer, Submission}
+use Rattle.lpis_publishing.specs.Submission.{SubmissionTexts, Submitted}
 
 -- ---- text and status
 -- the line of a group for which no flats are found, or more than a certificate may have
@@ -87,25 +85,9 @@ pub record IsExactAnswer (x : Submission) (before : Holdings) (a : Outputs) : Ty
   -- with every other status there is no text
   pub no_text : a.status ≢ done → a.cert ≡ None
 
--- ---- the run
--- what is handed in is what five readers gave, as far as it is known, and this is an answer to it
+-- a run that fills in blocks: this submission is what five readers gave, as far as it is known, and
+-- this is an answer to it
 pub record Fills (given : SubmissionTexts) (before : Holdings) (a : Outputs) : Type 0 where
   pub submission : Submission
   pub read : AreAllRead given submission
   pub answer : IsExactAnswer submission before a
-
--- a run of what five readers gave, over what a register holds, and over these outputs
-module _ (given : SubmissionTexts) (holdings : Holdings) (before after : Held) where
-  -- it gave no answer: an input was not read, or memory ran out, and nothing was written; or the
-  -- certificate's file failed after a beginning of the text, or the output after it
-  abbrev pub ExactHalts : Failure → Type 0
-  ExactHalts failure =
-      (IsUnreadSubmission given failure × Keeps before.cert after.cert
-      × Keeps before.out after.out)
-      ⊎ ((a : Outputs) × Fills given holdings a × BreaksOff a failure before after)
-
-  -- what it ends with
-  pub record RunsExact (result : Result ℕ Failure) : Type 0 where
-    pub answer : IfOk result (λ status. (a : Outputs) × Fills given holdings a
-        × Writes a status before after)
-    pub failure : IfErr result ExactHalts

@@ -1,7 +1,6 @@
 -- The answer to a release that is to be published: text and status, of the year, the bytes of the
 -- five inputs, and what the register holds before; and what it holds after.
-use Rattle.std.specs.Prelude.{◌≡◌, ◌≢◌, ◌⊎◌, ℕ, List, IfErr, IfOk, Result}
-use Rattle.std.specs.Io.KnownBytes.{Appends, Keeps}
+use Rattle.std.specs.Prelude.{◌≡◌, ◌≢◌, ◌⊎◌, ℕ, IfErr, Result}
 use Rattle.sqlite_trees.specs.declared.store.Store.{Ghosts}
 use Rattle.lpis_checker.specs.GoodCertificate.{IsGood}
 use Rattle.lpis_checker.specs.SoundMap.{IsSoundMap}
@@ -11,11 +10,10 @@ use Rattle.lpis_register.specs.Holdings.{Candidate, Holdings, RegisterState, can
 use Rattle.lpis_register.specs.declared.fault.PublishFault.{PublishFault}
 use Rattle.lpis_run.specs.CheckAnswer.{Answer, IsCheckAnswer}
 use Rattle.lpis_run.specs.declared.failure.Failure.{Failure}
-use Rattle.lpis_run.specs.declared.failure.Failure.TheVariants.{Store, Write}
-use Rattle.lpis_run.specs.declared.failure.Name.TheVariants.{Out}
+use Rattle.lpis_run.specs.declared.failure.Failure.TheVariants.{Store}
 use Rattle.lpis_run.specs.Report.{report_text}
+use Rattle.lpis_run.specs.Run.{Runs}
 use Rattle.lpis_run.specs.Status.{done, refused}
-use Rattle.lpis_run.specs.Streams.{Begins}
 use Rattle.lpis_publishing.specs.LineageLines.{publish_refusal_text}
 use Rattle.lpis_publishing.specs.Output.{Output}
 use Rattle.lpis_publishing.specs.Publication.{IsPublicationAnswer, IsReleasePublished}
@@ -69,33 +67,21 @@ pub record PublishRequest : Type 0 where
   pub year : ℕ
   pub given : SubmissionTexts
 
--- a run of a request, over what a register holds before and after it, and an output
-module _ (asked : PublishRequest) (before after : Holdings) (out : Output) where
-  -- it answered with this status, and wrote the text
-  pub record PublishAnswers (status : ℕ) : Type 0 where
+-- over what a register holds before and after a run of a request
+module _ (asked : PublishRequest) (before after : Holdings) where
+  -- a run that publishes: this submission is what five readers gave, as far as it is known, and
+  -- this is an answer to it, which is decided, and the register written, before it is printed
+  pub record Publishes (a : Answer) : Type 0 where
     pub submission : Submission
     pub read : AreAllRead asked.given submission
-    pub text : List ℕ
-    pub answer : IsPublishAnswer asked.year submission before (text, status)
-    pub written : Appends out.before out.after text
-    pub moves : MovesRegister asked.year submission before after status
+    pub answer : IsPublishAnswer asked.year submission before a
+    pub moves : MovesRegister asked.year submission before after a.1
 
-  -- the output failed after a beginning of the answer; the release may be published
-  pub record PublishBreaksOff : Type 0 where
-    pub submission : Submission
-    pub read : AreAllRead asked.given submission
-    pub whole : Answer
-    pub answer : IsPublishAnswer asked.year submission before whole
-    pub written : Begins out.before out.after whole.0
-    pub moves : MovesRegister asked.year submission before after whole.1
-
-  -- it gave no answer: the output failed; or an input was not read, or memory ran out, or the
-  -- database failed, and then the register holds what it held and nothing was written
-  abbrev pub PublishHalts : Failure → Type 0
-  PublishHalts failure =
-      ((failure ≡ Write Out) × PublishBreaksOff)
-      ⊎ ((IsUnreadSubmission asked.given failure ⊎ IsStoreFailure failure) × (after ≡ before)
-      × Keeps out.before out.after)
+  -- an input was not read, or memory ran out, or the database failed, and the register holds what
+  -- it held
+  pub record PublishStops (failure : Failure) : Type 0 where
+    pub stopped : IsUnreadSubmission asked.given failure ⊎ IsStoreFailure failure
+    pub same : after ≡ before
 
 module _ {S : Type 0} (store : Ghosts S) (asked : PublishRequest) where
   -- what was handed in is a sound map with a good certificate, which was accepted, and the
@@ -112,8 +98,8 @@ module _ {S : Type 0} (store : Ghosts S) (asked : PublishRequest) where
   -- was written, there is a cause
   pub record RunsPublish (old new : RegisterState S) (out : Output) (result : Result ℕ Failure)
       : Type 0 where
-    pub answer : IfOk result (PublishAnswers asked old.held new.held out)
-    pub failure : IfErr result (PublishHalts asked old.held new.held out)
+    pub runs : Runs (PublishStops asked old.held new.held) (Publishes asked old.held new.held)
+        out.before out.after result
     pub stored : Stays store old new result
     pub cause : IfErr result (λ failure. IsStoreFailure failure
         → FailsToPublish old new (failure ≡ Store))

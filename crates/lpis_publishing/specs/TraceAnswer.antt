@@ -1,19 +1,13 @@
 -- The answer to words that are followed through a history: text and status.
 use Rattle.std.specs.Prelude.{◌≡◌, ◌⊎◌, ◌++◌, ◌∷◌, ◌==◌, [], false, ℕ, List, codes, if◌then◌else◌}
 use Rattle.std.specs.List.{flat_map}
-use Rattle.std.specs.Io.KnownBytes.{Appends, Keeps}
 use Rattle.lpis_covers.specs.Ids.{is_id}
 use Rattle.lpis_lineage.specs.declared.row.Entry.{Entry}
 use Rattle.lpis_register.specs.Histories.{IsTrace, IsUnknown}
 use Rattle.lpis_register.specs.declared.fault.PublishFault.TheVariants as publish
 use Rattle.lpis_run.specs.CheckAnswer.{Answer}
 use Rattle.lpis_publishing.specs.LineageLines.{publish_refusal_text}
-use Rattle.lpis_publishing.specs.Output.{Output}
-use Rattle.lpis_run.specs.declared.failure.Failure.{Failure}
-use Rattle.lpis_run.specs.declared.failure.Failure.TheVariants.{Memory, Write}
-use Rattle.lpis_run.specs.declared.failure.Name.TheVariants.{Out}
 use Rattle.lpis_run.specs.Status.{done, refused}
-use Rattle.lpis_run.specs.Streams.{Begins}
 
 -- an identifier on a line of its own
 abbrev pub id_line : List ℕ → List ℕ
@@ -46,15 +40,3 @@ AreTraceAnswers (word ∷ words) h a = (first next : Answer) × IsTraceAnswer wo
 abbrev pub IsWholeTrace : List (List ℕ) → List Entry → Answer → Type 0
 IsWholeTrace (word ∷ []) h a = IsTraceAnswer word h a
 IsWholeTrace words h a = AreTraceAnswers words h a
-
--- the run answered with this status, and wrote the text
-abbrev pub Traces : List (List ℕ) → List Entry → Output → ℕ → Type 0
-Traces words h out status = (text : List ℕ) × IsWholeTrace words h (text, status)
-    × Appends out.before out.after text
-
--- the run gave no answer: the output failed after a beginning of it, or memory ran out
-abbrev pub TraceHalts : List (List ℕ) → List Entry → Output → Failure → Type 0
-TraceHalts words h out failure =
-    ((a : Answer) × IsWholeTrace words h a × (failure ≡ Write Out)
-    × Begins out.before out.after a.0)
-    ⊎ ((failure ≡ Memory) × Keeps out.before out.after)

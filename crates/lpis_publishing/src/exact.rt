@@ -16,12 +16,13 @@ ghost use Rattle.lpis_register_rows.specs.Shapes.{AreShapesOf, shape_ids};
 ghost use Rattle.lpis_exact_lineage.specs.Asking.{AsksFor};
 ghost use Rattle.lpis_register.specs.Holdings.{Holdings, holdings};
 ghost use Rattle.lpis_run.specs.Outputs.{held, outputs_of};
+ghost use Rattle.lpis_run.specs.Run.{RunsBoth};
 ghost use Rattle.lpis_run.specs.Status.{done, refused};
-ghost use Rattle.lpis_publishing.specs.ExactAnswer.{IsBlocksOutcome, IsExactAnswer, RunsExact};
+ghost use Rattle.lpis_publishing.specs.ExactAnswer.{Fills, IsBlocksOutcome, IsExactAnswer};
 ghost use Rattle.lpis_publishing.specs.ExactAnswer.{blocks_line, unfilled_line};
 ghost use Rattle.lpis_publishing.specs.LineageLines.{publish_refusal_text};
-ghost use Rattle.lpis_publishing.specs.Submission.{IsSubmissionUntouched, submission_texts};
-ghost use Rattle.lpis_publishing.specs.Submission.{submitted};
+ghost use Rattle.lpis_publishing.specs.Submission.{IsSubmissionUntouched, IsUnreadSubmission};
+ghost use Rattle.lpis_publishing.specs.Submission.{submission_texts, submitted};
 ghost use Rattle.lpis_publishing.specs.private.ExactRuns.{filled_with, refused_with};
 ghost use Rattle.lpis_publishing.specs.private.Submitting.{submission_of, submitted_of};
 
@@ -259,7 +260,8 @@ pub fn run_exact<S: Alter, R: Read + Drop, V: Write, W: Write>(
     cert_out: &mut V,
     out: &mut W,
 ) -> Result<u8, Failure>
-    ensures runs { RunsExact (submission_texts R.remaining submission.old) register.now.held
+    ensures runs { RunsBoth (IsUnreadSubmission (submission_texts R.remaining submission.old))
+        (Fills (submission_texts R.remaining submission.old) register.now.held)
         (held (V.contents cert_out.old) (W.contents out.old))
         (held (V.contents cert_out.new) (W.contents out.new)) result }
     ensures untouched { IfErr result (IsSubmissionUntouched submission.old submission.new) }

@@ -1,13 +1,13 @@
 //! The run of `trace`, over any register and writer.
 
-ghost use Rattle.std.specs.Prelude.{◌≡◌, ◌++◌, IfErr, IfOk, List, OnOk, map, ℕ};
+ghost use Rattle.std.specs.Prelude.{◌≡◌, ◌++◌, IfOk, List, OnOk, map, ℕ};
 ghost use Rattle.std.specs.Io.KnownBytes.{Appends};
 ghost use Rattle.std.specs.List.{flat_map};
+ghost use Rattle.lpis_run.specs.Run.{Runs};
 ghost use Rattle.lpis_run.specs.Status.{done};
-ghost use Rattle.lpis_publishing.specs.Output.{output};
+ghost use Rattle.lpis_run.specs.declared.failure.Failure.TheVariants.{Memory};
 ghost use Rattle.lpis_publishing.specs.TraceAnswer.{AreTraceAnswers, IsTraceAnswer, IsWholeTrace};
-ghost use Rattle.lpis_publishing.specs.TraceAnswer.{TraceHalts, Traces, id_line, status_of_both};
-ghost use Rattle.lpis_publishing.specs.TraceAnswer.{trace_line};
+ghost use Rattle.lpis_publishing.specs.TraceAnswer.{id_line, status_of_both, trace_line};
 
 use crate::lineage_lines::refuse;
 use lpis_covers::Id;
@@ -141,11 +141,9 @@ pub fn run_trace<S: Alter, W: Write>(
     words: &[&str],
     out: &mut W,
 ) -> Result<u8, Failure>
-    ensures answer { IfOk result (Traces (map (λ w. w.now) words.now) register.now.held.history
-        (output (W.contents out.old) (W.contents out.new))) }
-    // A beginning of the answer was written, or nothing.
-    ensures failure { IfErr result (TraceHalts (map (λ w. w.now) words.now)
-        register.now.held.history (output (W.contents out.old) (W.contents out.new))) }
+    ensures runs { Runs (λ failure. failure ≡ Memory)
+        (IsWholeTrace (map (λ w. w.now) words.now) register.now.held.history)
+        (W.contents out.old) (W.contents out.new) result }
 {
     let answer = answer_to_words(alloc, register, words)?;
     answer.write_to(out)

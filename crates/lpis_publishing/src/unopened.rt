@@ -1,8 +1,7 @@
 //! A register that is not opened.
 
-ghost use Rattle.std.specs.Prelude.{IfErr, IfOk};
-ghost use Rattle.lpis_publishing.specs.Output.{output};
-ghost use Rattle.lpis_publishing.specs.Unopened.{HaltsUnopened, RefusesRegister};
+ghost use Rattle.lpis_run.specs.Run.{Runs};
+ghost use Rattle.lpis_publishing.specs.Unopened.{RefusesRegister, StopsUnopened};
 
 use crate::lineage_lines::refuse;
 use lpis_register::PublishFault;
@@ -13,16 +12,14 @@ use std::io::Write;
 /// Prints the line of a register that is refused, as `publish`, `exact` and `trace` do where theirs
 /// is not opened. Ok is the status `UNREADABLE`. Out of memory and a failed store have no line
 /// here: they are failures, and nothing is written.
+#[tactic(auto, using(lpis_run::proofs::Shared::runs_stopped, lpis_run::proofs::Shared::runs_written))]
 pub fn refuse_register<W: Write>(
     alloc: Global,
     fault: &PublishFault,
     out: &mut W,
 ) -> Result<u8, Failure>
-    ensures answer { IfOk result (RefusesRegister fault.now
-        (output (W.contents out.old) (W.contents out.new))) }
-    // A beginning of the line was written, or nothing.
-    ensures failure { IfErr result (HaltsUnopened fault.now
-        (output (W.contents out.old) (W.contents out.new))) }
+    ensures runs { Runs (StopsUnopened fault.now) (RefusesRegister fault.now)
+        (W.contents out.old) (W.contents out.new) result }
 {
     match fault {
         PublishFault::Memory => Err(Failure::Memory),

@@ -5,5 +5,6 @@ pub mod CheckLemmas
 pub mod ReadLemmas
 pub mod RefusalLemmas
 pub mod ReportLemmas
+pub mod RunLemmas
 pub mod Shared
 pub mod WriteLemmas

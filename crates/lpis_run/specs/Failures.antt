@@ -1,12 +1,14 @@
 -- What stands for a run that gave no answer.
 use Rattle.std.specs.Prelude.{◌≡◌, ◌⊎◌, ℕ, List, ◌++◌, codes}
+use Rattle.std.specs.String.{string_bytes}
 use Rattle.lpis_run.specs.declared.failure.Name.{Name}
 use Rattle.lpis_run.specs.declared.failure.Name.TheVariants.{Area, Parcels, Covers, Classes}
 use Rattle.lpis_run.specs.declared.failure.Name.TheVariants.{Lineage, Cert, Country, Points}
 use Rattle.lpis_run.specs.declared.failure.Name.TheVariants.{Out}
 use Rattle.lpis_run.specs.declared.failure.Failure.{Failure}
-use Rattle.lpis_run.specs.declared.failure.Failure.TheVariants.{Memory, Read, Write}
-use Rattle.lpis_run.specs.declared.failure.Failure.TheVariants.{Store, StoreMemory}
+use Rattle.lpis_run.specs.declared.failure.Failure.TheVariants.{Memory, Read, ReadOf}
+use Rattle.lpis_run.specs.declared.failure.Failure.TheVariants.{Store, StoreMemory, Write}
+use Rattle.lpis_run.specs.Refusals.{region_end}
 use Rattle.lpis_run.specs.Streams.{FolderTexts, IsWithin, TableTexts}
 
 -- an input or an output by its name
@@ -21,10 +23,12 @@ name_text Country = codes "country"
 name_text Points = codes "points"
 name_text Out = codes "out"
 
--- the line of a failure
+-- the line of a failure, with the region whose file was not read
 abbrev pub failure_text : Failure → List ℕ
 failure_text Memory = codes "failed memory\n"
 failure_text (Read name) = codes "failed read " ++ name_text name ++ codes "\n"
+failure_text (ReadOf name region) =
+    codes "failed read " ++ name_text name ++ region_end (string_bytes region)
 failure_text (Write name) = codes "failed write " ++ name_text name ++ codes "\n"
 failure_text Store = codes "failed store\n"
 failure_text StoreMemory = codes "failed store\n"

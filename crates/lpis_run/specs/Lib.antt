@@ -7,6 +7,7 @@ pub mod Inputs
 pub mod Outputs
 pub mod Refusals
 pub mod Report
+pub mod Run
 pub mod Status
 pub mod Stops
 pub mod Streams

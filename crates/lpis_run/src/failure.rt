@@ -52,12 +52,14 @@ impl Name {
 }
 
 /// Why a run gave no answer.
-#[derive(Clone, Copy, Debug, PartialEq, Eq)]
+#[derive(Debug, PartialEq, Eq, Drop)]
 pub enum Failure {
     /// Memory ran out.
     Memory,
     /// An input could not be read, or is longer than the limit of an input.
     Read(Name),
+    /// So it is of an input in the folder of the region of this name.
+    ReadOf(Name, String),
     /// An output could not be written.
     Write(Name),
     /// The database failed.
@@ -83,13 +85,16 @@ impl<T: Drop> From<AllocFailed<T>> for Failure {
 }
 
 /// Writes the line of a failure.
-pub fn print_failure<W: Write>(failure: Failure, out: &mut W) -> Result<(), PrintFault>
+pub fn print_failure<W: Write>(failure: &Failure, out: &mut W) -> Result<(), PrintFault>
     ensures { OnOk result (Appends (W.contents out.old) (W.contents out.new)
-        (failure_text failure)) }
+        (failure_text failure.now)) }
 {
     match failure {
         Failure::Memory => out.write_all(b"failed memory\n")?,
         Failure::Read(name) => write!(out, "failed read {}\n", name.as_str())?,
+        Failure::ReadOf(name, region) => {
+            write!(out, "failed read {} region {region}\n", name.as_str())?;
+        }
         Failure::Write(name) => write!(out, "failed write {}\n", name.as_str())?,
         Failure::Store => out.write_all(b"failed store\n")?,
         Failure::StoreMemory => out.write_all(b"failed store\n")?,

@@ -18,11 +18,11 @@ pub const UNREADABLE: u8 = 2;
 pub const FAILED: u8 = 3;
 
 /// The status that the program ends with, of what a run answered.
-pub fn status_of(run: Result<u8, Failure>) -> u8
-    ensures { result ≡ status_told run }
+pub fn status_of(run: &Result<u8, Failure>) -> u8
+    ensures { result ≡ status_told run.now }
 {
     match run {
-        Ok(status) => status,
+        Ok(status) => *status,
         Err(_) => FAILED,
     }
 }

@@ -1,22 +1,17 @@
 -- The answer to a table of polygons: text and status, as a function of the table's bytes.
-use Rattle.std.specs.Prelude.{◌≡◌, ◌⊎◌, ◌∷◌, [], ℕ, List, Option, Result, Ok, Err, codes, true}
+use Rattle.std.specs.Prelude.{◌≡◌, ◌∷◌, [], ℕ, List, Option, Result, Ok, Err, codes, true}
 use Rattle.std.specs.List.{flat_map}
-use Rattle.std.specs.Io.KnownBytes.{Appends, Keeps}
 use Rattle.lpis_rings.specs.declared.polygon.Member.{Member}
 use Rattle.lpis_rings.specs.Area.{area2}
 use Rattle.lpis_covers.specs.declared.fault.Table.TheVariants.{Area}
 use Rattle.lpis_covers.specs.declared.fault.TableFault.{TableFault}
 use Rattle.lpis_covers.specs.Faults.{RowsOf, polygon_faults, polygon_in, rows_of}
 use Rattle.lpis_covers.specs.Table.{field_of}
-use Rattle.lpis_run.specs.declared.failure.Failure.{Failure}
-use Rattle.lpis_run.specs.declared.failure.Failure.TheVariants.{Write}
-use Rattle.lpis_run.specs.declared.failure.Name.{Name}
-use Rattle.lpis_run.specs.declared.failure.Name.TheVariants.{Out}
 use Rattle.lpis_run.specs.Area.{area_line}
-use Rattle.lpis_run.specs.Failures.{IsUnread}
+use Rattle.lpis_run.specs.CheckAnswer.{Answer}
 use Rattle.lpis_run.specs.Refusals.{refusal_text}
 use Rattle.lpis_run.specs.Status.{done, unreadable}
-use Rattle.lpis_run.specs.Streams.{Begins, IsRead}
+use Rattle.lpis_run.specs.Streams.{IsRead}
 
 -- a row is a polygon
 abbrev pub area_table : RowsOf (List Member)
@@ -41,14 +36,9 @@ answer_from (Err fault) = (refusal_text fault, unreadable)
 abbrev pub area_answer : List ℕ → List ℕ × ℕ
 area_answer bytes = answer_from (rows_of area_table bytes)
 
--- the run answered with this status, and wrote the text
-abbrev pub AnswersArea : List ℕ → ℕ → Option (List ℕ) → Option (List ℕ) → Type 0
-AnswersArea bytes status old new = (status ≡ (area_answer bytes).1)
-    × Appends old new (area_answer bytes).0
-
--- the run of a table gave no answer: its reader failed, or the writer did after a beginning of the
--- answer
-abbrev pub AreaHalts : Failure → Option (List ℕ) → Option (List ℕ) → Option (List ℕ) → Type 0
-AreaHalts failure told old new =
-    ((bytes : List ℕ) × IsRead bytes told × (failure ≡ Write Out)
-    × Begins old new (area_answer bytes).0) ⊎ (IsUnread Name.Area failure × Keeps old new)
+-- a run that measures the polygons of a table: these bytes are what its reader reported, as far as
+-- it is known, and this is the answer to them
+pub record Measures (told : Option (List ℕ)) (a : Answer) : Type 0 where
+  pub bytes : List ℕ
+  pub read : IsRead bytes told
+  pub answer : a ≡ area_answer bytes

@@ -3,7 +3,6 @@
 use Rattle.std.specs.Prelude.{◌≡◌, ◌⊎◌, ◌++◌, ℕ, List, length, codes, Some, None, Result}
 use Rattle.std.specs.Prelude.{Ok, Err, sum_by}
 use Rattle.std.specs.Fmt.{decimal}
-use Rattle.std.specs.Io.KnownBytes.{Keeps}
 use Rattle.lpis_covers.specs.declared.fault.TableFault.{TableFault}
 use Rattle.lpis_parcels.specs.Release.{Contents}
 use Rattle.lpis_cert.specs.declared.cert.Cert.{Cert}
@@ -11,11 +10,9 @@ use Rattle.lpis_cert.specs.declared.part.PiecePart.{PiecePart}
 use Rattle.lpis_cert.specs.Contents.{cert_text}
 use Rattle.lpis_cutter.specs.declared.fault.Refusal.{Refusal}
 use Rattle.lpis_cutter.specs.Refusals.{RefusalReports}
-use Rattle.lpis_run.specs.declared.failure.Failure.{Failure}
 use Rattle.lpis_run.specs.CheckAnswer.{AreTablesRead, Tables, release_in}
 use Rattle.lpis_run_check.specs.CutRefusals.{cut_refusal_text}
-use Rattle.lpis_run.specs.Failures.{IsUnreadRelease}
-use Rattle.lpis_run.specs.Outputs.{BreaksOff, Held, Outputs}
+use Rattle.lpis_run.specs.Outputs.{Outputs}
 use Rattle.lpis_run.specs.Refusals.{refusal_text}
 use Rattle.lpis_run.specs.Status.{done, refused, unreadable}
 use Rattle.lpis_run.specs.Streams.{TableTexts}
@@ -52,14 +49,9 @@ abbrev pub IsCutAnswer : Result Contents TableFault → Outputs → Type 0
 IsCutAnswer (Ok r) a = CertIsCut a ⊎ IsCutRefused r a
 IsCutAnswer (Err fault) a = IsUnreadable fault a
 
--- the tables are what three readers reported, as far as it is known, and this is an answer to them
+-- a run that cuts: these tables are what three readers reported, as far as it is known, and this is
+-- an answer to them
 pub record Cuts (given : TableTexts) (a : Outputs) : Type 0 where
   pub tables : Tables
   pub read : AreTablesRead tables given
   pub answer : IsCutAnswer (release_in tables) a
-
--- the run gave no answer: a table was not read, and nothing was written; or an output failed
-abbrev pub CutHalts : Failure → TableTexts → Held → Held → Type 0
-CutHalts failure given old new =
-    (IsUnreadRelease given failure × Keeps old.cert new.cert × Keeps old.out new.out)
-    ⊎ ((a : Outputs) × Cuts given a × BreaksOff a failure old new)

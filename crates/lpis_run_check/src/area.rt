@@ -1,14 +1,16 @@
 //! The run of `area`, over any reader and writer.
 
-ghost use Rattle.std.specs.Prelude.{◌≡◌, ◌++◌, [], ℕ, List, IfErr, IfOk, MatchResult, Ok, Err};
+ghost use Rattle.std.specs.Prelude.{◌≡◌, ◌++◌, [], List, IfOk, MatchResult, Ok, Err};
 ghost use Rattle.lpis_rings.specs.declared.polygon.Member.{Member};
 ghost use Rattle.lpis_covers.specs.declared.fault.Table.TheVariants.{Area};
 ghost use Rattle.lpis_covers.specs.Faults.{rows_of, unless_faulty, values_of};
 ghost use Rattle.lpis_covers.specs.Table.{Answers};
-ghost use Rattle.lpis_run_check.specs.AreaAnswer.{AnswersArea, AreaHalts, answer_from, area_answer};
-ghost use Rattle.lpis_run_check.specs.AreaAnswer.{area_table, polygon_area_line};
+ghost use Rattle.lpis_run_check.specs.AreaAnswer.{Measures, answer_from, area_answer, area_table};
+ghost use Rattle.lpis_run_check.specs.AreaAnswer.{polygon_area_line};
+ghost use Rattle.lpis_run.specs.Failures.{IsUnread};
+ghost use Rattle.lpis_run.specs.Run.{Runs};
 ghost use Rattle.lpis_run.specs.Status.{done};
-ghost use Rattle.lpis_run.specs.Streams.{IsRead};
+ghost use Rattle.lpis_run.specs.declared.failure.Name.{Name};
 
 use lpis_covers::{Table, TableFault, TableReader};
 use lpis_rings::area2;
@@ -86,12 +88,8 @@ pub fn run_area<R: Read + Drop, W: Write>(
     table: R,
     out: &mut W,
 ) -> Result<u8, Failure>
-    ensures answer { IfOk result (λ status. (bytes : List ℕ) × IsRead bytes (R.remaining table)
-        × AnswersArea bytes status (W.contents out.old) (W.contents out.new)) }
-    // A beginning of the answer was written, or nothing.
-    ensures failure { IfErr result
-        (λ failure. AreaHalts failure (R.remaining table) (W.contents out.old)
-        (W.contents out.new)) }
+    ensures { Runs (IsUnread Name.Area) (Measures (R.remaining table)) (W.contents out.old)
+        (W.contents out.new) result }
 {
     let bytes = read_named(alloc, table, Name::Area)?;
     let answer = answer_to(alloc, bytes.as_slice())?;

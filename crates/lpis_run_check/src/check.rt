@@ -2,14 +2,14 @@
 
 ghost use Rattle.std.specs.Prelude.{◌≡◌, IfErr, IfOk};
 ghost use Rattle.lpis_checker.specs.SoundMap.{IsSoundMap};
-ghost use Rattle.lpis_run.specs.CheckAnswer.{AreRead, Inputs, IsAnswer, IsProved};
+ghost use Rattle.lpis_run.specs.CheckAnswer.{IsAnswer, IsProved};
 ghost use Rattle.lpis_run.specs.Failures.{IsUnchecked};
 ghost use Rattle.lpis_run.specs.Folders.{IsFolderUntouched, folder_texts};
 ghost use Rattle.lpis_run.specs.Inputs.{inputs_of};
 ghost use Rattle.lpis_run.specs.Report.{report_text};
+ghost use Rattle.lpis_run.specs.Run.{Runs};
 ghost use Rattle.lpis_run.specs.Status.{done};
-ghost use Rattle.lpis_run_check.specs.CheckRun.{CheckEnds, CheckHalts};
-ghost use Rattle.lpis_run_check.specs.private.Deciding.{IsDecided};
+ghost use Rattle.lpis_run_check.specs.CheckRun.{Checks};
 
 use lpis_parcels::Release;
 use lpis_run::{
@@ -41,7 +41,8 @@ fn answer_to(alloc: Global, inputs: InputBytes) -> Result<Answer, AllocError>
 
 /// The answer to what four readers give.
 fn decide<R: Read + Drop>(alloc: Global, folder: &mut Folder<R>) -> Result<Answer, Failure>
-    ensures answers { IfOk result (IsDecided (folder_texts R.remaining folder.old)) }
+    ensures answers { IfOk result (λ a. Checks (folder_texts R.remaining folder.old)
+        (a.text.items, a.status)) }
     ensures unread { IfErr result (IsUnchecked (folder_texts R.remaining folder.old)) }
     ensures untouched { IfErr result (IsFolderUntouched folder.old folder.new) }
 {
@@ -63,13 +64,9 @@ pub fn run_check<R: Read + Drop, W: Write>(
     folder: &mut Folder<R>,
     out: &mut W,
 ) -> Result<u8, Failure>
-    ensures answer { IfOk result (λ status. (x : Inputs)
-        × AreRead x (folder_texts R.remaining folder.old)
-        × CheckEnds x status (W.contents out.old) (W.contents out.new)) }
-    // A beginning of the answer was written, or nothing.
-    ensures failure { IfErr result
-        (λ failure. CheckHalts failure (folder_texts R.remaining folder.old) (W.contents out.old)
-        (W.contents out.new)) }
+    ensures runs { Runs (IsUnchecked (folder_texts R.remaining folder.old))
+        (Checks (folder_texts R.remaining folder.old)) (W.contents out.old) (W.contents out.new)
+        result }
     ensures untouched { IfErr result (IsFolderUntouched folder.old folder.new) }
 {
     let answer = decide(alloc, folder)?;

@@ -3,13 +3,13 @@
 ghost use Rattle.std.specs.Prelude.{◌≡◌, IfErr, IfOk, Ok};
 ghost use Rattle.lpis_cutter.specs.Refusals.{RefusesRightly};
 ghost use Rattle.lpis_run.specs.CheckAnswer.{release_in};
-ghost use Rattle.lpis_run_check.specs.CutAnswer.{Cuts, CutHalts, CertIsCut, IsCutAnswer};
-ghost use Rattle.lpis_run_check.specs.CutAnswer.{counts_text};
+ghost use Rattle.lpis_run_check.specs.CutAnswer.{CertIsCut, Cuts, IsCutAnswer, counts_text};
 ghost use Rattle.lpis_run_check.specs.CutRefusals.{cut_refusal_text};
 ghost use Rattle.lpis_run.specs.Failures.{IsUnreadRelease};
 ghost use Rattle.lpis_run.specs.Folders.{AreTablesUntouched, table_texts};
 ghost use Rattle.lpis_run.specs.Inputs.{tables_of};
-ghost use Rattle.lpis_run.specs.Outputs.{Outputs, Writes, held, outputs_of};
+ghost use Rattle.lpis_run.specs.Outputs.{held, outputs_of};
+ghost use Rattle.lpis_run.specs.Run.{RunsBoth};
 ghost use Rattle.lpis_run.specs.Status.{done, refused};
 
 use crate::cut_line::{print_counts, print_refusal};
@@ -104,16 +104,9 @@ pub fn run_cut<R: Read + Drop, E: Write, W: Write>(
     cert_out: &mut E,
     out: &mut W,
 ) -> Result<u8, Failure>
-    ensures answer { IfOk result (λ status. (a : Outputs)
-        × Cuts (table_texts R.remaining tables.old) a
-        × Writes a status (held (E.contents cert_out.old) (W.contents out.old))
-        (held (E.contents cert_out.new) (W.contents out.new))) }
-    // A beginning of the certificate was written, or the certificate and a beginning of the line,
-    // or nothing.
-    ensures failure { IfErr result
-        (λ failure. CutHalts failure (table_texts R.remaining tables.old)
-        (held (E.contents cert_out.old) (W.contents out.old))
-        (held (E.contents cert_out.new) (W.contents out.new))) }
+    ensures runs { RunsBoth (IsUnreadRelease (table_texts R.remaining tables.old))
+        (Cuts (table_texts R.remaining tables.old)) (held (E.contents cert_out.old)
+        (W.contents out.old)) (held (E.contents cert_out.new) (W.contents out.new)) result }
     ensures untouched { IfErr result (AreTablesUntouched tables.old tables.new) }
 {
     let outcome = decide(alloc, tables)?;

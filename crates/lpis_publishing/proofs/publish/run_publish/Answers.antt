@@ -20,5 +20,5 @@ returns-clause-runs g c =
     let a = c.in_ok-answer.answer in
     let told = c.in_ok-answer.ensures in
     runs-written g.S.Store (record { year = c.args.year; given = _ }) c.args.register.now c.answer_to.new.register (g.W.Write.contents c.args.out.now) (g.W.Write.contents c.write_to.new.out)
-    (submission_of c.in_ok-bytes.bytes) (a.text.items, a.status) a c.write_to.result
+    (submission_of c.in_ok-bytes.bytes) a.text.items a.status a c.write_to.result
     c.in_ok-bytes.ensures.read told.answer told.moves told.leaves.stored c.write_to.ensures.status c.write_to.ensures.text c.write_to.ensures.failure

@@ -1,0 +1,29 @@
+-- How a run ends: each command has this form, and says which failures stop it before it writes, and
+-- which answers it has to what was read.
+use Rattle.std.specs.Prelude.{◌≡◌, ◌⊎◌, ℕ, List, Option, IfErr, IfOk, Result}
+use Rattle.std.specs.Io.KnownBytes.{Appends, Keeps}
+use Rattle.lpis_run.specs.CheckAnswer.{Answer}
+use Rattle.lpis_run.specs.Outputs.{BreaksOff, Held, Outputs, Writes}
+use Rattle.lpis_run.specs.Streams.{Begins}
+use Rattle.lpis_run.specs.declared.failure.Failure.{Failure}
+use Rattle.lpis_run.specs.declared.failure.Failure.TheVariants.{Write}
+use Rattle.lpis_run.specs.declared.failure.Name.TheVariants.{Out}
+
+-- a run that prints, over what its output held before and holds after
+pub record Runs (Stops : Failure → Type 0) (Answers : Answer → Type 0)
+    (old new : Option (List ℕ)) (result : Result ℕ Failure) : Type 0 where
+  -- it ended with the status of an answer, and wrote its text
+  pub answer : IfOk result (λ status. (text : List ℕ) × Answers (text, status)
+      × Appends old new text)
+  -- it was stopped, and wrote nothing; or the output failed after a beginning of an answer
+  pub failure : IfErr result (λ failure. (Stops failure × Keeps old new)
+      ⊎ ((failure ≡ Write Out) × (a : Answer) × Answers a × Begins old new a.0))
+
+-- a run that writes a certificate, if there is one, and then prints, over what its two outputs hold
+pub record RunsBoth (Stops : Failure → Type 0) (Answers : Outputs → Type 0) (old new : Held)
+    (result : Result ℕ Failure) : Type 0 where
+  -- it ended with the status of an answer, and wrote both
+  pub answer : IfOk result (λ status. (a : Outputs) × Answers a × Writes a status old new)
+  -- it was stopped, and wrote nothing; or an output failed after a beginning of an answer
+  pub failure : IfErr result (λ failure. (Stops failure × Keeps old.cert new.cert
+      × Keeps old.out new.out) ⊎ ((a : Outputs) × Answers a × BreaksOff a failure old new))

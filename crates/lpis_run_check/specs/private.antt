@@ -1,2 +1,0 @@
--- Machinery, cited by private contracts alone: no promise rests on it.
-pub mod Deciding
