@@ -24,7 +24,7 @@ use Rattle.lpis_country_seam.specs.Laws.{JoinedCountryIsSound, JoinedCountryIsUn
 use Rattle.lpis_country_seam.specs.Open.{IsSeamOf}
 use Rattle.lpis_country_run.specs.Beginning.{IsBegun, IsUnbegun}
 use Rattle.lpis_country_run.specs.declared.beginning.Begun.{Begun}
-use Rattle.lpis_country_run.specs.declared.failure.CountryFailure.{CountryFailure}
+use Rattle.lpis_run.specs.declared.failure.Failure.{Failure}
 use Rattle.lpis_country_run.specs.CountryAnswer.{IsRefusedRegion, Setting, setting_of}
 use Rattle.lpis_country_run.specs.Regions.{IsCountry, Texts}
 use Rattle.lpis_country_run.proofs.Shared.{passed_length, passed_regions, passed_sound, two_is_not_done, unbegun_no}
@@ -132,7 +132,7 @@ located texts x b begun p text status law unites (all, (lines, passed), at) said
 
 -- ---- no answer
 -- a search that is stopped gives no answer to the country
-pub stopped : (texts : List ℕ → Texts) (x : LocateCountryInputs) (b : Begun) (begun : IsBegun x.country b) (f : CountryFailure) → IsStopped (begun_setting texts x b begun) f → IsUnanswered texts x f
+pub stopped : (texts : List ℕ → Texts) (x : LocateCountryInputs) (b : Begun) (begun : IsBegun x.country b) (f : Failure) → IsStopped (begun_setting texts x b begun) f → IsUnanswered texts x f
 unfolding begun_setting
 stopped texts x b begun f (regions, lines, left, reached, stop) =
     inr (lines, left, record { plan = begun.plan; planned = begun.text; classes = b.classes.items; table = begun.table; regions = regions; reached = reached }, stop)
@@ -163,7 +163,7 @@ keeps-itself None = tt
 keeps-itself (Some xs) = refl
 
 -- where there is no answer, nothing was written
-pub unanswered_halts : (f : CountryFailure) (texts : List ℕ → Texts) (x : LocateCountryInputs) (plan classes points out : Option (List ℕ)) → AreLocateCountryRead x plan classes points
+pub unanswered_halts : (f : Failure) (texts : List ℕ → Texts) (x : LocateCountryInputs) (plan classes points out : Option (List ℕ)) → AreLocateCountryRead x plan classes points
     → IsUnanswered texts x f → LocateCountryHalts f texts plan classes points out out
 unanswered_halts f texts x plan classes points out told (inl memory) = inl (inl (inl memory), keeps-itself out)
 unanswered_halts f texts x plan classes points out told (inr (lines, left, part, stop)) = inr (x, told, inl (lines, left, part, stop, keeps-itself out))

@@ -11,7 +11,7 @@ use Rattle.lpis_run.specs.declared.answer.Answer.{Answer as Printed}
 use Rattle.lpis_run.specs.declared.folder.InputBytes.{InputBytes}
 use Rattle.lpis_run.specs.declared.stop.Stop.{Stop}
 use Rattle.lpis_run.specs.declared.stop.Stop.TheVariants.{Refused}
-use Rattle.lpis_country_run.specs.declared.failure.CountryFailure.{CountryFailure}
+use Rattle.lpis_run.specs.declared.failure.Failure.{Failure}
 use Rattle.lpis_country_run.specs.CountryAnswer.{HavePassed, None as NonePassed, IsReachedBy, IsRefusedRegion, Setting}
 use Rattle.lpis_country_run.specs.CountryFailures.{IsStoppedBefore}
 use Rattle.lpis_country_run.specs.CountryLines.{region_report}
@@ -93,7 +93,7 @@ pub is_refused : (s : Setting) (table : List ℕ) (p q : Progress) (n : ℕ) (na
 is_refused s table p q n name a here lt is refusal = (here.before, here.lines, name, drop (n + 1) s.names, left-of s table p n name here lt is, refusal)
 
 -- the next region is not read
-pub is_stopped_at : (s : Setting) (texts : List ℕ → Texts) (table : List ℕ) (p : Progress) (n : ℕ) (name : List ℕ) (f : CountryFailure) (here : IsHere s table p n) → s.texts ≡ texts
+pub is_stopped_at : (s : Setting) (texts : List ℕ → Texts) (table : List ℕ) (p : Progress) (n : ℕ) (name : List ℕ) (f : Failure) (here : IsHere s table p n) → s.texts ≡ texts
     → n < length s.names → name ≡ get_or s.names n [] → ((left : List (List ℕ)) → IsStoppedBefore texts (name ∷ left) f) → IsStopped s f
 is_stopped_at s texts table p n name f here same lt is stopped = (
   here.before,

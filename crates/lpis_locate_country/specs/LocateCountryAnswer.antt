@@ -14,10 +14,10 @@ use Rattle.lpis_run.specs.declared.failure.Name.TheVariants.{Out, Points}
 use Rattle.lpis_country.specs.Country.{country_of}
 use Rattle.lpis_country_run.specs.CountryAnswer.{IsPlanAnswer, IsReachedBy, IsRefusedRegion}
 use Rattle.lpis_country_run.specs.CountryAnswer.{Setting, setting_of}
-use Rattle.lpis_country_run.specs.CountryFailures.{IsCountryPart, IsOfNone, IsStoppedBefore}
+use Rattle.lpis_country_run.specs.CountryFailures.{IsCountryPart, IsStoppedBefore}
 use Rattle.lpis_country_run.specs.CountryFailures.{IsUnreadTop}
 use Rattle.lpis_country_run.specs.Regions.{AreCountryRead, CountryInputs, IsCountry, Texts}
-use Rattle.lpis_country_run.specs.declared.failure.CountryFailure.{CountryFailure}
+use Rattle.lpis_run.specs.declared.failure.Failure.{Failure}
 use Rattle.lpis_locating.specs.Points.{Given, points_of}
 use Rattle.lpis_locate.specs.LocateAnswer.{IsPointsAnswer}
 use Rattle.lpis_locate.specs.LocateLines.{AreLines}
@@ -80,23 +80,23 @@ pub record LocateCountryEnds (texts : List ℕ → Texts) (x : LocateCountryInpu
   pub located : status ≡ done → IsLocatedInCountry texts x text
 
 -- a file at the top or the table of points was not read, those before it were; or memory ran out
-abbrev pub IsUnreadInput : (plan classes : Option (List ℕ)) → CountryFailure → Type 0
+abbrev pub IsUnreadInput : (plan classes : Option (List ℕ)) → Failure → Type 0
 IsUnreadInput plan classes f =
-    IsUnreadTop plan f ⊎ (IsWithin plan × IsWithin classes × IsOfNone f (Read Points))
+    IsUnreadTop plan f ⊎ (IsWithin plan × IsWithin classes × (f ≡ Read Points))
 
 -- after regions that passed the next folder was not read, or memory ran out, and nothing is
 -- written; or the output failed after a beginning of the answer
-abbrev pub LocateCountryBreaksOff : CountryFailure → (List ℕ → Texts) → LocateCountryInputs
+abbrev pub LocateCountryBreaksOff : Failure → (List ℕ → Texts) → LocateCountryInputs
     → Option (List ℕ) → Option (List ℕ) → Type 0
 LocateCountryBreaksOff f texts x old new =
     ((lines : List ℕ) × (left : List (List ℕ)) × IsCountryPart texts Regions x.country lines left
     × IsStoppedBefore texts left f × Keeps old new)
-    ⊎ (IsOfNone f (Write Out) × ((a : Answer) × IsLocateCountryAnswer texts x a
+    ⊎ ((f ≡ Write Out) × ((a : Answer) × IsLocateCountryAnswer texts x a
     × Begins old new a.0))
 
 -- the run gave no answer: an input was not read, or memory ran out, before anything was written; or
 -- it broke off
-abbrev pub LocateCountryHalts : CountryFailure → (List ℕ → Texts)
+abbrev pub LocateCountryHalts : Failure → (List ℕ → Texts)
     → (plan classes points : Option (List ℕ)) → Option (List ℕ) → Option (List ℕ) → Type 0
 LocateCountryHalts f texts plan classes points old new =
     (IsUnreadInput plan classes f × Keeps old new)

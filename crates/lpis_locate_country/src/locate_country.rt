@@ -13,8 +13,8 @@ ghost use Rattle.lpis_locate_country.specs.private.Searching.{locate_country_inp
 
 use crate::search::begin_search;
 use crate::searching::search_regions;
-use lpis_country_run::{CountryBytes, CountryFailure, Regions, begin, read_top};
-use lpis_run::{Answer, Name, read_named};
+use lpis_country_run::{CountryBytes, Regions, begin, read_top};
+use lpis_run::{Answer, Failure, Name, read_named};
 use std::alloc::Global;
 use std::io::{Read, Write};
 
@@ -31,7 +31,7 @@ fn read_inputs<P: Read + Drop, K: Read + Drop, Q: Read + Drop>(
     country: P,
     classes: K,
     points: Q,
-) -> Result<LocateCountryBytes, CountryFailure>
+) -> Result<LocateCountryBytes, Failure>
     ensures bytes { IfOk result (λ b. AreLocateCountryRead (locate_country_inputs_of b)
         (P.remaining country) (K.remaining classes) (Q.remaining points)) }
     ensures failure { IfErr result (IsUnreadInput (P.remaining country) (K.remaining classes)) }
@@ -46,7 +46,7 @@ fn answer_to<G: Regions>(
     alloc: Global,
     regions: &G,
     inputs: LocateCountryBytes,
-) -> Result<Answer, CountryFailure>
+) -> Result<Answer, Failure>
     ensures answer { IfOk result (λ a. IsLocateCountryAnswer (G.texts regions.now)
         (locate_country_inputs_of inputs) (a.text.items, a.status)) }
     ensures located { IfOk result (λ a. a.status ≡ done → IsLocatedInCountry (G.texts regions.now)
@@ -78,7 +78,7 @@ pub fn run_locate_country<P: Read + Drop, K: Read + Drop, Q: Read + Drop, G: Reg
     points: Q,
     regions: &G,
     out: &mut W,
-) -> Result<u8, CountryFailure>
+) -> Result<u8, Failure>
     ensures answer { IfOk result (λ status. (x : LocateCountryInputs)
         × AreLocateCountryRead x (P.remaining country) (K.remaining classes) (Q.remaining points)
         × LocateCountryEnds (G.texts regions.now) x status (W.contents out.old)
