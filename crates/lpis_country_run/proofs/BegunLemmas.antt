@@ -1,5 +1,5 @@
 -- The run over the regions of a plan, as that over a country.
-use Rattle.std.proofs.Common.{◌≡◌, ◌≤◌, ◌∙◌, [], refl, sym, ap, subst, arith, inl, inr, IfErr, IfOk, OnOk, ℕ, List, Option, Result, Ok, Err, length, map}
+use Rattle.std.proofs.Common.{◌≡◌, ◌≤◌, ◌∙◌, [], refl, sym, ap, subst, arith, inl, inr, IfErr, IfOk, OnOk, ℕ, List, Option, Result, Err, length, map}
 use Rattle.std.proofs.lemmas.List.{length-map}
 use Rattle.std.specs.String.{string_bytes}
 use Rattle.lpis_covers.specs.Classes.{classes_table}
@@ -8,7 +8,7 @@ use Rattle.lpis_covers.specs.declared.class.Class.{Class}
 use Rattle.lpis_covers.specs.declared.fault.TableFault.{TableFault}
 use Rattle.lpis_parcels.specs.Release.{Contents}
 use Rattle.lpis_run.specs.CheckAnswer.{Answer, IsTableAnswer}
-use Rattle.lpis_run.proofs.Shared.{runs_on_more, runs_on_written, table-more, table-status}
+use Rattle.lpis_run.proofs.Shared.{runs_on_more, runs_on_stopped, runs_on_written, table-more, table-status}
 use Rattle.lpis_run.specs.Streams.{Begins}
 use Rattle.lpis_run.specs.declared.failure.Failure.TheVariants.{Write}
 use Rattle.lpis_run.specs.declared.failure.Name.TheVariants.{Out}
@@ -159,3 +159,8 @@ read_run asked x old new r read =
     runs_on_more (λ f. ⊥) (IsUnreadTop asked.plan) (StopsCountry asked.texts asked.detail x) (λ lines f. OfInputs asked (λ y. StopsCountry asked.texts asked.detail y lines f))
     (AnswersCountry asked.texts asked.detail x) (λ a. OfInputs asked (λ y. AnswersCountry asked.texts asked.detail y a)) old new r (λ f no. absurd no) (λ lines f stops. (x, read, stops))
     (λ a answers. (x, read, answers))
+
+-- where a file at the top is not read, nothing was written
+pub stopped_before : (asked : CountryAsked) (out : Option (List ℕ)) (f : Failure) → IsUnreadTop asked.plan f → RunsCountry asked out out (Err f)
+stopped_before asked out f unread = runs_on_stopped (IsUnreadTop asked.plan) (λ lines g. OfInputs asked (λ y. StopsCountry asked.texts asked.detail y lines g))
+    (λ a. OfInputs asked (λ y. AnswersCountry asked.texts asked.detail y a)) out f unread

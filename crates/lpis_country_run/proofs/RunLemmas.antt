@@ -30,7 +30,7 @@ use Rattle.lpis_country_seam.specs.declared.fault.SeamFault.{SeamFault}
 use Rattle.lpis_country_seam.specs.declared.fault.SeamFault.TheVariants.{Memory as NoMemory}
 use Rattle.lpis_country_run.specs.declared.progress.Progress.{Progress}
 use Rattle.lpis_country_run.specs.declared.totals.Totals.{Totals}
-use Rattle.lpis_country_run.specs.CountryAnswer.{HavePassed, None as NonePassed, IsReachedBy, IsRefusedRegion, IsRegionsAnswer, Setting}
+use Rattle.lpis_country_run.specs.CountryAnswer.{HavePassed, None as NonePassed, IsReachedBy, IsRefusedRegion, Setting}
 use Rattle.lpis_country_run.specs.CountryFailures.{IsStoppedBefore, IsUnreadFolder}
 use Rattle.lpis_country_run.specs.CountryLines.{country_lines, region_report}
 use Rattle.lpis_country_run.specs.Regions.{AreOfFolder, Texts}
@@ -226,15 +226,10 @@ begun-verdict : (s : Setting) (n : ℕ) (before : List Contents) (lines name tex
     → ((g : Failure) × StopsRegions s (lines ++ text) g) ⊎ ((status : ℕ) × IsRegionsRefusal s (lines ++ text, status))
 begun-verdict s n before lines name text lt is h (inl (r, passes, same)) =
     let reached = reached_by s (n + 1) (before ++ r ∷ []) (lines ++ region_report s.detail (country_of s.classes before) name r) (passed_more s n before lines name r lt is h passes) in
-    inl (
-      Memory,
-      before ++ r ∷ [],
-      drop (n + 1) s.names,
-      subst (λ (x : List ℕ). IsReachedBy s (before ++ r ∷ []) (lines ++ x) (drop (n + 1) s.names)) (sym same) reached,
-      memory_stops s.texts (drop (n + 1) s.names),
-    )
+    let reached_text = subst (λ (x : List ℕ). IsReachedBy s (before ++ r ∷ []) (lines ++ x) (drop (n + 1) s.names)) (sym same) reached in
+    inl (Memory, (before ++ r ∷ [], drop (n + 1) s.names, reached_text, memory_stops s.texts (drop (n + 1) s.names)))
 begun-verdict s n before lines name text lt is h (inr (status, refusal)) =
-    inr (status, refused_next s n before lines name text status lt is h refusal, refused-no s before name text status refusal)
+    inr (status, (refused_next s n before lines name text status lt is h refusal, refused-no s before name text status refusal))
 
 -- where the next folder is not read, or the output fails within the verdict on it, the run breaks off
 pub breaks_off : (s : Setting) (names : List (List ℕ)) (p : Progress) (n : ℕ) (old now new : Option (List ℕ)) (name : List ℕ) (failure : Failure) (f : Failure) (here : IsHere s p n old now)
@@ -338,7 +333,7 @@ whole-answer s p old now h = record {
     follows = refl;
     is = refl;
   };
-  all = λ e. (h.regions, (h.lines, h.have_passed), h.at.seam.joined);
+  all = λ e. (h.regions, ((h.lines, h.have_passed), h.at.seam.joined));
 }
 
 -- after them the run ends with a yes, or breaks off

@@ -1,9 +1,7 @@
 -- The lines that are printed of a country.
-use Rattle.std.specs.Prelude.{◌++◌, [], ℕ, List, Option, Some, codes, get_or, length}
+use Rattle.std.specs.Prelude.{◌++◌, [], ℕ, List, codes, get_or, length}
 use Rattle.std.specs.Fmt.{decimal}
 use Rattle.std.specs.List.{flat_map}
-use Rattle.std.specs.Option.{option_map}
-use Rattle.std.specs.String.{string_bytes}
 use Rattle.lpis_points.specs.Sums.{int_sum_by}
 use Rattle.lpis_rings.specs.Area.{area2}
 use Rattle.lpis_parcels.specs.Release.{Contents}

@@ -5,9 +5,8 @@ ghost use Rattle.lpis_run.specs.Status.{done};
 ghost use Rattle.lpis_locate_country.specs.LocateCountryAnswer.{AreLocateCountryRead};
 ghost use Rattle.lpis_locate_country.specs.LocateCountryAnswer.{IsLocateCountryAnswer};
 ghost use Rattle.lpis_locate_country.specs.LocateCountryAnswer.{IsLocatedInCountry, IsUnreadInput};
-ghost use Rattle.lpis_locate_country.specs.LocateCountryAnswer.{LocateCountryEnds};
-ghost use Rattle.lpis_locate_country.specs.LocateCountryAnswer.{LocateCountryHalts};
-ghost use Rattle.lpis_locate_country.specs.LocateCountryAnswer.{LocateCountryInputs};
+ghost use Rattle.lpis_locate_country.specs.LocateCountryAnswer.{RunsLocateCountry};
+ghost use Rattle.lpis_locate_country.specs.LocateCountryAnswer.{locate_country_asked};
 ghost use Rattle.lpis_locate_country.specs.private.Searching.{IsUnanswered};
 ghost use Rattle.lpis_locate_country.specs.private.Searching.{locate_country_inputs_of};
 
@@ -79,16 +78,11 @@ pub fn run_locate_country<P: Read + Drop, K: Read + Drop, Q: Read + Drop, G: Reg
     regions: &G,
     out: &mut W,
 ) -> Result<u8, Failure>
-    ensures answer { IfOk result (λ status. (x : LocateCountryInputs)
-        × AreLocateCountryRead x (P.remaining country) (K.remaining classes) (Q.remaining points)
-        × LocateCountryEnds (G.texts regions.now) x status (W.contents out.old)
-        (W.contents out.new)) }
-    // A beginning of the answer was written, or nothing.
-    ensures failure { IfErr result (λ f. LocateCountryHalts f (G.texts regions.now)
-        (P.remaining country) (K.remaining classes) (Q.remaining points) (W.contents out.old)
-        (W.contents out.new)) }
+    ensures { RunsLocateCountry (locate_country_asked (G.texts regions.now) (P.remaining country)
+        (K.remaining classes) (Q.remaining points)) (W.contents out.old) (W.contents out.new)
+        result }
 {
     let inputs = read_inputs(alloc, country, classes, points)?;
     let answer = answer_to(alloc, regions, inputs)?;
-    Ok(answer.write_to(out)?)
+    answer.write_to(out)
 }
