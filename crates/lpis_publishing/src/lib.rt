@@ -17,7 +17,7 @@ mod unopened;
 
 pub use exact::{change_of, fill_change, run_exact};
 pub use inputs::SubmissionReaders;
-pub use lineage_lines::{print_publish_fault, refuse};
+pub use lineage_lines::refuse;
 pub use publish::{publish_accepted, run_publish};
 pub use submission::rows_in;
 pub use trace::run_trace;

@@ -13,5 +13,4 @@ mod laws;
 pub use area::run_area;
 pub use check::run_check;
 pub use cut::run_cut;
-pub use cut_line::{print_counts, print_refusal};
 pub use laws::{a_check_has_one_answer, a_sum_of_areas_is_printed};
