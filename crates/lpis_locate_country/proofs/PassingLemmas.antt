@@ -1,5 +1,5 @@
 -- How a search through regions goes on.
-use Rattle.std.proofs.Common.{◌≡◌, ◌<◌, ◌≤◌, ◌∙◌, ◌++◌, ◌∷◌, ◌+◌, [], refl, sym, ap, ap₂, subst, arith, inl, inr, ℕ, List, Option, None, Some, drop, get_or, length, map}
+use Rattle.std.proofs.Common.{◌≡◌, ◌<◌, ◌≤◌, ◌∙◌, ◌++◌, ◌∷◌, ◌+◌, [], refl, sym, ap, ap₂, subst, arith, inl, inr, ℕ, List, None, Some, drop, get_or, length, map}
 use Rattle.std.proofs.lemmas.List.{drop_more, length-append, length-map, take_all}
 use Rattle.lpis_parcels.specs.Release.{Contents}
 use Rattle.lpis_run.proofs.Shared.{refused-more}
