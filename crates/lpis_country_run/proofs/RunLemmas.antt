@@ -1,22 +1,21 @@
 -- How a run over regions goes on, and ends.
-use Rattle.std.proofs.Common.{◌≡◌, ◌≢◌, ◌<◌, ◌≤◌, ◌⊎◌, ◌∙◌, ◌++◌, ◌∷◌, ◌+◌, ◌*◌, [], refl, sym, ap, ap₂, subst, arith, inl, inr, IfErr, IfOk, IsErrAnd}
+use Rattle.std.proofs.Common.{◌≡◌, ◌≢◌, ◌<◌, ◌≤◌, ◌⊎◌, ◌∙◌, ◌++◌, ◌∷◌, ◌+◌, ◌*◌, [], refl, sym, ap, subst, arith, inl, inr, IfErr, IfOk, IsErrAnd}
 use Rattle.std.proofs.Common.{OnOk, ℕ, List, All, Option, None, Some, Result, Ok, Err, Vec, drop, get_or, length, map, take}
 use Rattle.std.proofs.Math.Seq.{take-append-add}
 use Rattle.std.proofs.lemmas.List.{append-nil, drop_more, length-append, length-map}
 use Rattle.std.proofs.lemmas.List.Elements.{All-head, All-tail}
 use Rattle.std.specs.Io.KnownBytes.{Appends, Keeps}
 use Rattle.std.specs.declared.alloc.Global.{Global}
-use Rattle.lpis_run.proofs.Shared.{appends-more, breaks_off_more, refused-more}
+use Rattle.lpis_run.proofs.Shared.{appends-more, breaks_off_more, refused-more, stopped-in-region}
 use Rattle.lpis_parcels.specs.Release.{Contents}
 use Rattle.lpis_run.specs.declared.failure.Failure.{Failure}
 use Rattle.lpis_run.specs.declared.failure.Failure.TheVariants.{Memory, Read, ReadOf, Write, Store, StoreMemory}
 use Rattle.lpis_run.specs.declared.failure.Name.{Name}
 use Rattle.lpis_run.specs.declared.failure.Name.TheVariants.{Cert, Classes, Covers, Out, Parcels}
 use Rattle.lpis_run.specs.CheckAnswer.{Answer, Inputs, IsProvedOf, IsRefusal}
-use Rattle.lpis_run.specs.Refusals.{line_in_region}
 use Rattle.lpis_run.specs.declared.answer.Answer.{Answer as Printed}
 use Rattle.lpis_run.specs.Status.{done}
-use Rattle.lpis_run.specs.Stops.{IsRefusedAs}
+use Rattle.lpis_run.specs.Stops.{IsInRegion, IsRefusedAs}
 use Rattle.lpis_run.specs.Streams.{Begins}
 use Rattle.lpis_run.specs.declared.stop.Stop.{Stop}
 use Rattle.lpis_run.specs.declared.stop.Stop.TheVariants.{Refused}
@@ -30,7 +29,7 @@ use Rattle.lpis_country_seam.specs.declared.fault.SeamFault.{SeamFault}
 use Rattle.lpis_country_seam.specs.declared.fault.SeamFault.TheVariants.{Memory as NoMemory}
 use Rattle.lpis_country_run.specs.declared.progress.Progress.{Progress}
 use Rattle.lpis_country_run.specs.declared.totals.Totals.{Totals}
-use Rattle.lpis_country_run.specs.CountryAnswer.{HavePassed, None as NonePassed, IsReachedBy, IsRefusedRegion, Setting}
+use Rattle.lpis_country_run.specs.CountryAnswer.{IsRefusedByCheck, HavePassed, None as NonePassed, IsReachedBy, IsRefusedRegion, Setting}
 use Rattle.lpis_country_run.specs.CountryFailures.{IsStoppedBefore, IsUnreadFolder}
 use Rattle.lpis_country_run.specs.CountryLines.{country_lines, region_report}
 use Rattle.lpis_country_run.specs.Regions.{AreOfFolder, Texts}
@@ -94,10 +93,10 @@ judged (Err stop) s before name x region p told said h =
     (λ a misfit. (x, told, inr (record { region = region; said = said; fault = misfit.0; first = misfit.1; is = misfit.2 }))) h
 
 -- on inputs that `check` refuses
-pub check_refused : (s : Setting) (before : List Contents) (name : List ℕ) (x : Inputs) (stop : Stop) (a b : Printed) → AreOfFolder x (s.texts name) → IsRefusedAs (IsRefusal x) stop
-    → stop ≡ Refused a → b.text.items ≡ line_in_region a.text.items name → b.status ≡ a.status → IsRefusedRegion s before name (b.text.items, b.status)
-check_refused s before name x stop a b told refusal is text status =
-    (x, told, inl ((a.text.items, a.status), subst (IsRefusedAs (IsRefusal x)) is refusal, ap₂ (λ (t : List ℕ) (n : ℕ). (t, n)) text status))
+pub check_refused : (s : Setting) (before : List Contents) (name : List ℕ) (x : Inputs) (stop in_it : Stop) → AreOfFolder x (s.texts name) → IsRefusedAs (IsRefusal x) stop
+    → IsInRegion stop name in_it → IsRefusedAs (IsRefusedRegion s before name) in_it
+check_refused s before name x stop in_it told refusal of =
+    refused-more (IsRefusedByCheck x name) (IsRefusedRegion s before name) in_it (λ a refused. (x, told, inl refused)) (stopped-in-region (IsRefusal x) name stop in_it refusal of)
 
 -- the first fault, which is none of memory
 pub first_of : (faults : List SeamFault) (fault : SeamFault) → (fault ≡ NoMemory) ⊎ IsFirstSeamFault faults fault → (fault ≡ NoMemory → ⊥) → IsFirstSeamFault faults fault
@@ -322,7 +321,8 @@ all_printable s regions p n at e few =
     few-parcels k i m a b c = omega arith
 
 -- the answer to them
-whole-answer : (s : Setting) (p : Progress) (old now : Option (List ℕ)) (h : HasPassedAll s p old now) → AnswersRegions s (h.lines ++ country_lines (length h.regions) (country_of s.classes h.regions), done)
+whole-answer : (s : Setting) (p : Progress) (old now : Option (List ℕ)) (h : HasPassedAll s p old now)
+    → AnswersRegions s (h.lines ++ country_lines (length h.regions) (country_of s.classes h.regions), done)
 whole-answer s p old now h = record {
   answer = record {
     regions = h.regions;

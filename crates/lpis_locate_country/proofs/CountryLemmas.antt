@@ -35,7 +35,8 @@ use Rattle.lpis_locating.specs.declared.fault.PointsFault.{PointsFault}
 use Rattle.lpis_locating.specs.Points.{Given, points_of}
 use Rattle.lpis_locate.specs.LocateAnswer.{IsPointsAnswer}
 use Rattle.lpis_locate_country.specs.declared.progress.Progress.{Progress}
-use Rattle.lpis_locate_country.specs.LocateCountryAnswer.{AreLocateCountryRead, IsLocateCountryAnswer, IsLocatedInCountry, IsRegionsPointsAnswer, IsStoppedIn, IsUnreadInput, LocateCountryAsked, LocateCountryInputs, OfInputs, RunsLocateCountry}
+use Rattle.lpis_locate_country.specs.LocateCountryAnswer.{AreLocateCountryRead, IsLocateCountryAnswer, IsLocatedInCountry, IsRegionsPointsAnswer, IsStoppedIn}
+use Rattle.lpis_locate_country.specs.LocateCountryAnswer.{IsUnreadInput, LocateCountryAsked, LocateCountryInputs, OfInputs, RunsLocateCountry}
 use Rattle.lpis_locate_country.specs.private.Found.{IsSearched}
 use Rattle.lpis_locate_country.specs.private.Searching.{IsOutcome, IsStart, IsStopped, IsUnanswered}
 

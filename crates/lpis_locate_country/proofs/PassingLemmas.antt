@@ -1,11 +1,10 @@
 -- How a search through regions goes on.
-use Rattle.std.proofs.Common.{◌≡◌, ◌<◌, ◌≤◌, ◌∙◌, ◌++◌, ◌∷◌, ◌+◌, [], refl, sym, ap, ap₂, subst, arith, inl, inr, ℕ, List, None, Some, drop, get_or, length, map}
+use Rattle.std.proofs.Common.{◌≡◌, ◌<◌, ◌≤◌, ◌∙◌, ◌++◌, ◌∷◌, ◌+◌, [], refl, sym, ap, subst, arith, inr, ℕ, List, None, Some, drop, get_or, length, map}
 use Rattle.std.proofs.lemmas.List.{drop_more, length-append, length-map, take_all}
 use Rattle.lpis_parcels.specs.Release.{Contents}
 use Rattle.lpis_run.proofs.Shared.{refused-more}
-use Rattle.lpis_run.specs.CheckAnswer.{Inputs, IsProvedOf, IsRefusal}
+use Rattle.lpis_run.specs.CheckAnswer.{Inputs, IsProvedOf}
 use Rattle.lpis_run.specs.Inputs.{inputs_of}
-use Rattle.lpis_run.specs.Refusals.{line_in_region}
 use Rattle.lpis_run.specs.Stops.{IsRefusedAs}
 use Rattle.lpis_run.specs.declared.answer.Answer.{Answer as Printed}
 use Rattle.lpis_run.specs.declared.folder.InputBytes.{InputBytes}
@@ -33,12 +32,6 @@ pub seam_refused : (s : Setting) (before : List Contents) (name : List ℕ) (x :
 seam_refused s before name x region stop told said h =
     refused-more (IsSeamRefusal s before name region) (IsRefusedRegion s before name) stop
     (λ a misfit. (x, told, inr (record { region = region; said = said; fault = misfit.0; first = misfit.1; is = misfit.2 }))) h
-
--- on inputs that `check` refuses
-pub check_refused : (s : Setting) (before : List Contents) (name : List ℕ) (x : Inputs) (stop : Stop) (a b : Printed) → AreOfFolder x (s.texts name) → IsRefusedAs (IsRefusal x) stop
-    → stop ≡ Refused a → b.text.items ≡ line_in_region a.text.items name → b.status ≡ a.status → IsRefusedRegion s before name (b.text.items, b.status)
-check_refused s before name x stop a b told refusal is text status =
-    (x, told, inl ((a.text.items, a.status), subst (IsRefusedAs (IsRefusal x)) is refusal, ap₂ (λ (t : List ℕ) (n : ℕ). (t, n)) text status))
 
 -- the answer of a step that stopped
 pub stopped_with : (s : Setting) (before : List Contents) (name : List ℕ) (stop : Stop) (a : Printed) → stop ≡ Refused a → IsRefusedAs (IsRefusedRegion s before name) stop
