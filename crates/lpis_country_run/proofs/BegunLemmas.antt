@@ -1,5 +1,5 @@
 -- The run over the regions of a plan, as that over a country.
-use Rattle.std.proofs.Common.{◌≡◌, ◌≤◌, ◌∙◌, [], refl, sym, ap, subst, arith, inl, inr, IfErr, IfOk, ℕ, List, Option, Result, Ok, Err, length, map}
+use Rattle.std.proofs.Common.{◌≡◌, ◌≤◌, ◌∙◌, [], refl, sym, ap, subst, arith, inl, inr, IfErr, IfOk, OnOk, ℕ, List, Option, Result, Err, length, map}
 use Rattle.std.proofs.lemmas.List.{length-map}
 use Rattle.std.specs.String.{string_bytes}
 use Rattle.lpis_covers.specs.Classes.{classes_table}
@@ -8,7 +8,11 @@ use Rattle.lpis_covers.specs.declared.class.Class.{Class}
 use Rattle.lpis_covers.specs.declared.fault.TableFault.{TableFault}
 use Rattle.lpis_parcels.specs.Release.{Contents}
 use Rattle.lpis_run.specs.CheckAnswer.{Answer, IsTableAnswer}
-use Rattle.lpis_run.proofs.Shared.{table-more, table-status}
+use Rattle.lpis_run.proofs.Shared.{runs_on_more, runs_on_stopped, runs_on_written, table-more, table-status}
+use Rattle.lpis_run.specs.Streams.{Begins}
+use Rattle.lpis_run.specs.declared.failure.Failure.TheVariants.{Write}
+use Rattle.lpis_run.specs.declared.failure.Name.TheVariants.{Out}
+use Rattle.std.specs.Io.KnownBytes.{Appends}
 use Rattle.lpis_run.specs.declared.detail.Detail.{Detail}
 use Rattle.lpis_run.specs.Status.{done}
 use Rattle.lpis_country.specs.Tiling.{frame, rectangles}
@@ -16,14 +20,15 @@ use Rattle.lpis_country_plan.specs.Tree.{folders, tiling_of}
 use Rattle.lpis_country_seam.specs.Laws.{JoinedCountryIsSound, JoinedCountryIsUnion}
 use Rattle.lpis_country_seam.specs.Open.{IsSeamOf}
 use Rattle.lpis_country_run.specs.declared.beginning.Begun.{Begun}
-use Rattle.lpis_country_run.specs.declared.failure.CountryFailure.{CountryFailure}
+use Rattle.lpis_run.specs.declared.failure.Failure.{Failure}
 use Rattle.lpis_country_run.specs.declared.progress.Progress.{Progress}
-use Rattle.lpis_country_run.specs.CountryAnswer.{CountryEnds, IsCountryAnswer, IsRegionsAnswer, Setting, setting_of}
-use Rattle.lpis_country_run.specs.CountryFailures.{CountryBreaksOff, CountryHalts}
+use Rattle.lpis_country_run.specs.CountryAnswer.{AnswersCountry, IsCountryAnswer, IsRegionsAnswer, Setting, setting_of}
+use Rattle.lpis_country_run.specs.CountryFailures.{IsUnreadTop, StopsCountry}
+use Rattle.lpis_country_run.specs.CountryRun.{CountryAsked, OfInputs, RunsCountry}
 use Rattle.lpis_country_run.specs.Regions.{AreCountryRead, CountryInputs, IsCountry, Texts}
 use Rattle.lpis_country_run.specs.Beginning.{IsBegun, IsUnbegun}
-use Rattle.lpis_country_run.specs.RegionsOutcome.{IsSettingOf, RegionsEnd}
-use Rattle.lpis_country_run.specs.private.Progressing.{RegionsBreakOff}
+use Rattle.lpis_country_run.specs.RegionsOutcome.{IsSettingOf, StopsRegions}
+use Rattle.lpis_country_run.specs.private.Progressing.{AnswersRegions, RunsBegun, RunsRegions}
 use Rattle.lpis_country_run.specs.private.Progressing.{HasGathered, HaveAllPassed, IsStart}
 use Rattle.lpis_country_run.specs.private.Totals.{AreTotalsOf}
 use Rattle.lpis_country_run.proofs.PassedLemmas.{passed_length, passed_regions, passed_sound}
@@ -118,49 +123,44 @@ whole-answer texts detail x b begun a h = inr (
   subst (λ (said : Result (List Class) TableFault). IsTableAnswer (λ classes. IsRegionsAnswer (setting_of texts detail begun.plan classes)) said a) (sym begun.table) h,
 )
 
--- where a run over the regions of what was begun ends, with a yes only if all passed, so does that over the country
-pub begun_ends : (texts : List ℕ → Texts) (detail : Detail) (x : CountryInputs) (b : Begun) (begun : IsBegun x b) (r : Result ℕ CountryFailure) (old new : Option (List ℕ)) → JoinedCountryIsSound
-    → JoinedCountryIsUnion → IfOk r (RegionsEnd (begun_setting texts detail x b begun) old new)
-    → IfOk r (λ status. status ≡ done → (all : List Contents) × HaveAllPassed (begun_setting texts detail x b begun) all)
-    → IfOk r (λ status. CountryEnds texts detail x status old new)
-begun_ends texts detail x b begun (Err f) old new law unites ends passed = tt
-begun_ends texts detail x b begun (Ok status) old new law unites (text, answer, written) passed = record {
-  text = text;
-  answer = whole-answer texts detail x b begun (text, status) answer;
-  written = written;
-  proved = λ e. let p = passed e in all-country texts detail x b begun p.0 law unites p.1;
+-- what stops a run over the regions of what was begun stops the run over the country
+country-stops : (texts : List ℕ → Texts) (detail : Detail) (x : CountryInputs) (b : Begun) (begun : IsBegun x b) (lines : List ℕ) (f : Failure)
+    → StopsRegions (begun_setting texts detail x b begun) lines f → StopsCountry texts detail x lines f
+unfolding begun_setting
+country-stops texts detail x b begun lines f (regions, left, reached, stopped) =
+    (left, record { plan = begun.plan; planned = begun.text; classes = b.classes.items; table = begun.table; regions = regions; reached = reached }, stopped)
+
+-- the answer to the regions, with a yes only where all passed, is that to the country
+answers-country : (texts : List ℕ → Texts) (detail : Detail) (x : CountryInputs) (b : Begun) (begun : IsBegun x b) → JoinedCountryIsSound → JoinedCountryIsUnion → (a : Answer)
+    → AnswersRegions (begun_setting texts detail x b begun) a → AnswersCountry texts detail x a
+answers-country texts detail x b begun law unites a h = record {
+  answer = whole-answer texts detail x b begun a h.answer;
+  proved = λ e. let p = h.all e in all-country texts detail x b begun p.0 law unites p.1;
 }
 
--- so it is where it breaks off
-begun-breaks-off : (texts : List ℕ → Texts) (detail : Detail) (x : CountryInputs) (b : Begun) (begun : IsBegun x b) (f : CountryFailure) (old new : Option (List ℕ))
-    → RegionsBreakOff (begun_setting texts detail x b begun) old new f → CountryBreaksOff f texts detail x old new
-unfolding begun_setting
-begun-breaks-off texts detail x b begun f old new (inl (regions, text, left, reached, stopped, written)) = inl (
-  text,
-  left,
-  record { plan = begun.plan; planned = begun.text; classes = b.classes.items; table = begun.table; regions = regions; reached = reached },
-  stopped,
-  written,
-)
-begun-breaks-off texts detail x b begun f old new (inr (write, (text, inl (regions, left, reached), begins))) =
-    inr (write, (text, inl (left, record { plan = begun.plan; planned = begun.text; classes = b.classes.items; table = begun.table; regions = regions; reached = reached }), begins))
-begun-breaks-off texts detail x b begun f old new (inr (write, (text, inr (status, answer), begins))) =
-    inr (write, (text, inr (status, whole-answer texts detail x b begun (text, status) answer), begins))
+-- a run over the regions of what was begun is that over the country
+pub begun_run : (texts : List ℕ → Texts) (detail : Detail) (x : CountryInputs) (b : Begun) (begun : IsBegun x b) (old new : Option (List ℕ)) (r : Result ℕ Failure) → JoinedCountryIsSound
+    → JoinedCountryIsUnion → RunsRegions (begun_setting texts detail x b begun) old new r → RunsBegun texts detail x old new r
+begun_run texts detail x b begun old new r law unites =
+    runs_on_more (λ f. ⊥) (λ f. ⊥) (StopsRegions (begun_setting texts detail x b begun)) (StopsCountry texts detail x) (AnswersRegions (begun_setting texts detail x b begun))
+    (AnswersCountry texts detail x) old new r (λ f no. no) (country-stops texts detail x b begun) (answers-country texts detail x b begun law unites)
 
--- where a run over the regions of what was begun breaks off, so does the run over the country
-pub begun_fails : (texts : List ℕ → Texts) (detail : Detail) (x : CountryInputs) (b : Begun) (begun : IsBegun x b) (r : Result ℕ CountryFailure) (old new : Option (List ℕ))
-    → IfErr r (RegionsBreakOff (begun_setting texts detail x b begun) old new) → IfErr r (λ f. CountryBreaksOff f texts detail x old new)
-begun_fails texts detail x b begun (Ok status) old new h = tt
-begun_fails texts detail x b begun (Err f) old new h = begun-breaks-off texts detail x b begun f old new h
+-- a fault before the first region is answered
+pub unbegun_run : (texts : List ℕ → Texts) (detail : Detail) (x : CountryInputs) (a : Answer) (old new : Option (List ℕ)) (r : Result ℕ Failure) → IsUnbegun x a → IfOk r (λ status. status ≡ a.1)
+    → OnOk r (Appends old new a.0) → IfErr r (λ f. (f ≡ Write Out) × Begins old new a.0) → RunsBegun texts detail x old new r
+unbegun_run texts detail x a old new r unbegun =
+    runs_on_written (λ f. ⊥) (StopsCountry texts detail x) (AnswersCountry texts detail x) a.0 a.1 old new r
+    (record { answer = unbegun_answer texts detail x a unbegun; proved = λ e. absurd (unbegun_no x a unbegun e) })
 
--- what was read is known
-pub ends_read : (r : Result ℕ CountryFailure) (texts : List ℕ → Texts) (detail : Detail) (x : CountryInputs) (plan classes old new : Option (List ℕ)) → AreCountryRead x plan classes
-    → IfOk r (λ status. CountryEnds texts detail x status old new) → IfOk r (λ status. (y : CountryInputs) × AreCountryRead y plan classes × CountryEnds texts detail y status old new)
-ends_read (Ok status) texts detail x plan classes old new told h = (x, told, h)
-ends_read (Err f) texts detail x plan classes old new told h = tt
+-- and of the bytes that two readers gave
+pub read_run : (asked : CountryAsked) (x : CountryInputs) (old new : Option (List ℕ)) (r : Result ℕ Failure) → AreCountryRead x asked.plan asked.classes
+    → RunsBegun asked.texts asked.detail x old new r → RunsCountry asked old new r
+read_run asked x old new r read =
+    runs_on_more (λ f. ⊥) (IsUnreadTop asked.plan) (StopsCountry asked.texts asked.detail x) (λ lines f. OfInputs asked (λ y. StopsCountry asked.texts asked.detail y lines f))
+    (AnswersCountry asked.texts asked.detail x) (λ a. OfInputs asked (λ y. AnswersCountry asked.texts asked.detail y a)) old new r (λ f no. absurd no) (λ lines f stops. (x, read, stops))
+    (λ a answers. (x, read, answers))
 
--- a run that breaks off over the inputs that two readers reported is one without an answer
-pub halts_read : (r : Result ℕ CountryFailure) (texts : List ℕ → Texts) (detail : Detail) (x : CountryInputs) (plan classes old new : Option (List ℕ)) → AreCountryRead x plan classes
-    → IfErr r (λ f. CountryBreaksOff f texts detail x old new) → IfErr r (λ f. CountryHalts f texts detail plan classes old new)
-halts_read (Ok status) texts detail x plan classes old new told h = tt
-halts_read (Err f) texts detail x plan classes old new told h = inr (x, told, h)
+-- where a file at the top is not read, nothing was written
+pub stopped_before : (asked : CountryAsked) (out : Option (List ℕ)) (f : Failure) → IsUnreadTop asked.plan f → RunsCountry asked out out (Err f)
+stopped_before asked out f unread = runs_on_stopped (IsUnreadTop asked.plan) (λ lines g. OfInputs asked (λ y. StopsCountry asked.texts asked.detail y lines g))
+    (λ a. OfInputs asked (λ y. AnswersCountry asked.texts asked.detail y a)) out f unread

@@ -11,12 +11,11 @@ use Rattle.lpis_country_seam.specs.Joined.{HasEnded}
 use Rattle.lpis_country_seam.specs.Laws.{JoinedCountryIsSound, JoinedCountryIsUnion}
 use Rattle.lpis_country_seam.specs.Open.{AreJoined, IsSeamOf}
 use Rattle.lpis_country_run.specs.declared.beginning.Begun.{Begun}
-use Rattle.lpis_country_run.specs.declared.failure.CountryFailure.{CountryFailure}
+use Rattle.lpis_run.specs.declared.failure.Failure.{Failure}
 use Rattle.lpis_country_run.specs.declared.joining.JoinedCountry.{JoinedCountry}
 use Rattle.lpis_country_run.specs.declared.joining.Joining.TheVariants.{Joined}
 use Rattle.lpis_country_run.specs.declared.progress.Progress.{Progress}
 use Rattle.lpis_country_run.specs.CountryAnswer.{Setting}
-use Rattle.lpis_country_run.specs.CountryFailures.{IsOfNone}
 use Rattle.lpis_country_run.specs.CountryLines.{country_lines}
 use Rattle.lpis_country_run.specs.Regions.{Texts}
 use Rattle.lpis_country_run.specs.RegionsOutcome.{IsCountryJoined, IsSettingOf, RegionsStop, RegionsJoin}
@@ -79,5 +78,5 @@ joins_all s names p old now j law unites h e are = (
 )
 
 -- out of memory then the run breaks off
-pub joins_not : (s : Setting) (p : Progress) (old now : Option (List ℕ)) (f : CountryFailure) → HasPassedAll s p old now → IsOfNone f Memory → RegionsStop s old now f
-joins_not s p old now f h none = inl (h.regions, h.lines, [], all_left s h.regions h.lines h.have_passed, none, h.written)
+pub joins_not : (s : Setting) (p : Progress) (old now : Option (List ℕ)) (f : Failure) → HasPassedAll s p old now → (f ≡ Memory) → RegionsStop s old now f
+joins_not s p old now f h none = inl (h.lines, (h.regions, [], all_left s h.regions h.lines h.have_passed, none), h.written)

@@ -1,22 +1,21 @@
 -- How a run over regions goes on, and ends.
-use Rattle.std.proofs.Common.{◌≡◌, ◌≢◌, ◌<◌, ◌≤◌, ◌⊎◌, ◌∙◌, ◌++◌, ◌∷◌, ◌+◌, ◌*◌, [], refl, sym, ap, ap₂, subst, arith, inl, inr, IfErr, IfOk, IsErrAnd}
+use Rattle.std.proofs.Common.{◌≡◌, ◌≢◌, ◌<◌, ◌≤◌, ◌⊎◌, ◌∙◌, ◌++◌, ◌∷◌, ◌+◌, ◌*◌, [], refl, sym, ap, subst, arith, inl, inr, IfErr, IfOk, IsErrAnd}
 use Rattle.std.proofs.Common.{OnOk, ℕ, List, All, Option, None, Some, Result, Ok, Err, Vec, drop, get_or, length, map, take}
 use Rattle.std.proofs.Math.Seq.{take-append-add}
 use Rattle.std.proofs.lemmas.List.{append-nil, drop_more, length-append, length-map}
 use Rattle.std.proofs.lemmas.List.Elements.{All-head, All-tail}
 use Rattle.std.specs.Io.KnownBytes.{Appends, Keeps}
 use Rattle.std.specs.declared.alloc.Global.{Global}
-use Rattle.lpis_run.proofs.Shared.{appends-more, refused-more}
+use Rattle.lpis_run.proofs.Shared.{appends-more, breaks_off_more, refused-more, stopped-in-region}
 use Rattle.lpis_parcels.specs.Release.{Contents}
 use Rattle.lpis_run.specs.declared.failure.Failure.{Failure}
-use Rattle.lpis_run.specs.declared.failure.Failure.TheVariants.{Memory, Read, Write, Store, StoreMemory}
+use Rattle.lpis_run.specs.declared.failure.Failure.TheVariants.{Memory, Read, ReadOf, Write, Store, StoreMemory}
 use Rattle.lpis_run.specs.declared.failure.Name.{Name}
 use Rattle.lpis_run.specs.declared.failure.Name.TheVariants.{Cert, Classes, Covers, Out, Parcels}
 use Rattle.lpis_run.specs.CheckAnswer.{Answer, Inputs, IsProvedOf, IsRefusal}
-use Rattle.lpis_run.specs.Refusals.{line_in_region}
 use Rattle.lpis_run.specs.declared.answer.Answer.{Answer as Printed}
 use Rattle.lpis_run.specs.Status.{done}
-use Rattle.lpis_run.specs.Stops.{IsRefusedAs}
+use Rattle.lpis_run.specs.Stops.{IsInRegion, IsRefusedAs}
 use Rattle.lpis_run.specs.Streams.{Begins}
 use Rattle.lpis_run.specs.declared.stop.Stop.{Stop}
 use Rattle.lpis_run.specs.declared.stop.Stop.TheVariants.{Refused}
@@ -28,15 +27,14 @@ use Rattle.lpis_country_seam.specs.Faults.{IsFirstSeamFault}
 use Rattle.lpis_country_seam.specs.Open.{IsSeamOf}
 use Rattle.lpis_country_seam.specs.declared.fault.SeamFault.{SeamFault}
 use Rattle.lpis_country_seam.specs.declared.fault.SeamFault.TheVariants.{Memory as NoMemory}
-use Rattle.lpis_country_run.specs.declared.failure.CountryFailure.{CountryFailure}
 use Rattle.lpis_country_run.specs.declared.progress.Progress.{Progress}
 use Rattle.lpis_country_run.specs.declared.totals.Totals.{Totals}
-use Rattle.lpis_country_run.specs.CountryAnswer.{HavePassed, None as NonePassed, IsReachedBy, IsRefusedRegion, IsRegionsAnswer, Setting}
-use Rattle.lpis_country_run.specs.CountryFailures.{IsOfNone, IsStoppedBefore, IsUnreadFolder}
+use Rattle.lpis_country_run.specs.CountryAnswer.{IsRefusedByCheck, HavePassed, None as NonePassed, IsReachedBy, IsRefusedRegion, Setting}
+use Rattle.lpis_country_run.specs.CountryFailures.{IsStoppedBefore, IsUnreadFolder}
 use Rattle.lpis_country_run.specs.CountryLines.{country_lines, region_report}
 use Rattle.lpis_country_run.specs.Regions.{AreOfFolder, Texts}
-use Rattle.lpis_country_run.specs.RegionsOutcome.{RegionsEnd, RegionsStop}
-use Rattle.lpis_country_run.specs.private.Progressing.{RegionsBreakOff}
+use Rattle.lpis_country_run.specs.RegionsOutcome.{IsRegionsRefusal, RegionsEnd, RegionsStop, StopsRegions}
+use Rattle.lpis_country_run.specs.private.Progressing.{AnswersRegions, RunsRegions}
 use Rattle.lpis_country_run.specs.private.Progressing.{AreOfRun, FollowsAs, HasGathered, HasPassedAll, IsAt, IsFailureOf, IsFinished, IsHere, IsMisfit, IsReady, IsStart, IsUnfinished}
 use Rattle.lpis_country_run.specs.private.Progressing.{IsUnwritten, IsVerdict, IsVerdictText, IsWritten, RegionsPass}
 use Rattle.lpis_country_run.specs.private.Totals.{AreTotalsOf, IsPrintable, last_lines}
@@ -95,10 +93,10 @@ judged (Err stop) s before name x region p told said h =
     (λ a misfit. (x, told, inr (record { region = region; said = said; fault = misfit.0; first = misfit.1; is = misfit.2 }))) h
 
 -- on inputs that `check` refuses
-pub check_refused : (s : Setting) (before : List Contents) (name : List ℕ) (x : Inputs) (stop : Stop) (a b : Printed) → AreOfFolder x (s.texts name) → IsRefusedAs (IsRefusal x) stop
-    → stop ≡ Refused a → b.text.items ≡ line_in_region a.text.items name → b.status ≡ a.status → IsRefusedRegion s before name (b.text.items, b.status)
-check_refused s before name x stop a b told refusal is text status =
-    (x, told, inl ((a.text.items, a.status), subst (IsRefusedAs (IsRefusal x)) is refusal, ap₂ (λ (t : List ℕ) (n : ℕ). (t, n)) text status))
+pub check_refused : (s : Setting) (before : List Contents) (name : List ℕ) (x : Inputs) (stop in_it : Stop) → AreOfFolder x (s.texts name) → IsRefusedAs (IsRefusal x) stop
+    → IsInRegion stop name in_it → IsRefusedAs (IsRefusedRegion s before name) in_it
+check_refused s before name x stop in_it told refusal of =
+    refused-more (IsRefusedByCheck x name) (IsRefusedRegion s before name) in_it (λ a refused. (x, told, inl refused)) (stopped-in-region (IsRefusal x) name stop in_it refusal of)
 
 -- the first fault, which is none of memory
 pub first_of : (faults : List SeamFault) (fault : SeamFault) → (fault ≡ NoMemory) ⊎ IsFirstSeamFault faults fault → (fault ≡ NoMemory → ⊥) → IsFirstSeamFault faults fault
@@ -207,39 +205,45 @@ no_other failure (inl e) m r = m e
 no_other failure (inr (file, e)) m r = r file e
 
 -- the folder was not read, or memory ran out
-pub is_stopped : (texts : List ℕ → Texts) (failure : Failure) (name : List ℕ) (left : List (List ℕ)) (f : CountryFailure) → IsUnreadFolder (texts name) failure → IsFailureOf failure name f
+pub is_stopped : (texts : List ℕ → Texts) (failure : Failure) (name : List ℕ) (left : List (List ℕ)) (f : Failure) → IsUnreadFolder (texts name) failure → IsFailureOf failure name f
     → IsStoppedBefore texts (name ∷ left) f
 is_stopped texts Memory name left f u h = inl h
-is_stopped texts (Read file) name left f u h = inr (subst (IsUnreadFolder (texts name)) (sym h.0) u, λ e. absurd (not_memory (sym h.0 ∙ e)), h.1)
-  where
-    not_memory : Read file ≡ Memory → ⊥
-    not_memory e = cc
+is_stopped texts (Read file) name left f u h = inr (file, u, h)
+is_stopped texts (ReadOf file region) name left f u h = absurd (no_other (ReadOf file region) (unread_is (texts name) (ReadOf file region) u) (λ e. cc) (λ r e. cc))
 is_stopped texts (Write file) name left f u h = absurd (no_other (Write file) (unread_is (texts name) (Write file) u) (λ e. cc) (λ r e. cc))
 is_stopped texts Store name left f u h = absurd (no_other Store (unread_is (texts name) Store u) (λ e. cc) (λ r e. cc))
 is_stopped texts StoreMemory name left f u h = absurd (no_other StoreMemory (unread_is (texts name) StoreMemory u) (λ e. cc) (λ r e. cc))
 
+-- memory may run out before any folder
+pub memory_stops : (texts : List ℕ → Texts) (left : List (List ℕ)) → IsStoppedBefore texts left Memory
+memory_stops texts [] = refl
+memory_stops texts (name ∷ left) = inl refl
+
 -- a beginning of the verdict on the next region was written
 begun-verdict : (s : Setting) (n : ℕ) (before : List Contents) (lines name text : List ℕ) → n < length s.names → name ≡ get_or s.names n [] → HavePassed s (take n s.names) before lines
     → IsVerdictText s before name text
-    → ((regions : List Contents) × (left : List (List ℕ)) × IsReachedBy s regions (lines ++ text) left) ⊎ ((status : ℕ) × (status ≢ done) × IsRegionsAnswer s (lines ++ text, status))
+    → ((g : Failure) × StopsRegions s (lines ++ text) g) ⊎ ((status : ℕ) × IsRegionsRefusal s (lines ++ text, status))
 begun-verdict s n before lines name text lt is h (inl (r, passes, same)) =
     let reached = reached_by s (n + 1) (before ++ r ∷ []) (lines ++ region_report s.detail (country_of s.classes before) name r) (passed_more s n before lines name r lt is h passes) in
-    inl (before ++ r ∷ [], drop (n + 1) s.names, subst (λ (x : List ℕ). IsReachedBy s (before ++ r ∷ []) (lines ++ x) (drop (n + 1) s.names)) (sym same) reached)
+    let reached_text = subst (λ (x : List ℕ). IsReachedBy s (before ++ r ∷ []) (lines ++ x) (drop (n + 1) s.names)) (sym same) reached in
+    inl (Memory, (before ++ r ∷ [], drop (n + 1) s.names, reached_text, memory_stops s.texts (drop (n + 1) s.names)))
 begun-verdict s n before lines name text lt is h (inr (status, refusal)) =
-    inr (status, refused-no s before name text status refusal, refused_next s n before lines name text status lt is h refusal)
+    inr (status, (refused_next s n before lines name text status lt is h refusal, refused-no s before name text status refusal))
 
 -- where the next folder is not read, or the output fails within the verdict on it, the run breaks off
-pub breaks_off : (s : Setting) (names : List (List ℕ)) (p : Progress) (n : ℕ) (old now new : Option (List ℕ)) (name : List ℕ) (failure : Failure) (f : CountryFailure) (here : IsHere s p n old now)
+pub breaks_off : (s : Setting) (names : List (List ℕ)) (p : Progress) (n : ℕ) (old now new : Option (List ℕ)) (name : List ℕ) (failure : Failure) (f : Failure) (here : IsHere s p n old now)
     → s.names ≡ names → n < length names → name ≡ get_or names n [] → IsUnwritten s here.before name now new failure → IsFailureOf failure name f → RegionsStop s old new f
 breaks_off s names p n old now new name failure f here are lt is (inl (unread, keeps)) of =
     let there = subst (λ (ks : List (List ℕ)). n < length ks) (sym are) lt in
     let named = is ∙ ap (λ (ks : List (List ℕ)). get_or ks n []) (sym are) in
     inl (
-      here.before,
       here.text,
-      name ∷ drop (n + 1) s.names,
-      subst (IsReachedBy s here.before here.text) (drop_more s.names n [] there ∙ ap (λ (x : List ℕ). x ∷ drop (n + 1) s.names) (sym named)) (reached_by s n here.before here.text here.have_passed),
-      is_stopped s.texts failure name (drop (n + 1) s.names) f unread of,
+      (
+        here.before,
+        name ∷ drop (n + 1) s.names,
+        subst (IsReachedBy s here.before here.text) (drop_more s.names n [] there ∙ ap (λ (x : List ℕ). x ∷ drop (n + 1) s.names) (sym named)) (reached_by s n here.before here.text here.have_passed),
+        is_stopped s.texts failure name (drop (n + 1) s.names) f unread of,
+      ),
       appends-kept old now new here.text here.written keeps,
     )
 breaks_off s names p n old now new name failure f here are lt is (inr (write, (text, verdict, begins))) of =
@@ -250,11 +254,20 @@ breaks_off s names p n old now new name failure f here are lt is (inr (write, (t
       (here.text ++ text, begun-verdict s n here.before here.text name text there named here.have_passed verdict, begins-more old now new here.text text here.written begins),
     )
 
+-- a refusal is an answer that is no yes
+refusal-answers : (s : Setting) (a : Answer) → IsRegionsRefusal s a → AnswersRegions s a
+refusal-answers s a (answer, other) = record { answer = answer; all = λ e. absurd (other e) }
+
 -- a run that stops before its last region breaks off
-pub stop_breaks_off : (s : Setting) (old new : Option (List ℕ)) (f : CountryFailure) → RegionsStop s old new f → RegionsBreakOff s old new f
-stop_breaks_off s old new f (inl stopped) = inl stopped
-stop_breaks_off s old new f (inr (of, (text, inl part, begins))) = inr (of, (text, inl part, begins))
-stop_breaks_off s old new f (inr (of, (text, inr (status, other, answer), begins))) = inr (of, (text, inr (status, answer), begins))
+pub stopped_run : (s : Setting) (old new : Option (List ℕ)) (f : Failure) → RegionsStop s old new f → RunsRegions s old new (Err f)
+stopped_run s old new f h = record {
+  answer = tt;
+  failure = inr (breaks_off_more (StopsRegions s) (StopsRegions s) (IsRegionsRefusal s) (AnswersRegions s) old new f (λ lines g stopped. stopped) (refusal-answers s) h);
+}
+
+-- a run ends with the first region that is refused
+pub refused_run : (s : Setting) (old new : Option (List ℕ)) (status : ℕ) → RegionsEnd s old new status → status ≢ done → RunsRegions s old new (Ok status)
+refused_run s old new status (text, answer, written) other = record { answer = (text, refusal-answers s (text, status) (answer, other), written); failure = tt }
 
 -- ---- the end
 -- the country's lines are of what passed
@@ -307,40 +320,40 @@ all_printable s regions p n at e few =
     few-parcels : (k i m : ℕ) → k ≤ 200000 * i → m ≡ i → m ≤ 10000 → k ≤ 200000 * 10000
     few-parcels k i m a b c = omega arith
 
--- after them a run that is finished ends with its status
-pub all_end : (s : Setting) (p : Progress) (status : ℕ) (old now new : Option (List ℕ)) (h : HasPassedAll s p old now) → IsFinished s h.regions now new status → RegionsEnd s old new status
-all_end s p status old now new h fin = (
-  h.lines ++ country_lines (length h.regions) (country_of s.classes h.regions),
-  record {
+-- the answer to them
+whole-answer : (s : Setting) (p : Progress) (old now : Option (List ℕ)) (h : HasPassedAll s p old now)
+    → AnswersRegions s (h.lines ++ country_lines (length h.regions) (country_of s.classes h.regions), done)
+whole-answer s p old now h = record {
+  answer = record {
     regions = h.regions;
     text = h.lines;
     left = [];
     reached = all_left s h.regions h.lines h.have_passed;
     end = (country_lines (length h.regions) (country_of s.classes h.regions), done);
     follows = refl;
-    is = ap (λ (k : ℕ). (h.lines ++ country_lines (length h.regions) (country_of s.classes h.regions), k)) fin.done_is;
-  },
-  appends-more old now new h.lines (country_lines (length h.regions) (country_of s.classes h.regions)) h.written fin.written,
-)
+    is = refl;
+  };
+  all = λ e. (h.regions, ((h.lines, h.have_passed), h.at.seam.joined));
+}
 
--- a run that is not finished breaks off
-pub all_break_off : (s : Setting) (p : Progress) (old now new : Option (List ℕ)) (failure : Failure) (f : CountryFailure) (h : HasPassedAll s p old now) → IsUnfinished s h.regions now new failure
-    → IsOfNone f failure → RegionsBreakOff s old new f
-all_break_off s p old now new failure f h (inl (memory, keeps)) of =
-    inl (h.regions, h.lines, [], all_left s h.regions h.lines h.have_passed, subst (λ (x : Failure). IsOfNone f x) memory of, appends-kept old now new h.lines h.written keeps)
-all_break_off s p old now new failure f h (inr (write, begins)) of =
-    let text = h.lines ++ country_lines (length h.regions) (country_of s.classes h.regions) in
-    let whole : IsRegionsAnswer s (text, done) = record {
-      regions = h.regions;
-      text = h.lines;
-      left = [];
-      reached = all_left s h.regions h.lines h.have_passed;
-      end = (country_lines (length h.regions) (country_of s.classes h.regions), done);
-      follows = refl;
-      is = refl;
-    } in
-    let begun = begins-more old now new h.lines (country_lines (length h.regions) (country_of s.classes h.regions)) h.written begins in
-    inr (subst (λ (x : Failure). IsOfNone f x) write of, (text, inr (done, whole), begun))
+-- after them the run ends with a yes, or breaks off
+pub whole_run : (s : Setting) (p : Progress) (old now new : Option (List ℕ)) (r : Result ℕ Failure) (h : HasPassedAll s p old now) → IfOk r (IsFinished s h.regions now new)
+    → IfErr r (IsUnfinished s h.regions now new) → RunsRegions s old new r
+whole_run s p old now new (Ok status) h fin unfinished = record {
+  answer = (
+    h.lines ++ country_lines (length h.regions) (country_of s.classes h.regions),
+    subst (λ (k : ℕ). AnswersRegions s (h.lines ++ country_lines (length h.regions) (country_of s.classes h.regions), k)) (sym fin.done_is) (whole-answer s p old now h),
+    appends-more old now new h.lines (country_lines (length h.regions) (country_of s.classes h.regions)) h.written fin.written,
+  );
+  failure = tt;
+}
+whole_run s p old now new (Err f) h fin (inl (memory, keeps)) = record {
+  answer = tt;
+  failure = inr (inl (h.lines, (h.regions, [], all_left s h.regions h.lines h.have_passed, memory), appends-kept old now new h.lines h.written keeps));
+}
+whole_run s p old now new (Err f) h fin (inr (write, begins)) =
+    let lines = country_lines (length h.regions) (country_of s.classes h.regions) in
+    record { answer = tt; failure = inr (inr (write, (h.lines ++ lines, inr (done, whole-answer s p old now h), begins-more old now new h.lines lines h.written begins))) }
 
 -- an error that is known
 pub err_is : {A E : Type 0} (r : Result A E) (P Q : E → Type 0) → IsErrAnd r P → ((e : E) → P e → Q e) → IfErr r Q

@@ -1,6 +1,5 @@
 -- The answer to a country: text and status, of the bytes of its files.
-use Rattle.std.specs.Prelude.{◌≡◌, ◌⊎◌, ◌++◌, ◌∷◌, [], ℕ, List, Option, Some, length}
-use Rattle.std.specs.Io.KnownBytes.{Appends}
+use Rattle.std.specs.Prelude.{◌≡◌, ◌⊎◌, ◌++◌, ◌∷◌, [], ℕ, List, Some, length}
 use Rattle.lpis_points.specs.declared.boxes.Box4.{Box4}
 use Rattle.lpis_covers.specs.declared.class.Class.{Class}
 use Rattle.lpis_covers.specs.Classes.{classes_table}
@@ -114,12 +113,8 @@ IsCountryAnswer texts detail x =
     (setting_of texts detail plan classes)) (rows_of classes_table x.classes))
     x.plan
 
--- ---- the run
--- the run answered with this status, and wrote the text; a yes comes only for a country whose
--- regions make up a sound map
-pub record CountryEnds (texts : List ℕ → Texts) (detail : Detail) (x : CountryInputs) (status : ℕ)
-    (old new : Option (List ℕ)) : Type 0 where
-  pub text : List ℕ
-  pub answer : IsCountryAnswer texts detail x (text, status)
-  pub written : Appends old new text
-  pub proved : status ≡ done → IsCountry texts x
+-- the same, where a yes comes only for a country whose regions make up a sound map
+pub record AnswersCountry (texts : List ℕ → Texts) (detail : Detail) (x : CountryInputs)
+    (a : Answer) : Type 0 where
+  pub answer : IsCountryAnswer texts detail x a
+  pub proved : a.1 ≡ done → IsCountry texts x

@@ -1,25 +1,19 @@
 -- The lines that are printed of a country.
-use Rattle.std.specs.Prelude.{◌++◌, [], ℕ, List, Option, Some, codes, get_or, length}
+use Rattle.std.specs.Prelude.{◌++◌, [], ℕ, List, codes, get_or, length}
 use Rattle.std.specs.Fmt.{decimal}
 use Rattle.std.specs.List.{flat_map}
-use Rattle.std.specs.Option.{option_map}
-use Rattle.std.specs.String.{string_bytes}
 use Rattle.lpis_points.specs.Sums.{int_sum_by}
 use Rattle.lpis_rings.specs.Area.{area2}
 use Rattle.lpis_parcels.specs.Release.{Contents}
 use Rattle.lpis_parcels.specs.Weighted.{weighted2}
 use Rattle.lpis_run.specs.declared.detail.Detail.{Detail}
 use Rattle.lpis_run.specs.declared.detail.Detail.TheVariants.{Regions, Parcels}
-use Rattle.lpis_run.specs.declared.failure.Failure.{Failure}
-use Rattle.lpis_run.specs.declared.failure.Failure.TheVariants.{Read}
-use Rattle.lpis_run.specs.Failures.{failure_text, name_text}
 use Rattle.lpis_run.specs.Refusals.{region_end}
 use Rattle.lpis_run.specs.Report.{areas_text, parcel_line}
 use Rattle.lpis_country.specs.Country.{new_parcels}
 use Rattle.lpis_country_seam.specs.declared.fault.SeamFault.{SeamFault}
 use Rattle.lpis_country_seam.specs.declared.fault.SeamFault.TheVariants as seam
 use Rattle.lpis_country_seam.specs.Codes.{classes_code_text, seam_code_text}
-use Rattle.lpis_country_run.specs.declared.failure.CountryFailure.{CountryFailure}
 
 -- ---- what passed
 -- how many parcels and pieces there are, the area of all parcels, and how much of it is eligible
@@ -59,12 +53,3 @@ seam_refusal_text names name (seam.Classes row) =
 seam_refusal_text names name (seam.At code id region) =
     codes "refused " ++ seam_code_text code ++ codes " parcel " ++ id
     ++ region_end (get_or names region [])
-
--- ---- failures
--- the line of a failure, with the region whose file was not read
-abbrev pub failed_line : Failure → Option (List ℕ) → List ℕ
-failed_line (Read name) (Some region) = codes "failed read " ++ name_text name ++ region_end region
-failed_line failure _ = failure_text failure
-
-abbrev pub country_failure_text : CountryFailure → List ℕ
-country_failure_text f = failed_line f.failure (option_map string_bytes f.region)

@@ -1,26 +1,25 @@
 -- What a run over the regions of what was begun came to.
-use Rattle.std.specs.Prelude.{◌≡◌, ◌≢◌, ◌≤◌, ◌⊎◌, ℕ, List, Option, length, map}
+use Rattle.std.specs.Prelude.{◌≡◌, ◌≢◌, ◌≤◌, ℕ, List, Option, length, map}
 use Rattle.std.specs.Io.KnownBytes.{Appends}
 use Rattle.std.specs.String.{string_bytes}
 use Rattle.lpis_parcels.specs.Release.{Contents}
 use Rattle.lpis_checker.specs.SoundMap.{IsSoundMap}
 use Rattle.lpis_run.specs.declared.detail.Detail.{Detail}
-use Rattle.lpis_run.specs.declared.failure.Failure.TheVariants.{Write}
-use Rattle.lpis_run.specs.declared.failure.Name.TheVariants.{Out}
 use Rattle.lpis_run.specs.Status.{done}
-use Rattle.lpis_run.specs.Streams.{Begins}
+use Rattle.lpis_run.specs.Run.{BreaksOffIn}
+use Rattle.lpis_run.specs.CheckAnswer.{Answer}
 use Rattle.lpis_country.specs.Country.{country_of}
 use Rattle.lpis_country.specs.Tiling.{Tiling, frame, rectangles}
 use Rattle.lpis_country.specs.Union.{IsUnion}
 use Rattle.lpis_country_plan.specs.Limits.{most_regions}
 use Rattle.lpis_country_seam.specs.Open.{AreJoined}
 use Rattle.lpis_country_run.specs.declared.beginning.Begun.{Begun}
-use Rattle.lpis_country_run.specs.declared.failure.CountryFailure.{CountryFailure}
+use Rattle.lpis_run.specs.declared.failure.Failure.{Failure}
 use Rattle.lpis_country_run.specs.declared.joining.JoinedCountry.{JoinedCountry}
 use Rattle.lpis_country_run.specs.declared.joining.Joining.{Joining}
 use Rattle.lpis_country_run.specs.declared.joining.Joining.TheVariants.{Joined, Refused}
 use Rattle.lpis_country_run.specs.CountryAnswer.{HavePassed, IsReachedBy, IsRegionsAnswer, Setting}
-use Rattle.lpis_country_run.specs.CountryFailures.{IsOfNone, IsStoppedBefore}
+use Rattle.lpis_country_run.specs.CountryFailures.{IsStoppedBefore}
 use Rattle.lpis_country_run.specs.CountryLines.{country_lines}
 use Rattle.lpis_country_run.specs.Regions.{Texts}
 
@@ -68,17 +67,15 @@ RegionsJoin s old new (Joined j) =
 RegionsJoin s old new (Refused status) = RegionsEnd s old new status × (status ≢ done)
 
 -- ---- no end
--- the text that a run over regions had to write, up to the last one: the lines of those that
--- passed, or with that of the first that is refused
-abbrev pub IsPartOrRefusal : Setting → List ℕ → Type 0
-IsPartOrRefusal s text =
-    ((regions : List Contents) × (left : List (List ℕ)) × IsReachedBy s regions text left)
-    ⊎ ((status : ℕ) × (status ≢ done) × IsRegionsAnswer s (text, status))
+-- behind these lines, of the regions that passed, the next one was not read, or memory ran out
+abbrev pub StopsRegions : Setting → List ℕ → Failure → Type 0
+StopsRegions s lines f = (regions : List Contents) × (left : List (List ℕ))
+    × IsReachedBy s regions lines left × IsStoppedBefore s.texts left f
 
--- behind the lines of the regions that passed the next one was not read, or memory ran out; or the
--- output failed
-abbrev pub RegionsStop : Setting → Option (List ℕ) → Option (List ℕ) → CountryFailure → Type 0
-RegionsStop s old new f =
-    ((regions : List Contents) × (lines : List ℕ) × (left : List (List ℕ))
-    × IsReachedBy s regions lines left × IsStoppedBefore s.texts left f × Appends old new lines)
-    ⊎ (IsOfNone f (Write Out) × ((text : List ℕ) × IsPartOrRefusal s text × Begins old new text))
+-- the lines up to that of the first region that is refused
+abbrev pub IsRegionsRefusal : Setting → Answer → Type 0
+IsRegionsRefusal s a = IsRegionsAnswer s a × (a.1 ≢ done)
+
+-- a run up to the last region broke off
+abbrev pub RegionsStop : Setting → Option (List ℕ) → Option (List ℕ) → Failure → Type 0
+RegionsStop s = BreaksOffIn (StopsRegions s) (IsRegionsRefusal s)

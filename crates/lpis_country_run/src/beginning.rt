@@ -10,12 +10,11 @@ ghost use Rattle.lpis_country_run.specs.CountryFailures.{IsUnreadTop};
 ghost use Rattle.lpis_country_run.specs.Regions.{AreCountryRead};
 ghost use Rattle.lpis_country_run.specs.private.Beginning.{IsPlanIn};
 
-use crate::failure::CountryFailure;
 use crate::refusals::refuse_plan;
 use lpis_country_plan::{Plan, PlanFault, read_plan};
 use lpis_covers::{Class, Classes, TableFault, read_classes};
 use lpis_points::Box4;
-use lpis_run::{Answer, Name, Stop, read_named};
+use lpis_run::{Answer, Failure, Name, Stop, read_named};
 use std::alloc::Global;
 use std::io::Read;
 
@@ -44,7 +43,7 @@ pub fn read_top<P: Read + Drop, K: Read + Drop>(
     alloc: Global,
     country: P,
     classes: K,
-) -> Result<CountryBytes, CountryFailure>
+) -> Result<CountryBytes, Failure>
     ensures bytes { IfOk result (λ b. AreCountryRead (country_inputs_of b) (P.remaining country)
         (K.remaining classes)) }
     ensures failure { IfErr result (IsUnreadTop (P.remaining country)) }

@@ -3,20 +3,17 @@
 ghost use Rattle.std.specs.Prelude.{◌≡◌, IfErr, IfOk, List, length, map, ℕ};
 ghost use Rattle.std.specs.String.{string_bytes};
 ghost use Rattle.lpis_parcels.specs.Release.{Contents};
-ghost use Rattle.lpis_run.specs.Status.{done};
 ghost use Rattle.lpis_run.specs.declared.detail.Detail.{Detail};
-ghost use Rattle.lpis_country_run.specs.CountryAnswer.{CountryEnds, Setting};
-ghost use Rattle.lpis_country_run.specs.CountryFailures.{CountryBreaksOff, CountryHalts};
-ghost use Rattle.lpis_country_run.specs.Regions.{AreCountryRead, CountryInputs, Texts};
-ghost use Rattle.lpis_country_run.specs.RegionsOutcome.{RegionsEnd};
-ghost use Rattle.lpis_country_run.specs.private.Progressing.{RegionsBreakOff};
+ghost use Rattle.lpis_country_run.specs.CountryAnswer.{Setting};
+ghost use Rattle.lpis_country_run.specs.CountryRun.{RunsCountry, country_asked};
+ghost use Rattle.lpis_country_run.specs.Regions.{CountryInputs, Texts};
+ghost use Rattle.lpis_country_run.specs.private.Progressing.{RunsBegun, RunsRegions};
 ghost use Rattle.lpis_country_run.specs.Beginning.{IsBegun, IsUnbegun};
-ghost use Rattle.lpis_country_run.specs.private.Progressing.{HaveAllPassed, IsAt, IsFinished};
+ghost use Rattle.lpis_country_run.specs.private.Progressing.{IsAt, IsFinished};
 ghost use Rattle.lpis_country_run.specs.private.Progressing.{IsStart, IsUnfinished};
 ghost use Rattle.lpis_country_run.specs.private.Totals.{IsPrintable};
 
 use crate::beginning::{Begun, begin, read_top};
-use crate::failure::CountryFailure;
 use crate::folder::Regions;
 use crate::gathering::Gathered;
 use crate::lines::report_country;
@@ -56,22 +53,16 @@ fn run_regions<G: Regions, W: Write>(
     progress: &mut Progress,
     detail: Detail,
     out: &mut W,
-) -> Result<u8, CountryFailure>
+) -> Result<u8, Failure>
     requires { (s : Setting) × IsStart s (G.texts regions.now) (map string_bytes names.old.items)
         detail progress.old }
-    ensures answer { (s : Setting) → IsStart s (G.texts regions.now)
+    ensures { (s : Setting) → IsStart s (G.texts regions.now)
         (map string_bytes names.old.items) detail progress.old
-        → IfOk result (RegionsEnd s (W.contents out.old) (W.contents out.new)) }
-    ensures proved { (s : Setting) → IsStart s (G.texts regions.now)
-        (map string_bytes names.old.items) detail progress.old
-        → IfOk result (λ status. status ≡ done → (all : List Contents) × HaveAllPassed s all) }
-    ensures failure { (s : Setting) → IsStart s (G.texts regions.now)
-        (map string_bytes names.old.items) detail progress.old
-        → IfErr result (RegionsBreakOff s (W.contents out.old) (W.contents out.new)) }
+        → RunsRegions s (W.contents out.old) (W.contents out.new) result }
 {
     match pass_regions(alloc, regions, names, progress, detail, out)? {
         Some(status) => Ok(status),
-        None => Ok(finish(alloc, names.len(), progress, out)?),
+        None => finish(alloc, names.len(), progress, out),
     }
 }
 
@@ -82,14 +73,10 @@ fn run_begun<G: Regions, W: Write>(
     begun: Begun,
     detail: Detail,
     out: &mut W,
-) -> Result<u8, CountryFailure>
+) -> Result<u8, Failure>
     requires { (x : CountryInputs) × IsBegun x begun }
-    ensures ends { (x : CountryInputs) → IsBegun x begun → IfOk result (λ status.
-        CountryEnds (G.texts regions.now) detail x status (W.contents out.old)
-        (W.contents out.new)) }
-    ensures failure { (x : CountryInputs) → IsBegun x begun → IfErr result (λ f.
-        CountryBreaksOff f (G.texts regions.now) detail x (W.contents out.old)
-        (W.contents out.new)) }
+    ensures { (x : CountryInputs) → IsBegun x begun → RunsBegun (G.texts regions.now) detail x
+        (W.contents out.old) (W.contents out.new) result }
 {
     let Begun {
         mut names,
@@ -107,18 +94,12 @@ fn run_begun<G: Regions, W: Write>(
 }
 
 /// Writes the answer that refuses a country before its first region.
-fn write_refusal<W: Write>(answer: &Answer, out: &mut W) -> Result<u8, CountryFailure>
-    ensures ends { (texts : List ℕ → Texts) (detail : Detail) (x : CountryInputs)
-        → IsUnbegun x (answer.now.text.items, answer.now.status) → IfOk result (λ status.
-        CountryEnds texts detail x status (W.contents out.old) (W.contents out.new)) }
-    ensures failure { (texts : List ℕ → Texts) (detail : Detail) (x : CountryInputs)
-        → IsUnbegun x (answer.now.text.items, answer.now.status) → IfErr result (λ f.
-        CountryBreaksOff f texts detail x (W.contents out.old) (W.contents out.new)) }
+fn write_refusal<W: Write>(answer: &Answer, out: &mut W) -> Result<u8, Failure>
+    ensures { (texts : List ℕ → Texts) (detail : Detail) (x : CountryInputs)
+        → IsUnbegun x (answer.now.text.items, answer.now.status)
+        → RunsBegun texts detail x (W.contents out.old) (W.contents out.new) result }
 {
-    match answer.write_to(out) {
-        Ok(status) => Ok(status),
-        Err(failure) => Err(CountryFailure::from(failure)),
-    }
+    answer.write_to(out)
 }
 
 /// Checks a country, region by region, and prints what each region that passes has, and what all of
@@ -136,14 +117,9 @@ pub fn run_country<P: Read + Drop, K: Read + Drop, G: Regions, W: Write>(
     regions: &G,
     detail: Detail,
     out: &mut W,
-) -> Result<u8, CountryFailure>
-    ensures answer { IfOk result (λ status. (x : CountryInputs)
-        × AreCountryRead x (P.remaining country) (K.remaining classes)
-        × CountryEnds (G.texts regions.now) detail x status (W.contents out.old)
-        (W.contents out.new)) }
-    // The lines of the regions that passed were written, or a beginning of the answer.
-    ensures failure { IfErr result (λ f. CountryHalts f (G.texts regions.now) detail
-        (P.remaining country) (K.remaining classes) (W.contents out.old) (W.contents out.new)) }
+) -> Result<u8, Failure>
+    ensures { RunsCountry (country_asked (G.texts regions.now) detail (P.remaining country)
+        (K.remaining classes)) (W.contents out.old) (W.contents out.new) result }
 {
     let top = read_top(alloc, country, classes)?;
     match begin(alloc, top) {

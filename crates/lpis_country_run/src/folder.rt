@@ -10,7 +10,6 @@ ghost use Rattle.lpis_country_run.specs.CountryFailures.{IsUnreadFolder};
 ghost use Rattle.lpis_country_run.specs.Regions.{AreGiven, AreOfFolder, Texts};
 ghost use Rattle.lpis_country_run.specs.private.Progressing.{IsFailureOf};
 
-use crate::failure::CountryFailure;
 use lpis_run::{Failure, Folder, InputBytes, read_folder};
 use std::alloc::Global;
 use std::io::Read;
@@ -55,16 +54,13 @@ pub(crate) fn read_region_files<G: Regions>(
 }
 
 /// The failure of the region of this number, whose name may be taken out of the list.
-pub(crate) fn of_region(failure: Failure, names: &mut Vec<String>, index: usize) -> CountryFailure
+pub(crate) fn of_region(failure: Failure, names: &mut Vec<String>, index: usize) -> Failure
     requires { index < length names.old.items }
     ensures { IsFailureOf failure (get_or (map string_bytes names.old.items) index []) result }
 {
     match failure {
-        Failure::Read(_) => CountryFailure {
-            failure,
-            region: Some(names.swap_remove(index)),
-        },
-        _ => CountryFailure::from(failure),
+        Failure::Read(file) => Failure::ReadOf(file, names.swap_remove(index)),
+        other => other,
     }
 }
 
@@ -75,7 +71,7 @@ pub fn read_region<G: Regions>(
     regions: &G,
     names: &mut Vec<String>,
     index: usize,
-) -> Result<InputBytes, CountryFailure>
+) -> Result<InputBytes, Failure>
     requires { index < length names.old.items }
     ensures names { OnOk result (names.new.items ≡ names.old.items) }
     ensures bytes { IfOk result (λ i. AreOfFolder (inputs_of i)

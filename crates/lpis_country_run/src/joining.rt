@@ -9,7 +9,6 @@ ghost use Rattle.lpis_country_run.specs.RegionsOutcome.{RegionsStop};
 ghost use Rattle.lpis_country_run.specs.private.Progressing.{IsEnded};
 
 use crate::beginning::Begun;
-use crate::failure::CountryFailure;
 use crate::folder::Regions;
 use crate::gathering::Gathered;
 use crate::lines::report_country;
@@ -18,7 +17,7 @@ use crate::progress::Progress;
 use crate::totals::Totals;
 use lpis_country_seam::laws::a_country_of_joined_regions_is_sound;
 use lpis_country_seam::{Joined, OpenSeam};
-use lpis_run::Detail;
+use lpis_run::{Detail, Failure};
 use std::alloc::{AllocError, Global};
 use std::io::Write;
 
@@ -74,7 +73,7 @@ pub fn join_regions<G: Regions, W: Write>(
     begun: Begun,
     detail: Detail,
     out: &mut W,
-) -> Result<Joining, CountryFailure>
+) -> Result<Joining, Failure>
     requires { (s : Setting) × IsSettingOf s (G.texts regions.now) detail begun }
     ensures joins { (s : Setting) → IsSettingOf s (G.texts regions.now) detail begun
         → IfOk result (RegionsJoin s (W.contents out.old) (W.contents out.new)) }

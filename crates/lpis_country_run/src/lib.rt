@@ -8,7 +8,6 @@
 
 mod beginning;
 mod country;
-mod failure;
 mod folder;
 mod gathering;
 mod joining;
@@ -21,7 +20,6 @@ mod totals;
 
 pub use beginning::{Begun, CountryBytes, begin, read_top};
 pub use country::run_country;
-pub use failure::{CountryFailure, print_country_failure};
 pub use folder::{Regions, read_region};
 pub use joining::{JoinedCountry, Joining, join_regions};
 pub use refusals::refuse_seam;

@@ -9,11 +9,10 @@ ghost use Rattle.lpis_country_run.specs.private.Progressing.{AreOfRun, IsAt, IsB
 ghost use Rattle.lpis_country_run.specs.private.Progressing.{IsStart, IsWritten, RegionsPass};
 ghost use Rattle.lpis_country_run.specs.private.Progressing.{gathers};
 
-use crate::failure::CountryFailure;
 use crate::folder::{Regions, of_region};
 use crate::judging::pass;
 use crate::progress::Progress;
-use lpis_run::Detail;
+use lpis_run::{Detail, Failure};
 use std::alloc::Global;
 use std::io::Write;
 
@@ -27,7 +26,7 @@ fn pass_at<G: Regions, W: Write>(
     detail: Detail,
     progress: &mut Progress,
     out: &mut W,
-) -> Result<Option<u8>, CountryFailure>
+) -> Result<Option<u8>, Failure>
     requires inside { index < length names.old.items }
     requires ready { IsReady progress.old }
     ensures names { OnOk result (names.new.items ≡ names.old.items) }
@@ -65,7 +64,7 @@ pub(crate) fn pass_regions<G: Regions, W: Write>(
     progress: &mut Progress,
     detail: Detail,
     out: &mut W,
-) -> Result<Option<u8>, CountryFailure>
+) -> Result<Option<u8>, Failure>
     requires { (s : Setting) × IsStart s (G.texts regions.now) (map string_bytes names.old.items)
         detail progress.old }
     ensures names { OnOk result (names.new.items ≡ names.old.items) }

@@ -1,14 +1,17 @@
 -- The search through the regions of a plan, as that in a country.
-use Rattle.std.proofs.Common.{◌≡◌, ◌∙◌, ◌∷◌, [], refl, sym, ap, subst, arith, inl, inr, ℕ, List, Option, None, Some, Result, Ok, Err, length, map}
+use Rattle.std.proofs.Common.{◌≡◌, ◌⊎◌, ◌∙◌, ◌∷◌, [], refl, sym, ap, subst, arith, inl, inr, IfErr, IfOk, OnOk, ℕ, List, Option, None, Some, Result, Ok, Err, length, map}
 use Rattle.std.proofs.lemmas.List.{append-nil, length-map}
-use Rattle.std.specs.Io.KnownBytes.{Keeps}
+use Rattle.std.specs.Io.KnownBytes.{Appends}
 use Rattle.std.specs.String.{string_bytes}
 use Rattle.lpis_covers.specs.Classes.{classes_table}
 use Rattle.lpis_covers.specs.Faults.{rows_of}
 use Rattle.lpis_covers.specs.declared.class.Class.{Class}
 use Rattle.lpis_covers.specs.declared.fault.TableFault.{TableFault}
 use Rattle.lpis_parcels.specs.Release.{Contents}
-use Rattle.lpis_run.proofs.Shared.{table-more}
+use Rattle.lpis_run.proofs.Shared.{runs_stopped, runs_written, table-more}
+use Rattle.lpis_run.specs.Streams.{Begins}
+use Rattle.lpis_run.specs.declared.failure.Failure.TheVariants.{Write}
+use Rattle.lpis_run.specs.declared.failure.Name.TheVariants.{Out}
 use Rattle.lpis_run.specs.CheckAnswer.{Answer as TextStatus, IsTableAnswer}
 use Rattle.lpis_run.specs.Stops.{IsRefusedAs}
 use Rattle.lpis_run.specs.declared.answer.Answer.{Answer}
@@ -24,7 +27,7 @@ use Rattle.lpis_country_seam.specs.Laws.{JoinedCountryIsSound, JoinedCountryIsUn
 use Rattle.lpis_country_seam.specs.Open.{IsSeamOf}
 use Rattle.lpis_country_run.specs.Beginning.{IsBegun, IsUnbegun}
 use Rattle.lpis_country_run.specs.declared.beginning.Begun.{Begun}
-use Rattle.lpis_country_run.specs.declared.failure.CountryFailure.{CountryFailure}
+use Rattle.lpis_run.specs.declared.failure.Failure.{Failure}
 use Rattle.lpis_country_run.specs.CountryAnswer.{IsRefusedRegion, Setting, setting_of}
 use Rattle.lpis_country_run.specs.Regions.{IsCountry, Texts}
 use Rattle.lpis_country_run.proofs.Shared.{passed_length, passed_regions, passed_sound, two_is_not_done, unbegun_no}
@@ -32,7 +35,8 @@ use Rattle.lpis_locating.specs.declared.fault.PointsFault.{PointsFault}
 use Rattle.lpis_locating.specs.Points.{Given, points_of}
 use Rattle.lpis_locate.specs.LocateAnswer.{IsPointsAnswer}
 use Rattle.lpis_locate_country.specs.declared.progress.Progress.{Progress}
-use Rattle.lpis_locate_country.specs.LocateCountryAnswer.{AreLocateCountryRead, IsLocateCountryAnswer, IsLocatedInCountry, IsRegionsPointsAnswer, LocateCountryHalts, LocateCountryInputs}
+use Rattle.lpis_locate_country.specs.LocateCountryAnswer.{AreLocateCountryRead, IsLocateCountryAnswer, IsLocatedInCountry, IsRegionsPointsAnswer, IsStoppedIn}
+use Rattle.lpis_locate_country.specs.LocateCountryAnswer.{IsUnreadInput, LocateCountryAsked, LocateCountryInputs, OfInputs, RunsLocateCountry}
 use Rattle.lpis_locate_country.specs.private.Found.{IsSearched}
 use Rattle.lpis_locate_country.specs.private.Searching.{IsOutcome, IsStart, IsStopped, IsUnanswered}
 
@@ -132,7 +136,7 @@ located texts x b begun p text status law unites (all, (lines, passed), at) said
 
 -- ---- no answer
 -- a search that is stopped gives no answer to the country
-pub stopped : (texts : List ℕ → Texts) (x : LocateCountryInputs) (b : Begun) (begun : IsBegun x.country b) (f : CountryFailure) → IsStopped (begun_setting texts x b begun) f → IsUnanswered texts x f
+pub stopped : (texts : List ℕ → Texts) (x : LocateCountryInputs) (b : Begun) (begun : IsBegun x.country b) (f : Failure) → IsStopped (begun_setting texts x b begun) f → IsUnanswered texts x f
 unfolding begun_setting
 stopped texts x b begun f (regions, lines, left, reached, stop) =
     inr (lines, left, record { plan = begun.plan; planned = begun.text; classes = b.classes.items; table = begun.table; regions = regions; reached = reached }, stop)
@@ -157,13 +161,18 @@ unbegun_is_answer texts x stop a is may = unbegun-answer texts x (a.text.items, 
 pub unbegun_is_no : (x : LocateCountryInputs) (stop : Stop) (a : Answer) → stop ≡ Refused a → IsRefusedAs (IsUnbegun x.country) stop → a.status ≡ done → ⊥
 unbegun_is_no x stop a is may = unbegun_no x.country (a.text.items, a.status) (subst (IsRefusedAs (IsUnbegun x.country)) is may)
 
--- a writer to which nothing was written keeps what it has
-keeps-itself : (out : Option (List ℕ)) → Keeps out out
-keeps-itself None = tt
-keeps-itself (Some xs) = refl
-
+-- ---- the run
 -- where there is no answer, nothing was written
-pub unanswered_halts : (f : CountryFailure) (texts : List ℕ → Texts) (x : LocateCountryInputs) (plan classes points out : Option (List ℕ)) → AreLocateCountryRead x plan classes points
-    → IsUnanswered texts x f → LocateCountryHalts f texts plan classes points out out
-unanswered_halts f texts x plan classes points out told (inl memory) = inl (inl (inl memory), keeps-itself out)
-unanswered_halts f texts x plan classes points out told (inr (lines, left, part, stop)) = inr (x, told, inl (lines, left, part, stop, keeps-itself out))
+pub unanswered_run : (asked : LocateCountryAsked) (x : LocateCountryInputs) (out : Option (List ℕ)) (f : Failure) → AreLocateCountryRead x asked.plan asked.classes asked.points
+    → IsUnanswered asked.texts x f → RunsLocateCountry asked out out (Err f)
+unanswered_run asked x out f told h = runs_stopped _ _ out f (stops h)
+  where
+    stops : IsUnanswered asked.texts x f → IsUnreadInput asked.plan asked.classes f ⊎ OfInputs asked (λ y. IsStoppedIn asked.texts y f)
+    stops (inl memory) = inl (inl (inl memory))
+    stops (inr stopped) = inr (x, told, stopped)
+
+-- an answer is written, or a beginning of it
+pub answered_run : (asked : LocateCountryAsked) (x : LocateCountryInputs) (text : List ℕ) (status : ℕ) (old new : Option (List ℕ)) (r : Result ℕ Failure)
+    → AreLocateCountryRead x asked.plan asked.classes asked.points → IsLocateCountryAnswer asked.texts x (text, status) → (status ≡ done → IsLocatedInCountry asked.texts x text)
+    → IfOk r (λ s. s ≡ status) → OnOk r (Appends old new text) → IfErr r (λ f. (f ≡ Write Out) × Begins old new text) → RunsLocateCountry asked old new r
+answered_run asked x text status old new r told answer located = runs_written _ _ text status old new r (x, told, record { answer = answer; located = located })

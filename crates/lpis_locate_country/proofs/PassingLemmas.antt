@@ -1,17 +1,16 @@
 -- How a search through regions goes on.
-use Rattle.std.proofs.Common.{◌≡◌, ◌<◌, ◌≤◌, ◌∙◌, ◌++◌, ◌∷◌, ◌+◌, [], refl, sym, ap, ap₂, subst, arith, inl, inr, ℕ, List, Option, None, Some, drop, get_or, length, map}
+use Rattle.std.proofs.Common.{◌≡◌, ◌<◌, ◌≤◌, ◌∙◌, ◌++◌, ◌∷◌, ◌+◌, [], refl, sym, ap, subst, arith, inr, ℕ, List, None, Some, drop, get_or, length, map}
 use Rattle.std.proofs.lemmas.List.{drop_more, length-append, length-map, take_all}
 use Rattle.lpis_parcels.specs.Release.{Contents}
 use Rattle.lpis_run.proofs.Shared.{refused-more}
-use Rattle.lpis_run.specs.CheckAnswer.{Inputs, IsProvedOf, IsRefusal}
+use Rattle.lpis_run.specs.CheckAnswer.{Inputs, IsProvedOf}
 use Rattle.lpis_run.specs.Inputs.{inputs_of}
-use Rattle.lpis_run.specs.Refusals.{line_in_region}
 use Rattle.lpis_run.specs.Stops.{IsRefusedAs}
 use Rattle.lpis_run.specs.declared.answer.Answer.{Answer as Printed}
 use Rattle.lpis_run.specs.declared.folder.InputBytes.{InputBytes}
 use Rattle.lpis_run.specs.declared.stop.Stop.{Stop}
 use Rattle.lpis_run.specs.declared.stop.Stop.TheVariants.{Refused}
-use Rattle.lpis_country_run.specs.declared.failure.CountryFailure.{CountryFailure}
+use Rattle.lpis_run.specs.declared.failure.Failure.{Failure}
 use Rattle.lpis_country_run.specs.CountryAnswer.{HavePassed, None as NonePassed, IsReachedBy, IsRefusedRegion, Setting}
 use Rattle.lpis_country_run.specs.CountryFailures.{IsStoppedBefore}
 use Rattle.lpis_country_run.specs.CountryLines.{region_report}
@@ -33,12 +32,6 @@ pub seam_refused : (s : Setting) (before : List Contents) (name : List ℕ) (x :
 seam_refused s before name x region stop told said h =
     refused-more (IsSeamRefusal s before name region) (IsRefusedRegion s before name) stop
     (λ a misfit. (x, told, inr (record { region = region; said = said; fault = misfit.0; first = misfit.1; is = misfit.2 }))) h
-
--- on inputs that `check` refuses
-pub check_refused : (s : Setting) (before : List Contents) (name : List ℕ) (x : Inputs) (stop : Stop) (a b : Printed) → AreOfFolder x (s.texts name) → IsRefusedAs (IsRefusal x) stop
-    → stop ≡ Refused a → b.text.items ≡ line_in_region a.text.items name → b.status ≡ a.status → IsRefusedRegion s before name (b.text.items, b.status)
-check_refused s before name x stop a b told refusal is text status =
-    (x, told, inl ((a.text.items, a.status), subst (IsRefusedAs (IsRefusal x)) is refusal, ap₂ (λ (t : List ℕ) (n : ℕ). (t, n)) text status))
 
 -- the answer of a step that stopped
 pub stopped_with : (s : Setting) (before : List Contents) (name : List ℕ) (stop : Stop) (a : Printed) → stop ≡ Refused a → IsRefusedAs (IsRefusedRegion s before name) stop
@@ -93,7 +86,7 @@ pub is_refused : (s : Setting) (table : List ℕ) (p q : Progress) (n : ℕ) (na
 is_refused s table p q n name a here lt is refusal = (here.before, here.lines, name, drop (n + 1) s.names, left-of s table p n name here lt is, refusal)
 
 -- the next region is not read
-pub is_stopped_at : (s : Setting) (texts : List ℕ → Texts) (table : List ℕ) (p : Progress) (n : ℕ) (name : List ℕ) (f : CountryFailure) (here : IsHere s table p n) → s.texts ≡ texts
+pub is_stopped_at : (s : Setting) (texts : List ℕ → Texts) (table : List ℕ) (p : Progress) (n : ℕ) (name : List ℕ) (f : Failure) (here : IsHere s table p n) → s.texts ≡ texts
     → n < length s.names → name ≡ get_or s.names n [] → ((left : List (List ℕ)) → IsStoppedBefore texts (name ∷ left) f) → IsStopped s f
 is_stopped_at s texts table p n name f here same lt is stopped = (
   here.before,

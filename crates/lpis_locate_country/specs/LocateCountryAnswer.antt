@@ -1,23 +1,23 @@
 -- The answer to points in a country: text and status, of the bytes of the country's files and of
 -- the table of points.
-use Rattle.std.specs.Prelude.{◌≡◌, ◌⊎◌, ◌++◌, ◌∷◌, [], ℕ, List, Option, Ok, codes}
-use Rattle.std.specs.Io.KnownBytes.{Appends, Keeps}
+use Rattle.std.specs.Prelude.{◌≡◌, ◌⊎◌, ◌++◌, ◌∷◌, [], ℕ, List, Option, Ok, Result, codes}
 use Rattle.lpis_covers.specs.Classes.{classes_table}
 use Rattle.lpis_covers.specs.Faults.{rows_of}
 use Rattle.lpis_parcels.specs.Release.{Contents}
 use Rattle.lpis_run.specs.CheckAnswer.{Answer, IsTableAnswer}
 use Rattle.lpis_run.specs.Status.{done}
-use Rattle.lpis_run.specs.Streams.{Begins, IsRead, IsWithin}
+use Rattle.lpis_run.specs.Run.{Runs}
+use Rattle.lpis_run.specs.Streams.{IsRead, IsWithin}
 use Rattle.lpis_run.specs.declared.detail.Detail.TheVariants.{Regions}
-use Rattle.lpis_run.specs.declared.failure.Failure.TheVariants.{Read, Write}
-use Rattle.lpis_run.specs.declared.failure.Name.TheVariants.{Out, Points}
+use Rattle.lpis_run.specs.declared.failure.Failure.TheVariants.{Read}
+use Rattle.lpis_run.specs.declared.failure.Name.TheVariants.{Points}
 use Rattle.lpis_country.specs.Country.{country_of}
 use Rattle.lpis_country_run.specs.CountryAnswer.{IsPlanAnswer, IsReachedBy, IsRefusedRegion}
 use Rattle.lpis_country_run.specs.CountryAnswer.{Setting, setting_of}
-use Rattle.lpis_country_run.specs.CountryFailures.{IsCountryPart, IsOfNone, IsStoppedBefore}
+use Rattle.lpis_country_run.specs.CountryFailures.{IsCountryPart, IsStoppedBefore}
 use Rattle.lpis_country_run.specs.CountryFailures.{IsUnreadTop}
 use Rattle.lpis_country_run.specs.Regions.{AreCountryRead, CountryInputs, IsCountry, Texts}
-use Rattle.lpis_country_run.specs.declared.failure.CountryFailure.{CountryFailure}
+use Rattle.lpis_run.specs.declared.failure.Failure.{Failure}
 use Rattle.lpis_locating.specs.Points.{Given, points_of}
 use Rattle.lpis_locate.specs.LocateAnswer.{IsPointsAnswer}
 use Rattle.lpis_locate.specs.LocateLines.{AreLines}
@@ -70,35 +70,46 @@ pub record AreLocateCountryRead (x : LocateCountryInputs) (plan classes points :
   pub of_country : AreCountryRead x.country plan classes
   pub of_points : IsRead x.points points
 
--- the run answered with this status, and wrote the text; where it is done, the union of the regions
--- is a sound map, and each point has the line of its own place in it
-pub record LocateCountryEnds (texts : List ℕ → Texts) (x : LocateCountryInputs) (status : ℕ)
-    (old new : Option (List ℕ)) : Type 0 where
-  pub text : List ℕ
-  pub answer : IsLocateCountryAnswer texts x (text, status)
-  pub written : Appends old new text
-  pub located : status ≡ done → IsLocatedInCountry texts x text
-
 -- a file at the top or the table of points was not read, those before it were; or memory ran out
-abbrev pub IsUnreadInput : (plan classes : Option (List ℕ)) → CountryFailure → Type 0
+abbrev pub IsUnreadInput : (plan classes : Option (List ℕ)) → Failure → Type 0
 IsUnreadInput plan classes f =
-    IsUnreadTop plan f ⊎ (IsWithin plan × IsWithin classes × IsOfNone f (Read Points))
+    IsUnreadTop plan f ⊎ (IsWithin plan × IsWithin classes × (f ≡ Read Points))
 
--- after regions that passed the next folder was not read, or memory ran out, and nothing is
--- written; or the output failed after a beginning of the answer
-abbrev pub LocateCountryBreaksOff : CountryFailure → (List ℕ → Texts) → LocateCountryInputs
-    → Option (List ℕ) → Option (List ℕ) → Type 0
-LocateCountryBreaksOff f texts x old new =
-    ((lines : List ℕ) × (left : List (List ℕ)) × IsCountryPart texts Regions x.country lines left
-    × IsStoppedBefore texts left f × Keeps old new)
-    ⊎ (IsOfNone f (Write Out) × ((a : Answer) × IsLocateCountryAnswer texts x a
-    × Begins old new a.0))
+-- after regions that passed the next folder was not read, or memory ran out
+abbrev pub IsStoppedIn : (List ℕ → Texts) → LocateCountryInputs → Failure → Type 0
+IsStoppedIn texts x f =
+    (lines : List ℕ) × (left : List (List ℕ)) × IsCountryPart texts Regions x.country lines left
+    × IsStoppedBefore texts left f
 
--- the run gave no answer: an input was not read, or memory ran out, before anything was written; or
--- it broke off
-abbrev pub LocateCountryHalts : CountryFailure → (List ℕ → Texts)
-    → (plan classes points : Option (List ℕ)) → Option (List ℕ) → Option (List ℕ) → Type 0
-LocateCountryHalts f texts plan classes points old new =
-    (IsUnreadInput plan classes f × Keeps old new)
-    ⊎ ((x : LocateCountryInputs) × AreLocateCountryRead x plan classes points
-    × LocateCountryBreaksOff f texts x old new)
+-- the answer; where it is a yes, the union of the regions is a sound map, and each point has the
+-- line of its own place in it
+pub record AnswersLocateCountry (texts : List ℕ → Texts) (x : LocateCountryInputs) (a : Answer)
+    : Type 0 where
+  pub answer : IsLocateCountryAnswer texts x a
+  pub located : a.1 ≡ done → IsLocatedInCountry texts x a.0
+
+-- what is known of the bytes that are asked about: those of each folder, and what three readers
+-- will give
+pub record LocateCountryAsked : Type 0 where
+  pub texts : List ℕ → Texts
+  pub plan : Option (List ℕ)
+  pub classes : Option (List ℕ)
+  pub points : Option (List ℕ)
+
+abbrev pub locate_country_asked : (List ℕ → Texts) → Option (List ℕ) → Option (List ℕ)
+    → Option (List ℕ) → LocateCountryAsked
+locate_country_asked texts plan classes points =
+    record { texts = texts; plan = plan; classes = classes; points = points }
+
+-- the three have bytes for which this holds
+abbrev pub OfInputs : LocateCountryAsked → (LocateCountryInputs → Type 0) → Type 0
+OfInputs asked Holds = (x : LocateCountryInputs)
+    × AreLocateCountryRead x asked.plan asked.classes asked.points × Holds x
+
+-- how the run ends; where it is stopped, nothing is written
+abbrev pub RunsLocateCountry : LocateCountryAsked → Option (List ℕ) → Option (List ℕ)
+    → Result ℕ Failure → Type 0
+RunsLocateCountry asked = Runs
+    (λ f. IsUnreadInput asked.plan asked.classes f
+    ⊎ OfInputs asked (λ x. IsStoppedIn asked.texts x f))
+    (λ a. OfInputs asked (λ x. AnswersLocateCountry asked.texts x a))

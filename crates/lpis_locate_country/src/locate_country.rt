@@ -5,16 +5,15 @@ ghost use Rattle.lpis_run.specs.Status.{done};
 ghost use Rattle.lpis_locate_country.specs.LocateCountryAnswer.{AreLocateCountryRead};
 ghost use Rattle.lpis_locate_country.specs.LocateCountryAnswer.{IsLocateCountryAnswer};
 ghost use Rattle.lpis_locate_country.specs.LocateCountryAnswer.{IsLocatedInCountry, IsUnreadInput};
-ghost use Rattle.lpis_locate_country.specs.LocateCountryAnswer.{LocateCountryEnds};
-ghost use Rattle.lpis_locate_country.specs.LocateCountryAnswer.{LocateCountryHalts};
-ghost use Rattle.lpis_locate_country.specs.LocateCountryAnswer.{LocateCountryInputs};
+ghost use Rattle.lpis_locate_country.specs.LocateCountryAnswer.{RunsLocateCountry};
+ghost use Rattle.lpis_locate_country.specs.LocateCountryAnswer.{locate_country_asked};
 ghost use Rattle.lpis_locate_country.specs.private.Searching.{IsUnanswered};
 ghost use Rattle.lpis_locate_country.specs.private.Searching.{locate_country_inputs_of};
 
 use crate::search::begin_search;
 use crate::searching::search_regions;
-use lpis_country_run::{CountryBytes, CountryFailure, Regions, begin, read_top};
-use lpis_run::{Answer, Name, read_named};
+use lpis_country_run::{CountryBytes, Regions, begin, read_top};
+use lpis_run::{Answer, Failure, Name, read_named};
 use std::alloc::Global;
 use std::io::{Read, Write};
 
@@ -31,7 +30,7 @@ fn read_inputs<P: Read + Drop, K: Read + Drop, Q: Read + Drop>(
     country: P,
     classes: K,
     points: Q,
-) -> Result<LocateCountryBytes, CountryFailure>
+) -> Result<LocateCountryBytes, Failure>
     ensures bytes { IfOk result (λ b. AreLocateCountryRead (locate_country_inputs_of b)
         (P.remaining country) (K.remaining classes) (Q.remaining points)) }
     ensures failure { IfErr result (IsUnreadInput (P.remaining country) (K.remaining classes)) }
@@ -46,7 +45,7 @@ fn answer_to<G: Regions>(
     alloc: Global,
     regions: &G,
     inputs: LocateCountryBytes,
-) -> Result<Answer, CountryFailure>
+) -> Result<Answer, Failure>
     ensures answer { IfOk result (λ a. IsLocateCountryAnswer (G.texts regions.now)
         (locate_country_inputs_of inputs) (a.text.items, a.status)) }
     ensures located { IfOk result (λ a. a.status ≡ done → IsLocatedInCountry (G.texts regions.now)
@@ -78,17 +77,12 @@ pub fn run_locate_country<P: Read + Drop, K: Read + Drop, Q: Read + Drop, G: Reg
     points: Q,
     regions: &G,
     out: &mut W,
-) -> Result<u8, CountryFailure>
-    ensures answer { IfOk result (λ status. (x : LocateCountryInputs)
-        × AreLocateCountryRead x (P.remaining country) (K.remaining classes) (Q.remaining points)
-        × LocateCountryEnds (G.texts regions.now) x status (W.contents out.old)
-        (W.contents out.new)) }
-    // A beginning of the answer was written, or nothing.
-    ensures failure { IfErr result (λ f. LocateCountryHalts f (G.texts regions.now)
-        (P.remaining country) (K.remaining classes) (Q.remaining points) (W.contents out.old)
-        (W.contents out.new)) }
+) -> Result<u8, Failure>
+    ensures { RunsLocateCountry (locate_country_asked (G.texts regions.now) (P.remaining country)
+        (K.remaining classes) (Q.remaining points)) (W.contents out.old) (W.contents out.new)
+        result }
 {
     let inputs = read_inputs(alloc, country, classes, points)?;
     let answer = answer_to(alloc, regions, inputs)?;
-    Ok(answer.write_to(out)?)
+    answer.write_to(out)
 }

@@ -72,10 +72,6 @@ pub(crate) fn judge_inputs(
 {
     match checked_release(alloc, inputs) {
         Ok(release) => follow(alloc, names, name, progress, &release),
-        Err(stop) => {
-            let refusal = stop.into_answer()?;
-            let answer = refusal.in_region(name)?;
-            Err(Stop::Refused(answer))
-        }
+        Err(stop) => Err(stop.in_region(name)),
     }
 }

@@ -17,10 +17,10 @@ ghost use Rattle.lpis_locate_country.specs.private.Searching.{IsStopped, IsUnans
 
 use crate::progress::{Progress, judge_inputs};
 use crate::search::{Sought, report_search};
-use lpis_country_run::{Begun, CountryFailure, Regions, read_region};
+use lpis_country_run::{Begun, Regions, read_region};
 use lpis_country_seam::OpenSeam;
 use lpis_country_seam::laws::a_country_of_joined_regions_is_sound;
-use lpis_run::Answer;
+use lpis_run::{Answer, Failure};
 use std::alloc::Global;
 
 /// Reads and judges the region of this number, and looks for the points in it. Some is the answer
@@ -31,7 +31,7 @@ fn judge_at<G: Regions>(
     names: &mut Vec<String>,
     index: usize,
     progress: &mut Progress,
-) -> Result<Option<Answer>, CountryFailure>
+) -> Result<Option<Answer>, Failure>
     requires inside { index < length names.old.items }
     requires ready { IsReady progress.old }
     ensures names { OnOk result (names.new.items ≡ names.old.items) }
@@ -63,7 +63,7 @@ fn judge_regions<G: Regions>(
     regions: &G,
     names: &mut Vec<String>,
     progress: &mut Progress,
-) -> Result<Option<Answer>, CountryFailure>
+) -> Result<Option<Answer>, Failure>
     requires { (s : Setting) × (table : List ℕ) × IsStart s (G.texts regions.now) table
         (map string_bytes names.old.items) progress.old }
     ensures outcome { (s : Setting) (table : List ℕ) → IsStart s (G.texts regions.now) table
@@ -87,7 +87,7 @@ pub(crate) fn search_regions<G: Regions>(
     regions: &G,
     begun: Begun,
     sought: Sought,
-) -> Result<Answer, CountryFailure>
+) -> Result<Answer, Failure>
     requires { (x : LocateCountryInputs) × IsBegun x.country begun × IsSearched x.points [] sought }
     ensures answer { (x : LocateCountryInputs) → IsBegun x.country begun
         → IsSearched x.points [] sought → IfOk result (λ a.

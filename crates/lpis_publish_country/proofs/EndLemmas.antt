@@ -17,9 +17,7 @@ use Rattle.lpis_run.specs.declared.failure.Failure.TheVariants.{Memory, Read, St
 use Rattle.lpis_run.specs.declared.failure.Name.{Name}
 use Rattle.lpis_run.specs.declared.failure.Name.TheVariants.{Out}
 use Rattle.lpis_country_run.specs.CountryAnswer.{HavePassed, IsEnd, IsReachedBy, IsRegionsAnswer, Setting}
-use Rattle.lpis_country_run.specs.CountryFailures.{IsOfNone}
 use Rattle.lpis_country_run.specs.RegionsOutcome.{RegionsEnd, RegionsStop}
-use Rattle.lpis_country_run.specs.declared.failure.CountryFailure.{CountryFailure}
 use Rattle.lpis_country_run.proofs.Shared.{all_left, unread_is}
 use Rattle.lpis_publishing.specs.Output.{output}
 use Rattle.lpis_publishing.specs.Publication.{IsMemoryOrStore, PublishLeaves}
@@ -45,7 +43,7 @@ none_of_store failure (inr (inr e)) (inl x) = cc (e, x)
 none_of_store failure (inr (inr e)) (inr x) = cc (e, x)
 
 -- nor where a run stopped before its last region
-pub stop_no_store : (s : Setting) (old new : Option (List ℕ)) (f : CountryFailure) → RegionsStop s old new f → IsStoreFailure f.failure → ⊥
+pub stop_no_store : (s : Setting) (old new : Option (List ℕ)) (f : Failure) → RegionsStop s old new f → IsStoreFailure f.failure → ⊥
 stop_no_store s old new f (inl (regions, lines, [], reached, memory, written)) = none_of_store f.failure (inl memory.0)
 stop_no_store s old new f (inl (regions, lines, (name ∷ left), reached, inl memory, written)) = none_of_store f.failure (inl memory.0)
 stop_no_store s old new f (inl (regions, lines, (name ∷ left), reached, inr unread, written)) =
@@ -65,7 +63,7 @@ leaves_same store old a = record { same = λ other. refl; failure = tt; stored =
 -- ---- the union
 module _ {S : Type 0} (store : Ghosts S) (c : CountryCandidate) (regions : List Contents) (old new : RegisterState S) where
   -- memory runs out, or the database fails
-  pub union_stopped : (out : Option (List ℕ)) (r : Result ℕ CountryFailure) (failure : Failure) → IsErrAnd r (λ f. IsOfNone f failure)
+  pub union_stopped : (out : Option (List ℕ)) (r : Result ℕ Failure) (failure : Failure) → IsErrAnd r (λ f. (f ≡ failure))
       → IsMemoryOrStore failure × (new.held ≡ old.held) → Stays {A = Printed} store old new (Err failure)
       → (IsStoreFailure failure → FailsToStore store (union_of c regions) old new (failure ≡ Store)) → EndsUnion store c regions old new (output out out) r
   union_stopped out (Ok status) failure h why stays cause = absurd h
@@ -92,8 +90,8 @@ module _ {S : Type 0} (store : Ghosts S) (c : CountryCandidate) (regions : List 
   }
 
   -- or a beginning of it
-  pub union_broken : (before after : Option (List ℕ)) (a : Printed) (r : Result ℕ CountryFailure) (failure : Failure) → IsUnionAnswer c regions old.held new.held (a.text.items, a.status)
-      → PublishLeaves store old new (Ok a) → IsErrAnd r (λ f. IsOfNone f failure) → (failure ≡ Write Out) × Begins before after a.text.items
+  pub union_broken : (before after : Option (List ℕ)) (a : Printed) (r : Result ℕ Failure) (failure : Failure) → IsUnionAnswer c regions old.held new.held (a.text.items, a.status)
+      → PublishLeaves store old new (Ok a) → IsErrAnd r (λ f. (f ≡ failure)) → (failure ≡ Write Out) × Begins before after a.text.items
       → EndsUnion store c regions old new (output before after) r
   union_broken before after a (Ok status) failure answer leaves h begun = absurd h
   union_broken before after a (Err f) failure answer leaves h begun =
@@ -142,7 +140,7 @@ module _ {S : Type 0} (store : Ghosts S) (asked : CountryRequest) (x : PublishCo
       record { text = text; answer = refused-answer text status not_done answer; written = written; same = λ other. same }
 
   -- the run stops before its last region
-  pub halts_in_regions : (f : CountryFailure) → new.held ≡ old.held → RegionsStop here before after f → HaltsWith asked x old.held new.held (output before after) f
+  pub halts_in_regions : (f : Failure) → new.held ≡ old.held → RegionsStop here before after f → HaltsWith asked x old.held new.held (output before after) f
   halts_in_regions f same (inl (regions, lines, left, reached, stopped, written)) =
       inr (same, inr (inr (inl (record { lines = lines; left = left; part = part regions lines left reached; stopped = stopped; written = written }))))
   halts_in_regions f same (inr (of, (text, inl (regions, left, reached), written))) =
@@ -168,7 +166,7 @@ module _ {S : Type 0} (store : Ghosts S) (asked : CountryRequest) (x : PublishCo
       same = w.same;
     }
 
-    pub halts_union : (f : CountryFailure) → BreaksOffUnion (country_asked asked said) regions old.held new.held (output now after) f
+    pub halts_union : (f : Failure) → BreaksOffUnion (country_asked asked said) regions old.held new.held (output now after) f
         ⊎ StopsUnion old.held new.held (output now after) f → HaltsWith asked x old.held new.held (output before after) f
     halts_union f (inl b) = inl (
       b.failure_is,
@@ -189,13 +187,13 @@ module _ {S : Type 0} (store : Ghosts S) (asked : CountryRequest) (x : PublishCo
           ])),
         )
 
-    pub cause_union : (f : CountryFailure)
+    pub cause_union : (f : Failure)
         → (IsStoreFailure f.failure → FailsToStore store (union_of (country_asked asked said) regions) old new (f.failure ≡ Store))
         → IsStoreFailure f.failure → FailsToPublishCountry store asked x old new (f.failure ≡ Store)
     cause_union f told is = record { said = said; are_said = are_said; regions = regions; lines = lines; have_passed = passed; fails = told is }
 
     -- all of it
-    pub runs_union : (r : Result ℕ CountryFailure) → EndsUnion store (country_asked asked said) regions old new (output now after) r
+    pub runs_union : (r : Result ℕ Failure) → EndsUnion store (country_asked asked said) regions old new (output now after) r
         → RunsPrepared store asked x old new (output before after) r
     runs_union (Ok status) e = record { answer = answers_union status e.answer; failure = tt; stored = e.stored; cause = tt }
     runs_union (Err f) e = record { answer = tt; failure = halts_union f e.failure; stored = e.stored; cause = cause_union f e.cause }
@@ -206,11 +204,11 @@ module _ {S : Type 0} (store : Ghosts S) (asked : CountryRequest) (x : PublishCo
   runs_refused status same stays (end, not_done) = record { answer = answers_refused status same end not_done; failure = tt; stored = stays; cause = tt }
 
   -- where the run stops before its last region it is too
-  pub runs_stopped : (r : Result ℕ CountryFailure) (f : CountryFailure) → IsErrAnd r (λ e. e ≡ f) → new.held ≡ old.held
+  pub runs_stopped : (r : Result ℕ Failure) (f : Failure) → IsErrAnd r (λ e. e ≡ f) → new.held ≡ old.held
       → ((failure : Failure) → Stays {A = ℕ} store old new (Err failure)) → RegionsStop here before after f → RunsPrepared store asked x old new (output before after) r
   runs_stopped (Ok status) f h same stays stop = absurd h
   runs_stopped (Err e) f h same stays stop =
-      subst (λ (y : CountryFailure). RunsPrepared store asked x old new (output before after) (Err y)) (sym h) (record {
+      subst (λ (y : Failure). RunsPrepared store asked x old new (output before after) (Err y)) (sym h) (record {
         answer = tt;
         failure = halts_in_regions f same stop;
         stored = stays f.failure;

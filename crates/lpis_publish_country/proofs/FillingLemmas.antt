@@ -32,10 +32,9 @@ use Rattle.lpis_run.specs.declared.failure.Name.TheVariants.{Out}
 use Rattle.lpis_run.specs.declared.outcome.Outcome.{Outcome}
 use Rattle.lpis_country_run.proofs.Shared.{setting_begun}
 use Rattle.lpis_country_run.specs.CountryAnswer.{IsEnd, IsReachedBy, IsRegionsAnswer, Setting}
-use Rattle.lpis_country_run.specs.CountryFailures.{IsOfNone, IsUnreadTop}
+use Rattle.lpis_country_run.specs.CountryFailures.{IsUnreadTop}
 use Rattle.lpis_country_run.specs.Regions.{Texts}
 use Rattle.lpis_country_run.specs.RegionsOutcome.{IsSettingOf, JoinsAll, RegionsEnd, RegionsStop}
-use Rattle.lpis_country_run.specs.declared.failure.CountryFailure.{CountryFailure}
 use Rattle.lpis_publishing.specs.ExactAnswer.{IsBlocksAnswer, IsBlocksOutcome}
 use Rattle.lpis_publishing.specs.Submission.{submitted}
 use Rattle.lpis_publish_country.specs.CountryLineage.{country_refusal_text, rows_in}
@@ -177,8 +176,8 @@ module _ (given : CountryFiles) (x : PublishCountryInputs) (p : Prepared) (h : I
   }
 
   -- where a beginning of it was
-  refusal-broken : (file old new : Option (List ℕ)) (f : CountryFailure) (text : List ℕ) (status : ℕ) (answer : IsRegionsAnswer (fill_setting given x p h) (text, status)) → status ≢ done
-      → IsOfNone f (Write Out) → Begins old new answer.text ⊎ ((mid : Option (List ℕ)) × Appends old mid answer.text × Begins mid new answer.end.0)
+  refusal-broken : (file old new : Option (List ℕ)) (f : Failure) (text : List ℕ) (status : ℕ) (answer : IsRegionsAnswer (fill_setting given x p h) (text, status)) → status ≢ done
+      → (f ≡ Write Out) → Begins old new answer.text ⊎ ((mid : Option (List ℕ)) × Appends old mid answer.text × Begins mid new answer.end.0)
       → FillHalts given x before (held file old) (held file new) f
   refusal-broken file old new f text status answer other write (inl begins) = inl (record {
     failure_is = write;
@@ -198,7 +197,7 @@ module _ (given : CountryFiles) (x : PublishCountryInputs) (p : Prepared) (h : I
   }))
 
   -- ---- no end of the regions
-  pub fill_stops : (file old new : Option (List ℕ)) (f : CountryFailure) → RegionsStop (fill_setting given x p h) old new f → FillHalts given x before (held file old) (held file new) f
+  pub fill_stops : (file old new : Option (List ℕ)) (f : Failure) → RegionsStop (fill_setting given x p h) old new f → FillHalts given x before (held file old) (held file new) f
   fill_stops file old new f (inl (regions, text, left, reached, stopped, written)) = inr (inr (
     Keeps-refl file,
     inr (record { lines = text; left = left; part = fill-part given x p h regions text left reached; stopped = stopped; written = written }),
@@ -236,7 +235,7 @@ module _ (given : CountryFiles) (x : PublishCountryInputs) (p : Prepared) (h : I
     }
 
     -- it was not
-    pub fill_breaks : (o : Outputs) (f : CountryFailure) (failure : Failure) (cert out : Option (List ℕ)) → IsFillOutcome (fill_setting given x p h) h.tables regions before o → IsOfNone f failure
+    pub fill_breaks : (o : Outputs) (f : Failure) (failure : Failure) (cert out : Option (List ℕ)) → IsFillOutcome (fill_setting given x p h) h.tables regions before o → (f ≡ failure)
         → BreaksOff o failure (held file now) (held cert out) → FillHalts given x before (held file old) (held cert out) f
     fill_breaks o f failure cert out decided of broken = inr (inl (record {
       no_region = of.1;
@@ -249,7 +248,7 @@ module _ (given : CountryFiles) (x : PublishCountryInputs) (p : Prepared) (h : I
     }))
 
     -- memory ran out before
-    pub fill_spent : (f : CountryFailure) → IsOfNone f Memory → FillHalts given x before (held file old) (held file now) f
+    pub fill_spent : (f : Failure) → (f ≡ Memory) → FillHalts given x before (held file old) (held file now) f
     fill_spent f of =
         let part = fill-part given x p h regions lines [] (all-reached (fill_setting given x p h) regions lines joins) in
         inr (inr (Keeps-refl file, inr (record { lines = lines; left = []; part = part; stopped = of; written = written })))
@@ -259,7 +258,7 @@ module _ (given : CountryFiles) (x : PublishCountryInputs) (holdings : Holdings)
   pub prepared_ends : (status : ℕ) → FillsCountry given x holdings before after status → FillsPrepared given x holdings before after (Ok status)
   prepared_ends status h = record { answer = h; failure = tt }
 
-  pub prepared_halts : (r : Result ℕ CountryFailure) (f : CountryFailure) → r ≡ Err f → FillHalts given x holdings before after f → FillsPrepared given x holdings before after r
+  pub prepared_halts : (r : Result ℕ Failure) (f : Failure) → r ≡ Err f → FillHalts given x holdings before after f → FillsPrepared given x holdings before after r
   prepared_halts r f is h = subst (FillsPrepared given x holdings before after) (sym is) (record { answer = tt; failure = h })
 
 -- ---- the run
@@ -269,7 +268,7 @@ files_without plan classes texts lineages = record { plan = plan; classes = clas
 
 module _ (given : CountryFiles) (before : Holdings) (file out : Option (List ℕ)) where
   -- a file was not read
-  pub runs_unread : (r : Result ℕ CountryFailure) (f : CountryFailure) → r ≡ Err f → IsUnreadTop given.plan f → RunsExactCountry given before (held file out) (held file out) r
+  pub runs_unread : (r : Result ℕ Failure) (f : Failure) → r ≡ Err f → IsUnreadTop given.plan f → RunsExactCountry given before (held file out) (held file out) r
   runs_unread r f is unread = subst (RunsExactCountry given before (held file out) (held file out)) (sym is) (record {
     answer = tt;
     failure = inl (record { unread = unread; written = Keeps-refl out; file = Keeps-refl file });
@@ -277,7 +276,7 @@ module _ (given : CountryFiles) (before : Holdings) (file out : Option (List ℕ
 
   module _ (x : PublishCountryInputs) (read : AreTopRead given x) where
     -- nor a lineage table
-    pub runs_earlier : (r : Result ℕ CountryFailure) (f : CountryFailure) → r ≡ Err f → IsOfNone f Memory ⊎ IsUnreadLineage given x f → RunsExactCountry given before (held file out) (held file out) r
+    pub runs_earlier : (r : Result ℕ Failure) (f : Failure) → r ≡ Err f → (f ≡ Memory) ⊎ IsUnreadLineage given x f → RunsExactCountry given before (held file out) (held file out) r
     runs_earlier r f is stopped = subst (RunsExactCountry given before (held file out) (held file out)) (sym is) (record {
       answer = tt;
       failure = inr (x, read, inr (inr (Keeps-refl file, inl (record { stopped = stopped; written = Keeps-refl out }))));
@@ -301,7 +300,7 @@ module _ (given : CountryFiles) (before : Holdings) (file out : Option (List ℕ
     }
 
     -- or a beginning of it
-    pub runs_broken : (new : Option (List ℕ)) (a : Printed) (r : Result ℕ CountryFailure) (f : CountryFailure) → r ≡ Err f → IsRefusedBefore given x (a.text.items, a.status) → IsOfNone f (Write Out)
+    pub runs_broken : (new : Option (List ℕ)) (a : Printed) (r : Result ℕ Failure) (f : Failure) → r ≡ Err f → IsRefusedBefore given x (a.text.items, a.status) → (f ≡ Write Out)
         → Begins out new a.text.items → RunsExactCountry given before (held file out) (held file new) r
     runs_broken new a r f is refusal write begins = subst (RunsExactCountry given before (held file out) (held file new)) (sym is) (record {
       answer = tt;
@@ -309,7 +308,7 @@ module _ (given : CountryFiles) (before : Holdings) (file out : Option (List ℕ
     })
 
     -- it has none
-    pub runs_prepared : (cert new : Option (List ℕ)) (r : Result ℕ CountryFailure) → FillsPrepared given x before (held file out) (held cert new) r
+    pub runs_prepared : (cert new : Option (List ℕ)) (r : Result ℕ Failure) → FillsPrepared given x before (held file out) (held cert new) r
         → RunsExactCountry given before (held file out) (held cert new) r
     runs_prepared cert new (Ok status) h = record { answer = (x, read, inr h.answer); failure = tt }
     runs_prepared cert new (Err f) h = record { answer = tt; failure = inr (x, read, h.failure) }

@@ -15,7 +15,7 @@ use Rattle.lpis_run.specs.Streams.{IsRead}
 use Rattle.lpis_run.specs.declared.answer.Answer.{Answer as Printed}
 use Rattle.lpis_run.specs.declared.stop.Stop.{Stop}
 use Rattle.lpis_run.specs.declared.stop.Stop.TheVariants.{Refused}
-use Rattle.lpis_country_run.specs.declared.failure.CountryFailure.{CountryFailure}
+use Rattle.lpis_run.specs.declared.failure.Failure.{Failure}
 use Rattle.lpis_publish_country.specs.CountryLineage.{AreTablesRefused, AreTablesUnread, IsTableOf, IsUnreadTable, rows_in}
 use Rattle.lpis_publish_country.specs.declared.lineage.CountryLineage.{CountryLineage}
 use Rattle.lpis_publish_country.specs.declared.unprepared.Unprepared.{Unprepared}
@@ -98,7 +98,7 @@ is-refused told names n name old a lt is (tables, zip, has) (bytes, read, (fault
 }
 
 -- or it is not read
-is-unread : (told : List ℕ → Option (List ℕ)) (names : List (List ℕ)) (n : ℕ) (name : List ℕ) (old : CountryLineage) (f : CountryFailure) → n < length names → name ≡ get_or names n []
+is-unread : (told : List ℕ → Option (List ℕ)) (names : List (List ℕ)) (n : ℕ) (name : List ℕ) (old : CountryLineage) (f : Failure) → n < length names → name ≡ get_or names n []
     → AreRowsOf told (take n names) old → IsUnreadTable name f → AreTablesUnread told names f
 is-unread told names n name old f lt is (tables, zip, has) unread =
     record { passed = take n names; name = name; left = drop (n + 1) names; all = split-here names n name lt is; tables = tables; of_passed = zip; unread = unread }

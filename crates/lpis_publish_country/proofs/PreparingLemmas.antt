@@ -18,9 +18,8 @@ use Rattle.lpis_run.specs.declared.stop.Stop.{Stop}
 use Rattle.lpis_run.proofs.Shared.{answer-of-text, cert-more, refused-more, table-more}
 use Rattle.lpis_country_plan.specs.Tree.{folders}
 use Rattle.lpis_country_run.specs.Beginning.{IsBegun, IsUnbegun}
-use Rattle.lpis_country_run.specs.CountryFailures.{IsOfNone}
 use Rattle.lpis_country_run.specs.declared.beginning.Begun.{Begun}
-use Rattle.lpis_country_run.specs.declared.failure.CountryFailure.{CountryFailure}
+use Rattle.lpis_run.specs.declared.failure.Failure.{Failure}
 use Rattle.lpis_publish_country.specs.CountryLineage.{AreTablesOf, AreTablesRefused, AreTablesUnread}
 use Rattle.lpis_publish_country.specs.PublishCountryAnswer.{AreBlocksOf, CountryFiles, IsExactTextAnswer, IsRefusedBefore, PublishCountryInputs}
 use Rattle.lpis_publish_country.specs.PublishCountryRuns.{IsUnreadLineage}
@@ -93,7 +92,7 @@ tables-refused given x told b blocks a same begun of h = begun-refused given x b
     (subst (λ (t : List ℕ → Option (List ℕ)). AreTablesRefused t (map string_bytes b.names.items) a) (sym same) h)))
 
 -- or was not read
-tables-unread : (given : CountryFiles) (x : PublishCountryInputs) (told : List ℕ → Option (List ℕ)) (b : Begun) (blocks : List ExactBlock) (f : CountryFailure)
+tables-unread : (given : CountryFiles) (x : PublishCountryInputs) (told : List ℕ → Option (List ℕ)) (b : Begun) (blocks : List ExactBlock) (f : Failure)
     → given.lineages ≡ told → IsBegun x.country b → AreBlocksOf x.exact blocks → AreTablesUnread told (map string_bytes b.names.items) f → IsUnreadLineage given x f
 tables-unread given x told b blocks f same begun of h = record {
   plan = begun.plan;
@@ -110,7 +109,7 @@ tables-unread given x told b blocks f same begun of h = record {
 pub tables_unprepared : (given : CountryFiles) (x : PublishCountryInputs) (told : List ℕ → Option (List ℕ)) (b : Begun) (blocks : List ExactBlock) (e : Unprepared)
     → given.lineages ≡ told → IsBegun x.country b → AreBlocksOf x.exact blocks
     → IsUnprepared (AreTablesUnread told (map string_bytes b.names.items)) (AreTablesRefused told (map string_bytes b.names.items)) e
-    → IsUnprepared (λ f. IsOfNone f Memory ⊎ IsUnreadLineage given x f) (IsRefusedBefore given x) e
+    → IsUnprepared (λ f. (f ≡ Memory) ⊎ IsUnreadLineage given x f) (IsRefusedBefore given x) e
 tables_unprepared given x told b blocks (Failed f) same begun of h = inr (tables-unread given x told b blocks f same begun of h)
 tables_unprepared given x told b blocks (Refused a) same begun of h = tables-refused given x told b blocks (a.text.items, a.status) same begun of h
 

@@ -11,8 +11,6 @@ use Rattle.lpis_run.specs.declared.answer.Answer.{Answer as Printed}
 use Rattle.lpis_run.specs.declared.failure.Failure.{Failure}
 use Rattle.lpis_run.specs.declared.failure.Failure.TheVariants.{Memory, Write}
 use Rattle.lpis_run.specs.declared.failure.Name.TheVariants.{Cert, Classes, Country, Lineage, Out}
-use Rattle.lpis_country_run.specs.CountryFailures.{IsOfNone}
-use Rattle.lpis_country_run.specs.declared.failure.CountryFailure.{CountryFailure}
 use Rattle.lpis_publishing.specs.LineageLines.{publish_refusal_text}
 use Rattle.lpis_publishing.specs.Output.{output}
 use Rattle.lpis_publishing.specs.Stored.{IsStoreFailure}
@@ -24,7 +22,7 @@ use Rattle.lpis_publish_country.proofs.EndLemmas.{none_of_store, stays_same}
 
 -- ---- failures
 -- the database did not fail where a lineage table was not read
-lineage-no-store : (given : CountryFiles) (x : PublishCountryInputs) (f : CountryFailure) → IsOfNone f Memory ⊎ IsUnreadLineage given x f → IsStoreFailure f.failure → ⊥
+lineage-no-store : (given : CountryFiles) (x : PublishCountryInputs) (f : Failure) → (f ≡ Memory) ⊎ IsUnreadLineage given x f → IsStoreFailure f.failure → ⊥
 lineage-no-store given x f (inl memory) = none_of_store f.failure (inl memory.0)
 lineage-no-store given x f (inr u) = table-no-store u.unread.name u.unread.unread
   where
@@ -33,7 +31,7 @@ lineage-no-store given x f (inr u) = table-no-store u.unread.name u.unread.unrea
     table-no-store name (inr read) = none_of_store f.failure (inr (inl (Lineage, read.0)))
 
 -- nor where a file that is no region's was not
-input-no-store : (given : CountryFiles) (f : CountryFailure) → IsUnreadInput given f → IsStoreFailure f.failure → ⊥
+input-no-store : (given : CountryFiles) (f : Failure) → IsUnreadInput given f → IsStoreFailure f.failure → ⊥
 input-no-store given f (inl (inl memory)) = none_of_store f.failure (inl memory.0)
 input-no-store given f (inl (inr (inl read))) = none_of_store f.failure (inr (inl (Country, read.0)))
 input-no-store given f (inl (inr (inr read))) = none_of_store f.failure (inr (inl (Classes, read.1.0)))
@@ -43,11 +41,11 @@ module _ {S : Type 0} (store : Ghosts S) (asked : CountryRequest) where
   -- ---- before the regions
   module _ (old : RegisterState S) (x : PublishCountryInputs) where
     -- a lineage table is not read, or memory runs out
-    pub runs_unprepared : (out : Option (List ℕ)) (r : Result ℕ CountryFailure) (f : CountryFailure) → IsErrAnd r (λ e. e ≡ f) → IsOfNone f Memory ⊎ IsUnreadLineage asked.given x f
+    pub runs_unprepared : (out : Option (List ℕ)) (r : Result ℕ Failure) (f : Failure) → IsErrAnd r (λ e. e ≡ f) → (f ≡ Memory) ⊎ IsUnreadLineage asked.given x f
         → RunsPrepared store asked x old old (output out out) r
     runs_unprepared out (Ok status) f h why = absurd h
     runs_unprepared out (Err e) f h why =
-        subst (λ (y : CountryFailure). RunsPrepared store asked x old old (output out out) (Err y)) (sym h) (record {
+        subst (λ (y : Failure). RunsPrepared store asked x old old (output out out) (Err y)) (sym h) (record {
           answer = tt;
           failure = inr (refl, inr (inl (record { stopped = why; written = Keeps-refl out })));
           stored = stays_same store old (Err f.failure);
@@ -70,8 +68,8 @@ module _ {S : Type 0} (store : Ghosts S) (asked : CountryRequest) where
     }
 
     -- or is not
-    pub runs_faulty_not : (before after : Option (List ℕ)) (a : Printed) (r : Result ℕ CountryFailure) (failure : Failure) → IsRefusedBefore asked.given x (a.text.items, a.status)
-        → IsErrAnd r (λ f. IsOfNone f failure) → (failure ≡ Write Out) × Begins before after a.text.items → RunsPrepared store asked x old old (output before after) r
+    pub runs_faulty_not : (before after : Option (List ℕ)) (a : Printed) (r : Result ℕ Failure) (failure : Failure) → IsRefusedBefore asked.given x (a.text.items, a.status)
+        → IsErrAnd r (λ f. (f ≡ failure)) → (failure ≡ Write Out) × Begins before after a.text.items → RunsPrepared store asked x old old (output before after) r
     runs_faulty_not before after a (Ok n) failure refusal h begun = absurd h
     runs_faulty_not before after a (Err f) failure refusal h begun =
         let out = subst (IsOfNone f) begun.0 h in
@@ -84,7 +82,7 @@ module _ {S : Type 0} (store : Ghosts S) (asked : CountryRequest) where
 
   -- ---- the whole run
   -- in a year that is not above the last one
-  pub runs_early : (old : RegisterState S) (before after : Option (List ℕ)) (last : ℕ) (r : Result ℕ CountryFailure) → last ≡ last_year old.held.history → asked.year ≤ last
+  pub runs_early : (old : RegisterState S) (before after : Option (List ℕ)) (last : ℕ) (r : Result ℕ Failure) → last ≡ last_year old.held.history → asked.year ≤ last
       → RunsEarly last (output before after) r → RunsPublishCountry store asked old old (output before after) r
   runs_early old before after last (Ok status) is early ran = record {
     answer = inl (record {
@@ -112,11 +110,11 @@ module _ {S : Type 0} (store : Ghosts S) (asked : CountryRequest) where
   }
 
   -- where a file that is no region's is not read
-  pub runs_unread : (old : RegisterState S) (out : Option (List ℕ)) (r : Result ℕ CountryFailure) (f : CountryFailure) → IsErrAnd r (λ e. e ≡ f) → last_year old.held.history < asked.year
+  pub runs_unread : (old : RegisterState S) (out : Option (List ℕ)) (r : Result ℕ Failure) (f : Failure) → IsErrAnd r (λ e. e ≡ f) → last_year old.held.history < asked.year
       → IsUnreadInput asked.given f → RunsPublishCountry store asked old old (output out out) r
   runs_unread old out (Ok status) f h later unread = absurd h
   runs_unread old out (Err e) f h later unread =
-      subst (λ (y : CountryFailure). RunsPublishCountry store asked old old (output out out) (Err y)) (sym h) (record {
+      subst (λ (y : Failure). RunsPublishCountry store asked old old (output out out) (Err y)) (sym h) (record {
         answer = tt;
         failure = inr (inl (record { later = later; unread = unread; written = Keeps-refl out; same = refl }));
         stored = stays_same store old (Err f.failure);
@@ -124,7 +122,7 @@ module _ {S : Type 0} (store : Ghosts S) (asked : CountryRequest) where
       })
 
   -- what was read is that of the whole run
-  pub runs_later : (old new : RegisterState S) (before after : Option (List ℕ)) (x : PublishCountryInputs) (r : Result ℕ CountryFailure) → last_year old.held.history < asked.year
+  pub runs_later : (old new : RegisterState S) (before after : Option (List ℕ)) (x : PublishCountryInputs) (r : Result ℕ Failure) → last_year old.held.history < asked.year
       → AreTopRead asked.given x → RunsPrepared store asked x old new (output before after) r → RunsPublishCountry store asked old new (output before after) r
   runs_later old new before after x (Ok status) later read ran = record {
     answer = inr (x, (later, read), ran.answer);

@@ -18,8 +18,7 @@ use Rattle.lpis_run.specs.Status.{unreadable}
 use Rattle.lpis_run.specs.Streams.{IsRead}
 use Rattle.lpis_run.specs.declared.failure.Failure.TheVariants.{Memory, Read}
 use Rattle.lpis_run.specs.declared.failure.Name.TheVariants.{Lineage}
-use Rattle.lpis_country_run.specs.CountryFailures.{IsOfNone}
-use Rattle.lpis_country_run.specs.declared.failure.CountryFailure.{CountryFailure}
+use Rattle.lpis_run.specs.declared.failure.Failure.{Failure}
 use Rattle.lpis_publishing.specs.LineageLines.{publish_refusal_text}
 
 -- ---- tables
@@ -49,13 +48,13 @@ pub record AreTablesRefused (told : List ℕ → Option (List ℕ)) (names : Lis
   pub is : a ≡ (line_in_region (refusal_text fault) name, unreadable)
 
 -- the lineage table of the folder of this name was not read; or memory ran out
-abbrev pub IsUnreadTable : List ℕ → CountryFailure → Type 0
-IsUnreadTable name f = IsOfNone f Memory
+abbrev pub IsUnreadTable : List ℕ → Failure → Type 0
+IsUnreadTable name f = (f ≡ Memory)
     ⊎ ((f.failure ≡ Read Lineage) × (option_map string_bytes f.region ≡ Some name))
 
 -- so it is of one of these folders, and the tables of those before it have no fault
 pub record AreTablesUnread (told : List ℕ → Option (List ℕ)) (names : List (List ℕ))
-    (f : CountryFailure) : Type 0 where
+    (f : Failure) : Type 0 where
   pub passed : List (List ℕ)
   pub name : List ℕ
   pub left : List (List ℕ)

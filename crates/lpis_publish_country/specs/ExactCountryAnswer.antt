@@ -20,8 +20,8 @@ use Rattle.lpis_run.specs.declared.detail.Detail.TheVariants.{Regions}
 use Rattle.lpis_run.specs.declared.failure.Failure.TheVariants.{Write}
 use Rattle.lpis_run.specs.declared.failure.Name.TheVariants.{Out}
 use Rattle.lpis_country_run.specs.CountryAnswer.{IsReachedBy, IsRefusedRegion, Setting}
-use Rattle.lpis_country_run.specs.CountryFailures.{IsOfNone, IsUnreadTop}
-use Rattle.lpis_country_run.specs.declared.failure.CountryFailure.{CountryFailure}
+use Rattle.lpis_country_run.specs.CountryFailures.{IsUnreadTop}
+use Rattle.lpis_run.specs.declared.failure.Failure.{Failure}
 use Rattle.lpis_publishing.specs.ExactAnswer.{IsFilled, IsUnfilled}
 use Rattle.lpis_publishing.specs.LineageLines.{publish_refusal_text}
 use Rattle.lpis_publishing.specs.Output.{output}
@@ -106,8 +106,8 @@ module _ (given : CountryFiles) (x : PublishCountryInputs) (holdings : Holdings)
 
   -- the output failed after a beginning of the line of a file's fault, or of those of the regions
   -- that passed
-  pub record BreaksOffBefore (f : CountryFailure) : Type 0 where
-    pub failure_is : IsOfNone f (Write Out)
+  pub record BreaksOffBefore (f : Failure) : Type 0 where
+    pub failure_is : (f ≡ Write Out)
     pub text : List ℕ
     pub is : ((status : ℕ) × IsRefusedBefore given x (text, status))
         ⊎ ((left : List (List ℕ)) × IsPublishPart given Regions x text left)
@@ -117,7 +117,7 @@ module _ (given : CountryFiles) (x : PublishCountryInputs) (holdings : Holdings)
   -- behind the lines of the regions the certificate's file failed; or the output did, in the line
   -- of the next region, which is refused, or, behind the certificate where there is one, in the
   -- answer to the union
-  pub record BreaksOffBehind (f : CountryFailure) : Type 0 where
+  pub record BreaksOffBehind (f : Failure) : Type 0 where
     pub no_region : f.region ≡ None
     pub lines : List ℕ
     pub end : Outputs
@@ -127,20 +127,20 @@ module _ (given : CountryFiles) (x : PublishCountryInputs) (holdings : Holdings)
     pub broken : BreaksOff end f.failure (record before { out = passed }) after
 
   -- it gave no answer: it broke off, or it stopped and wrote no certificate
-  abbrev pub FillHalts : CountryFailure → Type 0
+  abbrev pub FillHalts : Failure → Type 0
   FillHalts f = BreaksOffBefore f ⊎ BreaksOffBehind f
       ⊎ (Keeps before.cert after.cert × (StopsBefore given x (output before.out after.out) f
       ⊎ StopsBehind given Regions x (output before.out after.out) f))
 
 module _ (given : CountryFiles) (holdings : Holdings) (before after : Held) where
   -- the plan or the classes were not read, or memory ran out, before anything was written
-  pub record IsUnreadFill (f : CountryFailure) : Type 0 where
+  pub record IsUnreadFill (f : Failure) : Type 0 where
     pub unread : IsUnreadTop given.plan f
     pub written : Keeps before.out after.out
     pub file : Keeps before.cert after.cert
 
   -- what a run ends with
-  pub record RunsExactCountry (result : Result ℕ CountryFailure) : Type 0 where
+  pub record RunsExactCountry (result : Result ℕ Failure) : Type 0 where
     pub answer : IfOk result (λ status. (x : PublishCountryInputs) × AreTopRead given x
         × (RefusesBefore given x holdings before after status
         ⊎ FillsCountry given x holdings before after status))

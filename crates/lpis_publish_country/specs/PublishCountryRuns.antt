@@ -22,8 +22,7 @@ use Rattle.lpis_run.specs.declared.failure.Failure.{Failure}
 use Rattle.lpis_run.specs.declared.failure.Failure.TheVariants.{Memory, Read, Store, Write}
 use Rattle.lpis_run.specs.declared.failure.Name.TheVariants.{Cert, Out}
 use Rattle.lpis_country_run.specs.CountryAnswer.{HavePassed, IsReachedBy}
-use Rattle.lpis_country_run.specs.CountryFailures.{IsOfNone, IsStoppedBefore, IsUnreadTop}
-use Rattle.lpis_country_run.specs.declared.failure.CountryFailure.{CountryFailure}
+use Rattle.lpis_country_run.specs.CountryFailures.{IsStoppedBefore, IsUnreadTop}
 use Rattle.lpis_publishing.specs.LineageLines.{publish_refusal_text}
 use Rattle.lpis_publishing.specs.Output.{Output}
 use Rattle.lpis_publishing.specs.Stored.{IsStoreFailure, Stays}
@@ -37,13 +36,13 @@ use Rattle.lpis_publish_country.specs.PublishCountryAnswer.{setting_said, union_
 -- ---- files that are not read
 -- a file that is no region's was not read, the certificate where one is named, while those before
 -- it were; or memory ran out
-abbrev pub IsUnreadInput : CountryFiles → CountryFailure → Type 0
+abbrev pub IsUnreadInput : CountryFiles → Failure → Type 0
 IsUnreadInput given f = IsUnreadTop given.plan f
     ⊎ (IsWithin given.plan × IsWithin given.classes × (given.exact ≢ None)
-    × IsOfNone f (Read Cert))
+    × (f ≡ Read Cert))
 
 -- a lineage table was not read, while the files before it have no fault; or memory ran out
-pub record IsUnreadLineage (given : CountryFiles) (x : PublishCountryInputs) (f : CountryFailure)
+pub record IsUnreadLineage (given : CountryFiles) (x : PublishCountryInputs) (f : Failure)
     : Type 0 where
   pub plan : Tree
   pub planned : IsCountryText x.country.plan plan
@@ -66,13 +65,13 @@ pub record IsPublishPart (given : CountryFiles) (detail : Detail) (x : PublishCo
 -- ---- what stops a run
 -- a lineage table was not read, or memory ran out, before anything was written
 pub record StopsBefore (given : CountryFiles) (x : PublishCountryInputs) (out : Output)
-    (f : CountryFailure) : Type 0 where
-  pub stopped : IsOfNone f Memory ⊎ IsUnreadLineage given x f
+    (f : Failure) : Type 0 where
+  pub stopped : (f ≡ Memory) ⊎ IsUnreadLineage given x f
   pub written : Keeps out.before out.after
 
 module _ (given : CountryFiles) (detail : Detail) (x : PublishCountryInputs) (out : Output) where
   -- behind the lines of the regions that passed a file was not read, or memory ran out
-  pub record StopsBehind (f : CountryFailure) : Type 0 where
+  pub record StopsBehind (f : Failure) : Type 0 where
     pub lines : List ℕ
     pub left : List (List ℕ)
     pub part : IsPublishPart given detail x lines left
@@ -80,7 +79,7 @@ module _ (given : CountryFiles) (detail : Detail) (x : PublishCountryInputs) (ou
     pub written : Appends out.before out.after lines
 
   -- behind the lines of all regions the database failed
-  pub record StopsAtStore (f : CountryFailure) : Type 0 where
+  pub record StopsAtStore (f : Failure) : Type 0 where
     pub lines : List ℕ
     pub part : IsPublishPart given detail x lines []
     pub no_region : f.region ≡ None
@@ -96,7 +95,7 @@ module _ (given : CountryFiles) (detail : Detail) (x : PublishCountryInputs) (ou
 
 -- ---- the run
 -- a result with its failure alone
-abbrev pub without_region : Result ℕ CountryFailure → Result ℕ Failure
+abbrev pub without_region : Result ℕ Failure → Result ℕ Failure
 without_region (Ok status) = Ok status
 without_region (Err f) = Err f.failure
 
@@ -119,14 +118,14 @@ module _ (asked : CountryRequest) (before after : Holdings) (out : Output) where
     pub same : after ≡ before
 
   -- memory ran out before it was, or the output failed after a beginning of it
-  pub record HaltsEarly (f : CountryFailure) : Type 0 where
+  pub record HaltsEarly (f : Failure) : Type 0 where
     pub early : asked.year ≤ last_year before.history
-    pub written : (IsOfNone f Memory × Keeps out.before out.after)
-        ⊎ (IsOfNone f (Write Out) × Begins out.before out.after (early_text before))
+    pub written : ((f ≡ Memory) × Keeps out.before out.after)
+        ⊎ ((f ≡ Write Out) × Begins out.before out.after (early_text before))
     pub same : after ≡ before
 
   -- the files that are no region's were not read, or memory ran out, before anything was written
-  pub record HaltsUnread (f : CountryFailure) : Type 0 where
+  pub record HaltsUnread (f : Failure) : Type 0 where
     pub later : last_year before.history < asked.year
     pub unread : IsUnreadInput asked.given f
     pub written : Keeps out.before out.after
@@ -150,10 +149,10 @@ module _ (asked : CountryRequest) (x : PublishCountryInputs) (before after : Hol
     pub same : whole.1 ≢ done → after ≡ before
 
   -- the run gave no answer
-  abbrev pub HaltsWith : CountryFailure → Type 0
-  HaltsWith f = (IsOfNone f (Write Out) × BreaksOffInAnswer)
+  abbrev pub HaltsWith : Failure → Type 0
+  HaltsWith f = ((f ≡ Write Out) × BreaksOffInAnswer)
       ⊎ ((after ≡ before)
-      × ((IsOfNone f (Write Out) × BreaksOffInLines asked.given asked.detail x out)
+      × (((f ≡ Write Out) × BreaksOffInLines asked.given asked.detail x out)
       ⊎ StopsBefore asked.given x out f ⊎ StopsBehind asked.given asked.detail x out f
       ⊎ StopsAtStore asked.given asked.detail x out f))
 
@@ -173,7 +172,7 @@ module _ {S : Type 0} (store : Ghosts S) (asked : CountryRequest) where
   -- country to be stored, and a cause, unless it itself ran out of memory or its disk lost what was
   -- written
   pub record RunsPublishCountry (old new : RegisterState S) (out : Output)
-      (result : Result ℕ CountryFailure) : Type 0 where
+      (result : Result ℕ Failure) : Type 0 where
     pub answer : IfOk result (λ status. AnswersEarly asked old.held new.held out status
         ⊎ ((x : PublishCountryInputs) × IsLater asked x old.held
         × AnswersWith asked x old.held new.held out status))

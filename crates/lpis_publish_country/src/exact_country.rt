@@ -16,11 +16,11 @@ use crate::inputs::{Prepared, PublishCountryBytes, no_parts, prepare, read_count
 use crate::lineage::{CountryLineage, Lineages};
 use crate::refusals::refuse_country;
 use crate::unprepared::Unprepared;
-use lpis_country_run::{CountryFailure, JoinedCountry, Joining, Regions, join_regions};
+use lpis_country_run::{JoinedCountry, Joining, Regions, join_regions};
 use lpis_lineage::LineageFault;
 use lpis_publishing::{change_of, fill_change};
 use lpis_register::{PublishFault, Register};
-use lpis_run::{Answer, Detail, Outcome};
+use lpis_run::{Answer, Detail, Failure, Outcome};
 use sqlite::Alter;
 use std::alloc::{AllocError, Global};
 use std::io::{Read, Write};
@@ -63,7 +63,7 @@ fn fill_prepared<S: Alter, G: Regions, V: Write, W: Write>(
     prepared: Prepared,
     file: &mut V,
     out: &mut W,
-) -> Result<u8, CountryFailure>
+) -> Result<u8, Failure>
     requires { (given : CountryFiles) × (x : PublishCountryInputs) × IsPrepared given x prepared }
     ensures { (given : CountryFiles) (x : PublishCountryInputs)
         → given.texts ≡ G.texts regions.now → IsPrepared given x prepared
@@ -108,7 +108,7 @@ pub fn run_exact_country<
     lineages: &L,
     file: &mut V,
     out: &mut W,
-) -> Result<u8, CountryFailure>
+) -> Result<u8, Failure>
     ensures { RunsExactCountry (record {
       plan = P.remaining country;
       classes = K.remaining classes;

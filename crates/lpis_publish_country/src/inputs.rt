@@ -5,7 +5,7 @@ ghost use Rattle.std.specs.Option.{option_map};
 ghost use Rattle.lpis_run.specs.Stops.{IsRefusedAs};
 ghost use Rattle.lpis_run.specs.declared.failure.Failure.TheVariants.{Memory};
 ghost use Rattle.lpis_country_run.specs.Beginning.{IsBegun};
-ghost use Rattle.lpis_country_run.specs.CountryFailures.{IsOfNone, IsUnreadTop};
+ghost use Rattle.lpis_country_run.specs.CountryFailures.{IsUnreadTop};
 ghost use Rattle.lpis_publish_country.specs.ExactCountryAnswer.{HasNoParts};
 ghost use Rattle.lpis_publish_country.specs.PublishCountryAnswer.{AreBlocksOf, AreTopRead};
 ghost use Rattle.lpis_publish_country.specs.PublishCountryAnswer.{CountryFiles, IsExactTextAnswer};
@@ -17,7 +17,7 @@ ghost use Rattle.lpis_publish_country.specs.private.Unprepared.{IsUnprepared};
 use crate::lineage::{CountryLineage, Lineages, read_lineage};
 use crate::unprepared::Unprepared;
 use lpis_cert::Cert;
-use lpis_country_run::{Begun, CountryBytes, CountryFailure, begin, read_top};
+use lpis_country_run::{Begun, CountryBytes, begin, read_top};
 use lpis_memory::Sequence;
 use lpis_run::{Failure, Name, Stop, certificate_in, read_named};
 use std::alloc::Global;
@@ -62,7 +62,7 @@ pub(crate) fn read_inputs<P: Read + Drop, K: Read + Drop, E: Read + Drop>(
     country: P,
     classes: K,
     exact: Option<E>,
-) -> Result<PublishCountryBytes, CountryFailure>
+) -> Result<PublishCountryBytes, Failure>
     ensures bytes { (given : CountryFiles) → given.plan ≡ P.remaining country
         → given.classes ≡ K.remaining classes → given.exact ≡ option_map E.remaining exact
         → IfOk result (λ b. AreTopRead given (inputs_of b)) }
@@ -80,7 +80,7 @@ pub(crate) fn read_country<P: Read + Drop, K: Read + Drop>(
     alloc: Global,
     country: P,
     classes: K,
-) -> Result<PublishCountryBytes, CountryFailure>
+) -> Result<PublishCountryBytes, Failure>
     ensures bytes { (given : CountryFiles) → given.plan ≡ P.remaining country
         → given.classes ≡ K.remaining classes → given.exact ≡ None
         → IfOk result (λ b. AreTopRead given (inputs_of b)) }
@@ -142,7 +142,7 @@ pub(crate) fn prepare<L: Lineages>(
     ensures prepared { (given : CountryFiles) → given.lineages ≡ L.lineages lineages.now
         → IfOk result (IsPrepared given (inputs_of inputs)) }
     ensures unprepared { (given : CountryFiles) → given.lineages ≡ L.lineages lineages.now
-        → IfErr result (IsUnprepared (λ f. IsOfNone f Memory
+        → IfErr result (IsUnprepared (λ f. (f ≡ Memory)
         ⊎ IsUnreadLineage given (inputs_of inputs) f)
         (IsRefusedBefore given (inputs_of inputs))) }
 {

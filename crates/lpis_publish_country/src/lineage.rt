@@ -17,7 +17,6 @@ ghost use Rattle.lpis_publish_country.specs.private.Preparing.{IsTableRefused};
 ghost use Rattle.lpis_publish_country.specs.private.Unprepared.{IsUnprepared};
 
 use crate::unprepared::Unprepared;
-use lpis_country_run::CountryFailure;
 use lpis_lineage::Row;
 use lpis_publishing::rows_in;
 use lpis_run::{Failure, Name, Stop, read_named};
@@ -77,17 +76,17 @@ fn read_table<L: Lineages>(alloc: Global, lineages: &L, name: &str) -> Result<Ve
 }
 
 /// The failure of the table in the folder of this number, whose name may be taken out of the list.
-fn of_table(failure: Failure, names: &mut Vec<String>, index: usize) -> CountryFailure
+fn of_table(failure: Failure, names: &mut Vec<String>, index: usize) -> Failure
     requires inside { index < length names.old.items }
     requires unread { IsUnread Lineage failure }
     ensures { IsUnreadTable (get_or (map string_bytes names.old.items) index []) result }
 {
     match failure {
-        Failure::Read(_) => CountryFailure {
+        Failure::Read(_) => Failure {
             failure,
             region: Some(names.swap_remove(index)),
         },
-        _ => CountryFailure::from(failure),
+        _ => Failure::from(failure),
     }
 }
 
@@ -97,7 +96,7 @@ fn read_table_at<L: Lineages>(
     lineages: &L,
     names: &mut Vec<String>,
     index: usize,
-) -> Result<Vec<u8>, CountryFailure>
+) -> Result<Vec<u8>, Failure>
     requires inside { index < length names.old.items }
     ensures names { OnOk result (names.new.items ≡ names.old.items) }
     ensures bytes { IfOk result (λ v. IsRead v.items (L.lineages lineages.now

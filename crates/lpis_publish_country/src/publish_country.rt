@@ -23,7 +23,7 @@ use crate::lineage::{CountryLineage, Lineages};
 use crate::refusals::refuse_country;
 use crate::unprepared::Unprepared;
 use lpis_cert::Cert;
-use lpis_country_run::{CountryFailure, JoinedCountry, Joining, Regions, join_regions};
+use lpis_country_run::{JoinedCountry, Joining, Regions, join_regions};
 use lpis_publishing::{publish_accepted, refuse};
 use lpis_register::{PublishFault, Register};
 use lpis_run::{Answer, Detail, Failure, REFUSED};
@@ -78,7 +78,7 @@ fn end_union<S: Alter, W: Write>(
     cert: &Cert,
     lineage: &CountryLineage,
     out: &mut W,
-) -> Result<u8, CountryFailure>
+) -> Result<u8, Failure>
     ensures { (g : Setting) (regions : List Contents) (lines : List ℕ) (tables : List (List Row))
         → JoinsAll g regions lines → IsCountryJoined g regions country
         → HasTables lineage.now tables → EndsUnion S.Store
@@ -98,7 +98,7 @@ fn publish_prepared<S: Alter, G: Regions, W: Write>(
     prepared: Prepared,
     detail: Detail,
     out: &mut W,
-) -> Result<u8, CountryFailure>
+) -> Result<u8, Failure>
     requires { (given : CountryFiles) × (x : PublishCountryInputs) × IsPrepared given x prepared }
     ensures { (given : CountryFiles) (x : PublishCountryInputs)
         → given.texts ≡ G.texts regions.now → IsPrepared given x prepared
@@ -119,7 +119,7 @@ fn publish_prepared<S: Alter, G: Regions, W: Write>(
 }
 
 /// Refuses a year that is not above this last one.
-fn refuse_early<W: Write>(alloc: Global, last: u16, out: &mut W) -> Result<u8, CountryFailure>
+fn refuse_early<W: Write>(alloc: Global, last: u16, out: &mut W) -> Result<u8, Failure>
     ensures { RunsEarly last (output (W.contents out.old) (W.contents out.new)) result }
 {
     let answer = refuse(alloc, &PublishFault::Year { last }, REFUSED)?;
@@ -136,7 +136,7 @@ fn publish_inputs<S: Alter, G: Regions, L: Lineages, W: Write>(
     lineages: &L,
     detail: Detail,
     out: &mut W,
-) -> Result<u8, CountryFailure>
+) -> Result<u8, Failure>
     ensures { (given : CountryFiles) → given.texts ≡ G.texts regions.now
         → given.lineages ≡ L.lineages lineages.now
         → RunsPrepared S.Store (record { year = year; given = given; detail = detail })
@@ -185,7 +185,7 @@ pub fn run_publish_country<
     lineages: &L,
     detail: Detail,
     out: &mut W,
-) -> Result<u8, CountryFailure>
+) -> Result<u8, Failure>
     ensures { RunsPublishCountry S.Store (record {
       year = year;
       given = record {

@@ -2,36 +2,34 @@
 
 ghost use Rattle.std.specs.Prelude.{◌≡◌};
 ghost use Rattle.lpis_run.specs.declared.failure.Failure.TheVariants.{Memory};
-ghost use Rattle.lpis_country_run.specs.CountryFailures.{IsOfNone};
 ghost use Rattle.lpis_publish_country.specs.declared.unprepared.Unprepared.{Unprepared};
 ghost use Rattle.lpis_publish_country.specs.private.Unprepared.{IsFailed, IsOfStop};
 
-use lpis_country_run::CountryFailure;
-use lpis_run::{Answer, Stop};
+use lpis_run::{Answer, Failure, Stop};
 use std::alloc::AllocError;
 
 /// Why the files before the regions are not prepared.
 #[derive(Drop)]
 pub(crate) enum Unprepared {
     /// The run failed.
-    Failed(CountryFailure),
+    Failed(Failure),
     /// The answer that refuses what was handed in.
     Refused(Answer),
 }
 
-impl From<CountryFailure> for Unprepared {
+impl From<Failure> for Unprepared {
     ghost from_gives = { λ failure e. e ≡ Unprepared.Failed failure };
 
-    fn from(failure: CountryFailure) -> Unprepared {
+    fn from(failure: Failure) -> Unprepared {
         Unprepared::Failed(failure)
     }
 }
 
 impl From<AllocError> for Unprepared {
-    ghost from_gives = { λ _ e. IsFailed (λ f. IsOfNone f Memory) e };
+    ghost from_gives = { λ _ e. IsFailed (λ f. (f ≡ Memory)) e };
 
     fn from(e: AllocError) -> Unprepared {
-        Unprepared::Failed(CountryFailure::from(e))
+        Unprepared::Failed(Failure::from(e))
     }
 }
 

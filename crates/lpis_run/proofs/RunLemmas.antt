@@ -1,15 +1,16 @@
 -- How a run ends.
-use Rattle.std.proofs.Common.{◌≡◌, inl, inr, subst, sym, ℕ, List, Option, Result, Ok, Err, IfErr, IfOk, OnOk}
+use Rattle.std.proofs.Common.{◌≡◌, ◌⊎◌, inl, inr, subst, sym, ℕ, List, Option, Result, Ok, Err, IfErr, IfOk, OnOk}
 use Rattle.std.proofs.KnownBytes.{Keeps-refl}
 use Rattle.std.proofs.lemmas.Result.{IfErr-weaker, IfOk-weaker}
 use Rattle.lpis_run.specs.CheckAnswer.{Answer}
 use Rattle.lpis_run.specs.Outputs.{BreaksOff, Held, Outputs, Writes}
-use Rattle.lpis_run.specs.Run.{Runs, RunsBoth}
+use Rattle.lpis_run.specs.Run.{BreaksOffIn, Runs, RunsBoth, RunsOn}
 use Rattle.lpis_run.specs.Streams.{Begins}
 use Rattle.lpis_run.specs.declared.failure.Failure.{Failure}
 use Rattle.lpis_run.specs.declared.failure.Failure.TheVariants.{Write}
 use Rattle.lpis_run.specs.declared.failure.Name.TheVariants.{Out}
 use Rattle.lpis_run.proofs.Common.{Appends}
+use Rattle.std.specs.Io.KnownBytes.{Keeps}
 
 -- a run that was stopped wrote nothing
 pub runs_stopped : (Stops : Failure → Type 0) (Answers : Answer → Type 0) (out : Option (List ℕ)) (failure : Failure) → Stops failure → Runs Stops Answers out out (Err failure)
@@ -35,3 +36,31 @@ both_written Stops Answers a old new result answers written broken = record {
   answer = IfOk-weaker result _ _ (λ status all. (a, answers, all)) written;
   failure = IfErr-weaker result _ _ (λ failure part. inr (a, answers, part)) broken;
 }
+
+-- ---- a run that writes lines as it goes on
+-- what breaks off so breaks off as a run that more stops, and that has more answers
+pub breaks_off_more : (S T : List ℕ → Failure → Type 0) (A B : Answer → Type 0) (old new : Option (List ℕ)) (f : Failure) → ((lines : List ℕ) (g : Failure) → S lines g → T lines g)
+    → ((a : Answer) → A a → B a) → BreaksOffIn S A old new f → BreaksOffIn T B old new f
+breaks_off_more S T A B old new f stops answers (inl (lines, stopped, written)) = inl (lines, stops lines f stopped, written)
+breaks_off_more S T A B old new f stops answers (inr (write, (text, inl (g, stopped), begins))) = inr (write, (text, inl (g, stops text g stopped), begins))
+breaks_off_more S T A B old new f stops answers (inr (write, (text, inr (status, answer), begins))) = inr (write, (text, inr (status, answers (text, status) answer), begins))
+
+-- so it is of the whole run
+pub runs_on_more : (P Q : Failure → Type 0) (S T : List ℕ → Failure → Type 0) (A B : Answer → Type 0) (old new : Option (List ℕ)) (r : Result ℕ Failure) → ((f : Failure) → P f → Q f)
+    → ((lines : List ℕ) (g : Failure) → S lines g → T lines g) → ((a : Answer) → A a → B a) → RunsOn P S A old new r → RunsOn Q T B old new r
+runs_on_more P Q S T A B old new (Ok status) before behind answers runs = record { answer = (runs.answer.0, answers _ runs.answer.1, runs.answer.2); failure = tt }
+runs_on_more P Q S T A B old new (Err f) before behind answers runs = record { answer = tt; failure = more runs.failure }
+  where
+    more : (P f × Keeps old new) ⊎ BreaksOffIn S A old new f → (Q f × Keeps old new) ⊎ BreaksOffIn T B old new f
+    more (inl (stopped, keeps)) = inl (before f stopped, keeps)
+    more (inr broken) = inr (breaks_off_more S T A B old new f behind answers broken)
+
+-- a run that was stopped wrote nothing
+pub runs_on_stopped : (P : Failure → Type 0) (S : List ℕ → Failure → Type 0) (A : Answer → Type 0) (out : Option (List ℕ)) (f : Failure) → P f → RunsOn P S A out out (Err f)
+runs_on_stopped P S A out f stopped = record { answer = tt; failure = inl (stopped, Keeps-refl out) }
+
+-- a run that has an answer wrote it, or a beginning of it
+pub runs_on_written : (P : Failure → Type 0) (S : List ℕ → Failure → Type 0) (A : Answer → Type 0) (text : List ℕ) (status : ℕ) (old new : Option (List ℕ)) (r : Result ℕ Failure) → A (text, status)
+    → IfOk r (λ s. s ≡ status) → OnOk r (Appends old new text) → IfErr r (λ failure. (failure ≡ Write Out) × Begins old new text) → RunsOn P S A old new r
+runs_on_written P S A text status old new (Ok s) answers is written begun = record { answer = (text, subst (λ (n : ℕ). A (text, n)) (sym is) answers, written); failure = tt }
+runs_on_written P S A text status old new (Err f) answers is written begun = record { answer = tt; failure = inr (inr (begun.0, (text, inr (status, answers), begun.1))) }

@@ -27,3 +27,24 @@ pub record RunsBoth (Stops : Failure → Type 0) (Answers : Outputs → Type 0) 
   -- it was stopped, and wrote nothing; or an output failed after a beginning of an answer
   pub failure : IfErr result (λ failure. (Stops failure × Keeps old.cert new.cert
       × Keeps old.out new.out) ⊎ ((a : Outputs) × Answers a × BreaksOff a failure old new))
+
+-- how a run that writes lines as it goes on breaks off: it was stopped behind lines, which were
+-- written; or the output failed after a beginning of an answer, or of lines behind which it may be
+-- stopped
+abbrev pub BreaksOffIn : (List ℕ → Failure → Type 0) → (Answer → Type 0) → Option (List ℕ)
+    → Option (List ℕ) → Failure → Type 0
+BreaksOffIn StopsBehind Answers old new failure =
+    ((lines : List ℕ) × StopsBehind lines failure × Appends old new lines)
+    ⊎ ((failure ≡ Write Out) × ((text : List ℕ) × (((other : Failure) × StopsBehind text other)
+    ⊎ ((status : ℕ) × Answers (text, status))) × Begins old new text))
+
+-- a run that writes lines as it goes on, and the rest of its answer at its end
+pub record RunsOn (Stops : Failure → Type 0) (StopsBehind : List ℕ → Failure → Type 0)
+    (Answers : Answer → Type 0) (old new : Option (List ℕ)) (result : Result ℕ Failure)
+    : Type 0 where
+  -- it ended with the status of an answer, and wrote its text
+  pub answer : IfOk result (λ status. (text : List ℕ) × Answers (text, status)
+      × Appends old new text)
+  -- it was stopped, and wrote nothing; or it broke off
+  pub failure : IfErr result (λ failure. (Stops failure × Keeps old new)
+      ⊎ BreaksOffIn StopsBehind Answers old new failure)

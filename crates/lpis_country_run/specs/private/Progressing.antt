@@ -2,14 +2,13 @@
 use Rattle.std.specs.Prelude.{◌≡◌, ◌≢◌, ◌≤◌, ◌+◌, ◌*◌, ◌⊎◌, ◌++◌, ◌∷◌, [], ℕ, All, Bool, List}
 use Rattle.std.specs.Prelude.{Option, Some, None, Result, Ok, Err, Vec, true, false, length, take}
 use Rattle.std.specs.Io.KnownBytes.{Appends, Keeps}
-use Rattle.std.specs.Option.{option_map}
-use Rattle.std.specs.String.{string_bytes}
 use Rattle.std.specs.declared.alloc.Global.{Global}
 use Rattle.lpis_covers.specs.Table.{most_rows}
 use Rattle.lpis_parcels.specs.Release.{Contents}
 use Rattle.lpis_parcels.specs.declared.parcel.Parcel.{Parcel}
 use Rattle.lpis_checker.specs.SoundMap.{IsSoundMap}
 use Rattle.lpis_run.specs.CheckAnswer.{Answer}
+use Rattle.lpis_run.specs.Run.{RunsOn}
 use Rattle.lpis_run.specs.declared.detail.Detail.{Detail}
 use Rattle.lpis_run.specs.declared.failure.Failure.{Failure}
 use Rattle.lpis_run.specs.declared.failure.Failure.TheVariants.{Memory, Read, Write}
@@ -27,13 +26,12 @@ use Rattle.lpis_country_seam.specs.Open.{AreJoined, HasNext, IsSeamOf}
 use Rattle.lpis_country_run.specs.declared.gathering.Gathered.{Gathered}
 use Rattle.lpis_country_run.specs.declared.gathering.Gathered.TheVariants.{Nothing, Parcels}
 use Rattle.lpis_country_run.specs.declared.progress.Progress.{Progress}
-use Rattle.lpis_country_run.specs.declared.failure.CountryFailure.{CountryFailure}
-use Rattle.lpis_country_run.specs.CountryAnswer.{HavePassed, IsReachedBy, IsRefusedRegion}
+use Rattle.lpis_country_run.specs.CountryAnswer.{AnswersCountry, HavePassed, IsRefusedRegion}
 use Rattle.lpis_country_run.specs.CountryAnswer.{IsRegionsAnswer, Passes, Setting}
-use Rattle.lpis_country_run.specs.CountryFailures.{IsOfNone, IsStoppedBefore, IsUnreadFolder}
+use Rattle.lpis_country_run.specs.CountryFailures.{IsReadOf, IsUnreadFolder, StopsCountry}
 use Rattle.lpis_country_run.specs.CountryLines.{country_lines, region_report, seam_refusal_text}
-use Rattle.lpis_country_run.specs.Regions.{Texts}
-use Rattle.lpis_country_run.specs.RegionsOutcome.{RegionsEnd}
+use Rattle.lpis_country_run.specs.Regions.{CountryInputs, Texts}
+use Rattle.lpis_country_run.specs.RegionsOutcome.{RegionsEnd, StopsRegions}
 use Rattle.lpis_country_run.specs.private.Totals.{AreTotalsOf, most_parcels}
 
 -- the names and the detail are those of the setting
@@ -138,14 +136,13 @@ IsUnfinished s regions old new failure =
     × Begins old new (country_lines (length regions) (country_of s.classes regions)))
 
 -- a failure, and the folder of this name where its file was not read
-abbrev pub IsFailureOf : Failure → List ℕ → CountryFailure → Type 0
-IsFailureOf (Read file) name f =
-    (f.failure ≡ Read file) × (option_map string_bytes f.region ≡ Some name)
-IsFailureOf failure name f = IsOfNone f failure
+abbrev pub IsFailureOf : Failure → List ℕ → Failure → Type 0
+IsFailureOf (Read file) name f = IsReadOf file name f
+IsFailureOf failure name f = (f ≡ failure)
 
 -- the region of the next folder, of this name, was not read, or its verdict not wholly written
 abbrev pub IsBrokenOff : Setting → List Contents → List ℕ → Option (List ℕ) → Option (List ℕ)
-    → CountryFailure → Type 0
+    → Failure → Type 0
 IsBrokenOff s before name old new f =
     (failure : Failure) × IsUnwritten s before name old new failure × IsFailureOf failure name f
 
@@ -197,15 +194,17 @@ pub record IsEnded (s : Setting) (regions : List Contents) (names : List (List �
   pub tiles_of : s.tiles ≡ rectangles tiling frame
   pub wanted : gathers p.gathered ≡ true
 
--- the text that a run over regions had to write
-abbrev pub IsPartOrWhole : Setting → List ℕ → Type 0
-IsPartOrWhole s text =
-    ((regions : List Contents) × (left : List (List ℕ)) × IsReachedBy s regions text left)
-    ⊎ ((status : ℕ) × IsRegionsAnswer s (text, status))
+-- the answer to the regions, with a yes only where all passed
+pub record AnswersRegions (s : Setting) (a : Answer) : Type 0 where
+  pub answer : IsRegionsAnswer s a
+  pub all : a.1 ≡ done → (regions : List Contents) × HaveAllPassed s regions
 
--- a run over regions broke off
-abbrev pub RegionsBreakOff : Setting → Option (List ℕ) → Option (List ℕ) → CountryFailure → Type 0
-RegionsBreakOff s old new f =
-    ((regions : List Contents) × (text : List ℕ) × (left : List (List ℕ))
-    × IsReachedBy s regions text left × IsStoppedBefore s.texts left f × Appends old new text)
-    ⊎ (IsOfNone f (Write Out) × ((text : List ℕ) × IsPartOrWhole s text × Begins old new text))
+-- a run over regions
+abbrev pub RunsRegions : Setting → Option (List ℕ) → Option (List ℕ) → Result ℕ Failure → Type 0
+RunsRegions s = RunsOn (λ f. ⊥) (StopsRegions s) (AnswersRegions s)
+
+-- a run over the regions of what was begun of these inputs
+abbrev pub RunsBegun : (List ℕ → Texts) → Detail → CountryInputs → Option (List ℕ)
+    → Option (List ℕ) → Result ℕ Failure → Type 0
+RunsBegun texts detail x =
+    RunsOn (λ f. ⊥) (StopsCountry texts detail x) (AnswersCountry texts detail x)

@@ -3,7 +3,6 @@ use Rattle.std.specs.Prelude.{◌≡◌, ◌⊎◌, ◌++◌, ◌∷◌, [], ℕ
 use Rattle.lpis_parcels.specs.Release.{Contents}
 use Rattle.lpis_run.specs.CheckAnswer.{Answer}
 use Rattle.lpis_run.specs.declared.answer.Answer.{Answer as Printed}
-use Rattle.lpis_run.specs.declared.detail.Detail.TheVariants.{Regions}
 use Rattle.lpis_run.specs.declared.failure.Failure.TheVariants.{Memory}
 use Rattle.lpis_run.specs.Status.{refused}
 use Rattle.lpis_country_seam.specs.declared.fault.SeamFault.{SeamFault}
@@ -12,13 +11,13 @@ use Rattle.lpis_country_seam.specs.Open.{HasNext, IsSeamOf}
 use Rattle.lpis_country_run.specs.Beginning.{country_inputs_of}
 use Rattle.lpis_country_run.specs.CountryAnswer.{HavePassed, IsReachedBy, IsRefusedRegion, Passes}
 use Rattle.lpis_country_run.specs.CountryAnswer.{Setting}
-use Rattle.lpis_country_run.specs.CountryFailures.{IsCountryPart, IsOfNone, IsStoppedBefore}
+use Rattle.lpis_country_run.specs.CountryFailures.{IsStoppedBefore}
 use Rattle.lpis_country_run.specs.CountryLines.{seam_refusal_text}
 use Rattle.lpis_country_run.specs.Regions.{Texts}
-use Rattle.lpis_country_run.specs.declared.failure.CountryFailure.{CountryFailure}
+use Rattle.lpis_run.specs.declared.failure.Failure.{Failure}
 use Rattle.lpis_locate_country.specs.declared.locate_country.LocateCountryBytes.{LocateCountryBytes}
 use Rattle.lpis_locate_country.specs.declared.progress.Progress.{Progress}
-use Rattle.lpis_locate_country.specs.LocateCountryAnswer.{LocateCountryInputs}
+use Rattle.lpis_locate_country.specs.LocateCountryAnswer.{IsStoppedIn, LocateCountryInputs}
 use Rattle.lpis_locate_country.specs.private.Found.{IsSearched}
 
 abbrev pub locate_country_inputs_of : LocateCountryBytes → LocateCountryInputs
@@ -90,14 +89,12 @@ IsOutcome s table p (Some a) =
     × IsRefusedRegion s regions name (a.text.items, a.status)
 
 -- after regions that passed the next folder was not read, or memory ran out
-abbrev pub IsStopped : Setting → CountryFailure → Type 0
+abbrev pub IsStopped : Setting → Failure → Type 0
 IsStopped s f =
     (regions : List Contents) × (lines : List ℕ) × (left : List (List ℕ))
     × IsReachedBy s regions lines left × IsStoppedBefore s.texts left f
 
 -- so it is in a country; or memory ran out
-abbrev pub IsUnanswered : (List ℕ → Texts) → LocateCountryInputs → CountryFailure → Type 0
+abbrev pub IsUnanswered : (List ℕ → Texts) → LocateCountryInputs → Failure → Type 0
 IsUnanswered texts x f =
-    IsOfNone f Memory
-    ⊎ ((lines : List ℕ) × (left : List (List ℕ))
-    × IsCountryPart texts Regions x.country lines left × IsStoppedBefore texts left f)
+    (f ≡ Memory) ⊎ IsStoppedIn texts x f

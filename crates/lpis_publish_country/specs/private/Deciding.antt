@@ -11,8 +11,7 @@ use Rattle.lpis_run.specs.Status.{done, refused}
 use Rattle.lpis_run.specs.Streams.{Begins}
 use Rattle.lpis_run.specs.declared.failure.Failure.TheVariants.{Memory, Store, Write}
 use Rattle.lpis_run.specs.declared.failure.Name.TheVariants.{Out}
-use Rattle.lpis_country_run.specs.CountryFailures.{IsOfNone}
-use Rattle.lpis_country_run.specs.declared.failure.CountryFailure.{CountryFailure}
+use Rattle.lpis_run.specs.declared.failure.Failure.{Failure}
 use Rattle.lpis_publishing.specs.LineageLines.{publish_refusal_text}
 use Rattle.lpis_publishing.specs.Output.{Output}
 use Rattle.lpis_publishing.specs.Publication.{IsMemoryOrStore}
@@ -25,11 +24,11 @@ use Rattle.lpis_publish_country.specs.PublishCountryRuns.{HaltsWith, without_reg
 
 -- ---- a year that is not above the last one
 -- the line that refuses it was written; or memory ran out, or the output failed
-pub record RunsEarly (last : ℕ) (out : Output) (result : Result ℕ CountryFailure) : Type 0 where
+pub record RunsEarly (last : ℕ) (out : Output) (result : Result ℕ Failure) : Type 0 where
   pub answer : IfOk result (λ status. (status ≡ refused)
       × Appends out.before out.after (publish_refusal_text (Year last)))
-  pub failure : IfErr result (λ f. (IsOfNone f Memory × Keeps out.before out.after)
-      ⊎ (IsOfNone f (Write Out) × Begins out.before out.after (publish_refusal_text (Year last))))
+  pub failure : IfErr result (λ f. ((f ≡ Memory) × Keeps out.before out.after)
+      ⊎ ((f ≡ Write Out) × Begins out.before out.after (publish_refusal_text (Year last))))
 
 -- ---- the union
 -- an answer to the union of these regions was written; or memory ran out or the database failed
@@ -42,14 +41,14 @@ module _ (c : CountryCandidate) (regions : List Contents) (before after : Holdin
     pub written : Appends out.before out.after text
     pub same : status ≢ done → after ≡ before
 
-  pub record BreaksOffUnion (f : CountryFailure) : Type 0 where
-    pub failure_is : IsOfNone f (Write Out)
+  pub record BreaksOffUnion (f : Failure) : Type 0 where
+    pub failure_is : (f ≡ Write Out)
     pub whole : Answer
     pub answer : IsUnionAnswer c regions before after whole
     pub written : Begins out.before out.after whole.0
     pub same : whole.1 ≢ done → after ≡ before
 
-pub record StopsUnion (before after : Holdings) (out : Output) (f : CountryFailure) : Type 0 where
+pub record StopsUnion (before after : Holdings) (out : Output) (f : Failure) : Type 0 where
   pub no_region : f.region ≡ None
   pub stopped : IsMemoryOrStore f.failure
   pub written : Keeps out.before out.after
@@ -57,7 +56,7 @@ pub record StopsUnion (before after : Holdings) (out : Output) (f : CountryFailu
 
 module _ {S : Type 0} (store : Ghosts S) where
   pub record EndsUnion (c : CountryCandidate) (regions : List Contents)
-      (old new : RegisterState S) (out : Output) (result : Result ℕ CountryFailure) : Type 0 where
+      (old new : RegisterState S) (out : Output) (result : Result ℕ Failure) : Type 0 where
     pub answer : IfOk result (WritesUnion c regions old.held new.held out)
     pub failure : IfErr result (λ f. BreaksOffUnion c regions old.held new.held out f
         ⊎ StopsUnion old.held new.held out f)
@@ -67,7 +66,7 @@ module _ {S : Type 0} (store : Ghosts S) where
 
   -- ---- the run of what was read
   pub record RunsPrepared (asked : CountryRequest) (x : PublishCountryInputs)
-      (old new : RegisterState S) (out : Output) (result : Result ℕ CountryFailure) : Type 0 where
+      (old new : RegisterState S) (out : Output) (result : Result ℕ Failure) : Type 0 where
     pub answer : IfOk result (AnswersWith asked x old.held new.held out)
     pub failure : IfErr result (HaltsWith asked x old.held new.held out)
     pub stored : Stays store old new (without_region result)

@@ -4,21 +4,20 @@ use Rattle.lpis_run.specs.CheckAnswer.{Answer}
 use Rattle.lpis_run.specs.declared.failure.Failure.TheVariants.{Memory as NoMemory}
 use Rattle.lpis_run.specs.declared.stop.Stop.{Stop}
 use Rattle.lpis_run.specs.declared.stop.Stop.TheVariants as stop
-use Rattle.lpis_country_run.specs.CountryFailures.{IsOfNone}
-use Rattle.lpis_country_run.specs.declared.failure.CountryFailure.{CountryFailure}
+use Rattle.lpis_run.specs.declared.failure.Failure.{Failure}
 use Rattle.lpis_publish_country.specs.declared.unprepared.Unprepared.{Unprepared}
 use Rattle.lpis_publish_country.specs.declared.unprepared.Unprepared.TheVariants.{Failed, Refused}
 
 -- the run failed so, or the answer is one of these
-abbrev pub IsUnprepared : (CountryFailure → Type 0) → (Answer → Type 0) → Unprepared → Type 0
+abbrev pub IsUnprepared : (Failure → Type 0) → (Answer → Type 0) → Unprepared → Type 0
 IsUnprepared Fails Is (Failed f) = Fails f
 IsUnprepared Fails Is (Refused a) = Is (a.text.items, a.status)
 
 -- the run failed so
-abbrev pub IsFailed : (CountryFailure → Type 0) → Unprepared → Type 0
-IsFailed Fails e = (f : CountryFailure) × (e ≡ Failed f) × Fails f
+abbrev pub IsFailed : (Failure → Type 0) → Unprepared → Type 0
+IsFailed Fails e = (f : Failure) × (e ≡ Failed f) × Fails f
 
 -- what a step stops with: memory ran out, or the same answer refuses
 abbrev pub IsOfStop : Stop → Unprepared → Type 0
-IsOfStop stop.Memory e = IsFailed (λ f. IsOfNone f NoMemory) e
+IsOfStop stop.Memory e = IsFailed (λ f. (f ≡ NoMemory)) e
 IsOfStop (stop.Refused a) e = e ≡ Refused a

@@ -6,7 +6,6 @@ pub returns-in-Ok-clause-verdict : goal.returns-in-Ok-clause-verdict
 returns-in-Ok-clause-verdict c = λ s before at of told.
     judged c.follow.result s before c.args.name.now (inputs_of c.args.inputs) c.in-Ok.release c.follow.new.progress told c.in-Ok.ensures.release (c.follow.ensures.follows s before at of)
 
-pub returns-in_ok-answer-in-Err-clause-verdict : goal.returns-in_ok-answer-in-Err-clause-verdict
-returns-in_ok-answer-in-Err-clause-verdict c = λ s before at of told.
-    check_refused s before c.args.name.now (inputs_of c.args.inputs) c.in-Err.stop c.in_ok-refusal-in-Err.refusal c.in_ok-answer-in-Err.answer told c.in-Err.ensures.refused
-    c.in_ok-refusal-in-Err.ensures c.in_ok-answer-in-Err.ensures.0 c.in_ok-answer-in-Err.ensures.1
+pub returns-in-Err-clause-verdict : goal.returns-in-Err-clause-verdict
+returns-in-Err-clause-verdict c = λ s before at of told.
+    check_refused s before c.args.name.now (inputs_of c.args.inputs) c.in-Err.stop c.in_region.result told c.in-Err.ensures.refused c.in_region.ensures

@@ -1,29 +1,19 @@
-use Rattle.std.proofs.Common.{◌∙◌, subst, sym, ℕ}
-use Rattle.lpis_country_run.proofs.Shared.{err_is}
-use Rattle.lpis_locate_country.specs.LocateCountryAnswer.{IsLocateCountryAnswer}
-use Rattle.lpis_locate_country.specs.private.Searching.{IsUnanswered, locate_country_inputs_of}
-use Rattle.lpis_locate_country.proofs.CountryLemmas.{unanswered_halts}
+use Rattle.std.proofs.lemmas.Result.{err_from_is_err_and}
+use Rattle.lpis_locate_country.specs.LocateCountryAnswer.{locate_country_asked}
+use Rattle.lpis_locate_country.specs.private.Searching.{locate_country_inputs_of}
+use Rattle.lpis_locate_country.proofs.CountryLemmas.{answered_run, unanswered_run}
 use Rattle.lpis_locate_country.proofs.locate_country.run_locate_country.Goals as goal
 
-pub returns-in_err-answer-clause-failure : goal.returns-in_err-answer-clause-failure
-returns-in_err-answer-clause-failure g c =
+pub returns-in_err-answer : goal.returns-in_err-answer
+returns-in_err-answer g c =
     let x = locate_country_inputs_of c.in_ok-inputs.inputs in
-    let texts = g.G.Regions.texts c.args.regions.now in
-    err_is c.from_residual-in_err-answer.result _ _ c.from_residual-in_err-answer.ensures.1
-    (λ f of. unanswered_halts f texts x (g.P.Read.remaining c.args.country) (g.K.Read.remaining c.args.classes) (g.Q.Read.remaining c.args.points) (g.W.Write.contents c.args.out.now)
-    c.in_ok-inputs.ensures.bytes (subst (IsUnanswered texts x) (sym of) c.in_err-answer.ensures.failure))
+    let asked = locate_country_asked (g.G.Regions.texts c.args.regions.now) (g.P.Read.remaining c.args.country) (g.K.Read.remaining c.args.classes) (g.Q.Read.remaining c.args.points) in
+    let p = err_from_is_err_and c.from_residual-in_err-answer.result c.from_residual-in_err-answer.ensures.1 in
+    rw (p.1, p.2) (unanswered_run asked x (g.W.Write.contents c.args.out.now) _ c.in_ok-inputs.ensures.bytes c.in_err-answer.ensures.failure)
 
-pub returns-clause-answer : goal.returns-clause-answer
-returns-clause-answer g c =
+pub returns : goal.returns
+returns g c =
     let x = locate_country_inputs_of c.in_ok-inputs.inputs in
-    let texts = g.G.Regions.texts c.args.regions.now in
-    let same = sym c.in_ok-write_to.ensures.status in (
-      x,
-      c.in_ok-inputs.ensures.bytes,
-      record {
-        text = c.in_ok-answer.answer.text.items;
-        answer = subst (λ (n : ℕ). IsLocateCountryAnswer texts x (c.in_ok-answer.answer.text.items, n)) same c.in_ok-answer.ensures.answer;
-        written = c.in_ok-write_to.ensures.text;
-        located = λ e. c.in_ok-answer.ensures.located (same ∙ e);
-      },
-    )
+    let asked = locate_country_asked (g.G.Regions.texts c.args.regions.now) (g.P.Read.remaining c.args.country) (g.K.Read.remaining c.args.classes) (g.Q.Read.remaining c.args.points) in
+    answered_run asked x c.in_ok-answer.answer.text.items c.in_ok-answer.answer.status (g.W.Write.contents c.args.out.now) (g.W.Write.contents c.write_to.new.out) c.write_to.result
+    c.in_ok-inputs.ensures.bytes c.in_ok-answer.ensures.answer c.in_ok-answer.ensures.located c.write_to.ensures.status c.write_to.ensures.text c.write_to.ensures.failure

@@ -1,6 +1,7 @@
 use Rattle.std.proofs.lemmas.Result.{IfErr-weaker, IfOk-weaker}
 use Rattle.lpis_run.specs.Inputs.{inputs_of}
-use Rattle.lpis_locate_country.proofs.PassingLemmas.{check_refused, judged, seam_refused}
+use Rattle.lpis_country_run.proofs.Shared.{check_refused}
+use Rattle.lpis_locate_country.proofs.PassingLemmas.{judged, seam_refused}
 use Rattle.lpis_locate_country.proofs.progress.judge_inputs.Goals as goal
 
 pub returns-in-Ok-clause-passed : goal.returns-in-Ok-clause-passed
@@ -15,7 +16,6 @@ returns-in-Ok-clause-refused c = λ s table before at names told.
     (λ stop refused. seam_refused s before c.args.name.now (inputs_of c.args.inputs) c.in-Ok.release stop told c.in-Ok.ensures.release refused)
     (c.follow.ensures.refused s table before at names)
 
-pub returns-in_ok-answer-in-Err-clause-refused : goal.returns-in_ok-answer-in-Err-clause-refused
-returns-in_ok-answer-in-Err-clause-refused c = λ s table before at names told.
-    check_refused s before c.args.name.now (inputs_of c.args.inputs) c.in-Err.stop c.in_ok-refusal-in-Err.refusal c.in_ok-answer-in-Err.answer told c.in-Err.ensures.refused
-    c.in_ok-refusal-in-Err.ensures c.in_ok-answer-in-Err.ensures.0 c.in_ok-answer-in-Err.ensures.1
+pub returns-in-Err-clause-refused : goal.returns-in-Err-clause-refused
+returns-in-Err-clause-refused c = λ s table before at names told.
+    check_refused s before c.args.name.now (inputs_of c.args.inputs) c.in-Err.stop c.in_region.result told c.in-Err.ensures.refused c.in_region.ensures

@@ -2,7 +2,6 @@ use Rattle.std.proofs.Common.{◌⊎◌, Err, refl, subst}
 use Rattle.std.proofs.lemmas.Result.{err_from_is_err_and}
 use Rattle.lpis_run.specs.declared.failure.Failure.{Failure}
 use Rattle.lpis_run.specs.declared.failure.Failure.TheVariants.{Memory}
-use Rattle.lpis_country_run.specs.CountryFailures.{IsOfNone}
 use Rattle.lpis_publish_country.specs.PublishCountryAnswer.{IsRefusedBefore}
 use Rattle.lpis_publish_country.specs.PublishCountryRuns.{IsUnreadLineage}
 use Rattle.lpis_publish_country.specs.private.Preparing.{inputs_of}
@@ -17,7 +16,7 @@ returns-in-Err-Failed g c =
     rw c.in-Err-Failed.failure-is
     (runs_earlier given c.args.register.now.held (g.V.Write.contents c.args.file.now) (g.W.Write.contents c.args.out.now) x (c.in_ok-inputs.ensures.bytes given refl refl refl)
     (Err c.in-Err-Failed.failure) c.in-Err-Failed.failure refl
-    (has_failed (λ f. IsOfNone f Memory ⊎ IsUnreadLineage given x f) (IsRefusedBefore given x) c.in-Err-Failed.field-0 c.in-Err-Failed.failure
+    (has_failed (λ f. (f ≡ Memory) ⊎ IsUnreadLineage given x f) (IsRefusedBefore given x) c.in-Err-Failed.field-0 c.in-Err-Failed.failure
     c.in-Err-Failed.field-0-is (c.in-Err-Failed.ensures.unprepared given refl)))
 
 pub fill_prepared-requires : goal.fill_prepared-requires
@@ -33,9 +32,9 @@ returns-in_err-write_to-in-Err-Refused g c =
     let p = err_from_is_err_and c.from_residual-in_err-write_to-in-Err-Refused.result c.from_residual-in_err-write_to-in-Err-Refused.ensures.1 in
     runs_broken given now (g.V.Write.contents c.args.file.now) (g.W.Write.contents c.args.out.now) x (c.in_ok-inputs.ensures.bytes given refl refl refl)
     (g.W.Write.contents c.write_to.new.out) c.in-Err-Refused.answer c.from_residual-in_err-write_to-in-Err-Refused.result p.0 p.1
-    (is_refused (λ f. IsOfNone f Memory ⊎ IsUnreadLineage given x f) (IsRefusedBefore given x) c.in-Err-Refused.field-0 c.in-Err-Refused.answer
+    (is_refused (λ f. (f ≡ Memory) ⊎ IsUnreadLineage given x f) (IsRefusedBefore given x) c.in-Err-Refused.field-0 c.in-Err-Refused.answer
     c.in-Err-Refused.field-0-is (c.in-Err-Refused.ensures.unprepared given refl))
-    (subst (λ (failure : Failure). IsOfNone p.0 failure) c.in_err-write_to-in-Err-Refused.ensures.failure.0 p.2)
+    (subst (λ (failure : Failure). p.0 ≡ failure) c.in_err-write_to-in-Err-Refused.ensures.failure.0 p.2)
     (rw c.in-Err-Refused.answer-is at c.in_err-write_to-in-Err-Refused.ensures.failure).1
 
 pub returns-in-Ok : goal.returns-in-Ok
@@ -52,6 +51,6 @@ returns-in_ok-write_to-in-Err-Refused g c =
     let x = inputs_of c.in_ok-inputs.inputs in
     runs_refused given c.args.register.now.held (g.V.Write.contents c.args.file.now) (g.W.Write.contents c.args.out.now) x (c.in_ok-inputs.ensures.bytes given refl refl refl)
     (g.W.Write.contents c.write_to.new.out) c.in-Err-Refused.answer _
-    (is_refused (λ f. IsOfNone f Memory ⊎ IsUnreadLineage given x f) (IsRefusedBefore given x) c.in-Err-Refused.field-0 c.in-Err-Refused.answer
+    (is_refused (λ f. (f ≡ Memory) ⊎ IsUnreadLineage given x f) (IsRefusedBefore given x) c.in-Err-Refused.field-0 c.in-Err-Refused.answer
     c.in-Err-Refused.field-0-is (c.in-Err-Refused.ensures.unprepared given refl))
     (rw c.in-Err-Refused.answer-is at c.in_ok-write_to-in-Err-Refused.ensures.status) (rw c.in-Err-Refused.answer-is at c.in_ok-write_to-in-Err-Refused.ensures.text)

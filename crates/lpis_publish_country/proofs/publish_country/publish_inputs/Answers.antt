@@ -1,6 +1,5 @@
 use Rattle.std.proofs.Common.{◌⊎◌, None, Err, refl}
 use Rattle.lpis_run.specs.declared.failure.Failure.TheVariants.{Memory}
-use Rattle.lpis_country_run.specs.CountryFailures.{IsOfNone}
 use Rattle.lpis_publish_country.specs.PublishCountryAnswer.{CountryFiles, CountryRequest, IsRefusedBefore}
 use Rattle.lpis_publish_country.specs.PublishCountryRuns.{IsUnreadLineage}
 use Rattle.lpis_publish_country.specs.private.Preparing.{inputs_of}
@@ -27,14 +26,14 @@ returns-in-Err-Failed g c = λ given texts lineages.
     let asked : CountryRequest = record { year = c.args.year; given = given; detail = c.args.detail } in
     rw c.in-Err-Failed.failure-is
     (runs_unprepared g.S.Store asked c.args.register.now (inputs_of c.args.inputs) (g.W.Write.contents c.args.out.now) (Err c.in-Err-Failed.failure) c.in-Err-Failed.failure refl
-    (has_failed (λ f. IsOfNone f Memory ⊎ IsUnreadLineage given (inputs_of c.args.inputs) f) (IsRefusedBefore given (inputs_of c.args.inputs))
+    (has_failed (λ f. (f ≡ Memory) ⊎ IsUnreadLineage given (inputs_of c.args.inputs) f) (IsRefusedBefore given (inputs_of c.args.inputs))
     c.in-Err-Failed.field-0 c.in-Err-Failed.failure c.in-Err-Failed.field-0-is (c.in-Err-Failed.ensures.unprepared given lineages)))
 
 pub returns-in_err-write_to-in-Err-Refused : goal.returns-in_err-write_to-in-Err-Refused
 returns-in_err-write_to-in-Err-Refused g c = λ given texts lineages.
     let asked : CountryRequest = record { year = c.args.year; given = given; detail = c.args.detail } in
     runs_faulty_not g.S.Store asked c.args.register.now (inputs_of c.args.inputs) (g.W.Write.contents c.args.out.now) (g.W.Write.contents c.write_to.new.out) c.in-Err-Refused.answer
-    c.from_residual.result _ (is_refused (λ f. IsOfNone f Memory ⊎ IsUnreadLineage given (inputs_of c.args.inputs) f) (IsRefusedBefore given (inputs_of c.args.inputs))
+    c.from_residual.result _ (is_refused (λ f. (f ≡ Memory) ⊎ IsUnreadLineage given (inputs_of c.args.inputs) f) (IsRefusedBefore given (inputs_of c.args.inputs))
     c.in-Err-Refused.field-0 c.in-Err-Refused.answer c.in-Err-Refused.field-0-is (c.in-Err-Refused.ensures.unprepared given lineages))
     c.from_residual.ensures.1 (rw c.in-Err-Refused.answer-is at c.in_err-write_to-in-Err-Refused.ensures.failure)
 
@@ -42,6 +41,6 @@ pub returns-in_ok-write_to-in-Err-Refused : goal.returns-in_ok-write_to-in-Err-R
 returns-in_ok-write_to-in-Err-Refused g c = λ given texts lineages.
     let asked : CountryRequest = record { year = c.args.year; given = given; detail = c.args.detail } in
     runs_faulty g.S.Store asked c.args.register.now (inputs_of c.args.inputs) (g.W.Write.contents c.args.out.now) (g.W.Write.contents c.write_to.new.out) c.in-Err-Refused.answer
-    c.in_ok-write_to-in-Err-Refused.field-0 (is_refused (λ f. IsOfNone f Memory ⊎ IsUnreadLineage given (inputs_of c.args.inputs) f) (IsRefusedBefore given (inputs_of c.args.inputs))
+    c.in_ok-write_to-in-Err-Refused.field-0 (is_refused (λ f. (f ≡ Memory) ⊎ IsUnreadLineage given (inputs_of c.args.inputs) f) (IsRefusedBefore given (inputs_of c.args.inputs))
     c.in-Err-Refused.field-0 c.in-Err-Refused.answer c.in-Err-Refused.field-0-is (c.in-Err-Refused.ensures.unprepared given lineages))
     (rw c.in-Err-Refused.answer-is at c.in_ok-write_to-in-Err-Refused.ensures.status) (rw c.in-Err-Refused.answer-is at c.in_ok-write_to-in-Err-Refused.ensures.text)
