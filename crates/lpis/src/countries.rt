@@ -5,11 +5,11 @@ use crate::created::Created;
 use crate::folders::Folders;
 use crate::open;
 use lpis_command_line::NamedFile;
-use lpis_country_run::{CountryFailure, print_country_failure, run_country};
+use lpis_country_run::run_country;
 use lpis_locate_country::run_locate_country;
 use lpis_publish_country::{run_exact_country, run_publish_country};
 use lpis_register::Register;
-use lpis_run::{Detail, FAILED, Failure};
+use lpis_run::{Detail, Failure};
 use sqlite::Alter;
 use std::fs::File;
 
@@ -25,8 +25,7 @@ pub(crate) fn check_country(
     let classes = open(rt, classes)?;
     let folders = Folders::new(rt, dir);
     let mut out = rt.stdout();
-    let ran = run_country(rt.alloc(), country, classes, &folders, detail, &mut out);
-    Ok(status_of_country(rt, ran))
+    run_country(rt.alloc(), country, classes, &folders, detail, &mut out)
 }
 
 /// Finds the points of this table in the country of a folder, which is checked first.
@@ -42,20 +41,7 @@ pub(crate) fn locate_in_country(
     let points = open(rt, points)?;
     let folders = Folders::new(rt, dir);
     let mut out = rt.stdout();
-    let ran = run_locate_country(rt.alloc(), country, classes, points, &folders, &mut out);
-    Ok(status_of_country(rt, ran))
-}
-
-/// The status of a run over a country. Where it failed the line of the failure is printed here: it
-/// may name a region, as no other failure does.
-fn status_of_country(rt: &HostRuntime, ran: Result<u8, CountryFailure>) -> u8 {
-    match ran {
-        Ok(status) => status,
-        Err(failure) => {
-            let _ = print_country_failure(&failure, &mut rt.stderr());
-            FAILED
-        }
-    }
+    run_locate_country(rt.alloc(), country, classes, points, &folders, &mut out)
 }
 
 /// Opens an input, where one is named.
@@ -81,7 +67,7 @@ pub(crate) fn fill_country<S: Alter>(
     // Where there are no such blocks, a file that stands at this path stays as it is.
     let mut filled = Created::new(rt, filled.path.as_str());
     let mut out = rt.stdout();
-    let ran = run_exact_country(
+    run_exact_country(
         rt.alloc(),
         register,
         country,
@@ -90,8 +76,7 @@ pub(crate) fn fill_country<S: Alter>(
         &folders,
         &mut filled,
         &mut out,
-    );
-    Ok(status_of_country(rt, ran))
+    )
 }
 
 /// Publishes the country of a folder in a register.
@@ -110,7 +95,7 @@ pub(crate) fn publish_country<S: Alter>(
     let exact = open_if_named(rt, exact)?;
     let folders = Folders::new(rt, dir);
     let mut out = rt.stdout();
-    let ran = run_publish_country(
+    run_publish_country(
         rt.alloc(),
         register,
         year,
@@ -121,6 +106,5 @@ pub(crate) fn publish_country<S: Alter>(
         &folders,
         detail,
         &mut out,
-    );
-    Ok(status_of_country(rt, ran))
+    )
 }

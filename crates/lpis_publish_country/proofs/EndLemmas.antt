@@ -1,31 +1,36 @@
 -- How a run over a country and a register ends.
-use Rattle.std.proofs.Common.{◌≡◌, ◌⊎◌, ◌++◌, ◌∷◌, ◌∙◌, ◌+◌, ◌≢◌, [], inl, inr, refl, sym, ap, subst, ℕ, List, Option, Result, Ok, Err, IsErrAnd, length, take}
-use Rattle.std.proofs.KnownBytes.{Appends-kept, Appends-trans, Keeps-refl}
+use Rattle.std.proofs.Common.{◌≡◌, ◌⊎◌, ◌++◌, ◌∷◌, ◌∙◌, ◌+◌, ◌≢◌, [], inl, inr, refl, sym, ap, subst, ℕ, List, Option, Result, Ok, Err, IfErr, IfOk, OnOk, length, take}
+use Rattle.std.proofs.KnownBytes.{Appends-kept, Appends-trans}
 use Rattle.std.proofs.Math.Seq.{take-append-add}
-use Rattle.std.specs.Io.KnownBytes.{Appends}
+use Rattle.std.proofs.lemmas.Result.{IfErr-weaker}
+use Rattle.std.specs.Io.KnownBytes.{Appends, Keeps}
 use Rattle.sqlite_trees.specs.declared.store.Store.{Ghosts}
 use Rattle.lpis_parcels.specs.Release.{Contents}
 use Rattle.lpis_country_plan.specs.Tree.{folders}
 use Rattle.lpis_register.specs.Failing.{FailsToStore}
 use Rattle.lpis_register.specs.Holdings.{RegisterState}
+use Rattle.lpis_run.proofs.Shared.{breaks_off_more, runs_stopped, runs_written}
 use Rattle.lpis_run.specs.CheckAnswer.{Answer}
+use Rattle.lpis_run.specs.Run.{BreaksOffIn}
 use Rattle.lpis_run.specs.Status.{done}
 use Rattle.lpis_run.specs.Streams.{Begins}
 use Rattle.lpis_run.specs.declared.answer.Answer.{Answer as Printed}
 use Rattle.lpis_run.specs.declared.failure.Failure.{Failure}
-use Rattle.lpis_run.specs.declared.failure.Failure.TheVariants.{Memory, Read, Store, Write}
+use Rattle.lpis_run.specs.declared.failure.Failure.TheVariants.{Memory, Read, ReadOf, Store, Write}
 use Rattle.lpis_run.specs.declared.failure.Name.{Name}
 use Rattle.lpis_run.specs.declared.failure.Name.TheVariants.{Out}
 use Rattle.lpis_country_run.specs.CountryAnswer.{HavePassed, IsEnd, IsReachedBy, IsRegionsAnswer, Setting}
-use Rattle.lpis_country_run.specs.RegionsOutcome.{RegionsEnd, RegionsStop}
-use Rattle.lpis_country_run.proofs.Shared.{all_left, unread_is}
+use Rattle.lpis_country_run.specs.CountryFailures.{IsReadOf, IsStoppedBefore}
+use Rattle.lpis_country_run.specs.Regions.{Texts}
+use Rattle.lpis_country_run.specs.RegionsOutcome.{IsRegionsRefusal, RegionsEnd, RegionsStop, StopsRegions}
+use Rattle.lpis_country_run.proofs.Shared.{all_left}
 use Rattle.lpis_publishing.specs.Output.{output}
 use Rattle.lpis_publishing.specs.Publication.{IsMemoryOrStore, PublishLeaves}
 use Rattle.lpis_publishing.specs.Stored.{IsStoreFailure, Stays}
 use Rattle.lpis_publish_country.specs.PublishCountryAnswer.{AreSaid, CountryCandidate, CountryRequest, CountrySaid, IsPublishCountryAnswer, IsPublishEnd, IsUnionAnswer, PublishCountryInputs}
 use Rattle.lpis_publish_country.specs.PublishCountryAnswer.{country_asked, setting_said, union_of}
-use Rattle.lpis_publish_country.specs.PublishCountryRuns.{AnswersWith, FailsToPublishCountry, HaltsWith, IsPublishPart}
-use Rattle.lpis_publish_country.specs.private.Deciding.{BreaksOffUnion, EndsUnion, RunsPrepared, StopsUnion, WritesUnion}
+use Rattle.lpis_publish_country.specs.PublishCountryRuns.{FailsToPublishCountry, IsPublishPart, PublishesCountry, StopsBehind}
+use Rattle.lpis_publish_country.specs.private.Deciding.{DecidesUnion, EndsUnion, RunsPrepared, StopsUnion}
 
 -- ---- writers
 -- a beginning of what follows a text
@@ -42,13 +47,21 @@ none_of_store failure (inr (inl r)) (inr x) = cc (r.1, x)
 none_of_store failure (inr (inr e)) (inl x) = cc (e, x)
 none_of_store failure (inr (inr e)) (inr x) = cc (e, x)
 
--- nor where a run stopped before its last region
-pub stop_no_store : (s : Setting) (old new : Option (List ℕ)) (f : Failure) → RegionsStop s old new f → IsStoreFailure f.failure → ⊥
-stop_no_store s old new f (inl (regions, lines, [], reached, memory, written)) = none_of_store f.failure (inl memory.0)
-stop_no_store s old new f (inl (regions, lines, (name ∷ left), reached, inl memory, written)) = none_of_store f.failure (inl memory.0)
-stop_no_store s old new f (inl (regions, lines, (name ∷ left), reached, inr unread, written)) =
-    elim (unread_is (s.texts name) f.failure unread.0) [ inl m ↦ none_of_store f.failure (inl m) | inr r ↦ none_of_store f.failure (inr (inl r)) ]
-stop_no_store s old new f (inr (of, rest)) = none_of_store f.failure (inr (inr of.0))
+-- nor where a file of a region's folder was not read
+pub read_no_store : (file : Name) (name : List ℕ) (f : Failure) → IsReadOf file name f → IsStoreFailure f → ⊥
+read_no_store file name f (region, told, is) (inl x) = cc (is, x)
+read_no_store file name f (region, told, is) (inr x) = cc (is, x)
+
+-- nor where a run stopped before a region
+stopped-no-store : (texts : List ℕ → Texts) (left : List (List ℕ)) (f : Failure) → IsStoppedBefore texts left f → IsStoreFailure f → ⊥
+stopped-no-store texts [] f memory = none_of_store f (inl memory)
+stopped-no-store texts (name ∷ left) f (inl memory) = none_of_store f (inl memory)
+stopped-no-store texts (name ∷ left) f (inr (file, unread, read)) = read_no_store file name f read
+
+-- so it is of a run that broke off before its last region
+pub stop_no_store : (s : Setting) (old new : Option (List ℕ)) (f : Failure) → RegionsStop s old new f → IsStoreFailure f → ⊥
+stop_no_store s old new f (inl (lines, (regions, left, reached, stopped), written)) = stopped-no-store s.texts left f stopped
+stop_no_store s old new f (inr (write, begun)) = none_of_store f (inr (inr write))
 
 -- ---- a register
 -- it holds what it held
@@ -63,45 +76,23 @@ leaves_same store old a = record { same = λ other. refl; failure = tt; stored =
 -- ---- the union
 module _ {S : Type 0} (store : Ghosts S) (c : CountryCandidate) (regions : List Contents) (old new : RegisterState S) where
   -- memory runs out, or the database fails
-  pub union_stopped : (out : Option (List ℕ)) (r : Result ℕ Failure) (failure : Failure) → IsErrAnd r (λ f. (f ≡ failure))
-      → IsMemoryOrStore failure × (new.held ≡ old.held) → Stays {A = Printed} store old new (Err failure)
-      → (IsStoreFailure failure → FailsToStore store (union_of c regions) old new (failure ≡ Store)) → EndsUnion store c regions old new (output out out) r
-  union_stopped out (Ok status) failure h why stays cause = absurd h
-  union_stopped out (Err f) failure (is, none) why stays cause = record {
-    answer = tt;
-    failure = inr (record { no_region = none; stopped = subst IsMemoryOrStore (sym is) why.0; written = Keeps-refl out; same = why.1 });
-    stored = subst (λ (y : Failure). Stays {A = ℕ} store old new (Err y)) (sym is) (record { holds = stays.holds; served = stays.served });
-    cause = subst (λ (y : Failure). IsStoreFailure y → FailsToStore store (union_of c regions) old new (y ≡ Store)) (sym is) cause;
+  pub union_stopped : (out : Option (List ℕ)) (failure : Failure) → IsMemoryOrStore failure × (new.held ≡ old.held) → Stays {A = Printed} store old new (Err failure)
+      → (IsStoreFailure failure → FailsToStore store (union_of c regions) old new (failure ≡ Store)) → EndsUnion store c regions old new (output out out) (Err failure)
+  union_stopped out failure why stays cause = record {
+    runs = runs_stopped _ _ out failure why;
+    stored = record { holds = stays.holds; served = stays.served };
+    cause = cause;
   }
 
-  -- the answer is written
-  pub union_written : (before after : Option (List ℕ)) (a : Printed) (status : ℕ) → IsUnionAnswer c regions old.held new.held (a.text.items, a.status)
-      → PublishLeaves store old new (Ok a) → status ≡ a.status → Appends before after a.text.items → EndsUnion store c regions old new (output before after) (Ok status)
-  union_written before after a status answer leaves is written = record {
-    answer = record {
-      text = a.text.items;
-      answer = subst (λ (n : ℕ). IsUnionAnswer c regions old.held new.held (a.text.items, n)) (sym is) answer;
-      written = written;
-      same = λ other. leaves.same (λ e. other (is ∙ e));
-    };
-    failure = tt;
-    stored = record { holds = leaves.stored.holds; served = leaves.stored.served };
-    cause = tt;
+  -- the answer is written, or a beginning of it
+  pub union_written : (before after : Option (List ℕ)) (a : Printed) (r : Result ℕ Failure) → IsUnionAnswer c regions old.held new.held (a.text.items, a.status)
+      → PublishLeaves store old new (Ok a) → IfOk r (λ s. s ≡ a.status) → OnOk r (Appends before after a.text.items)
+      → IfErr r (λ failure. (failure ≡ Write Out) × Begins before after a.text.items) → EndsUnion store c regions old new (output before after) r
+  union_written before after a r answer leaves is written begun = record {
+    runs = runs_written _ _ a.text.items a.status before after r (answer, leaves.same) is written begun;
+    stored = record { holds = leaves.stored.holds; served = λ other. leaves.stored.served tt };
+    cause = IfErr-weaker r _ _ (λ failure part of. absurd (none_of_store failure (inr (inr part.0)) of)) begun;
   }
-
-  -- or a beginning of it
-  pub union_broken : (before after : Option (List ℕ)) (a : Printed) (r : Result ℕ Failure) (failure : Failure) → IsUnionAnswer c regions old.held new.held (a.text.items, a.status)
-      → PublishLeaves store old new (Ok a) → IsErrAnd r (λ f. (f ≡ failure)) → (failure ≡ Write Out) × Begins before after a.text.items
-      → EndsUnion store c regions old new (output before after) r
-  union_broken before after a (Ok status) failure answer leaves h begun = absurd h
-  union_broken before after a (Err f) failure answer leaves h begun =
-      let out = subst (IsOfNone f) begun.0 h in
-      record {
-        answer = tt;
-        failure = inl (record { failure_is = out; whole = (a.text.items, a.status); answer = answer; written = begun.1; same = leaves.same });
-        stored = record { holds = leaves.stored.holds; served = λ other. leaves.stored.served tt };
-        cause = λ of. absurd (none_of_store f.failure (inr (inr out.0)) of);
-      }
 
 -- ---- the run
 module _ {S : Type 0} (store : Ghosts S) (asked : CountryRequest) (x : PublishCountryInputs) (old new : RegisterState S) (before after : Option (List ℕ))
@@ -120,8 +111,8 @@ module _ {S : Type 0} (store : Ghosts S) (asked : CountryRequest) (x : PublishCo
   ends-at regions (name ∷ left) end not_done is = is
 
   -- a region is refused
-  refused-answer : (text : List ℕ) (status : ℕ) → status ≢ done → IsRegionsAnswer here (text, status) → IsPublishCountryAnswer asked x old.held new.held (text, status)
-  refused-answer text status not_done a = inr (
+  refused-answer : (whole : Answer) → whole.1 ≢ done → IsRegionsAnswer here whole → IsPublishCountryAnswer asked x old.held new.held whole
+  refused-answer whole not_done a = inr (
     said,
     are_said,
     record {
@@ -135,82 +126,74 @@ module _ {S : Type 0} (store : Ghosts S) (asked : CountryRequest) (x : PublishCo
     },
   )
 
-  pub answers_refused : (status : ℕ) → new.held ≡ old.held → RegionsEnd here before after status → status ≢ done → AnswersWith asked x old.held new.held (output before after) status
-  answers_refused status same (text, answer, written) not_done =
-      record { text = text; answer = refused-answer text status not_done answer; written = written; same = λ other. same }
+  -- and the register is as it was
+  publishes-none : new.held ≡ old.held → (a : Answer) → IsRegionsRefusal here a → PublishesCountry asked x old.held new.held a
+  publishes-none same a (answer, not_done) = record { answer = refused-answer a not_done answer; same = λ other. same }
 
-  -- the run stops before its last region
-  pub halts_in_regions : (f : Failure) → new.held ≡ old.held → RegionsStop here before after f → HaltsWith asked x old.held new.held (output before after) f
-  halts_in_regions f same (inl (regions, lines, left, reached, stopped, written)) =
-      inr (same, inr (inr (inl (record { lines = lines; left = left; part = part regions lines left reached; stopped = stopped; written = written }))))
-  halts_in_regions f same (inr (of, (text, inl (regions, left, reached), written))) =
-      inr (same, inl (of, record { lines = text; left = left; part = part regions text left reached; written = written }))
-  halts_in_regions f same (inr (of, (text, inr (status, not_done, a), written))) =
-      inl (of, record { whole = (text, status); answer = refused-answer text status not_done a; written = written; same = λ other. same })
+  -- the run stops behind these lines
+  stops-in-regions : new.held ≡ old.held → (lines : List ℕ) (f : Failure) → StopsRegions here lines f → StopsBehind asked x old.held new.held lines f
+  stops-in-regions same lines f (regions, left, reached, stopped) = record { left = left; part = part regions lines left reached; stopped = inl stopped; same = same }
 
   -- behind the last region
   module _ (regions : List Contents) (lines : List ℕ) (now : Option (List ℕ)) (passed : HavePassed here (folders said.plan) regions lines) (printed : Appends before now lines) where
     reached-all : IsReachedBy here regions lines []
     reached-all = all_left here regions lines passed
 
-    union-answer : (a : Answer) → IsUnionAnswer (country_asked asked said) regions old.held new.held a → IsPublishCountryAnswer asked x old.held new.held (lines ++ a.0, a.1)
-    union-answer a is =
-        inr (said, are_said, record { regions = regions; lines = lines; left = []; reached = reached-all; end = a; follows = is; is = refl })
-
-    pub answers_union : (status : ℕ) → WritesUnion (country_asked asked said) regions old.held new.held (output now after) status
-        → AnswersWith asked x old.held new.held (output before after) status
-    answers_union status w = record {
-      text = lines ++ w.text;
-      answer = union-answer (w.text, status) w.answer;
-      written = Appends-trans before now after lines w.text printed w.written;
-      same = w.same;
+    publishes-union : (a : Answer) → DecidesUnion (country_asked asked said) regions old.held new.held a → PublishesCountry asked x old.held new.held (lines ++ a.0, a.1)
+    publishes-union a is = record {
+      answer = inr (said, are_said, record { regions = regions; lines = lines; left = []; reached = reached-all; end = a; follows = is.0; is = refl });
+      same = is.1;
     }
 
-    pub halts_union : (f : Failure) → BreaksOffUnion (country_asked asked said) regions old.held new.held (output now after) f
-        ⊎ StopsUnion old.held new.held (output now after) f → HaltsWith asked x old.held new.held (output before after) f
-    halts_union f (inl b) = inl (
-      b.failure_is,
-      record {
-        whole = (lines ++ b.whole.0, b.whole.1);
-        answer = union-answer b.whole b.answer;
-        written = begins_behind before now after lines b.whole.0 printed b.written;
-        same = b.same;
-      },
-    )
-    halts_union f (inr b) =
-        let written = Appends-kept before now after lines printed b.written in
-        inr (
-          b.same,
-          inr (inr (elim b.stopped [
-            | inl memory ↦ inl (record { lines = lines; left = []; part = part regions lines [] reached-all; stopped = (memory, b.no_region); written = written })
-            | inr failed ↦ inr (record { lines = lines; part = part regions lines [] reached-all; no_region = b.no_region; stopped = failed; written = written })
-          ])),
-        )
+    -- memory ran out or the database failed
+    stops-union : (f : Failure) → IsMemoryOrStore f → new.held ≡ old.held → StopsBehind asked x old.held new.held lines f
+    stops-union f (inl memory) same = record { left = []; part = part regions lines [] reached-all; stopped = inl memory; same = same }
+    stops-union f (inr failed) same = record { left = []; part = part regions lines [] reached-all; stopped = inr (refl, failed); same = same }
 
-    pub cause_union : (f : Failure)
-        → (IsStoreFailure f.failure → FailsToStore store (union_of (country_asked asked said) regions) old new (f.failure ≡ Store))
-        → IsStoreFailure f.failure → FailsToPublishCountry store asked x old new (f.failure ≡ Store)
-    cause_union f told is = record { said = said; are_said = are_said; regions = regions; lines = lines; have_passed = passed; fails = told is }
+    union-breaks-off : (f : Failure) → (StopsUnion old.held new.held f × Keeps now after)
+        ⊎ ((f ≡ Write Out) × (a : Answer) × DecidesUnion (country_asked asked said) regions old.held new.held a × Begins now after a.0)
+        → BreaksOffIn (StopsBehind asked x old.held new.held) (PublishesCountry asked x old.held new.held) before after f
+    union-breaks-off f (inl (why, keeps)) = inl (lines, stops-union f why.0 why.1, Appends-kept before now after lines printed keeps)
+    union-breaks-off f (inr (write, a, is, begins)) =
+        inr (write, (lines ++ a.0, inr (a.1, publishes-union a is), begins_behind before now after lines a.0 printed begins))
+
+    cause-union : (f : Failure) → (IsStoreFailure f → FailsToStore store (union_of (country_asked asked said) regions) old new (f ≡ Store))
+        → IsStoreFailure f → FailsToPublishCountry store asked x old new (f ≡ Store)
+    cause-union f told is = record { said = said; are_said = are_said; regions = regions; lines = lines; have_passed = passed; fails = told is }
 
     -- all of it
     pub runs_union : (r : Result ℕ Failure) → EndsUnion store (country_asked asked said) regions old new (output now after) r
         → RunsPrepared store asked x old new (output before after) r
-    runs_union (Ok status) e = record { answer = answers_union status e.answer; failure = tt; stored = e.stored; cause = tt }
-    runs_union (Err f) e = record { answer = tt; failure = halts_union f e.failure; stored = e.stored; cause = cause_union f e.cause }
+    runs_union (Ok status) e =
+        let (text, answer, written) = e.runs.answer in
+        record {
+          runs = record { answer = (lines ++ text, publishes-union (text, status) answer, Appends-trans before now after lines text printed written); failure = tt };
+          stored = e.stored;
+          cause = tt;
+        }
+    runs_union (Err f) e = record {
+      runs = record { answer = tt; failure = inr (union-breaks-off f e.runs.failure) };
+      stored = e.stored;
+      cause = cause-union f e.cause;
+    }
 
   -- where a region is refused the register is as it was
   pub runs_refused : (status : ℕ) → new.held ≡ old.held → Stays {A = ℕ} store old new (Ok status) → RegionsEnd here before after status × (status ≢ done)
       → RunsPrepared store asked x old new (output before after) (Ok status)
-  runs_refused status same stays (end, not_done) = record { answer = answers_refused status same end not_done; failure = tt; stored = stays; cause = tt }
+  runs_refused status same stays ((text, answer, written), not_done) = record {
+    runs = record { answer = (text, publishes-none same (text, status) (answer, not_done), written); failure = tt };
+    stored = stays;
+    cause = tt;
+  }
 
   -- where the run stops before its last region it is too
-  pub runs_stopped : (r : Result ℕ Failure) (f : Failure) → IsErrAnd r (λ e. e ≡ f) → new.held ≡ old.held
-      → ((failure : Failure) → Stays {A = ℕ} store old new (Err failure)) → RegionsStop here before after f → RunsPrepared store asked x old new (output before after) r
-  runs_stopped (Ok status) f h same stays stop = absurd h
-  runs_stopped (Err e) f h same stays stop =
-      subst (λ (y : Failure). RunsPrepared store asked x old new (output before after) (Err y)) (sym h) (record {
-        answer = tt;
-        failure = halts_in_regions f same stop;
-        stored = stays f.failure;
-        cause = λ of. absurd (stop_no_store here before after f stop of);
-      })
+  pub runs_stopped_in : (f : Failure) → new.held ≡ old.held → Stays {A = ℕ} store old new (Err f) → RegionsStop here before after f
+      → RunsPrepared store asked x old new (output before after) (Err f)
+  runs_stopped_in f same stays stop = record {
+    runs = record {
+      answer = tt;
+      failure = inr (breaks_off_more (StopsRegions here) _ (IsRegionsRefusal here) _ before after f (stops-in-regions same) (publishes-none same) stop);
+    };
+    stored = stays;
+    cause = λ of. absurd (stop_no_store here before after f stop of);
+  }

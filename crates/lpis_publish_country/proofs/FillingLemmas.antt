@@ -1,12 +1,12 @@
 -- What a run that asks for the blocks of a country has decided, and how it ends.
-use Rattle.std.proofs.Common.{◌≡◌, ◌≢◌, ◌⊎◌, ◌<◌, ◌+◌, ◌-◌, ◌∙◌, ◌++◌, ◌∷◌, [], refl, sym, ap, ap₂, subst, arith, inl, inr, IfOk, ℕ, List, Option, None, Some, Result, Ok, Err}
+use Rattle.std.proofs.Common.{◌≡◌, ◌≢◌, ◌⊎◌, ◌<◌, ◌+◌, ◌-◌, ◌∙◌, ◌++◌, ◌∷◌, [], refl, sym, ap, ap₂, subst, arith, inl, inr, IfErr, IfOk, OnOk, ℕ, List, Option, None, Some, Result, Ok, Err}
 use Rattle.std.proofs.Common.{length, take}
 use Rattle.std.proofs.KnownBytes.{Appends-trans, Keeps-refl}
 use Rattle.std.proofs.Math.Seq.{take-append-add}
 use Rattle.std.proofs.lemmas.Bool.{cases_lt}
 use Rattle.std.proofs.lemmas.List.{append-nil, append_assoc, take-append-le}
 use Rattle.std.proofs.lemmas.Result.{IfOk-weaker}
-use Rattle.std.specs.Io.KnownBytes.{Appends, append_known}
+use Rattle.std.specs.Io.KnownBytes.{Appends, Keeps, append_known}
 use Rattle.lpis_parcels.specs.declared.parcel.Parcel.{Parcel}
 use Rattle.lpis_parcels.specs.Release.{Contents, parcel_ids}
 use Rattle.lpis_cert.specs.declared.cert.Cert.{Cert}
@@ -20,6 +20,7 @@ use Rattle.lpis_lineage.specs.Faults.{faults, first}
 use Rattle.lpis_lineage.specs.Lineage.{last_live}
 use Rattle.lpis_register.specs.Holdings.{Holdings, holdings}
 use Rattle.lpis_register.specs.declared.fault.PublishFault.TheVariants.{Lineage}
+use Rattle.lpis_run.proofs.Shared.{breaks_off_more}
 use Rattle.lpis_run.specs.CheckAnswer.{Answer}
 use Rattle.lpis_run.specs.Outputs.{BreaksOff, Held, Outputs, Writes, held, outputs_of}
 use Rattle.lpis_run.specs.Status.{done, refused}
@@ -32,16 +33,16 @@ use Rattle.lpis_run.specs.declared.failure.Name.TheVariants.{Out}
 use Rattle.lpis_run.specs.declared.outcome.Outcome.{Outcome}
 use Rattle.lpis_country_run.proofs.Shared.{setting_begun}
 use Rattle.lpis_country_run.specs.CountryAnswer.{IsEnd, IsReachedBy, IsRegionsAnswer, Setting}
-use Rattle.lpis_country_run.specs.CountryFailures.{IsUnreadTop}
+use Rattle.lpis_country_run.specs.CountryFailures.{IsStoppedBefore, IsUnreadTop}
 use Rattle.lpis_country_run.specs.Regions.{Texts}
-use Rattle.lpis_country_run.specs.RegionsOutcome.{IsSettingOf, JoinsAll, RegionsEnd, RegionsStop}
+use Rattle.lpis_country_run.specs.RegionsOutcome.{IsSettingOf, JoinsAll, RegionsEnd, RegionsStop, StopsRegions}
 use Rattle.lpis_publishing.specs.ExactAnswer.{IsBlocksAnswer, IsBlocksOutcome}
 use Rattle.lpis_publishing.specs.Submission.{submitted}
 use Rattle.lpis_publish_country.specs.CountryLineage.{country_refusal_text, rows_in}
-use Rattle.lpis_publish_country.specs.ExactCountryAnswer.{FillHalts, FillsCountry, FillsRegions, HasNoParts, IsFillAnswer, IsFillEnd, IsFillOutcome}
-use Rattle.lpis_publish_country.specs.ExactCountryAnswer.{RunsExactCountry}
+use Rattle.lpis_publish_country.specs.ExactCountryAnswer.{BreaksOffInBoth, FillsRegions, HasNoParts, IsFillAnswer, IsFillEnd, IsFillOutcome}
+use Rattle.lpis_publish_country.specs.ExactCountryAnswer.{RunsExactCountry, RunsOnBoth, StopsFill, StopsFillBehind}
 use Rattle.lpis_publish_country.specs.PublishCountryAnswer.{AreTopRead, CountryFiles, CountrySaid, IsRefusedBefore, PublishCountryInputs, setting_said}
-use Rattle.lpis_publish_country.specs.PublishCountryRuns.{IsPublishPart, IsUnreadLineage}
+use Rattle.lpis_publish_country.specs.PublishCountryRuns.{IsPublishPart}
 use Rattle.lpis_publish_country.specs.declared.inputs.Prepared.{Prepared}
 use Rattle.lpis_publish_country.specs.private.Filling.{FillsPrepared}
 use Rattle.lpis_publish_country.specs.private.Preparing.{IsPrepared, said_of}
@@ -139,6 +140,15 @@ begins-split old new a b text is (n, got) = elim (cases_lt (length a) n) [
     rest (Some xs) None e = e
     rest (Some xs) (Some ys) e = e ∙ sym (append_assoc xs a (take (n - length a) b))
 
+-- memory may run out before any folder
+stops-memory : (texts : List ℕ → Texts) (left : List (List ℕ)) → IsStoppedBefore texts left Memory
+stops-memory texts [] = refl
+stops-memory texts (name ∷ left) = inl refl
+
+appends-nothing : (old : Option (List ℕ)) → Appends old old []
+appends-nothing None = tt
+appends-nothing (Some xs) = sym (append-nil xs)
+
 -- ---- a region is refused
 module _ (given : CountryFiles) (x : PublishCountryInputs) (p : Prepared) (h : IsPrepared given x p) (before : Holdings) where
   -- its line ends the run
@@ -163,54 +173,54 @@ module _ (given : CountryFiles) (x : PublishCountryInputs) (p : Prepared) (h : I
 
   -- where it was written
   pub fill_refuses : (file old new : Option (List ℕ)) (status : ℕ) → RegionsEnd (fill_setting given x p h) old new status → status ≢ done
-      → FillsCountry given x before (held file old) (held file new) status
+      → FillsPrepared given x before (held file old) (held file new) (Ok status)
   fill_refuses file old new status (text, answer, written) other = record {
-    lines = answer.text;
-    end = refusal_of answer;
-    answer = fills-refusal text status answer other;
-    written = record {
-      status_told = ap (λ (a : Answer). a.1) answer.is;
-      certificate = Keeps-refl file;
-      line = subst (Appends old new) (ap (λ (a : Answer). a.0) answer.is) written;
-    };
+    answer = (
+      answer.text,
+      refusal_of answer,
+      fills-refusal text status answer other,
+      record {
+        status_told = ap (λ (a : Answer). a.1) answer.is;
+        certificate = Keeps-refl file;
+        line = subst (Appends old new) (ap (λ (a : Answer). a.0) answer.is) written;
+      },
+    );
+    failure = tt;
   }
 
-  -- where a beginning of it was
+  -- ---- no end of the regions
+  -- a run that broke off so
+  abbrev Broken : (file old new : Option (List ℕ)) → Failure → Type 0
+  Broken file old new f = BreaksOffInBoth (StopsFillBehind given x) (FillsRegions given x before) (held file old) (held file new) f
+
+  stops-behind : (lines : List ℕ) (f : Failure) → StopsRegions (fill_setting given x p h) lines f → StopsFillBehind given x lines f
+  stops-behind lines f (regions, left, reached, stopped) = (left, fill-part given x p h regions lines left reached, stopped)
+
+  -- where a beginning of a refusal was written
   refusal-broken : (file old new : Option (List ℕ)) (f : Failure) (text : List ℕ) (status : ℕ) (answer : IsRegionsAnswer (fill_setting given x p h) (text, status)) → status ≢ done
-      → (f ≡ Write Out) → Begins old new answer.text ⊎ ((mid : Option (List ℕ)) × Appends old mid answer.text × Begins mid new answer.end.0)
-      → FillHalts given x before (held file old) (held file new) f
-  refusal-broken file old new f text status answer other write (inl begins) = inl (record {
-    failure_is = write;
-    text = answer.text;
-    is = inr (answer.left, fill-part given x p h answer.regions answer.text answer.left answer.reached);
-    written = begins;
-    file = Keeps-refl file;
-  })
-  refusal-broken file old new f text status answer other write (inr (mid, written, begins)) = inr (inl (record {
-    no_region = write.1;
+      → (f ≡ Write Out) → Begins old new answer.text ⊎ ((mid : Option (List ℕ)) × Appends old mid answer.text × Begins mid new answer.end.0) → Broken file old new f
+  refusal-broken file old new f text status answer other write (inl begins) =
+      let part = fill-part given x p h answer.regions answer.text answer.left answer.reached in
+      inl (inr (write, (answer.text, inl (Memory, (answer.left, part, stops-memory given.texts answer.left)), begins)), Keeps-refl file)
+  refusal-broken file old new f text status answer other write (inr (mid, written, begins)) = inr (record {
     lines = answer.text;
     end = refusal_of answer;
     answer = fills-refusal text status answer other;
     passed = mid;
     written = written;
-    broken = inr (write.0, Keeps-refl file, begins);
-  }))
-
-  -- ---- no end of the regions
-  pub fill_stops : (file old new : Option (List ℕ)) (f : Failure) → RegionsStop (fill_setting given x p h) old new f → FillHalts given x before (held file old) (held file new) f
-  fill_stops file old new f (inl (regions, text, left, reached, stopped, written)) = inr (inr (
-    Keeps-refl file,
-    inr (record { lines = text; left = left; part = fill-part given x p h regions text left reached; stopped = stopped; written = written }),
-  ))
-  fill_stops file old new f (inr (write, (text, inl (regions, left, reached), begins))) = inl (record {
-    failure_is = write;
-    text = text;
-    is = inr (left, fill-part given x p h regions text left reached);
-    written = begins;
-    file = Keeps-refl file;
+    broken = inr (write, Keeps-refl file, begins);
   })
-  fill_stops file old new f (inr (write, (text, inr (status, other, answer), begins))) =
+
+  breaks-in-regions : (file old new : Option (List ℕ)) (f : Failure) → RegionsStop (fill_setting given x p h) old new f → Broken file old new f
+  breaks-in-regions file old new f (inl (lines, stopped, written)) = inl (inl (lines, stops-behind lines f stopped, written), Keeps-refl file)
+  breaks-in-regions file old new f (inr (write, (text, inl (other, stopped), begins))) =
+      inl (inr (write, (text, inl (other, stops-behind text other stopped), begins)), Keeps-refl file)
+  breaks-in-regions file old new f (inr (write, (text, inr (status, (answer, other)), begins))) =
       refusal-broken file old new f text status answer other write (begins-split old new answer.text answer.end.0 text (ap (λ (a : Answer). a.0) answer.is) begins)
+
+  pub fill_stops : (file old new : Option (List ℕ)) (f : Failure) → RegionsStop (fill_setting given x p h) old new f
+      → FillsPrepared given x before (held file old) (held file new) (Err f)
+  fill_stops file old new f stop = record { answer = tt; failure = inr (breaks-in-regions file old new f stop) }
 
   -- ---- behind the regions, which all passed
   module _ (regions : List Contents) (lines : List ℕ) (joins : JoinsAll (fill_setting given x p h) regions lines) (file old now : Option (List ℕ)) (written : Appends old now lines) where
@@ -224,42 +234,43 @@ module _ (given : CountryFiles) (x : PublishCountryInputs) (p : Prepared) (h : I
       follows = out;
     }
 
-    -- the outcome was written
-    pub fill_writes : (o : Outputs) (status : ℕ) (cert out : Option (List ℕ)) → IsFillOutcome (fill_setting given x p h) h.tables regions before o → Writes o status (held file now) (held cert out)
-        → FillsCountry given x before (held file old) (held cert out) status
-    fill_writes o status cert out decided w = record {
-      lines = lines;
-      end = o;
-      answer = fills-all o decided;
-      written = record { status_told = w.status_told; certificate = w.certificate; line = Appends-trans old now out lines o.line written w.line };
+    -- the outcome was written, or a part of it
+    pub fill_writes : (o : Outputs) (cert out : Option (List ℕ)) (r : Result ℕ Failure) → IsFillOutcome (fill_setting given x p h) h.tables regions before o
+        → IfOk r (λ status. Writes o status (held file now) (held cert out)) → IfErr r (λ f. BreaksOff o f (held file now) (held cert out))
+        → FillsPrepared given x before (held file old) (held cert out) r
+    fill_writes o cert out (Ok status) decided w broken = record {
+      answer = (
+        lines,
+        o,
+        fills-all o decided,
+        record { status_told = w.status_told; certificate = w.certificate; line = Appends-trans old now out lines o.line written w.line },
+      );
+      failure = tt;
+    }
+    fill_writes o cert out (Err f) decided w broken = record {
+      answer = tt;
+      failure = inr (inr (record { lines = lines; end = o; answer = fills-all o decided; passed = now; written = written; broken = broken }));
     }
 
-    -- it was not
-    pub fill_breaks : (o : Outputs) (f : Failure) (failure : Failure) (cert out : Option (List ℕ)) → IsFillOutcome (fill_setting given x p h) h.tables regions before o → (f ≡ failure)
-        → BreaksOff o failure (held file now) (held cert out) → FillHalts given x before (held file old) (held cert out) f
-    fill_breaks o f failure cert out decided of broken = inr (inl (record {
-      no_region = of.1;
-      lines = lines;
-      end = o;
-      answer = fills-all o decided;
-      passed = now;
-      written = written;
-      broken = subst (λ (e : Failure). BreaksOff o e (held file now) (held cert out)) (sym of.0) broken;
-    }))
-
     -- memory ran out before
-    pub fill_spent : (f : Failure) → (f ≡ Memory) → FillHalts given x before (held file old) (held file now) f
-    fill_spent f of =
+    pub fill_spent : FillsPrepared given x before (held file old) (held file now) (Err Memory)
+    fill_spent =
         let part = fill-part given x p h regions lines [] (all-reached (fill_setting given x p h) regions lines joins) in
-        inr (inr (Keeps-refl file, inr (record { lines = lines; left = []; part = part; stopped = of; written = written })))
+        record { answer = tt; failure = inr (inl (inl (lines, ([], part, refl), written), Keeps-refl file)) }
 
--- ---- what a run of what was prepared came to
-module _ (given : CountryFiles) (x : PublishCountryInputs) (holdings : Holdings) (before after : Held) where
-  pub prepared_ends : (status : ℕ) → FillsCountry given x holdings before after status → FillsPrepared given x holdings before after (Ok status)
-  prepared_ends status h = record { answer = h; failure = tt }
-
-  pub prepared_halts : (r : Result ℕ Failure) (f : Failure) → r ≡ Err f → FillHalts given x holdings before after f → FillsPrepared given x holdings before after r
-  prepared_halts r f is h = subst (FillsPrepared given x holdings before after) (sym is) (record { answer = tt; failure = h })
+-- ---- a run that writes a certificate behind its lines
+-- what ends so ends as a run that more stops, and that has more answers
+both-more : (P Q : Failure → Type 0) (S T : List ℕ → Failure → Type 0) (A B : List ℕ → Outputs → Type 0) (old new : Held) (r : Result ℕ Failure) → ((f : Failure) → P f → Q f)
+    → ((lines : List ℕ) (f : Failure) → S lines f → T lines f) → ((lines : List ℕ) (end : Outputs) → A lines end → B lines end) → RunsOnBoth P S A old new r → RunsOnBoth Q T B old new r
+both-more P Q S T A B old new (Ok status) before behind answers runs =
+    let (lines, end, answer, written) = runs.answer in
+    record { answer = (lines, end, answers lines end answer, written); failure = tt }
+both-more P Q S T A B old new (Err f) before behind answers runs = record { answer = tt; failure = more runs.failure }
+  where
+    more : (P f × Keeps old.cert new.cert × Keeps old.out new.out) ⊎ BreaksOffInBoth S A old new f → (Q f × Keeps old.cert new.cert × Keeps old.out new.out) ⊎ BreaksOffInBoth T B old new f
+    more (inl (stopped, file, out)) = inl (before f stopped, file, out)
+    more (inr (inl (broken, file))) = inr (inl (breaks_off_more S T (λ a. ⊥) (λ a. ⊥) old.out new.out f behind (λ a never. never) broken, file))
+    more (inr (inr b)) = inr (inr (record { lines = b.lines; end = b.end; answer = answers b.lines b.end b.answer; passed = b.passed; written = b.written; broken = b.broken }))
 
 -- ---- the run
 -- the files of a run that names no certificate
@@ -268,47 +279,41 @@ files_without plan classes texts lineages = record { plan = plan; classes = clas
 
 module _ (given : CountryFiles) (before : Holdings) (file out : Option (List ℕ)) where
   -- a file was not read
-  pub runs_unread : (r : Result ℕ Failure) (f : Failure) → r ≡ Err f → IsUnreadTop given.plan f → RunsExactCountry given before (held file out) (held file out) r
-  runs_unread r f is unread = subst (RunsExactCountry given before (held file out) (held file out)) (sym is) (record {
-    answer = tt;
-    failure = inl (record { unread = unread; written = Keeps-refl out; file = Keeps-refl file });
-  })
+  pub runs_unread : (f : Failure) → IsUnreadTop given.plan f → RunsExactCountry given before (held file out) (held file out) (Err f)
+  runs_unread f unread = record { answer = tt; failure = inl (inl unread, Keeps-refl file, Keeps-refl out) }
 
   module _ (x : PublishCountryInputs) (read : AreTopRead given x) where
     -- nor a lineage table
-    pub runs_earlier : (r : Result ℕ Failure) (f : Failure) → r ≡ Err f → (f ≡ Memory) ⊎ IsUnreadLineage given x f → RunsExactCountry given before (held file out) (held file out) r
-    runs_earlier r f is stopped = subst (RunsExactCountry given before (held file out) (held file out)) (sym is) (record {
-      answer = tt;
-      failure = inr (x, read, inr (inr (Keeps-refl file, inl (record { stopped = stopped; written = Keeps-refl out }))));
-    })
+    pub runs_earlier : (f : Failure) → StopsFill given x f → RunsExactCountry given before (held file out) (held file out) (Err f)
+    runs_earlier f stopped = record { answer = tt; failure = inl (inr (x, read, stopped), Keeps-refl file, Keeps-refl out) }
 
-    -- what was read has a fault, whose line was written
-    pub runs_refused : (new : Option (List ℕ)) (a : Printed) (status : ℕ) → IsRefusedBefore given x (a.text.items, a.status) → status ≡ a.status → Appends out new a.text.items
-        → RunsExactCountry given before (held file out) (held file new) (Ok status)
-    runs_refused new a status refusal same written = record {
+    -- what was read has a fault, whose line was written, or a beginning of it
+    pub runs_refused : (new : Option (List ℕ)) (a : Printed) (r : Result ℕ Failure) → IsRefusedBefore given x (a.text.items, a.status) → IfOk r (λ s. s ≡ a.status)
+        → OnOk r (Appends out new a.text.items) → IfErr r (λ failure. (failure ≡ Write Out) × Begins out new a.text.items)
+        → RunsExactCountry given before (held file out) (held file new) r
+    runs_refused new a (Ok status) refusal same written begun = record {
       answer = (
-        x,
-        read,
-        inl (record {
-          text = a.text.items;
-          answer = subst (λ (n : ℕ). IsRefusedBefore given x (a.text.items, n)) (sym same) refusal;
-          written = written;
-          file = Keeps-refl file;
-        }),
+        [],
+        record { cert = None; line = a.text.items; status = a.status },
+        (x, read, inl (refl, refl, refusal)),
+        record { status_told = same; certificate = Keeps-refl file; line = written },
       );
       failure = tt;
     }
-
-    -- or a beginning of it
-    pub runs_broken : (new : Option (List ℕ)) (a : Printed) (r : Result ℕ Failure) (f : Failure) → r ≡ Err f → IsRefusedBefore given x (a.text.items, a.status) → (f ≡ Write Out)
-        → Begins out new a.text.items → RunsExactCountry given before (held file out) (held file new) r
-    runs_broken new a r f is refusal write begins = subst (RunsExactCountry given before (held file out) (held file new)) (sym is) (record {
+    runs_refused new a (Err f) refusal same written begun = record {
       answer = tt;
-      failure = inr (x, read, inl (record { failure_is = write; text = a.text.items; is = inl (a.status, refusal); written = begins; file = Keeps-refl file }));
-    })
+      failure = inr (inr (record {
+        lines = [];
+        end = record { cert = None; line = a.text.items; status = a.status };
+        answer = (x, read, inl (refl, refl, refusal));
+        passed = out;
+        written = appends-nothing out;
+        broken = inr (begun.0, Keeps-refl file, begun.1);
+      }));
+    }
 
     -- it has none
     pub runs_prepared : (cert new : Option (List ℕ)) (r : Result ℕ Failure) → FillsPrepared given x before (held file out) (held cert new) r
         → RunsExactCountry given before (held file out) (held cert new) r
-    runs_prepared cert new (Ok status) h = record { answer = (x, read, inr h.answer); failure = tt }
-    runs_prepared cert new (Err f) h = record { answer = tt; failure = inr (x, read, h.failure) }
+    runs_prepared cert new r h =
+        both-more _ _ _ _ _ _ (held file out) (held cert new) r (λ f never. absurd never) (λ lines f why. (x, read, why)) (λ lines end is. (x, read, inr is)) h

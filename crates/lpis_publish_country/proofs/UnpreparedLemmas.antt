@@ -9,7 +9,7 @@ use Rattle.lpis_run.specs.declared.stop.Stop.TheVariants as stop
 use Rattle.lpis_run.specs.declared.failure.Failure.{Failure}
 use Rattle.lpis_publish_country.specs.declared.unprepared.Unprepared.{Unprepared}
 use Rattle.lpis_publish_country.specs.declared.unprepared.Unprepared.TheVariants.{Failed, Refused}
-use Rattle.lpis_publish_country.specs.private.Unprepared.{IsFailed, IsOfStop, IsUnprepared}
+use Rattle.lpis_publish_country.specs.private.Unprepared.{IsOfStop, IsUnprepared}
 
 module _ {A : Type 0} (Fails : Failure → Type 0) (Is : Answer → Type 0) where
   -- the same
@@ -22,14 +22,13 @@ module _ {A : Type 0} (Fails : Failure → Type 0) (Is : Answer → Type 0) wher
   failure_handed r f h why = same_handed r (Failed f) h why
 
   -- memory ran out
-  pub memory_handed : (r : Result A Unprepared) → IsErrAnd r (IsFailed (λ f. (f ≡ Memory))) → ((f : Failure) → (f ≡ Memory) → Fails f) → IfErr r (IsUnprepared Fails Is)
-  memory_handed (Ok x) h fails = tt
-  memory_handed (Err x) (f, is, none) fails = subst (IsUnprepared Fails Is) (sym is) (fails f none)
+  pub memory_handed : (r : Result A Unprepared) → IsErrAnd r (λ x. x ≡ Failed Memory) → Fails Memory → IfErr r (IsUnprepared Fails Is)
+  memory_handed r h why = same_handed r (Failed Memory) h why
 
   -- a step stopped
-  pub stop_handed : (r : Result A Unprepared) (s : Stop) → IsErrAnd r (IsOfStop s) → ((f : Failure) → (f ≡ Memory) → Fails f) → IsRefusedAs Is s → IfErr r (IsUnprepared Fails Is)
+  pub stop_handed : (r : Result A Unprepared) (s : Stop) → IsErrAnd r (IsOfStop s) → Fails Memory → IsRefusedAs Is s → IfErr r (IsUnprepared Fails Is)
   stop_handed (Ok x) s h fails may = tt
-  stop_handed (Err x) stop.Memory (f, is, none) fails may = subst (IsUnprepared Fails Is) (sym is) (fails f none)
+  stop_handed (Err x) stop.Memory h fails may = subst (IsUnprepared Fails Is) (sym h) fails
   stop_handed (Err x) (stop.Refused a) h fails may = subst (IsUnprepared Fails Is) (sym h) may
 
 -- ---- what it comes to

@@ -2,8 +2,6 @@
 use Rattle.std.specs.Prelude.{◌≡◌, ◌⊎◌, ◌++◌, ◌∷◌, ◌-◌, [], ℕ, List, Option, None, Some, Ok, Err}
 use Rattle.std.specs.Prelude.{flat_map, length, leb, cond, option_and_then}
 use Rattle.std.specs.List.{AllZip}
-use Rattle.std.specs.Option.{option_map}
-use Rattle.std.specs.String.{string_bytes}
 use Rattle.lpis_covers.specs.declared.fault.TableFault.{TableFault}
 use Rattle.lpis_covers.specs.Faults.{rows_of}
 use Rattle.lpis_lineage.specs.declared.fault.LineageFault.{LineageFault}
@@ -16,9 +14,10 @@ use Rattle.lpis_run.specs.CheckAnswer.{Answer}
 use Rattle.lpis_run.specs.Refusals.{line_in_region, refusal_text}
 use Rattle.lpis_run.specs.Status.{unreadable}
 use Rattle.lpis_run.specs.Streams.{IsRead}
-use Rattle.lpis_run.specs.declared.failure.Failure.TheVariants.{Memory, Read}
+use Rattle.lpis_run.specs.declared.failure.Failure.TheVariants.{Memory}
 use Rattle.lpis_run.specs.declared.failure.Name.TheVariants.{Lineage}
 use Rattle.lpis_run.specs.declared.failure.Failure.{Failure}
+use Rattle.lpis_country_run.specs.CountryFailures.{IsReadOf}
 use Rattle.lpis_publishing.specs.LineageLines.{publish_refusal_text}
 
 -- ---- tables
@@ -49,8 +48,7 @@ pub record AreTablesRefused (told : List ℕ → Option (List ℕ)) (names : Lis
 
 -- the lineage table of the folder of this name was not read; or memory ran out
 abbrev pub IsUnreadTable : List ℕ → Failure → Type 0
-IsUnreadTable name f = (f ≡ Memory)
-    ⊎ ((f.failure ≡ Read Lineage) × (option_map string_bytes f.region ≡ Some name))
+IsUnreadTable name f = (f ≡ Memory) ⊎ IsReadOf Lineage name f
 
 -- so it is of one of these folders, and the tables of those before it have no fault
 pub record AreTablesUnread (told : List ℕ → Option (List ℕ)) (names : List (List ℕ))

@@ -14,23 +14,21 @@ use Rattle.lpis_register.specs.Holdings.{Holdings}
 use Rattle.lpis_register.specs.declared.fault.PublishFault.TheVariants.{Lineage, NotKept}
 use Rattle.lpis_run.specs.CheckAnswer.{Answer}
 use Rattle.lpis_run.specs.Outputs.{BreaksOff, Held, Outputs, Writes}
+use Rattle.lpis_run.specs.Run.{BreaksOffIn}
 use Rattle.lpis_run.specs.Status.{done, refused}
-use Rattle.lpis_run.specs.Streams.{Begins}
 use Rattle.lpis_run.specs.declared.detail.Detail.TheVariants.{Regions}
-use Rattle.lpis_run.specs.declared.failure.Failure.TheVariants.{Write}
-use Rattle.lpis_run.specs.declared.failure.Name.TheVariants.{Out}
+use Rattle.lpis_run.specs.declared.failure.Failure.TheVariants.{Memory}
 use Rattle.lpis_country_run.specs.CountryAnswer.{IsReachedBy, IsRefusedRegion, Setting}
-use Rattle.lpis_country_run.specs.CountryFailures.{IsUnreadTop}
+use Rattle.lpis_country_run.specs.CountryFailures.{IsStoppedBefore, IsUnreadTop}
 use Rattle.lpis_run.specs.declared.failure.Failure.{Failure}
 use Rattle.lpis_publishing.specs.ExactAnswer.{IsFilled, IsUnfilled}
 use Rattle.lpis_publishing.specs.LineageLines.{publish_refusal_text}
-use Rattle.lpis_publishing.specs.Output.{output}
 use Rattle.lpis_publishing.specs.Submission.{submitted}
 use Rattle.lpis_publish_country.specs.CountryLineage.{country_refusal_text, rows_in}
 use Rattle.lpis_publish_country.specs.PublishCountryAnswer.{AreSaid, AreTopRead, CountryFiles}
 use Rattle.lpis_publish_country.specs.PublishCountryAnswer.{CountrySaid, IsRefusedBefore}
 use Rattle.lpis_publish_country.specs.PublishCountryAnswer.{PublishCountryInputs, setting_said}
-use Rattle.lpis_publish_country.specs.PublishCountryRuns.{IsPublishPart, StopsBefore, StopsBehind}
+use Rattle.lpis_publish_country.specs.PublishCountryRuns.{IsPublishPart, IsUnreadLineage}
 
 -- ---- the union
 -- the certificate has no parts
@@ -85,65 +83,64 @@ pub record FillsRegions (given : CountryFiles) (x : PublishCountryInputs) (befor
   pub reached : IsReachedBy (setting_said given Regions said) regions lines left
   pub follows : IsFillEnd (setting_said given Regions said) said.tables regions left before end
 
+-- of these files, and these bytes of those that are no region's
+module _ (given : CountryFiles) (x : PublishCountryInputs) where
+  -- behind these lines: a file before the regions has a fault, and there are no lines, and no
+  -- certificate; or it is what follows the regions
+  abbrev pub IsExactCountryAnswer : Holdings → List ℕ → Outputs → Type 0
+  IsExactCountryAnswer before lines end =
+      ((lines ≡ []) × (end.cert ≡ None) × IsRefusedBefore given x (end.line, end.status))
+      ⊎ FillsRegions given x before lines end
+
+  -- a lineage table was not read, or memory ran out
+  abbrev pub StopsFill : Failure → Type 0
+  StopsFill f = (f ≡ Memory) ⊎ IsUnreadLineage given x f
+
+  -- behind the lines of the regions that passed a file was not read, or memory ran out
+  abbrev pub StopsFillBehind : List ℕ → Failure → Type 0
+  StopsFillBehind lines f = (left : List (List ℕ)) × IsPublishPart given Regions x lines left
+      × IsStoppedBefore given.texts left f
+
 -- ---- the run
--- a run over these files, and these bytes of those that are no region's, over what a register
--- holds, and over these outputs
-module _ (given : CountryFiles) (x : PublishCountryInputs) (holdings : Holdings)
-    (before after : Held) where
-  -- a file before the regions has a fault, and its line was written
-  pub record RefusesBefore (status : ℕ) : Type 0 where
-    pub text : List ℕ
-    pub answer : IsRefusedBefore given x (text, status)
-    pub written : Appends before.out after.out text
-    pub file : Keeps before.cert after.cert
+-- behind these lines, which were written, the certificate's file failed; or the output did, behind
+-- the certificate where there is one, after a beginning of what follows the lines
+pub record BreaksOffBehind (Answers : List ℕ → Outputs → Type 0) (old new : Held) (f : Failure)
+    : Type 0 where
+  pub lines : List ℕ
+  pub end : Outputs
+  pub answer : Answers lines end
+  pub passed : Option (List ℕ)
+  pub written : Appends old.out passed lines
+  pub broken : BreaksOff end f (record old { out = passed }) new
 
-  -- the certificate, if there is one, and all lines were written
-  pub record FillsCountry (status : ℕ) : Type 0 where
-    pub lines : List ℕ
-    pub end : Outputs
-    pub answer : FillsRegions given x holdings lines end
-    pub written : Writes (behind lines end) status before after
+-- how a run that writes lines as it goes on, and then a certificate, breaks off: in its lines, and
+-- there is no certificate yet, or behind them
+abbrev pub BreaksOffInBoth : (List ℕ → Failure → Type 0) → (List ℕ → Outputs → Type 0) → Held → Held
+    → Failure → Type 0
+BreaksOffInBoth StopsBehind Answers old new f =
+    (BreaksOffIn StopsBehind (λ a. ⊥) old.out new.out f × Keeps old.cert new.cert)
+    ⊎ BreaksOffBehind Answers old new f
 
-  -- the output failed after a beginning of the line of a file's fault, or of those of the regions
-  -- that passed
-  pub record BreaksOffBefore (f : Failure) : Type 0 where
-    pub failure_is : (f ≡ Write Out)
-    pub text : List ℕ
-    pub is : ((status : ℕ) × IsRefusedBefore given x (text, status))
-        ⊎ ((left : List (List ℕ)) × IsPublishPart given Regions x text left)
-    pub written : Begins before.out after.out text
-    pub file : Keeps before.cert after.cert
+-- a run that writes lines as it goes on, and at its end a certificate, if there is one, and the
+-- rest of its answer, over what its two outputs hold
+pub record RunsOnBoth (Stops : Failure → Type 0) (StopsBehind : List ℕ → Failure → Type 0)
+    (Answers : List ℕ → Outputs → Type 0) (old new : Held) (result : Result ℕ Failure)
+    : Type 0 where
+  -- it ended with the status of an answer, and wrote all of it
+  pub answer : IfOk result (λ status. (lines : List ℕ) × (end : Outputs) × Answers lines end
+      × Writes (behind lines end) status old new)
+  -- it was stopped, and wrote nothing; or it broke off
+  pub failure : IfErr result (λ f. (Stops f × Keeps old.cert new.cert × Keeps old.out new.out)
+      ⊎ BreaksOffInBoth StopsBehind Answers old new f)
 
-  -- behind the lines of the regions the certificate's file failed; or the output did, in the line
-  -- of the next region, which is refused, or, behind the certificate where there is one, in the
-  -- answer to the union
-  pub record BreaksOffBehind (f : Failure) : Type 0 where
-    pub no_region : f.region ≡ None
-    pub lines : List ℕ
-    pub end : Outputs
-    pub answer : FillsRegions given x holdings lines end
-    pub passed : Option (List ℕ)
-    pub written : Appends before.out passed lines
-    pub broken : BreaksOff end f.failure (record before { out = passed }) after
+-- the files that are no region's have bytes for which this holds
+abbrev pub OfTop : CountryFiles → (PublishCountryInputs → Type 0) → Type 0
+OfTop given Holds = (x : PublishCountryInputs) × AreTopRead given x × Holds x
 
-  -- it gave no answer: it broke off, or it stopped and wrote no certificate
-  abbrev pub FillHalts : Failure → Type 0
-  FillHalts f = BreaksOffBefore f ⊎ BreaksOffBehind f
-      ⊎ (Keeps before.cert after.cert × (StopsBefore given x (output before.out after.out) f
-      ⊎ StopsBehind given Regions x (output before.out after.out) f))
-
-module _ (given : CountryFiles) (holdings : Holdings) (before after : Held) where
-  -- the plan or the classes were not read, or memory ran out, before anything was written
-  pub record IsUnreadFill (f : Failure) : Type 0 where
-    pub unread : IsUnreadTop given.plan f
-    pub written : Keeps before.out after.out
-    pub file : Keeps before.cert after.cert
-
-  -- what a run ends with
-  pub record RunsExactCountry (result : Result ℕ Failure) : Type 0 where
-    pub answer : IfOk result (λ status. (x : PublishCountryInputs) × AreTopRead given x
-        × (RefusesBefore given x holdings before after status
-        ⊎ FillsCountry given x holdings before after status))
-    pub failure : IfErr result (λ f. IsUnreadFill f
-        ⊎ ((x : PublishCountryInputs) × AreTopRead given x
-        × FillHalts given x holdings before after f))
+-- how the run ends, where a register holds this: before anything is written a file before the
+-- regions may not be read
+abbrev pub RunsExactCountry : CountryFiles → Holdings → Held → Held → Result ℕ Failure → Type 0
+RunsExactCountry given before = RunsOnBoth
+    (λ f. IsUnreadTop given.plan f ⊎ OfTop given (λ x. StopsFill given x f))
+    (λ lines f. OfTop given (λ x. StopsFillBehind given x lines f))
+    (λ lines end. OfTop given (λ x. IsExactCountryAnswer given x before lines end))

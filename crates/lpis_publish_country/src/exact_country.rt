@@ -75,7 +75,7 @@ fn fill_prepared<S: Alter, G: Regions, V: Write, W: Write>(
     match join_regions(alloc, regions, begun, Detail::Regions, out)? {
         Joining::Joined(country) => {
             let outcome = fill_union(alloc, register, &country, &lineage)?;
-            Ok(outcome.write_to(file, out)?)
+            outcome.write_to(file, out)
         }
         Joining::Refused(status) => Ok(status),
     }
@@ -122,6 +122,6 @@ pub fn run_exact_country<
     match prepare(alloc, lineages, inputs) {
         Ok(prepared) => fill_prepared(alloc, register, regions, prepared, file, out),
         Err(Unprepared::Failed(failure)) => Err(failure),
-        Err(Unprepared::Refused(answer)) => Ok(answer.write_to(out)?),
+        Err(Unprepared::Refused(answer)) => answer.write_to(out),
     }
 }

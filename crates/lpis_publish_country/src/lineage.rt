@@ -82,11 +82,8 @@ fn of_table(failure: Failure, names: &mut Vec<String>, index: usize) -> Failure
     ensures { IsUnreadTable (get_or (map string_bytes names.old.items) index []) result }
 {
     match failure {
-        Failure::Read(_) => Failure {
-            failure,
-            region: Some(names.swap_remove(index)),
-        },
-        _ => Failure::from(failure),
+        Failure::Read(_) => Failure::ReadOf(Name::Lineage, names.swap_remove(index)),
+        other => other,
     }
 }
 

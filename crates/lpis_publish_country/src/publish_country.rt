@@ -86,7 +86,7 @@ fn end_union<S: Alter, W: Write>(
         (output (W.contents out.old) (W.contents out.new)) result }
 {
     let answer = publish_union(alloc, register, year, country, cert, lineage)?;
-    Ok(answer.write_to(out)?)
+    answer.write_to(out)
 }
 
 /// Checks the regions, and publishes their union, of what the files before them say.
@@ -120,10 +120,10 @@ fn publish_prepared<S: Alter, G: Regions, W: Write>(
 
 /// Refuses a year that is not above this last one.
 fn refuse_early<W: Write>(alloc: Global, last: u16, out: &mut W) -> Result<u8, Failure>
-    ensures { RunsEarly last (output (W.contents out.old) (W.contents out.new)) result }
+    ensures { RunsEarly last (W.contents out.old) (W.contents out.new) result }
 {
     let answer = refuse(alloc, &PublishFault::Year { last }, REFUSED)?;
-    Ok(answer.write_to(out)?)
+    answer.write_to(out)
 }
 
 /// The run in a year above the last one, of the bytes of the files that are no region's.
@@ -146,7 +146,7 @@ fn publish_inputs<S: Alter, G: Regions, L: Lineages, W: Write>(
     match prepare(alloc, lineages, inputs) {
         Ok(prepared) => publish_prepared(alloc, register, year, regions, prepared, detail, out),
         Err(Unprepared::Failed(failure)) => Err(failure),
-        Err(Unprepared::Refused(answer)) => Ok(answer.write_to(out)?),
+        Err(Unprepared::Refused(answer)) => answer.write_to(out),
     }
 }
 

@@ -3,7 +3,7 @@
 ghost use Rattle.std.specs.Prelude.{◌≡◌};
 ghost use Rattle.lpis_run.specs.declared.failure.Failure.TheVariants.{Memory};
 ghost use Rattle.lpis_publish_country.specs.declared.unprepared.Unprepared.{Unprepared};
-ghost use Rattle.lpis_publish_country.specs.private.Unprepared.{IsFailed, IsOfStop};
+ghost use Rattle.lpis_publish_country.specs.private.Unprepared.{IsOfStop};
 
 use lpis_run::{Answer, Failure, Stop};
 use std::alloc::AllocError;
@@ -26,10 +26,10 @@ impl From<Failure> for Unprepared {
 }
 
 impl From<AllocError> for Unprepared {
-    ghost from_gives = { λ _ e. IsFailed (λ f. (f ≡ Memory)) e };
+    ghost from_gives = { λ _ e. e ≡ Unprepared.Failed Memory };
 
-    fn from(e: AllocError) -> Unprepared {
-        Unprepared::Failed(Failure::from(e))
+    fn from(_e: AllocError) -> Unprepared {
+        Unprepared::Failed(Failure::Memory)
     }
 }
 
@@ -38,7 +38,7 @@ impl From<Stop> for Unprepared {
 
     fn from(stop: Stop) -> Unprepared {
         match stop {
-            Stop::Memory => Unprepared::from(AllocError),
+            Stop::Memory => Unprepared::Failed(Failure::Memory),
             Stop::Refused(answer) => Unprepared::Refused(answer),
         }
     }

@@ -1,5 +1,5 @@
 -- The answer to tables and a text, by what they say or by their first fault.
-use Rattle.std.proofs.Common.{◌≡◌, ◌≢◌, ◌∙◌, inl, inr, sym, subst, ap, ℕ, List, Result, Ok, Err, IfOk}
+use Rattle.std.proofs.Common.{◌≡◌, ◌≢◌, ◌∙◌, inl, inr, sym, subst, ap, ap₂, ℕ, List, Result, Ok, Err, IfOk}
 use Rattle.lpis_parcels.specs.Release.{Contents}
 use Rattle.lpis_cert.specs.declared.cert.Cert.{Cert}
 use Rattle.lpis_cert.specs.declared.fault.CertCode.{CertCode}
@@ -11,9 +11,10 @@ use Rattle.lpis_checker.specs.SoundMap.{IsSoundMap}
 use Rattle.lpis_covers.specs.declared.fault.TableFault.{TableFault}
 use Rattle.lpis_run.specs.CheckAnswer.{Answer, Inputs, IsAnswer, IsCertAnswer, IsCheckAnswer, IsInputAnswer, IsProvedOf, IsRefusal, IsTableAnswer, release_in}
 use Rattle.lpis_run.specs.Inputs.{Say}
+use Rattle.lpis_run.specs.Refusals.{line_in_region}
 use Rattle.lpis_run.specs.Report.{report_text}
 use Rattle.lpis_run.specs.Status.{done, unreadable}
-use Rattle.lpis_run.specs.Stops.{IsRefusedAs}
+use Rattle.lpis_run.specs.Stops.{IsInRegion, IsRefusedAs}
 use Rattle.lpis_run.specs.declared.answer.Answer.{Answer as Printed}
 use Rattle.lpis_run.specs.declared.stop.Stop.{Stop}
 use Rattle.lpis_run.specs.declared.stop.Stop.TheVariants.{Memory, Refused}
@@ -84,6 +85,14 @@ refused-as Is stop (Err e) may is = tt
 pub refused-more : (P Q : Answer → Type 0) (stop : Stop) → ((a : Answer) → P a → Q a) → IsRefusedAs P stop → IsRefusedAs Q stop
 refused-more P Q Memory more is = tt
 refused-more P Q (Refused a) more is = more (a.text.items, a.status) is
+
+-- an answer with a region at the end of its line
+pub stopped-in-region : (Is : Answer → Type 0) (region : List ℕ) (stop in_it : Stop) → IsRefusedAs Is stop → IsInRegion stop region in_it
+    → IsRefusedAs (λ a. (b : Answer) × Is b × (a ≡ (line_in_region b.0 region, b.1))) in_it
+stopped-in-region Is region Memory Memory is of = tt
+stopped-in-region Is region (Refused a) Memory is of = tt
+stopped-in-region Is region Memory (Refused b) is of = absurd of
+stopped-in-region Is region (Refused a) (Refused b) is of = ((a.text.items, a.status), is, ap₂ (λ (t : List ℕ) (s : ℕ). (t, s)) of.0 of.1)
 
 -- where the tables are read, the fault of the certificate's text is that of the inputs
 pub stop-of-text : (x : Inputs) (r : Contents) (stop : Stop) → release_in x.tables ≡ Ok r → IsRefusedAs (IsCertAnswer (λ _ _. ⊥) x.cert (verdict x.cert)) stop

@@ -1,6 +1,7 @@
 //! Why a step of a run gives nothing.
 
 ghost use Rattle.std.specs.Prelude.{◌≡◌, IfOk};
+ghost use Rattle.lpis_run.specs.Stops.{IsInRegion};
 ghost use Rattle.lpis_run.specs.declared.stop.Stop.{Stop};
 
 use crate::answer::Answer;
@@ -32,6 +33,18 @@ impl Stop {
         match self {
             Stop::Memory => Err(AllocError),
             Stop::Refused(answer) => Ok(answer),
+        }
+    }
+    /// The same with the region that an answer's line is of, at its end.
+    pub fn in_region(self, region: &str) -> Stop
+        ensures { IsInRegion self region.now result }
+    {
+        match self {
+            Stop::Memory => Stop::Memory,
+            Stop::Refused(answer) => match answer.in_region(region) {
+                Ok(answer) => Stop::Refused(answer),
+                Err(_) => Stop::Memory,
+            },
         }
     }
 }

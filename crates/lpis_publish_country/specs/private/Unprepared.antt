@@ -13,11 +13,7 @@ abbrev pub IsUnprepared : (Failure → Type 0) → (Answer → Type 0) → Unpre
 IsUnprepared Fails Is (Failed f) = Fails f
 IsUnprepared Fails Is (Refused a) = Is (a.text.items, a.status)
 
--- the run failed so
-abbrev pub IsFailed : (Failure → Type 0) → Unprepared → Type 0
-IsFailed Fails e = (f : Failure) × (e ≡ Failed f) × Fails f
-
 -- what a step stops with: memory ran out, or the same answer refuses
 abbrev pub IsOfStop : Stop → Unprepared → Type 0
-IsOfStop stop.Memory e = IsFailed (λ f. (f ≡ NoMemory)) e
+IsOfStop stop.Memory e = e ≡ Failed NoMemory
 IsOfStop (stop.Refused a) e = e ≡ Refused a

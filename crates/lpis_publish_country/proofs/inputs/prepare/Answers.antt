@@ -1,4 +1,4 @@
-use Rattle.std.proofs.Common.{◌⊎◌, inl, refl}
+use Rattle.std.proofs.Common.{◌⊎◌, ◌≡◌, inl, refl}
 use Rattle.lpis_run.specs.declared.failure.Failure.TheVariants.{Memory}
 use Rattle.lpis_publish_country.specs.PublishCountryAnswer.{IsRefusedBefore}
 use Rattle.lpis_publish_country.specs.PublishCountryRuns.{IsUnreadLineage}
@@ -11,7 +11,7 @@ pub returns-in_err-begun-clause-unprepared : goal.returns-in_err-begun-clause-un
 returns-in_err-begun-clause-unprepared g c = λ given same.
     let x = inputs_of c.args.inputs in
     stop_handed (λ f. (f ≡ Memory) ⊎ IsUnreadLineage given x f) (IsRefusedBefore given x)
-    c.from_residual.result _ c.from_residual.ensures.1 (λ f memory. inl memory) (c.in_err-begun.ensures.refused given)
+    c.from_residual.result _ c.from_residual.ensures.1 (inl refl) (c.in_err-begun.ensures.refused given)
 
 pub returns-in_err-lineage-clause-unprepared : goal.returns-in_err-lineage-clause-unprepared
 returns-in_err-lineage-clause-unprepared g c = λ given same.

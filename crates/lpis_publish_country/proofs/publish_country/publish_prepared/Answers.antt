@@ -1,9 +1,10 @@
 use Rattle.std.proofs.Common.{refl, subst}
+use Rattle.std.proofs.lemmas.Result.{err_from_is_err_and}
 use Rattle.lpis_country_run.specs.RegionsOutcome.{IsSettingOf, RegionsJoin}
 use Rattle.lpis_country_run.proofs.Shared.{setting_begun}
 use Rattle.lpis_publish_country.specs.PublishCountryAnswer.{CountryRequest, setting_said}
 use Rattle.lpis_publish_country.specs.private.Preparing.{said_of}
-use Rattle.lpis_publish_country.proofs.EndLemmas.{runs_refused, runs_stopped, runs_union, stays_same}
+use Rattle.lpis_publish_country.proofs.EndLemmas.{runs_refused, runs_stopped_in, runs_union, stays_same}
 use Rattle.lpis_publish_country.proofs.publish_country.publish_prepared.Goals as goal
 
 pub join_regions-requires : goal.join_regions-requires
@@ -18,8 +19,9 @@ returns-in_err-country g c = λ given x texts p.
     let said = said_of p.begun.plan c.args.prepared p.tables in
     let s = setting_said given c.args.detail said in
     let is = subst (λ t. IsSettingOf s t c.args.detail c.args.prepared.begun) texts (setting_begun given.texts c.args.detail x.country c.args.prepared.begun p.begun) in
-    runs_stopped g.S.Store asked x old old (g.W.Write.contents c.args.out.now) (g.W.Write.contents c.join_regions.new.out) said p.said
-    c.from_residual.result _ c.from_residual.ensures.1 refl (λ failure. stays_same g.S.Store old _) (c.in_err-country.ensures.failure s is)
+    let e = err_from_is_err_and c.from_residual.result c.from_residual.ensures.1 in
+    rw (e.1, e.2) (runs_stopped_in g.S.Store asked x old old (g.W.Write.contents c.args.out.now) (g.W.Write.contents c.join_regions.new.out) said p.said
+    _ refl (stays_same g.S.Store old _) (c.in_err-country.ensures.failure s is))
 
 pub returns-in-Joined : goal.returns-in-Joined
 returns-in-Joined g c = λ given x texts p.

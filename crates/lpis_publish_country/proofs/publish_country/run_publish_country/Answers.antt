@@ -1,4 +1,5 @@
 use Rattle.std.proofs.Common.{◌<◌, ◌∙◌, ap, arith, refl}
+use Rattle.std.proofs.lemmas.Result.{err_from_is_err_and}
 use Rattle.std.specs.Option.{option_map}
 use Rattle.lpis_lineage.specs.Lineage.{last_year}
 use Rattle.lpis_publish_country.specs.PublishCountryAnswer.{CountryRequest}
@@ -8,8 +9,8 @@ use Rattle.lpis_publish_country.proofs.publish_country.run_publish_country.Goals
 
 pub returns-then-year-last : goal.returns-then-year-last
 returns-then-year-last g c =
-    runs_early g.S.Store _ c.args.register.now (g.W.Write.contents c.args.out.now) (g.W.Write.contents c.refuse_early.new.out) c.last_year-last.result c.refuse_early.result
-    (c.last_year-last.ensures ∙ ap last_year c.current.ensures) c.if-year-last.true c.refuse_early.ensures
+    runs_early g.S.Store _ c.args.register.now (g.W.Write.contents c.args.out.now) (g.W.Write.contents c.refuse_early.new.out) c.last_year-last.result
+    (c.last_year-last.ensures ∙ ap last_year c.current.ensures) c.if-year-last.true c.refuse_early.result c.refuse_early.ensures
 
 pub returns-in_err-inputs : goal.returns-in_err-inputs
 returns-in_err-inputs g c =
@@ -26,8 +27,8 @@ returns-in_err-inputs g c =
     } in
     let is = c.last_year-last.ensures ∙ ap last_year c.current.ensures in
     let later : last_year c.args.register.now.held.history < c.args.year = omega (arith, is, c.if-year-last.false) in
-    runs_unread g.S.Store asked c.args.register.now (g.W.Write.contents c.args.out.now) c.from_residual.result _ c.from_residual.ensures.1 later
-    (c.in_err-inputs.ensures.failure asked.given refl refl refl)
+    let p = err_from_is_err_and c.from_residual.result c.from_residual.ensures.1 in
+    rw (p.1, p.2) (runs_unread g.S.Store asked c.args.register.now (g.W.Write.contents c.args.out.now) _ later (c.in_err-inputs.ensures.failure asked.given refl refl refl))
 
 pub returns : goal.returns
 returns g c =
