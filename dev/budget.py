@@ -10,7 +10,7 @@ PAGE_WORDS = {
     "docs/GUIDE.md": 7_320,
     "docs/FORMATS.md": 8_300,
     "docs/PROOF.md": 6_950,
-    "docs/ARCHITECTURE.md": 4_530,
+    "docs/ARCHITECTURE.md": 4_700,
     "docs/DECISIONS.md": 4_460,
     "CONTRIBUTING.md": 3_660,
     "CHANGELOG.md": 1_900,

@@ -5,11 +5,11 @@ use crate::created::Created;
 use crate::folders::Folders;
 use crate::open;
 use lpis_command_line::NamedFile;
-use lpis_country_run::run_country;
-use lpis_locate_country::run_locate_country;
-use lpis_publish_country::{run_exact_country, run_publish_country};
 use lpis_register::Register;
 use lpis_run::{Detail, Failure};
+use lpis_run_country::run_country;
+use lpis_run_locate::run_locate_country;
+use lpis_run_publish_country::{run_exact_country, run_publish_country};
 use sqlite::Alter;
 use std::fs::File;
 

@@ -1,13 +1,13 @@
 //! The folders of a country's regions, as files.
 
 ghost use Rattle.std.specs.Prelude.{IfErr, None, true};
-ghost use Rattle.lpis_country_run.specs.CountryFailures.{IsUnopened};
+ghost use Rattle.lpis_run_country.specs.CountryFailures.{IsUnopened};
 
 use crate::open_at;
 use lpis_command_line::{RegionFiles, region_files, region_lineage};
-use lpis_country_run::Regions;
-use lpis_publish_country::Lineages;
 use lpis_run::{Failure, Folder, Name, TableReaders};
+use lpis_run_country::Regions;
+use lpis_run_publish_country::Lineages;
 use std::fs::File;
 
 /// The folder of a country, in which each region has one.

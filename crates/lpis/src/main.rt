@@ -18,12 +18,12 @@ use lpis_command_line::{
     Cmd, CommandFiles, NamedFile, SubmissionFiles, TableFiles, command_of, matches_of, named_files,
     usage_ends,
 };
-use lpis_locate::run_locate;
-use lpis_publishing::{SubmissionReaders, refuse_register, run_exact, run_publish, run_trace};
 use lpis_register::Register;
 use lpis_register_file::open_file;
 use lpis_run::{Detail, Failure, Folder, Name, TableReaders, print_failure, status_of};
 use lpis_run_check::{run_area, run_check, run_cut};
+use lpis_run_locate::run_locate;
+use lpis_run_publish::{SubmissionReaders, refuse_register, run_exact, run_publish, run_trace};
 use sqlite::{Alter, Unknown};
 use std::alloc::Global;
 use std::env::Args;

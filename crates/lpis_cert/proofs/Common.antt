@@ -26,7 +26,7 @@ pub use Rattle.lpis_cert.specs.declared.version.Version.{Version}
 pub use Rattle.lpis_cert.specs.private.Drafts.{draft_state, exacts_lines, parcels_lines}
 pub use Rattle.lpis_cert.specs.private.Fits.{ExactFits, ParcelFits, PieceFits}
 pub use Rattle.lpis_cert.specs.private.Taken.{FaultFrom, LineFault, Placed, ReadsLines, corner_line}
-pub use Rattle.lpis_covers.specs.Ids.{is_id}
+pub use Rattle.lpis_tables.specs.Ids.{is_id}
 pub use Rattle.lpis_points.specs.declared.triangle.Triangle.{Triangle}
 pub use Rattle.std.proofs.lemmas.Bool.{and_parts}
 pub use Rattle.std.proofs.lemmas.Bool.Decides.{nat_tests}

@@ -9,7 +9,7 @@ use Rattle.std.proofs.lemmas.Fmt.{decimal_digit, decimal_is_IsNumeral, first_dec
 use Rattle.std.proofs.lemmas.Str.Parse.{IsNumeralModel, numerals_by_value, tells_digits, digit_from_value}
 use Rattle.std.specs.Char.{digit_value, is_ascii_digit}
 use Rattle.std.specs.Str.Parse.{digits_value, digits_value_after, AllDigits}
-use Rattle.lpis_covers.proofs.Shared.{value-ge}
+use Rattle.lpis_tables.proofs.Shared.{value-ge}
 use Rattle.lpis_points.specs.Range.{limit, IsInRange}
 use Rattle.lpis_cert.specs.declared.version.Version.TheVariants.{One, Two}
 use Rattle.std.specs.Fmt.{signed_decimal}

@@ -11,7 +11,7 @@ use Rattle.std.proofs.lemmas.Fmt.{decimal_is_IsNumeral}
 use Rattle.std.proofs.lemmas.Str.Parse.{digit_from_value}
 use Rattle.std.specs.List.{slice_split, list_all}
 use Rattle.std.specs.Str.Parse.{AllDigits}
-use Rattle.lpis_covers.specs.Ids.{is_id_byte}
+use Rattle.lpis_tables.specs.Ids.{is_id_byte}
 use Rattle.lpis_cert.specs.declared.kind.Kind.TheVariants.{Triangle}
 use Rattle.lpis_cert.specs.declared.version.Version.TheVariants.{One, Two}
 use Rattle.std.specs.Fmt.{signed_decimal}

@@ -1,6 +1,6 @@
 -- Which lines have a text in a version.
 use Rattle.std.specs.Prelude.{ℤ, nat_abs, ◌*◌, ◌≤◌, ◌≡◌, true}
-use Rattle.lpis_covers.specs.Ids.{is_id}
+use Rattle.lpis_tables.specs.Ids.{is_id}
 use Rattle.lpis_cert.specs.declared.version.Version.{Version}
 use Rattle.lpis_cert.specs.Versions.{greatest_in_version, factor, has_exact, units}
 use Rattle.lpis_cert.specs.Limits.{greatest_count, last_edge}

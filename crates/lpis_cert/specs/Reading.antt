@@ -5,7 +5,7 @@ use Rattle.std.specs.Prelude.{codes, nat_le, is_some}
 use Rattle.std.specs.List.{slice_split, list_any}
 use Rattle.std.specs.Char.{is_ascii_digit, digit_value}
 use Rattle.std.specs.Str.{bytes_eq}
-use Rattle.lpis_covers.specs.Ids.{is_id}
+use Rattle.lpis_tables.specs.Ids.{is_id}
 use Rattle.lpis_cert.specs.declared.kind.Stage.TheVariants as stage
 use Rattle.lpis_cert.specs.declared.fault.CertCode.{CertCode}
 use Rattle.lpis_cert.specs.declared.fault.CertCode.TheVariants as code

@@ -3,7 +3,7 @@
 ghost use Rattle.std.specs.Prelude.{◌≡◌, ◌≤◌, ◌+◌, ◌∷◌, [], true, length, sum_by, IfOk, IfErr};
 ghost use Rattle.lpis_cert.specs.Limits.{most_flats, greatest_count};
 ghost use Rattle.lpis_points.specs.Triangles.{most_triangles};
-ghost use Rattle.lpis_covers.specs.Ids.{is_id};
+ghost use Rattle.lpis_tables.specs.Ids.{is_id};
 ghost use Rattle.lpis_cert.specs.declared.kind.Stage.TheVariants as stage;
 ghost use Rattle.lpis_cert.specs.declared.fault.CertFault.TheVariants.{Memory};
 ghost use Rattle.lpis_cert.specs.CertText.{PieceLine, PairsLine, content_lines};
@@ -23,9 +23,9 @@ use crate::head::{Head, Owner, head_at};
 use crate::lines::{corner_lines, end_line, pair_lines};
 use crate::part::{ExactBlock, PairLine, ParcelPart, PiecePart};
 use crate::rest::Rest;
-use lpis_covers::Id;
 use lpis_memory::{Sequence, without_spare};
 use lpis_points::Triangle;
+use lpis_tables::Id;
 use std::alloc::Global;
 
 /// A piece of its lines' values.

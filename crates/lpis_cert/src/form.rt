@@ -13,7 +13,7 @@ use crate::fault::CertCode;
 use crate::kind::{Expected, Kind, Stage};
 use crate::version::Version;
 use crate::words::{Words, count};
-use lpis_covers::is_id_text;
+use lpis_tables::is_id_text;
 
 #[tactic(auto, unfolding(crate::specs::Reading::kind_of))]
 fn kind_of(word: &[u8]) -> Option<Kind>

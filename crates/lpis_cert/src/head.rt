@@ -1,7 +1,7 @@
 //! The lines that begin blocks.
 
 ghost use Rattle.std.specs.Prelude.{◌≡◌, ◌∷◌, [], true, IfOk, IfErr, option_map};
-ghost use Rattle.lpis_covers.specs.Ids.{is_id};
+ghost use Rattle.lpis_tables.specs.Ids.{is_id};
 ghost use Rattle.lpis_cert.specs.CertText.{PieceLine, ParcelLine, ExactLine, PairsLine};
 ghost use Rattle.lpis_cert.specs.Fitting.{LineFits};
 ghost use Rattle.lpis_cert.specs.LineKinds.{line_kind};
@@ -21,7 +21,7 @@ use crate::lines::placed_line;
 use crate::rest::Rest;
 use crate::version::Version;
 use crate::words::Words;
-use lpis_covers::Id;
+use lpis_tables::Id;
 use std::alloc::{AllocError, Global};
 
 /// What begins a block.

@@ -1,12 +1,12 @@
 //! The parts of a certificate.
 
 ghost use Rattle.std.specs.Prelude.{◌≡◌, ◌≤◌, true};
-ghost use Rattle.lpis_covers.specs.Ids.{is_id};
+ghost use Rattle.lpis_tables.specs.Ids.{is_id};
 ghost use Rattle.lpis_cert.specs.Limits.{greatest_count, last_edge};
 
-use lpis_covers::Id;
 use lpis_memory::Sequence;
 use lpis_points::Triangle;
+use lpis_tables::Id;
 
 /// A piece as its triangles, with flats that add points on its edges.
 #[derive(Debug, Drop)]

@@ -19,9 +19,9 @@ use crate::form::side;
 use crate::head::Owner;
 use crate::part::{ExactBlock, PairLine, ParcelPart, PiecePart};
 use crate::version::Version;
-use lpis_covers::Id;
 use lpis_digits::{append_decimal, put_byte, put_decimal, put_signed};
 use lpis_points::{Point, Triangle};
+use lpis_tables::Id;
 use std::alloc::AllocError;
 
 /// How many bytes a line of numbers alone has at most: a letter, six numbers, a space before each,

@@ -6,9 +6,9 @@ pub use Rattle.lpis_checker.specs.FirstFault.{HoldBelow}
 pub use Rattle.lpis_checker.specs.GoodCertificate.{polygons_of, triangles_of}
 pub use Rattle.lpis_checker.specs.SoundMap.{IsInPiece, IsSoundMap}
 pub use Rattle.lpis_checker.specs.declared.condition.Condition.TheVariants.{NearPairs}
-pub use Rattle.lpis_covers.specs.declared.piece.Piece.{Piece}
-pub use Rattle.lpis_parcels.specs.Release.{Contents, pieces_named}
-pub use Rattle.lpis_parcels.specs.declared.parcel.Parcel.{Parcel}
+pub use Rattle.lpis_tables.specs.declared.piece.Piece.{Piece}
+pub use Rattle.lpis_release.specs.Release.{Contents, pieces_named}
+pub use Rattle.lpis_release.specs.declared.parcel.Parcel.{Parcel}
 pub use Rattle.lpis_points.specs.RatPoints.{rational_of}
 pub use Rattle.lpis_points.specs.declared.triangle.Triangle.{Triangle}
 pub use Rattle.lpis_rings.specs.Edges.{edges_of}

@@ -5,8 +5,8 @@ use Rattle.std.proofs.lemmas.Option.{get_or_from_slice_get, slice_get-map}
 use Rattle.std.specs.List.{IsDistinct}
 use Rattle.std.proofs.lemmas.Map.Made.{AllPairs-from_IsDistinct}
 use Rattle.std.proofs.lemmas.Slice.Eq.{bytes_eq-Decides}
-use Rattle.lpis_covers.specs.Ids.{same_id}
-use Rattle.lpis_parcels.specs.Release.{parcel_ids}
+use Rattle.lpis_tables.specs.Ids.{same_id}
+use Rattle.lpis_release.specs.Release.{parcel_ids}
 
 id_at : (xs : List Parcel) (i : ℕ) (a : Parcel) → slice_get xs i ≡ Some a → slice_get (parcel_ids xs) i ≡ Some a.id
 id_at xs i a e = slice_get-map (λ (p : Parcel). p.id) xs i ∙ ap (option_map (λ (p : Parcel). p.id)) e

@@ -6,7 +6,7 @@ use Rattle.std.proofs.lemmas.Grind.{get_or-set_at}
 use Rattle.std.proofs.lemmas.List.{get_or-set_other, length-set}
 use Rattle.std.proofs.lemmas.Option.{MatchOption-at_some, MatchOption-from_none, slice_get_past}
 use Rattle.lpis_points.specs.Triangles.{are_apart}
-use Rattle.lpis_parcels.proofs.Shared.{item-within}
+use Rattle.lpis_release.proofs.Shared.{item-within}
 use Rattle.lpis_pairs.specs.NearPairs.{HasNearPairs, IsNear}
 use Rattle.lpis_checker.specs.declared.condition.LineCondition.TheVariants as line
 use Rattle.lpis_checker.specs.declared.condition.Site.TheVariants as site

@@ -4,7 +4,7 @@ use Rattle.std.specs.Prelude.{⊤}
 use Rattle.std.proofs.Common.{◌≡◌, ℕ, zero, suc, ◌+◌, ◌<◌, ◌≤◌, List, length, get_or, Some, ◌⊎◌, inl, inr, ap, sym, refl, ◌∙◌, subst, arith, slice_get}
 use Rattle.lpis_checker.proofs.Common.{cases_eq, cases_lt, same_Some, slice_get_within, slice_get-get_or, Triangle, Contents, Cert, PairLine, triangles_of}
 use Rattle.std.proofs.lemmas.Option.{MatchOption-at_some}
-use Rattle.lpis_parcels.proofs.Shared.{item-within}
+use Rattle.lpis_release.proofs.Shared.{item-within}
 use Rattle.lpis_pairs.specs.NearPairs.{IsNear, IsNearList, IsBelow}
 use Rattle.lpis_checker.specs.declared.condition.Site.TheVariants as site
 use Rattle.lpis_checker.specs.GoodCertificate.{ConditionHolds, IsNamedPair, IsInOrder}

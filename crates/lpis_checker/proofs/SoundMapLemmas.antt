@@ -21,10 +21,10 @@ use Rattle.lpis_points.specs.Triangles.{triangle_edges, IsCounterClockwise, IsFl
 use Rattle.lpis_rings.specs.Edges.{edge_turns, turns}
 use Rattle.lpis_rings.specs.Area.{area2}
 use Rattle.lpis_rings.proofs.Shared.{pieces_share_nothing, contains_by_one_turn, area_is_positive, area2_is}
-use Rattle.lpis_covers.specs.Ids.{same_id}
-use Rattle.lpis_parcels.specs.Release.{names_parcel, parcel_ids}
-use Rattle.lpis_covers.specs.Percentages.{most_percent}
-use Rattle.lpis_parcels.specs.Weighted.{areas2, weighted2}
+use Rattle.lpis_tables.specs.Ids.{same_id}
+use Rattle.lpis_release.specs.Release.{names_parcel, parcel_ids}
+use Rattle.lpis_tables.specs.Percentages.{most_percent}
+use Rattle.lpis_release.specs.Weighted.{areas2, weighted2}
 use Rattle.lpis_edge_sums.specs.Counting.{AtMostOne, ExactlyOne}
 use Rattle.lpis_edge_sums.specs.Making.{EdgesCancel, TurnsAsParts, turns_of_all}
 use Rattle.lpis_checker.specs.SoundMap.{IsInParcel, TurnsTell, AreasAdd}

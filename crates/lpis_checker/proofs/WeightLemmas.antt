@@ -4,10 +4,10 @@ use Rattle.lpis_checker.proofs.Common.{Piece}
 use Rattle.std.proofs.lemmas.Int.{ints}
 use Rattle.std.proofs.lemmas.List.Elements.{All-head, All-tail}
 use Rattle.lpis_points.specs.Sums.{int_sum_by}
-use Rattle.lpis_covers.specs.declared.class.Class.{Class}
-use Rattle.lpis_covers.specs.Percentages.{most_percent}
+use Rattle.lpis_tables.specs.declared.class.Class.{Class}
+use Rattle.lpis_tables.specs.Percentages.{most_percent}
 use Rattle.lpis_rings.specs.Area.{area2}
-use Rattle.lpis_parcels.specs.Weighted.{areas2, class_named, piece_weight}
+use Rattle.lpis_release.specs.Weighted.{areas2, class_named, piece_weight}
 
 abbrev HasArea : Piece → Type 0
 HasArea x = pos 0 <ℤ area2 x.polygon

@@ -7,11 +7,11 @@ use Rattle.lpis_points.specs.Plane.{RationalPoint, orient_at}
 use Rattle.lpis_rings.specs.Area.{area2}
 use Rattle.lpis_rings.specs.Edges.{turns, Contains}
 use Rattle.lpis_rings.specs.Map.{IsOneOrNone}
-use Rattle.lpis_covers.specs.declared.piece.Piece.{Piece}
-use Rattle.lpis_covers.specs.Percentages.{most_percent}
-use Rattle.lpis_parcels.specs.declared.parcel.Parcel.{Parcel}
-use Rattle.lpis_parcels.specs.Release.{Contents, pieces_named}
-use Rattle.lpis_parcels.specs.Weighted.{areas2, weighted2}
+use Rattle.lpis_tables.specs.declared.piece.Piece.{Piece}
+use Rattle.lpis_tables.specs.Percentages.{most_percent}
+use Rattle.lpis_release.specs.declared.parcel.Parcel.{Parcel}
+use Rattle.lpis_release.specs.Release.{Contents, pieces_named}
+use Rattle.lpis_release.specs.Weighted.{areas2, weighted2}
 use Rattle.lpis_edge_sums.specs.Counting.{AtMostOne, ExactlyOne}
 use Rattle.lpis_edge_sums.specs.Making.{corners_of}
 

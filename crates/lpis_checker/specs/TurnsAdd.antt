@@ -4,9 +4,9 @@ use Rattle.lpis_points.specs.Plane.{RationalPoint}
 use Rattle.lpis_rings.specs.Edges.{turns}
 use Rattle.lpis_rings.specs.Map.{inside_count}
 use Rattle.lpis_edge_sums.specs.Making.{TurnsAsParts}
-use Rattle.lpis_covers.specs.declared.piece.Piece.{Piece}
-use Rattle.lpis_parcels.specs.declared.parcel.Parcel.{Parcel}
-use Rattle.lpis_parcels.specs.Release.{Contents, pieces_named}
+use Rattle.lpis_tables.specs.declared.piece.Piece.{Piece}
+use Rattle.lpis_release.specs.declared.parcel.Parcel.{Parcel}
+use Rattle.lpis_release.specs.Release.{Contents, pieces_named}
 use Rattle.lpis_cert.specs.declared.cert.Cert.{Cert}
 use Rattle.lpis_cert.specs.declared.part.PiecePart.{PiecePart}
 use Rattle.lpis_checker.specs.GoodCertificate.{SideBySide, polygons_of}

@@ -12,10 +12,10 @@ use crate::first_fault::{first_fault, part_fault};
 use crate::locating::{parcel_at, piece_at};
 use crate::reporting::reported;
 use lpis_cert::Cert;
-use lpis_covers::Id;
 use lpis_pairs::PairSource;
-use lpis_parcels::Release;
 use lpis_points::RatPoint;
+use lpis_release::Release;
+use lpis_tables::Id;
 use std::alloc::Global;
 use std::marker::Model;
 
@@ -46,7 +46,7 @@ pub struct Yes<'a> {
 }
 
 impl<'a> Model for Yes<'a> {
-    ghost use Rattle.lpis_parcels.specs.Release.{Contents};
+    ghost use Rattle.lpis_release.specs.Release.{Contents};
     ghost use Rattle.lpis_cert.specs.declared.cert.Cert.{Cert};
     ghost use Rattle.lpis_checker.specs.GoodCertificate.{IsGood};
 

@@ -9,9 +9,9 @@ ghost use Rattle.lpis_checker.specs.declared.exact.ExactFault.TheVariants.{Memor
 
 use crate::blocks::first_failing_block;
 use lpis_cert::{Cert, ExactBlock};
-use lpis_covers::Id;
 use lpis_memory::Sequence;
 use lpis_rings::Polygon;
+use lpis_tables::Id;
 use std::alloc::{AllocError, Global};
 use thiserror::Error;
 

@@ -4,7 +4,7 @@ ghost use Rattle.std.specs.Prelude.{◌≡◌};
 ghost use Rattle.lpis_checker.specs.declared.fault.CheckFault.TheVariants.{Memory};
 
 use crate::condition::Condition;
-use lpis_covers::Id;
+use lpis_tables::Id;
 use std::alloc::{AllocError, AllocFailed};
 use thiserror::Error;
 

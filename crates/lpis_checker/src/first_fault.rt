@@ -9,7 +9,8 @@ ghost use Rattle.lpis_checker.specs.private.Searches.{FindsPlace, FindsUntil, Ho
 ghost use Rattle.lpis_checker.specs.private.Searches.{all_searches, part_searches, search_of};
 ghost use Rattle.lpis_checker.specs.declared.condition.LineCondition.TheVariants.{NotApart};
 ghost use Rattle.lpis_checker.specs.declared.marks.Naming.TheVariants.{Named};
-ghost use Rattle.lpis_checker.specs.declared.condition.Site.TheVariants.{Line, Order, Parcel, Piece};
+ghost use Rattle.lpis_checker.specs.declared.condition.Site.TheVariants.{Line, Order, Parcel};
+ghost use Rattle.lpis_checker.specs.declared.condition.Site.TheVariants.{Piece};
 
 use crate::condition::{LineCondition, ParcelCondition, PieceCondition, Site};
 use crate::lines::{disordered_line, first_line, triangle_count};
@@ -19,8 +20,8 @@ use crate::parcels::ParcelPlaces;
 use crate::places::first_place;
 use lpis_cert::Cert;
 use lpis_pairs::PairSource;
-use lpis_parcels::Release;
 use lpis_points::Triangle;
+use lpis_release::Release;
 use std::alloc::{AllocError, Global};
 
 /// The first piece at which a condition fails.

@@ -2,14 +2,14 @@
 
 ghost use Rattle.std.specs.Prelude.{All, Contains, MatchOption};
 ghost use Rattle.lpis_points.specs.RatPoints.{rational_of};
-ghost use Rattle.lpis_parcels.specs.Release.{pieces_named};
+ghost use Rattle.lpis_release.specs.Release.{pieces_named};
 ghost use Rattle.lpis_checker.specs.SoundMap.{IsInParcel, IsInPiece, IsNowhere};
-ghost use Rattle.lpis_covers.specs.declared.piece.Piece.{Piece};
+ghost use Rattle.lpis_tables.specs.declared.piece.Piece.{Piece};
 
-use lpis_covers::Piece;
-use lpis_parcels::{Parcel, Release, pieces_of};
 use lpis_points::RatPoint;
+use lpis_release::{Parcel, Release, pieces_of};
 use lpis_rings::contains;
+use lpis_tables::Piece;
 
 /// The first parcel that contains the point.
 pub(crate) fn parcel_at<'a>(release: &'a Release, p: &RatPoint) -> Option<&'a Parcel>

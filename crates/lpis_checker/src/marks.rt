@@ -8,8 +8,8 @@ ghost use Rattle.lpis_checker.specs.private.Searches.{AreLinesInOrder};
 
 use crate::near_pairs::{names_at, skip_to};
 use lpis_cert::{Cert, PairLine};
-use lpis_parcels::Release;
 use lpis_points::Triangle;
+use lpis_release::Release;
 use std::alloc::{AllocError, Global};
 
 /// What the near pairs say of the pair lines.

@@ -9,8 +9,8 @@ ghost use Rattle.lpis_checker.specs.private.Searches.{AreLinesInOrder, FindsPair
 
 use crate::lines::is_before;
 use lpis_cert::{Cert, PairLine};
-use lpis_parcels::Release;
 use lpis_points::Triangle;
+use lpis_release::Release;
 
 /// The first line from an index on that names (i, j) or a later pair.
 pub(crate) fn skip_to(lines: &[PairLine], from: usize, i: u32, j: u32) -> usize

@@ -9,8 +9,8 @@ use crate::pieces::is_same;
 use crate::places::Places;
 use lpis_cert::ParcelPart;
 use lpis_edge_sums::{EdgeSum, are_flat, flats_have_corners};
-use lpis_parcels::{Parcel, PiecesOf, Release, pieces_at};
 use lpis_points::Triangle;
+use lpis_release::{Parcel, PiecesOf, Release, pieces_at};
 use lpis_rings::Polygon;
 use std::alloc::{AllocError, Global};
 

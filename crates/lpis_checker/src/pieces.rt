@@ -7,9 +7,9 @@ ghost use Rattle.lpis_checker.specs.GoodCertificate.{OnPiece};
 use crate::condition::PieceCondition;
 use crate::places::Places;
 use lpis_cert::PiecePart;
-use lpis_covers::{Id, Piece};
 use lpis_edge_sums::{EdgeSum, are_flat, has_corners};
 use lpis_points::{Triangle, is_ccw};
+use lpis_tables::{Id, Piece};
 use std::alloc::{AllocError, Global};
 
 /// Whether two identifiers are equal.

@@ -8,7 +8,7 @@ ghost use Rattle.lpis_checker.specs.private.Searches.{IsFaultAt};
 use crate::condition::Site;
 use crate::fault::{CheckFault, Location};
 use lpis_cert::Cert;
-use lpis_parcels::Release;
+use lpis_release::Release;
 use std::alloc::AllocError;
 
 /// The location of a site: of a piece or a parcel its identifier in the certificate, or the

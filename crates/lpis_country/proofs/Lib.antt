@@ -9,4 +9,13 @@ pub mod UnionLemmas
 pub mod CountryLemmas
 pub mod FittingLemmas
 pub mod PieceLemmas
+pub mod TreeLemmas
+pub mod NumberLemmas
+pub mod LineLemmas
+pub mod BegunLemmas
+pub mod FaultLemmas
+pub mod LawLemmas
+pub mod PlanLemmas
+pub mod DraftLemmas
+pub mod ReadingLemmas
 pub mod Shared

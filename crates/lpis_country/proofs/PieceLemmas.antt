@@ -6,10 +6,10 @@ use Rattle.std.proofs.lemmas.List.Sums.{sum_by-cons}
 use Rattle.std.proofs.lemmas.Map.Keys.{IsDistinct-tail}
 use Rattle.std.proofs.lemmas.Option.{none-some, same_Some}
 use Rattle.std.proofs.lemmas.Slice.Eq.{bytes_eq-Decides}
-use Rattle.lpis_covers.specs.declared.piece.Piece.{Piece}
-use Rattle.lpis_covers.specs.Ids.{same_id}
-use Rattle.lpis_parcels.specs.declared.parcel.Parcel.{Parcel}
-use Rattle.lpis_parcels.specs.Release.{Contents, names_parcel, parcel_ids, pieces_named}
+use Rattle.lpis_tables.specs.declared.piece.Piece.{Piece}
+use Rattle.lpis_tables.specs.Ids.{same_id}
+use Rattle.lpis_release.specs.declared.parcel.Parcel.{Parcel}
+use Rattle.lpis_release.specs.Release.{Contents, names_parcel, parcel_ids, pieces_named}
 use Rattle.lpis_edge_sums.proofs.Shared.{all_at, all_from, any_found, filter_kept, found_any}
 use Rattle.lpis_country.specs.Country.{IsRegion}
 use Rattle.lpis_country.proofs.ListLemmas.{not_both, filter_both}

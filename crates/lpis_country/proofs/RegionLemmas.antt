@@ -3,13 +3,13 @@ use Rattle.std.proofs.Common.{◌≡◌, ℕ, suc, ◌+◌, Bool, true, false, n
 use Rattle.std.specs.List.{Any}
 use Rattle.std.proofs.lemmas.List.Elements.{All-cons, All-nil}
 use Rattle.std.proofs.lemmas.Slice.Eq.{bytes_eq-Decides}
-use Rattle.lpis_covers.specs.declared.class.Class.{Class}
-use Rattle.lpis_covers.specs.declared.piece.Piece.{Piece}
-use Rattle.lpis_covers.specs.declared.fault.TableFault.{TableFault}
-use Rattle.lpis_covers.specs.Faults.{fault_if}
-use Rattle.lpis_covers.specs.Ids.{has_id, same_id}
-use Rattle.lpis_parcels.specs.declared.parcel.Parcel.{Parcel}
-use Rattle.lpis_parcels.specs.Release.{Contents, names_parcel, parcel_ids, reference_faults, unknown_faults, join_faults}
+use Rattle.lpis_tables.specs.declared.class.Class.{Class}
+use Rattle.lpis_tables.specs.declared.piece.Piece.{Piece}
+use Rattle.lpis_tables.specs.declared.fault.TableFault.{TableFault}
+use Rattle.lpis_tables.specs.Faults.{fault_if}
+use Rattle.lpis_tables.specs.Ids.{has_id, same_id}
+use Rattle.lpis_release.specs.declared.parcel.Parcel.{Parcel}
+use Rattle.lpis_release.specs.Release.{Contents, names_parcel, parcel_ids, reference_faults, unknown_faults, join_faults}
 use Rattle.lpis_edge_sums.proofs.Shared.{any_found, found_any}
 
 abbrev NamedIn : List Parcel → Piece → Type 0

@@ -8,13 +8,13 @@ use Rattle.lpis_points.specs.Plane.{RationalPoint}
 use Rattle.lpis_points.specs.Sums.{int_sum_by}
 use Rattle.lpis_rings.specs.Area.{area2}
 use Rattle.lpis_rings.specs.Edges.{turns}
-use Rattle.lpis_covers.specs.declared.class.Class.{Class}
-use Rattle.lpis_covers.specs.declared.piece.Piece.{Piece}
-use Rattle.lpis_covers.specs.Ids.{same_id}
-use Rattle.lpis_covers.specs.Percentages.{most_percent}
-use Rattle.lpis_parcels.specs.declared.parcel.Parcel.{Parcel}
-use Rattle.lpis_parcels.specs.Release.{Contents, names_parcel, parcel_ids, pieces_named}
-use Rattle.lpis_parcels.specs.Weighted.{areas2, piece_weight, weighted2}
+use Rattle.lpis_tables.specs.declared.class.Class.{Class}
+use Rattle.lpis_tables.specs.declared.piece.Piece.{Piece}
+use Rattle.lpis_tables.specs.Ids.{same_id}
+use Rattle.lpis_tables.specs.Percentages.{most_percent}
+use Rattle.lpis_release.specs.declared.parcel.Parcel.{Parcel}
+use Rattle.lpis_release.specs.Release.{Contents, names_parcel, parcel_ids, pieces_named}
+use Rattle.lpis_release.specs.Weighted.{areas2, piece_weight, weighted2}
 use Rattle.lpis_edge_sums.specs.Counting.{AtMostOne, ExactlyOne}
 use Rattle.lpis_edge_sums.proofs.Shared.{Found, any_found, all_at, all_from, filter_kept}
 use Rattle.lpis_checker.specs.SoundMap.{IsInParcel, IsInPiece, IsSoundMap, IsSoundEverywhere, TurnsTell, TurnsOnce, AreasAdd}

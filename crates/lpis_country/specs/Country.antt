@@ -1,11 +1,11 @@
 -- The country of a list of regions, in which a parcel near a border may stand more than once.
 use Rattle.std.specs.Prelude.{Bool, not, ℕ, List, [], ◌∷◌, ◌++◌, All, Any, IsTrue, filter}
 use Rattle.std.specs.List.{IsDistinct}
-use Rattle.lpis_covers.specs.declared.class.Class.{Class}
-use Rattle.lpis_covers.specs.declared.piece.Piece.{Piece}
-use Rattle.lpis_covers.specs.Ids.{has_id, same_id}
-use Rattle.lpis_parcels.specs.declared.parcel.Parcel.{Parcel}
-use Rattle.lpis_parcels.specs.Release.{Contents, names_parcel, parcel_ids}
+use Rattle.lpis_tables.specs.declared.class.Class.{Class}
+use Rattle.lpis_tables.specs.declared.piece.Piece.{Piece}
+use Rattle.lpis_tables.specs.Ids.{has_id, same_id}
+use Rattle.lpis_release.specs.declared.parcel.Parcel.{Parcel}
+use Rattle.lpis_release.specs.Release.{Contents, names_parcel, parcel_ids}
 use Rattle.lpis_country.specs.Polygons.{HasClosedRings}
 
 -- no identifier of a parcel stands twice, each piece names a parcel that is there, and the rings

@@ -2,3 +2,9 @@ pub mod Polygons
 pub mod Tiling
 pub mod Country
 pub mod Union
+pub mod Limits
+pub mod Tree
+pub mod CountryText
+pub mod Faults
+pub mod Plans
+pub mod private

@@ -4,7 +4,7 @@ use Rattle.std.specs.Int.{int_max, int_min}
 use Rattle.lpis_points.specs.declared.boxes.Box4.{Box4}
 use Rattle.lpis_points.specs.Range.{limit}
 use Rattle.lpis_points.specs.Triangles.{ends_before}
-use Rattle.lpis_parcels.specs.declared.parcel.Parcel.{Parcel}
+use Rattle.lpis_release.specs.declared.parcel.Parcel.{Parcel}
 use Rattle.lpis_country.specs.Polygons.{box_of_members}
 
 -- one tile, or two parts that a line of one x, or of one y, keeps apart: the part left of the line,

@@ -2,10 +2,10 @@
 use Rattle.std.specs.Prelude.{◌≡◌, List, All, Any, IsTrue}
 use Rattle.std.specs.Prelude.{Contains as IsAmong}
 use Rattle.std.specs.List.{IsDistinct}
-use Rattle.lpis_covers.specs.declared.piece.Piece.{Piece}
-use Rattle.lpis_covers.specs.Ids.{same_id}
-use Rattle.lpis_parcels.specs.declared.parcel.Parcel.{Parcel}
-use Rattle.lpis_parcels.specs.Release.{Contents, names_parcel, parcel_ids, pieces_named}
+use Rattle.lpis_tables.specs.declared.piece.Piece.{Piece}
+use Rattle.lpis_tables.specs.Ids.{same_id}
+use Rattle.lpis_release.specs.declared.parcel.Parcel.{Parcel}
+use Rattle.lpis_release.specs.Release.{Contents, names_parcel, parcel_ids, pieces_named}
 
 -- the parcel of a region stands in the country too, with the same identifier and polygon, and with
 -- the same pieces in the same order

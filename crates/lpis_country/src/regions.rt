@@ -5,7 +5,7 @@ ghost use Rattle.lpis_rings.specs.Ring.{IsRing};
 ghost use Rattle.lpis_country.specs.Country.{IsRegion};
 ghost use Rattle.lpis_country.specs.Polygons.{HasClosedRings};
 
-use lpis_parcels::{Parcel, Release};
+use lpis_release::{Parcel, Release};
 use lpis_rings::{Member, Polygon, Ring};
 
 /// Rings are closed.

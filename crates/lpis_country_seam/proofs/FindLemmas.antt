@@ -5,7 +5,7 @@ use Rattle.std.specs.List.{ItemBy, position, position_or_len}
 use Rattle.std.specs.Option.{option_map}
 use Rattle.std.proofs.lemmas.List.Folds.{find_at}
 use Rattle.std.proofs.lemmas.Option.{slice_get-get_or, slice_get_past}
-use Rattle.lpis_covers.specs.Ids.{same_id}
+use Rattle.lpis_tables.specs.Ids.{same_id}
 use Rattle.lpis_country_seam.specs.declared.kept.KeptRow.{KeptRow}
 use Rattle.lpis_country_seam.specs.private.Kept.{row_ids}
 use Rattle.lpis_country_seam.specs.private.Testing.{row_named}

@@ -4,9 +4,9 @@ use Rattle.std.specs.List.{list_any}
 use Rattle.std.specs.Cmp.Lexicographic.{bytes_decides, slice_cmp, texts_ties}
 use Rattle.std.proofs.lemmas.List.{drop_all, drop_more, map-append}
 use Rattle.std.proofs.lemmas.List.Folds.{list_any-append}
-use Rattle.lpis_covers.specs.Ids.{has_id, same_id}
-use Rattle.lpis_parcels.specs.declared.parcel.Parcel.{Parcel}
-use Rattle.lpis_parcels.specs.Release.{Contents, parcel_ids}
+use Rattle.lpis_tables.specs.Ids.{has_id, same_id}
+use Rattle.lpis_release.specs.declared.parcel.Parcel.{Parcel}
+use Rattle.lpis_release.specs.Release.{Contents, parcel_ids}
 use Rattle.lpis_country.specs.Country.{is_new, new_parcels, with_region}
 use Rattle.lpis_country_seam.proofs.ListLemmas.{same-sym}
 

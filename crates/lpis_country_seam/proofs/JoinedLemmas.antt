@@ -8,16 +8,16 @@ use Rattle.std.proofs.lemmas.Option.{same_Some}
 use Rattle.std.proofs.lemmas.Slice.Eq.{bytes_eq-Decides}
 use Rattle.lpis_points.specs.declared.boxes.Box4.{Box4}
 use Rattle.lpis_rings.specs.declared.polygon.Member.{Member}
-use Rattle.lpis_covers.specs.declared.class.Class.{Class}
-use Rattle.lpis_covers.specs.Ids.{has_id, same_id}
-use Rattle.lpis_parcels.specs.declared.parcel.Parcel.{Parcel}
-use Rattle.lpis_parcels.specs.Release.{Contents, parcel_ids, parcel_named, pieces_named}
+use Rattle.lpis_tables.specs.declared.class.Class.{Class}
+use Rattle.lpis_tables.specs.Ids.{has_id, same_id}
+use Rattle.lpis_release.specs.declared.parcel.Parcel.{Parcel}
+use Rattle.lpis_release.specs.Release.{Contents, parcel_ids, parcel_named, pieces_named}
 use Rattle.lpis_checker.specs.SoundMap.{IsSoundMap}
 use Rattle.lpis_country.specs.Country.{country_of, is_new}
 use Rattle.lpis_country.specs.Tiling.{Tiling, rectangles, frame, reaches}
 use Rattle.lpis_country.specs.Union.{IsDouble, IsUnion}
 use Rattle.lpis_country.proofs.Shared.{FitsCountry, IsLate, IsThere, country_is_sound, country_is_union, has_among}
-use Rattle.lpis_country_rows.specs.Equality.{same_pieces, same_polygon, TestsFindEqualRows}
+use Rattle.lpis_release.specs.Equality.{same_pieces, same_polygon, TestsFindEqualRows}
 use Rattle.lpis_country_seam.specs.declared.fault.SeamFault.{SeamFault}
 use Rattle.lpis_country_seam.specs.declared.fault.SeamFault.TheVariants.{At}
 use Rattle.lpis_country_seam.specs.declared.fault.SeamCode.TheVariants.{Differs, Elsewhere, Lacks, Reused}

@@ -5,14 +5,14 @@ use Rattle.std.specs.List.{IsDistinct, slice_get}
 use Rattle.std.proofs.lemmas.List.{length-append}
 use Rattle.std.proofs.lemmas.List.Elements.{All-contains_itself, All-nil, All-push, All-weaker, filter_agree}
 use Rattle.lpis_points.specs.declared.boxes.Box4.{Box4}
-use Rattle.lpis_covers.specs.declared.class.Class.{Class}
-use Rattle.lpis_covers.specs.Ids.{has_id, same_id}
-use Rattle.lpis_parcels.specs.declared.parcel.Parcel.{Parcel}
-use Rattle.lpis_parcels.specs.Release.{Contents, parcel_ids, pieces_named}
+use Rattle.lpis_tables.specs.declared.class.Class.{Class}
+use Rattle.lpis_tables.specs.Ids.{has_id, same_id}
+use Rattle.lpis_release.specs.declared.parcel.Parcel.{Parcel}
+use Rattle.lpis_release.specs.Release.{Contents, parcel_ids, pieces_named}
 use Rattle.lpis_country.specs.Country.{IsRegion, country_of, is_new, new_parcels, with_region}
 use Rattle.lpis_country.proofs.Shared.{country_is_region, country_snoc, fresh_pieces, old_pieces, region_grows}
-use Rattle.lpis_country_rows.specs.Equality.{same_class}
-use Rattle.lpis_country_rows.proofs.Shared.{same_class-tells}
+use Rattle.lpis_release.specs.Equality.{same_class}
+use Rattle.lpis_release.proofs.Shared.{same_class-tells}
 use Rattle.lpis_country_seam.specs.declared.kept.KeptRow.{KeptRow}
 use Rattle.lpis_country_seam.specs.declared.seam.OpenSeam.{OpenSeam}
 use Rattle.lpis_country_seam.specs.declared.fault.SeamCode.TheVariants.{Lacks}

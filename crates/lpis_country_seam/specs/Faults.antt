@@ -5,13 +5,13 @@ use Rattle.std.specs.Prelude.{slice_get, take, drop, map, filter, flat_map, Opti
 use Rattle.std.specs.Prelude.{Result, Ok, Err}
 use Rattle.std.specs.List.{list_any}
 use Rattle.lpis_points.specs.declared.boxes.Box4.{Box4}
-use Rattle.lpis_covers.specs.declared.class.Class.{Class}
-use Rattle.lpis_covers.specs.Ids.{has_id}
-use Rattle.lpis_parcels.specs.declared.parcel.Parcel.{Parcel}
-use Rattle.lpis_parcels.specs.Release.{Contents, parcel_ids, parcel_named, pieces_named}
+use Rattle.lpis_tables.specs.declared.class.Class.{Class}
+use Rattle.lpis_tables.specs.Ids.{has_id}
+use Rattle.lpis_release.specs.declared.parcel.Parcel.{Parcel}
+use Rattle.lpis_release.specs.Release.{Contents, parcel_ids, parcel_named, pieces_named}
 use Rattle.lpis_country.specs.Country.{country_of}
 use Rattle.lpis_country.specs.Tiling.{reaches}
-use Rattle.lpis_country_rows.specs.Equality.{same_class, same_pieces, same_polygon}
+use Rattle.lpis_release.specs.Equality.{same_class, same_pieces, same_polygon}
 use Rattle.lpis_country_seam.specs.declared.fault.SeamCode.TheVariants.{Elsewhere, Reused}
 use Rattle.lpis_country_seam.specs.declared.fault.SeamCode.TheVariants.{Differs, Lacks}
 use Rattle.lpis_country_seam.specs.declared.fault.SeamFault.{SeamFault}

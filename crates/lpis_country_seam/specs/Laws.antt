@@ -1,8 +1,8 @@
 -- Laws of regions without a fault of the seam, as statements.
 use Rattle.std.specs.Prelude.{◌≡◌, List, length, All}
 use Rattle.lpis_points.specs.declared.boxes.Box4.{Box4}
-use Rattle.lpis_covers.specs.declared.class.Class.{Class}
-use Rattle.lpis_parcels.specs.Release.{Contents}
+use Rattle.lpis_tables.specs.declared.class.Class.{Class}
+use Rattle.lpis_release.specs.Release.{Contents}
 use Rattle.lpis_checker.specs.SoundMap.{IsSoundMap}
 use Rattle.lpis_country.specs.Country.{country_of}
 use Rattle.lpis_country.specs.Tiling.{Tiling, rectangles, frame}

@@ -1,10 +1,10 @@
 -- What is kept of the regions that were let go.
 use Rattle.std.specs.Prelude.{◌≡◌, ◌<◌, ℕ, List, [], ◌∷◌, ◌++◌, length, map, filter, All}
 use Rattle.lpis_points.specs.declared.boxes.Box4.{Box4}
-use Rattle.lpis_covers.specs.declared.class.Class.{Class}
-use Rattle.lpis_covers.specs.Ids.{has_id}
-use Rattle.lpis_parcels.specs.declared.parcel.Parcel.{Parcel}
-use Rattle.lpis_parcels.specs.Release.{Contents, parcel_ids, pieces_named}
+use Rattle.lpis_tables.specs.declared.class.Class.{Class}
+use Rattle.lpis_tables.specs.Ids.{has_id}
+use Rattle.lpis_release.specs.declared.parcel.Parcel.{Parcel}
+use Rattle.lpis_release.specs.Release.{Contents, parcel_ids, pieces_named}
 use Rattle.lpis_country.specs.Country.{IsRegion, country_of}
 use Rattle.lpis_country_seam.specs.declared.kept.KeptRow.{KeptRow}
 use Rattle.lpis_country_seam.specs.declared.seam.OpenSeam.{OpenSeam}

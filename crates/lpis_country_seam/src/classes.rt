@@ -1,12 +1,12 @@
 //! Whether a region has the country's classes.
 
 ghost use Rattle.std.specs.Prelude.{◌≤◌, length};
-ghost use Rattle.lpis_covers.specs.Table.{most_rows};
+ghost use Rattle.lpis_tables.specs.Table.{most_rows};
 ghost use Rattle.lpis_country_seam.specs.Faults.{ReportsSeam, seam_class_faults};
 
 use crate::fault::SeamFault;
-use lpis_country_rows::is_same_class;
-use lpis_covers::Class;
+use lpis_release::is_same_class;
+use lpis_tables::Class;
 
 /// Looks for the first row at which two tables of classes differ.
 pub(crate) fn check_classes(own: &[Class], all: &[Class]) -> Result<(), SeamFault>

@@ -4,7 +4,7 @@ ghost use Rattle.std.specs.Prelude.{◌≡◌};
 ghost use Rattle.lpis_country_seam.specs.Codes.{classes_code_text, seam_code_text};
 ghost use Rattle.lpis_country_seam.specs.declared.fault.SeamFault.TheVariants.{Memory};
 
-use lpis_covers::Id;
+use lpis_tables::Id;
 use std::alloc::{AllocError, AllocFailed};
 use thiserror::Error;
 

@@ -5,7 +5,7 @@ ghost use Rattle.lpis_country_seam.specs.Joined.{HasEnded, IsJoined};
 
 use crate::laws::a_country_of_joined_regions_is_sound;
 use crate::seam::OpenSeam;
-use lpis_parcels::Parcel;
+use lpis_release::Parcel;
 use std::marker::Model;
 
 /// The parcels of a country whose regions joined: each once, in the order in which they first
@@ -17,7 +17,7 @@ pub struct Joined {
 
 impl Model for Joined {
     ghost use Rattle.std.specs.Prelude.{List};
-    ghost use Rattle.lpis_parcels.specs.declared.parcel.Parcel.{Parcel};
+    ghost use Rattle.lpis_release.specs.declared.parcel.Parcel.{Parcel};
     ghost use Rattle.lpis_country_seam.specs.Joined.{IsJoined};
 
     ghost Value = { List Parcel };

@@ -1,16 +1,16 @@
 //! What is kept of a region that fits.
 
 ghost use Rattle.std.specs.Prelude.{◌≡◌, ◌||◌, [], ℕ, List, IfOk, OnOk, option_to_list, slice_get};
-ghost use Rattle.lpis_covers.specs.Ids.{has_id};
-ghost use Rattle.lpis_parcels.specs.Release.{parcel_ids};
+ghost use Rattle.lpis_tables.specs.Ids.{has_id};
+ghost use Rattle.lpis_release.specs.Release.{parcel_ids};
 ghost use Rattle.lpis_country_seam.specs.private.Kept.{at_places, new_rows, rows_reaching};
 ghost use Rattle.lpis_country_seam.specs.private.Kept.{with_rows};
 
 use crate::identifiers::Identifiers;
 use crate::kept::{KeptRow, KeptRows};
 use crate::tiles::reaches_any;
-use lpis_parcels::{Parcel, Release};
 use lpis_points::Box4;
+use lpis_release::{Parcel, Release};
 use std::alloc::{AllocError, Global};
 
 /// Those of the rows that reach one of these tiles.

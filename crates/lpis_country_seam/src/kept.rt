@@ -2,15 +2,14 @@
 
 ghost use Rattle.std.specs.Prelude.{◌≡◌, [], IfOk, OnOk};
 ghost use Rattle.std.specs.Option.{option_copied};
-ghost use Rattle.lpis_parcels.specs.Release.{pieces_named};
+ghost use Rattle.lpis_release.specs.Release.{pieces_named};
 ghost use Rattle.lpis_country_seam.specs.private.Kept.{row_in, with_kept_row};
 ghost use Rattle.lpis_country_seam.specs.private.Testing.{row_named};
 
 use indexmap::IndexSet;
-use lpis_country_rows::{copy_parcel, copy_pieces_of};
-use lpis_covers::{Id, Piece};
 use lpis_memory::Sequence;
-use lpis_parcels::{Parcel, Release};
+use lpis_release::{Parcel, Release, copy_parcel, copy_pieces_of};
+use lpis_tables::{Id, Piece};
 use std::alloc::{AllocError, Global};
 use std::marker::Model;
 

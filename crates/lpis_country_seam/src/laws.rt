@@ -3,7 +3,7 @@
 
 ghost use Rattle.lpis_country_seam.specs.Laws.{JoinedCountryIsSound, JoinedCountryIsUnion};
 
-use lpis_country_rows::laws::tests_find_equal_rows;
+use lpis_release::laws::tests_find_equal_rows;
 
 /// Regions none of which has a fault of the seam after those before it make a country that is their
 /// union. Where they are sound maps, one for each tile, so is the country.

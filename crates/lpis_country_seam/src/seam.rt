@@ -2,8 +2,8 @@
 
 ghost use Rattle.std.specs.Prelude.{◌≡◌, ◌≢◌, ◌++◌, ◌∷◌, [], List, filter, map, Some, IfErr, IfOk};
 ghost use Rattle.std.specs.Prelude.{OnOk, slice_get};
-ghost use Rattle.lpis_covers.specs.declared.class.Class.{Class};
-ghost use Rattle.lpis_parcels.specs.Release.{Contents};
+ghost use Rattle.lpis_tables.specs.declared.class.Class.{Class};
+ghost use Rattle.lpis_release.specs.Release.{Contents};
 ghost use Rattle.lpis_country.specs.Country.{country_of, new_parcels};
 ghost use Rattle.lpis_country_seam.specs.Faults.{ReportsSeam, seam_faults};
 ghost use Rattle.lpis_country_seam.specs.declared.fault.SeamFault.TheVariants.{Memory};
@@ -18,9 +18,9 @@ use crate::keeping::{add_ids, still_kept, with_new};
 use crate::kept::KeptRows;
 use crate::testing::{Known, check_parcels};
 use lpis_country::is_region;
-use lpis_covers::Class;
-use lpis_parcels::Release;
 use lpis_points::Box4;
+use lpis_release::Release;
+use lpis_tables::Class;
 use std::alloc::{AllocError, Global};
 use std::mem;
 

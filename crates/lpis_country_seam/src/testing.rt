@@ -3,7 +3,7 @@
 ghost use Rattle.std.specs.Prelude.{◌++◌, ◌∷◌, [], OnOk, cond};
 ghost use Rattle.std.specs.Prelude.{◌≡◌, ◌≤◌, not, IfOk, filter, flat_map, length, map, Some};
 ghost use Rattle.std.specs.Prelude.{slice_get};
-ghost use Rattle.lpis_covers.specs.Ids.{has_id};
+ghost use Rattle.lpis_tables.specs.Ids.{has_id};
 ghost use Rattle.lpis_country_seam.specs.declared.fault.SeamFault.TheVariants.{At};
 ghost use Rattle.lpis_country_seam.specs.Faults.{ReportsSeam, is_lacking as lacking, reaches_own};
 ghost use Rattle.lpis_country_seam.specs.private.Testing.{fresh_faults, is_kept_row_of};
@@ -14,10 +14,9 @@ use crate::fault::{SeamCode, SeamFault};
 use crate::identifiers::Identifiers;
 use crate::kept::{KeptRow, KeptRows};
 use crate::tiles::{first_reached, reaches_tile};
-use lpis_country_rows::{are_pieces_of, is_same_polygon};
-use lpis_covers::Id;
-use lpis_parcels::{Parcel, Release};
 use lpis_points::Box4;
+use lpis_release::{Parcel, Release, are_pieces_of, is_same_polygon};
+use lpis_tables::Id;
 use std::alloc::{AllocError, Global};
 
 /// What the next region is tested by: the tiles of all regions, its number, the identifiers of the

@@ -6,8 +6,8 @@ ghost use Rattle.lpis_country.specs.Tiling.{meets as meets_spec, reaches};
 ghost use Rattle.lpis_country_seam.specs.Faults.{reached};
 
 use lpis_country::{box_of_polygon, meets};
-use lpis_parcels::Parcel;
 use lpis_points::Box4;
+use lpis_release::Parcel;
 
 /// Whether a box meets one of these tiles.
 fn meets_any(tiles: &[Box4], b: &Box4) -> bool

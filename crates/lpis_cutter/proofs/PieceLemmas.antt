@@ -4,7 +4,7 @@ use Rattle.lpis_cutter.proofs.Common.{Piece}
 use Rattle.std.proofs.lemmas.List.Elements.{Contains-get_or}
 use Rattle.std.proofs.lemmas.List.Sums.{sum_by_more, sum_by_more_le}
 use Rattle.lpis_rings.specs.Polygon.{points_of}
-use Rattle.lpis_parcels.specs.Release.{Contents}
+use Rattle.lpis_release.specs.Release.{Contents}
 use Rattle.lpis_points.specs.Triangles.{most_triangles}
 use Rattle.lpis_cutter.specs.declared.fault.Refusal.TheVariants.{NoCut}
 use Rattle.lpis_cutter.specs.Fans.{IsFan, AreFewFans}

@@ -9,9 +9,9 @@ use Rattle.std.proofs.lemmas.List.Elements.{All-contains}
 use Rattle.std.proofs.lemmas.Option.{none-some, same_Some}
 use Rattle.lpis_points.specs.declared.rational.RatPoint.{RatPoint}
 use Rattle.lpis_points.specs.Plane.{RationalPoint}
-use Rattle.lpis_parcels.specs.declared.parcel.Parcel.{Parcel}
-use Rattle.lpis_covers.specs.Ids.{same_id}
-use Rattle.lpis_parcels.specs.Release.{Contents, names_parcel, parcel_ids}
+use Rattle.lpis_release.specs.declared.parcel.Parcel.{Parcel}
+use Rattle.lpis_tables.specs.Ids.{same_id}
+use Rattle.lpis_release.specs.Release.{Contents, names_parcel, parcel_ids}
 use Rattle.lpis_cert.specs.declared.cert.Cert.{Cert}
 use Rattle.lpis_checker.specs.GoodCertificate.{IsGood}
 use Rattle.lpis_checker.specs.Laws.{GoodMeansSound}

@@ -6,8 +6,8 @@ use Rattle.lpis_points.specs.Plane.{orient}
 use Rattle.lpis_rings.specs.declared.polygon.Member.{Member}
 use Rattle.lpis_rings.specs.Edges.{edges_of}
 use Rattle.lpis_rings.specs.Polygon.{points_of}
-use Rattle.lpis_covers.specs.declared.piece.Piece.{Piece}
-use Rattle.lpis_parcels.specs.Release.{Contents}
+use Rattle.lpis_tables.specs.declared.piece.Piece.{Piece}
+use Rattle.lpis_release.specs.Release.{Contents}
 use Rattle.lpis_points.specs.Triangles.{most_triangles}
 
 -- one member without holes

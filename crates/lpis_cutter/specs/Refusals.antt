@@ -9,9 +9,9 @@ use Rattle.lpis_points.specs.RatPoints.{rational_of}
 use Rattle.lpis_points.specs.Chain.{SameNet}
 use Rattle.lpis_rings.specs.declared.polygon.Member.{Member}
 use Rattle.lpis_rings.specs.Edges.{edges_of}
-use Rattle.lpis_covers.specs.declared.piece.Piece.{Piece}
-use Rattle.lpis_parcels.specs.declared.parcel.Parcel.{Parcel}
-use Rattle.lpis_parcels.specs.Release.{Contents, pieces_named}
+use Rattle.lpis_tables.specs.declared.piece.Piece.{Piece}
+use Rattle.lpis_release.specs.declared.parcel.Parcel.{Parcel}
+use Rattle.lpis_release.specs.Release.{Contents, pieces_named}
 use Rattle.lpis_edge_sums.specs.Making.{HasCorners, corners_of, edges_of_all}
 use Rattle.lpis_cert.specs.Limits.{last_edge}
 use Rattle.lpis_checker.specs.GoodCertificate.{LineSeparates, polygons_of}

@@ -21,11 +21,11 @@ use crate::separating::{Separated, early_overlap, separate};
 use crate::telling::unevenness;
 use lpis_cert::{Cert, GREATEST_COUNT, MOST_FLATS, PairLine};
 use lpis_checker::laws::a_good_certificate_shows_a_sound_map;
-use lpis_covers::Piece;
 use lpis_cutter_residue::Net;
 use lpis_pairs::{MOST_TRIANGLES, PairSource, Sweep};
-use lpis_parcels::{Parcel, Release, pieces_of};
 use lpis_points::Triangle;
+use lpis_release::{Parcel, Release, pieces_of};
+use lpis_tables::Piece;
 use std::alloc::{AllocError, Global};
 
 /// The parts with a piece more; `None` where it has no cut, or a limit would be passed.

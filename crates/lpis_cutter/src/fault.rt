@@ -4,8 +4,8 @@ ghost use Rattle.std.specs.Prelude.{◌≡◌};
 ghost use Rattle.lpis_cutter.specs.Codes.{cut_code_text};
 ghost use Rattle.lpis_cutter.specs.declared.fault.CutFault.TheVariants.{Memory};
 
-use lpis_covers::Id;
 use lpis_points::RatPoint;
+use lpis_tables::Id;
 use std::alloc::{AllocError, AllocFailed};
 use thiserror::Error;
 

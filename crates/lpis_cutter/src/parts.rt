@@ -5,10 +5,10 @@ ghost use Rattle.lpis_cert.specs.Limits.{most_flats, greatest_count};
 ghost use Rattle.lpis_points.specs.Triangles.{most_triangles};
 
 use lpis_cert::{Cert, MOST_FLATS, MOST_TRIANGLES, PairLine, ParcelPart, PiecePart};
-use lpis_covers::Id;
 use lpis_cutter_mesh::Cut;
 use lpis_memory::Sequence;
 use lpis_points::Triangle;
+use lpis_tables::Id;
 use std::alloc::{AllocError, Global};
 
 /// Parts, and how many triangles and flats they have: no more than a certificate.

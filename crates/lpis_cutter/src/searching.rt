@@ -5,12 +5,12 @@ ghost use Rattle.lpis_cutter.specs.private.Cutting.{ReportsIfAny};
 
 use crate::fault::Refusal;
 use crate::telling::{disagreement, parcels_overlap, pieces_overlap};
-use lpis_covers::Id;
 use lpis_cutter_mesh::Mesher;
 use lpis_cutter_residue::{Net, points_in_both};
-use lpis_parcels::Release;
 use lpis_points::{RatPoint, Triangle};
+use lpis_release::Release;
 use lpis_rings::Polygon;
+use lpis_tables::Id;
 use std::alloc::{AllocError, Global};
 
 /// How many edges the searches of one cut may look at, so that no release makes them slower than a

@@ -9,8 +9,8 @@ use crate::searching::{Budget, find_overlap};
 use crate::separator::separator;
 use crate::telling::no_separator;
 use lpis_cert::PairLine;
-use lpis_parcels::Release;
 use lpis_points::{Triangle, apart, box_of};
+use lpis_release::Release;
 use std::alloc::{AllocError, Global};
 
 /// How many triangles behind the first of a piece it is compared with before near pairs are listed.

@@ -5,7 +5,7 @@ ghost use Rattle.lpis_points.specs.Plane.{same_point};
 ghost use Rattle.lpis_points.specs.Chain.{SameNet};
 ghost use Rattle.lpis_points.specs.RatPoints.{rational_of};
 ghost use Rattle.lpis_rings.specs.Edges.{edges_of};
-ghost use Rattle.lpis_parcels.specs.Release.{pieces_named};
+ghost use Rattle.lpis_release.specs.Release.{pieces_named};
 ghost use Rattle.lpis_edge_sums.specs.Making.{edges_of_all};
 ghost use Rattle.lpis_checker.specs.GoodCertificate.{polygons_of};
 ghost use Rattle.lpis_cutter.specs.Refusals.{IsCovered, IsOn, IsUncovered, NoEdgeSeparates};
@@ -13,11 +13,11 @@ ghost use Rattle.lpis_cutter.specs.private.Cutting.{NamesPieces, ReportsIfAny, e
 
 use crate::fault::Refusal;
 use crate::separator::separator;
-use lpis_covers::Id;
 use lpis_edge_sums::has_corners;
-use lpis_parcels::{Parcel, Release, pieces_of};
 use lpis_points::{Point, RatPoint, Triangle, is_ccw};
+use lpis_release::{Parcel, Release, pieces_of};
 use lpis_rings::{Polygon, contains, edges};
+use lpis_tables::Id;
 use std::alloc::{AllocError, Global};
 
 /// That the pieces at two indices overlap, where both contain the point and they have two

@@ -1,5 +1,5 @@
 -- The names that most proofs of this crate cite, passed on from one place. Declares nothing.
-pub use Rattle.lpis_covers.specs.Ids.{has_id, same_id}
+pub use Rattle.lpis_tables.specs.Ids.{has_id, same_id}
 pub use Rattle.lpis_lineage.specs.Descendants.{all_rows}
 pub use Rattle.lpis_lineage.specs.Faults.{clashes, dropped_faults, fault_before, faults, faults_but_marks, first, marked_row_faults, lineage_row_faults, used_faults}
 pub use Rattle.lpis_lineage.specs.Kinds.{named_successors, kind, id_times}

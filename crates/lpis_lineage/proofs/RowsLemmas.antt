@@ -1,12 +1,12 @@
 -- Rows of the table of lineage.
 use Rattle.std.proofs.Common.{◌≡◌, ◌==◌, ◌++◌, ◌∷◌, [], arith, Bool, false, true, ℕ, List, length, Option, None, Some, Result, Ok, Err, refl, unwrap_or}
 use Rattle.lpis_lineage.proofs.Common.{Row, nat_tests}
-use Rattle.lpis_covers.specs.declared.fault.Table.TheVariants.{Lineage}
-use Rattle.lpis_covers.specs.declared.fault.TableFault.{TableFault}
-use Rattle.lpis_covers.specs.declared.fault.TableFault.TheVariants.{Memory, At}
-use Rattle.lpis_covers.specs.Faults.{id_faults, unless_faulty}
-use Rattle.lpis_covers.specs.Table.{Answers, Fields, field_of}
-use Rattle.lpis_covers.proofs.Shared.{column-fault, column-passed, fault-retold}
+use Rattle.lpis_tables.specs.declared.fault.Table.TheVariants.{Lineage}
+use Rattle.lpis_tables.specs.declared.fault.TableFault.{TableFault}
+use Rattle.lpis_tables.specs.declared.fault.TableFault.TheVariants.{Memory, At}
+use Rattle.lpis_tables.specs.Faults.{id_faults, unless_faulty}
+use Rattle.lpis_tables.specs.Table.{Answers, Fields, field_of}
+use Rattle.lpis_tables.proofs.Shared.{column-fault, column-passed, fault-retold}
 use Rattle.lpis_lineage.specs.LineageTable.{AnswersRows, lineage_faults, mark_field_faults, mark_of_text, row_of, successor_faults, successor_of}
 
 -- an empty field has no successor

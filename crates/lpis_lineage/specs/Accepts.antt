@@ -6,7 +6,7 @@ use Rattle.lpis_lineage.specs.declared.fault.LineageFault.{LineageFault}
 use Rattle.lpis_lineage.specs.declared.fault.LineageFault.TheVariants.{Memory as WantsMemory}
 use Rattle.lpis_lineage.specs.declared.fault.AddFault.{AddFault}
 use Rattle.lpis_lineage.specs.declared.fault.AddFault.TheVariants.{Memory, Year, Lineage}
-use Rattle.lpis_covers.specs.Ids.{has_id}
+use Rattle.lpis_tables.specs.Ids.{has_id}
 use Rattle.lpis_lineage.specs.Lineage.{last_year}
 use Rattle.lpis_lineage.specs.Lawful.{IsLawful, RowsFit}
 use Rattle.lpis_lineage.specs.Faults.{faults, first}

@@ -2,7 +2,7 @@
 use Rattle.std.specs.Prelude.{◌≡◌, not, ℕ, List, Option}
 use Rattle.std.specs.List.{filter}
 use Rattle.std.specs.Map.{lookup}
-use Rattle.lpis_covers.specs.Ids.{has_id, same_id}
+use Rattle.lpis_tables.specs.Ids.{has_id, same_id}
 use Rattle.lpis_lineage.specs.declared.kind.Kind.{Kind}
 use Rattle.lpis_lineage.specs.declared.row.Row.{Row}
 use Rattle.lpis_lineage.specs.Kinds.{kind}

@@ -2,7 +2,7 @@
 use Rattle.std.specs.Prelude.{◌≡◌, ◌&&◌, ◌||◌, ◌++◌, Bool, true, false, not, cond, ℕ, List, map}
 use Rattle.std.specs.Prelude.{Option, None, Some, All, filter}
 use Rattle.std.specs.List.{list_all, list_any}
-use Rattle.lpis_covers.specs.Ids.{has_id, same_id}
+use Rattle.lpis_tables.specs.Ids.{has_id, same_id}
 use Rattle.lpis_lineage.specs.declared.kind.Kind.{Kind}
 use Rattle.lpis_lineage.specs.declared.kind.Kind.TheVariants.{Kept, Split, Merged}
 use Rattle.lpis_lineage.specs.declared.exact.Group.{Group}

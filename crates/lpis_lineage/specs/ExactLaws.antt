@@ -1,7 +1,7 @@
 -- What splits and merges are in counts of successors and predecessors, as statements.
 use Rattle.std.specs.Prelude.{◌≡◌, ◌<◌, ◌↔◌, true, false, ℕ, List, [], length, filter, All}
 use Rattle.std.specs.List.{list_any}
-use Rattle.lpis_covers.specs.Ids.{has_id}
+use Rattle.lpis_tables.specs.Ids.{has_id}
 use Rattle.lpis_lineage.specs.declared.row.Entry.{Entry}
 use Rattle.lpis_lineage.specs.declared.row.Row.{Row}
 use Rattle.lpis_lineage.specs.ExactGroups.{is_merge, is_split}

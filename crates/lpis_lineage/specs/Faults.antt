@@ -10,7 +10,7 @@ use Rattle.lpis_lineage.specs.declared.fault.LineageFault.TheVariants.{OldStillL
 use Rattle.lpis_lineage.specs.declared.fault.LineageFault.TheVariants.{SuccessorMissing, DoubledRow}
 use Rattle.lpis_lineage.specs.declared.fault.LineageFault.TheVariants.{EndingBesideSuccessor, NoRow}
 use Rattle.lpis_lineage.specs.declared.fault.LineageFault.TheVariants.{UsedBefore}
-use Rattle.lpis_covers.specs.Ids.{has_id, same_id}
+use Rattle.lpis_tables.specs.Ids.{has_id, same_id}
 use Rattle.lpis_lineage.specs.Lineage.{is_row_of, same_row, last_live}
 use Rattle.lpis_lineage.specs.declared.fault.LineageFault.TheVariants.{MarkedOutside}
 use Rattle.lpis_lineage.specs.declared.kind.Kind.{Kind}

@@ -4,11 +4,11 @@ use Rattle.std.specs.Prelude.{Some, Result, Ok, if◌then◌else◌, unwrap_or}
 use Rattle.std.specs.Str.{bytes_eq}
 use Rattle.std.specs.declared.vec.Vec.{Vec}
 use Rattle.std.specs.declared.alloc.Global.{Global}
-use Rattle.lpis_covers.specs.declared.fault.Table.TheVariants.{Lineage}
-use Rattle.lpis_covers.specs.declared.fault.TableCode.TheVariants.{BadMark}
-use Rattle.lpis_covers.specs.declared.fault.TableFault.{TableFault}
-use Rattle.lpis_covers.specs.Faults.{RowsOf, id_faults}
-use Rattle.lpis_covers.specs.Table.{AnswersBy, Fields, fault_at, field_of}
+use Rattle.lpis_tables.specs.declared.fault.Table.TheVariants.{Lineage}
+use Rattle.lpis_tables.specs.declared.fault.TableCode.TheVariants.{BadMark}
+use Rattle.lpis_tables.specs.declared.fault.TableFault.{TableFault}
+use Rattle.lpis_tables.specs.Faults.{RowsOf, id_faults}
+use Rattle.lpis_tables.specs.Table.{AnswersBy, Fields, fault_at, field_of}
 use Rattle.lpis_lineage.specs.declared.row.Row.{Row}
 
 -- the successor in a field: none where it is empty

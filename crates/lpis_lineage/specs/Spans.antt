@@ -2,7 +2,7 @@
 use Rattle.std.specs.Prelude.{◌&&◌, ◌||◌, ◌∷◌, Bool, cond, nat_le, nat_eq, ℕ, List, [], Option}
 use Rattle.std.specs.Prelude.{None, Some}
 use Rattle.std.specs.Option.{option_or}
-use Rattle.lpis_covers.specs.Ids.{has_id}
+use Rattle.lpis_tables.specs.Ids.{has_id}
 use Rattle.lpis_lineage.specs.declared.row.Entry.{Entry}
 use Rattle.lpis_lineage.specs.declared.span.Span.{Span}
 use Rattle.lpis_lineage.specs.Lineage.{last_live}

@@ -1,6 +1,6 @@
 -- What a release changes in the history that it may follow, with all that adding it takes.
 use Rattle.std.specs.Prelude.{◌≡◌, ◌&&◌, [], true, not, is_some, ℕ, List}
-use Rattle.lpis_covers.specs.Ids.{has_id, is_id}
+use Rattle.lpis_tables.specs.Ids.{has_id, is_id}
 use Rattle.lpis_lineage.specs.declared.row.Row.{Row}
 use Rattle.lpis_lineage.specs.declared.row.Entry.{Entry}
 use Rattle.lpis_lineage.specs.Changes.{Changes, IsChange}

@@ -1,7 +1,7 @@
 //! What a release's lineage has to meet.
 
 ghost use Rattle.std.specs.Prelude.{◌≡◌, ◌++◌, ◌∷◌, ℕ, List, [], OnOk, IfOk, IsTrue};
-ghost use Rattle.lpis_covers.specs.Ids.{has_id};
+ghost use Rattle.lpis_tables.specs.Ids.{has_id};
 ghost use Rattle.lpis_lineage.specs.declared.row.Row.{Row};
 ghost use Rattle.lpis_lineage.specs.Lineage.{last_live};
 ghost use Rattle.lpis_lineage.specs.Faults.{faults_of_row, lineage_row_faults, dropped_faults};
@@ -18,7 +18,7 @@ use crate::marks::check_marks_of;
 use crate::row::Row;
 use crate::seen::Seen;
 use crate::step::Step;
-use lpis_covers::Id;
+use lpis_tables::Id;
 use std::alloc::Global;
 
 /// Looks at a row, and keeps it.

@@ -2,7 +2,7 @@
 
 ghost use Rattle.std.specs.Prelude.{◌≡◌, ℕ, List, IfOk};
 ghost use Rattle.std.specs.HashMap.{get};
-ghost use Rattle.lpis_covers.specs.Ids.{same_id};
+ghost use Rattle.lpis_tables.specs.Ids.{same_id};
 ghost use Rattle.lpis_lineage.specs.Changes.{IsChange, kind_at};
 ghost use Rattle.lpis_lineage.specs.declared.row.Row.{Row};
 ghost use Rattle.lpis_lineage.specs.private.Fates.{AreFates};
@@ -13,7 +13,7 @@ use crate::fates::{Fates, all_fates, kind_of};
 use crate::id_set::IdSet;
 use crate::kind::Kind;
 use crate::row::{Row, copy_rows};
-use lpis_covers::Id;
+use lpis_tables::Id;
 use std::alloc::{AllocError, Global};
 use std::collections::HashMap;
 use std::marker::Model;

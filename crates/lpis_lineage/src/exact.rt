@@ -4,7 +4,7 @@ ghost use Rattle.std.specs.Prelude.{◌≡◌, ◌||◌, ◌&&◌, ◌++◌, ◌
 ghost use Rattle.std.specs.Prelude.{filter, true, false};
 ghost use Rattle.std.specs.HashMap.{get};
 ghost use Rattle.std.specs.List.{list_any};
-ghost use Rattle.lpis_covers.specs.Ids.{has_id, same_id};
+ghost use Rattle.lpis_tables.specs.Ids.{has_id, same_id};
 ghost use Rattle.lpis_lineage.specs.Changes.{IsChange, kind_at};
 ghost use Rattle.lpis_lineage.specs.ExactGroups.{AreExactGroups, group_name, is_kept};
 ghost use Rattle.lpis_lineage.specs.Lineage.{names_successor};
@@ -19,8 +19,8 @@ use crate::id_set::IdSet;
 use crate::kind::Kind;
 use crate::marks::{Marks, marks_of, merges_exactly, splits_exactly};
 use crate::row::Row;
-use lpis_covers::Id;
 use lpis_memory::Sequence;
+use lpis_tables::Id;
 use std::alloc::{AllocError, Global};
 use std::collections::HashMap;
 

@@ -2,7 +2,7 @@
 
 ghost use Rattle.std.specs.Prelude.{◌≡◌, ◌++◌, ◌∷◌, ℕ, List, [], OnOk, IfOk, Some, true};
 ghost use Rattle.lpis_lineage.specs.declared.row.Row.{Row};
-ghost use Rattle.lpis_covers.specs.Ids.{has_id};
+ghost use Rattle.lpis_tables.specs.Ids.{has_id};
 ghost use Rattle.lpis_lineage.specs.Lineage.{is_this};
 ghost use Rattle.lpis_lineage.specs.Kinds.{by_counts, named_successors, kind};
 ghost use Rattle.lpis_lineage.specs.private.Tally.{IsTally};
@@ -12,7 +12,7 @@ use crate::id_set::IdSet;
 use crate::kind::Kind;
 use crate::row::Row;
 use crate::tally::{Tally, tally_successors};
-use lpis_covers::Id;
+use lpis_tables::Id;
 use std::alloc::{AllocError, Global};
 
 /// Who is ended, how often identifiers have successors, and whose successors have others too.

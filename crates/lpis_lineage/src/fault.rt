@@ -4,7 +4,7 @@ ghost use Rattle.std.specs.Prelude.{◌≡◌};
 ghost use Rattle.lpis_lineage.specs.Codes.{lineage_code_of, lineage_code_text};
 ghost use Rattle.lpis_lineage.specs.declared.fault.LineageFault.TheVariants.{Memory};
 
-use lpis_covers::Id;
+use lpis_tables::Id;
 use std::alloc::{AllocError, AllocFailed};
 use thiserror::Error;
 

@@ -2,10 +2,10 @@
 
 ghost use Rattle.std.specs.Prelude.{◌≡◌, not, ℕ, List, IfOk, OnOk, true, cond, [], ◌∷◌};
 ghost use Rattle.std.specs.List.{All, filter};
-ghost use Rattle.lpis_covers.specs.Ids.{has_id, is_id, same_id};
+ghost use Rattle.lpis_tables.specs.Ids.{has_id, is_id, same_id};
 ghost use Rattle.lpis_lineage.specs.Order.{IsAscending};
 
-use lpis_covers::Id;
+use lpis_tables::Id;
 use std::alloc::{AllocError, Global};
 use std::collections::BTreeSet;
 use std::collections::btree_set::{Difference, Iter};

@@ -3,7 +3,7 @@
 ghost use Rattle.std.specs.Prelude.{◌≡◌, ◌&&◌, ◌++◌, ◌∷◌, ℕ, List, [], IfOk, OnOk, true, cond};
 ghost use Rattle.std.specs.Prelude.{not};
 ghost use Rattle.std.specs.List.{list_any};
-ghost use Rattle.lpis_covers.specs.Ids.{has_id, same_id};
+ghost use Rattle.lpis_tables.specs.Ids.{has_id, same_id};
 ghost use Rattle.lpis_lineage.specs.declared.row.Row.{Row};
 ghost use Rattle.lpis_lineage.specs.Changes.{kind_at};
 ghost use Rattle.lpis_lineage.specs.ExactGroups.{is_exact_merge, is_exact_split, is_in_exact};
@@ -18,7 +18,7 @@ use crate::fault::LineageFault;
 use crate::id_set::IdSet;
 use crate::kind::Kind;
 use crate::row::Row;
-use lpis_covers::Id;
+use lpis_tables::Id;
 use std::alloc::{AllocError, Global};
 
 /// What keeps splits and merges from being exact.

@@ -1,16 +1,16 @@
 //! The table of lineage.
 
 ghost use Rattle.std.specs.Prelude.{◌≡◌, ◌∷◌, [], codes, false, unwrap_or, Ok, Err, IfErr, OnOk};
-ghost use Rattle.lpis_covers.specs.Faults.{rows_of, unless_faulty, values_of};
-ghost use Rattle.lpis_covers.specs.Table.{Answers, field_of, texts};
-ghost use Rattle.lpis_covers.specs.declared.fault.Table.TheVariants as tables;
+ghost use Rattle.lpis_tables.specs.Faults.{rows_of, unless_faulty, values_of};
+ghost use Rattle.lpis_tables.specs.Table.{Answers, field_of, texts};
+ghost use Rattle.lpis_tables.specs.declared.fault.Table.TheVariants as tables;
 ghost use Rattle.lpis_lineage.specs.LineageTable.{AnswersRows, lineage_faults, lineage_table};
 ghost use Rattle.lpis_lineage.specs.LineageTable.{mark_field_faults, mark_of_text};
 ghost use Rattle.lpis_lineage.specs.LineageTable.{row_of};
 ghost use Rattle.lpis_lineage.specs.LineageTable.{successor_faults, successor_of};
 
 use crate::row::Row;
-use lpis_covers::{Id, Table, TableCode, TableFault, TableReader};
+use lpis_tables::{Id, Table, TableCode, TableFault, TableReader};
 use std::alloc::Global;
 
 /// The columns that must be there, in the order in which they are tested.

@@ -4,8 +4,8 @@ ghost use Rattle.std.specs.Prelude.{◌≡◌, IfOk};
 ghost use Rattle.lpis_lineage.specs.Accepts.{IsReleaseEntry};
 
 use crate::id_set::IdSet;
-use lpis_covers::Id;
 use lpis_memory::Sequence;
+use lpis_tables::Id;
 use std::alloc::{AllocError, Global};
 
 /// A row of lineage: what an old identifier became in the release that the row belongs to.

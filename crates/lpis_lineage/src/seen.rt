@@ -12,7 +12,7 @@ ghost use Rattle.lpis_lineage.specs.private.Seen.{IsSeen};
 use crate::fault::LineageFault;
 use crate::id_set::IdSet;
 use crate::row::Row;
-use lpis_covers::Id;
+use lpis_tables::Id;
 use std::alloc::Global;
 use std::collections::BTreeSet;
 

@@ -2,14 +2,14 @@
 
 ghost use Rattle.std.specs.Prelude.{◌≡◌, ◌≤◌, ℕ, List, length, IfOk};
 ghost use Rattle.std.specs.HashMap.{get, spare};
-ghost use Rattle.lpis_covers.specs.Ids.{has_id, same_id};
+ghost use Rattle.lpis_tables.specs.Ids.{has_id, same_id};
 ghost use Rattle.lpis_lineage.specs.private.Keeping.{begun, ended_in, forgotten};
 ghost use Rattle.lpis_lineage.specs.Lineage.{last_live};
 ghost use Rattle.lpis_lineage.specs.Spans.{live_in as ids_live_in, in_span};
 
 use crate::id_set::IdSet;
 use crate::row::Entry;
-use lpis_covers::Id;
+use lpis_tables::Id;
 use std::alloc::{AllocError, Global};
 use std::collections::HashMap;
 

@@ -8,7 +8,7 @@ use crate::change::Change;
 use crate::history::History;
 use crate::id_set::IdSet;
 use crate::row::Row;
-use lpis_covers::Id;
+use lpis_tables::Id;
 use std::alloc::{AllocError, Global};
 
 /// What a release changes in the history that it may follow, with all that adding it takes.

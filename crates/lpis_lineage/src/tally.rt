@@ -6,7 +6,7 @@ ghost use Rattle.lpis_lineage.specs.private.Tally.{IsTally};
 
 use crate::id_set::IdSet;
 use crate::row::Row;
-use lpis_covers::Id;
+use lpis_tables::Id;
 use std::alloc::{AllocError, Global};
 
 /// Which identifiers a list has, and which more than once.

@@ -1,7 +1,7 @@
 //! Following identifiers through the years.
 
 ghost use Rattle.std.specs.Prelude.{◌≡◌, ◌++◌, ◌∷◌, ℕ, List, [], OnOk, IfOk, ◌↔◌, true};
-ghost use Rattle.lpis_covers.specs.Ids.{has_id};
+ghost use Rattle.lpis_tables.specs.Ids.{has_id};
 ghost use Rattle.lpis_lineage.specs.declared.row.Row.{Row};
 ghost use Rattle.lpis_lineage.specs.Descendants.{IsDescendant, all_rows};
 ghost use Rattle.lpis_lineage.specs.private.Following.{Reaches, IsFreshRow, AreFreshRows};
@@ -10,7 +10,7 @@ ghost use Rattle.lpis_lineage.specs.Order.{IsAscending};
 use crate::history::History;
 use crate::id_set::IdSet;
 use crate::row::Row;
-use lpis_covers::Id;
+use lpis_tables::Id;
 use std::alloc::{AllocError, Global};
 
 /// Adds the row's successor, where its old identifier is reached.

@@ -1,6 +1,6 @@
 -- What a call of the library hands over for the bytes that it was handed.
 use Rattle.std.specs.Prelude.{◌≡◌, ◌<◌, ◌⊎◌, ℕ, List, MatchOption, [], length}
-use Rattle.lpis_parcels.specs.Release.{release_of}
+use Rattle.lpis_release.specs.Release.{release_of}
 use Rattle.lpis_run_check.specs.AreaAnswer.{area_answer}
 use Rattle.lpis_run.specs.CheckAnswer.{Inputs, IsAnswer, IsProved}
 use Rattle.lpis_run_check.specs.CutAnswer.{IsCutAnswer}

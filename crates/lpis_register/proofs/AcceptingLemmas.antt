@@ -2,11 +2,11 @@
 use Rattle.std.proofs.Common.{◌≢◌, ◌≡◌, ◌∙◌, ◌<◌, ◌⊎◌, inl, inr, ℕ, List, [], Some, map, refl, sym, subst, IsPermutation}
 use Rattle.lpis_register.proofs.Common.{Row, last_live}
 use Rattle.lpis_cert.specs.declared.part.ExactBlock.{ExactBlock}
-use Rattle.lpis_exact_lineage.specs.declared.asking.AskFault.{AskFault}
-use Rattle.lpis_exact_lineage.specs.declared.asking.AskFault.TheVariants as ask
-use Rattle.lpis_exact_lineage.specs.Asking.{IsShown, IsUnkept, ShownIsExact}
-use Rattle.lpis_exact_lineage.specs.ExactLineage.{IsExactLineage}
-use Rattle.lpis_exact_lineage.specs.Shapes.{SoundMapsTurnOnce, shape_named}
+use Rattle.lpis_lineage_exact.specs.declared.asking.AskFault.{AskFault}
+use Rattle.lpis_lineage_exact.specs.declared.asking.AskFault.TheVariants as ask
+use Rattle.lpis_lineage_exact.specs.Asking.{IsShown, IsUnkept, ShownIsExact}
+use Rattle.lpis_lineage_exact.specs.ExactLineage.{IsExactLineage}
+use Rattle.lpis_lineage_exact.specs.Shapes.{SoundMapsTurnOnce, shape_named}
 use Rattle.lpis_lineage.specs.declared.fault.LineageFault.{LineageFault}
 use Rattle.lpis_lineage.specs.declared.fault.LineageFault.TheVariants as lineage
 use Rattle.lpis_lineage.specs.Changes.{IsChange}
@@ -14,8 +14,8 @@ use Rattle.lpis_lineage.specs.Faults.{faults, first}
 use Rattle.lpis_lineage.specs.Kinds.{kind}
 use Rattle.lpis_lineage.specs.Lineage.{last_year}
 use Rattle.lpis_lineage.specs.Steps.{IsStep}
-use Rattle.lpis_parcels.specs.declared.parcel.Parcel.{Parcel}
-use Rattle.lpis_parcels.specs.Release.{Contents, parcel_ids}
+use Rattle.lpis_release.specs.declared.parcel.Parcel.{Parcel}
+use Rattle.lpis_release.specs.Release.{Contents, parcel_ids}
 use Rattle.lpis_register_rows.specs.Shapes.{AreShapesOf, parcel_shape}
 use Rattle.lpis_register.specs.Accepting.{AreKept, IsAccepted, IsPrepared}
 use Rattle.lpis_register.specs.Faults.{IsRefused}

@@ -1,7 +1,7 @@
 -- A database says one history, and keeps one list of shapes.
 use Rattle.std.proofs.Common.{◌≡◌, ◌∙◌, ◌↔◌, refl, sym, ap, subst, [], ◌∷◌, ℕ, ℤ, pos, List, length, IsPermutation}
 use Rattle.std.proofs.lemmas.List.Sorted.{IsPermutation-refl}
-use Rattle.lpis_covers.specs.Ids.{has_id}
+use Rattle.lpis_tables.specs.Ids.{has_id}
 use Rattle.lpis_lineage.specs.Lineage.{holds}
 use Rattle.lpis_register.proofs.Common.{State, Entry, last_live, AreLive, Content, TablesHave, Shape, ShapesAre, HasHistory, Whole, IsStored, HoldsRegister, Version}
 use Rattle.lpis_register.specs.Opening.{texts_at}

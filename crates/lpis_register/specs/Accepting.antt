@@ -1,14 +1,14 @@
 -- A release that may follow a history, with all that writing it takes.
 use Rattle.std.specs.Prelude.{◌≡◌, ◌<◌, List}
 use Rattle.std.specs.List.{AllByRecursion}
-use Rattle.lpis_exact_lineage.specs.Asking.{IsShown, kinds_from}
-use Rattle.lpis_exact_lineage.specs.ExactLineage.{IsExactLineage, ShapesTurnOnce}
-use Rattle.lpis_exact_lineage.specs.Shapes.{shape_named, shapes_in}
+use Rattle.lpis_lineage_exact.specs.Asking.{IsShown, kinds_from}
+use Rattle.lpis_lineage_exact.specs.ExactLineage.{IsExactLineage, ShapesTurnOnce}
+use Rattle.lpis_lineage_exact.specs.Shapes.{shape_named, shapes_in}
 use Rattle.lpis_lineage.specs.declared.row.Entry.{Entry}
 use Rattle.lpis_lineage.specs.Lineage.{last_year}
 use Rattle.lpis_lineage.specs.Steps.{IsStep}
-use Rattle.lpis_parcels.specs.declared.parcel.Parcel.{Parcel}
-use Rattle.lpis_parcels.specs.Release.{parcel_ids}
+use Rattle.lpis_release.specs.declared.parcel.Parcel.{Parcel}
+use Rattle.lpis_release.specs.Release.{parcel_ids}
 use Rattle.lpis_register_rows.specs.Shapes.{AreLive, AreShapesOf, IsSpelled, Shape}
 use Rattle.lpis_register.specs.Holdings.{Candidate, Holdings, candidate_ids}
 use Rattle.lpis_register.specs.declared.accepting.Accepted.{Accepted}

@@ -1,7 +1,7 @@
 -- Which faults a call may answer.
 use Rattle.std.specs.Prelude.{◌≡◌, ◌≢◌, ◌<◌, ◌⊎◌, Result, Ok, Err}
 use Rattle.lpis_checker.specs.declared.exact.ExactFault.TheVariants as exact
-use Rattle.lpis_exact_lineage.specs.Asking.{IsShown, IsUnkept, IsUnshown}
+use Rattle.lpis_lineage_exact.specs.Asking.{IsShown, IsUnkept, IsUnshown}
 use Rattle.lpis_lineage.specs.declared.fault.AddFault.TheVariants as add
 use Rattle.lpis_lineage.specs.Accepts.{IsAddFault}
 use Rattle.lpis_lineage.specs.Lineage.{last_year}

@@ -2,7 +2,7 @@
 use Rattle.std.specs.Prelude.{◌≡◌, ◌↔◌, true, false, ℕ, List, Result, IsTrue, IfErr, IfOk}
 use Rattle.sqlite.specs.Tree.{Trees}
 use Rattle.sqlite.specs.State.{HasCleanDisk, State, Survives}
-use Rattle.lpis_covers.specs.Ids.{has_id}
+use Rattle.lpis_tables.specs.Ids.{has_id}
 use Rattle.lpis_lineage.specs.declared.row.Entry.{Entry}
 use Rattle.lpis_lineage.specs.Descendants.{IsDescendant}
 use Rattle.lpis_lineage.specs.Lineage.{holds, last_live}

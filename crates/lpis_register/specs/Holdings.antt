@@ -4,7 +4,7 @@ use Rattle.sqlite.specs.Held.{Held}
 use Rattle.lpis_cert.specs.declared.part.ExactBlock.{ExactBlock}
 use Rattle.lpis_lineage.specs.declared.row.Row.{Row}
 use Rattle.lpis_lineage.specs.declared.row.Entry.{Entry}
-use Rattle.lpis_parcels.specs.Release.{Contents, parcel_ids}
+use Rattle.lpis_release.specs.Release.{Contents, parcel_ids}
 use Rattle.lpis_register_rows.specs.Shapes.{Shape}
 
 -- what a register holds: the history of its releases, and the shapes of the last one's parcels

@@ -1,8 +1,8 @@
 -- The faults of what publishing calls, as the register tells them.
 use Rattle.lpis_checker.specs.declared.exact.ExactFault.{ExactFault}
 use Rattle.lpis_checker.specs.declared.exact.ExactFault.TheVariants as exact
-use Rattle.lpis_exact_lineage.specs.declared.asking.AskFault.{AskFault}
-use Rattle.lpis_exact_lineage.specs.declared.asking.AskFault.TheVariants as ask
+use Rattle.lpis_lineage_exact.specs.declared.asking.AskFault.{AskFault}
+use Rattle.lpis_lineage_exact.specs.declared.asking.AskFault.TheVariants as ask
 use Rattle.lpis_lineage.specs.declared.fault.LineageFault.{LineageFault}
 use Rattle.lpis_lineage.specs.declared.fault.LineageFault.TheVariants as lineage
 use Rattle.lpis_register.specs.declared.fault.PublishFault.{PublishFault}

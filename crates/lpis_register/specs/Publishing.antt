@@ -4,8 +4,8 @@ use Rattle.sqlite.specs.Held.{state}
 use Rattle.sqlite.specs.Tree.{Trees}
 use Rattle.sqlite.specs.State.{HasCleanDisk, Survives}
 use Rattle.sqlite_trees.specs.declared.store.Store.{Ghosts}
-use Rattle.lpis_exact_lineage.specs.ExactLineage.{ShapesTurnOnce}
-use Rattle.lpis_exact_lineage.specs.Shapes.{shape_named}
+use Rattle.lpis_lineage_exact.specs.ExactLineage.{ShapesTurnOnce}
+use Rattle.lpis_lineage_exact.specs.Shapes.{shape_named}
 use Rattle.lpis_lineage.specs.declared.row.Entry.{Entry}
 use Rattle.lpis_lineage.specs.Accepts.{Adds}
 use Rattle.lpis_lineage.specs.Changes.{Changes, IsChange}

@@ -3,8 +3,8 @@
 ghost use Rattle.std.specs.Prelude.{◌≡◌, ◌≢◌, ◌<◌, [], ℕ, List, IfOk, IfErr, OnOk};
 ghost use Rattle.std.specs.List.{IsDistinct};
 ghost use Rattle.lpis_cert.specs.declared.part.ExactBlock.{ExactBlock};
-ghost use Rattle.lpis_covers.specs.Ids.{same_id};
-ghost use Rattle.lpis_exact_lineage.specs.Asking.{IsShown};
+ghost use Rattle.lpis_tables.specs.Ids.{same_id};
+ghost use Rattle.lpis_lineage_exact.specs.Asking.{IsShown};
 ghost use Rattle.lpis_lineage.specs.Changes.{IsChange};
 ghost use Rattle.lpis_lineage.specs.Faults.{faults};
 ghost use Rattle.lpis_lineage.specs.Lineage.{last_live, last_year};
@@ -12,7 +12,7 @@ ghost use Rattle.lpis_lineage.specs.Order.{IsAscending};
 ghost use Rattle.lpis_lineage.specs.Steps.{IsStep};
 ghost use Rattle.lpis_lineage.specs.declared.row.Entry.{Entry};
 ghost use Rattle.lpis_lineage.specs.declared.row.Row.{Row};
-ghost use Rattle.lpis_parcels.specs.Release.{Contents, parcel_ids};
+ghost use Rattle.lpis_release.specs.Release.{Contents, parcel_ids};
 ghost use Rattle.lpis_register_rows.specs.Shapes.{AreShapesOf, Shape, shape_ids};
 ghost use Rattle.lpis_register.specs.Accepting.{AreKept};
 ghost use Rattle.lpis_register.specs.Faults.{IsRefused};
@@ -23,14 +23,14 @@ ghost use Rattle.lpis_register.specs.declared.fault.PublishFault.TheVariants.{St
 use crate::fault::PublishFault;
 use lpis_cert::Cert;
 use lpis_checker::check_exact;
-use lpis_covers::Id;
-use lpis_exact_lineage::{
+use lpis_lineage::{Change, History, IdSet, Row, Step, accept};
+use lpis_lineage_exact::{
     sound_maps_have_such_shapes, wanted_parts, what_is_shown_has_exact_lineage,
 };
-use lpis_lineage::{Change, History, IdSet, Row, Step, accept};
-use lpis_parcels::Parcel;
 use lpis_register_rows::shapes_in;
+use lpis_release::Parcel;
 use lpis_rings::Polygon;
+use lpis_tables::Id;
 use std::alloc::{AllocError, Global};
 
 /// What writing an accepted release takes.

@@ -20,11 +20,11 @@ ghost use Rattle.lpis_register.specs.declared.fault.PublishFault.TheVariants.{St
 
 use crate::accepting::Writing;
 use crate::fault::PublishFault;
-use lpis_covers::Id;
 use lpis_lineage::{History, IdSet};
 use lpis_register_rows::{ShapeChange, publishing_adds_the_release, steps_are_what_is_written};
 use lpis_register_sql::write_release;
 use lpis_rings::Polygon;
+use lpis_tables::Id;
 use sqlite::{Alter, Connection, Error, ErrorCode};
 use std::alloc::Global;
 

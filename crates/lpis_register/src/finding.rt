@@ -19,7 +19,6 @@ ghost use Rattle.lpis_register.specs.declared.fault.PublishFault.TheVariants.{St
 
 use crate::fault::PublishFault;
 use crate::opening::{Loaded, fault_of};
-use lpis_covers::Id;
 use lpis_lineage::History;
 use lpis_register_rows::{
     Rows, RowsFault, TextRow, Version, history_of, order_of_rows_is_free, shapes_of,
@@ -27,6 +26,7 @@ use lpis_register_rows::{
 };
 use lpis_register_sql::{Found, load_found, load_texts};
 use lpis_rings::Polygon;
+use lpis_tables::Id;
 use sqlite::{Alter, Connection};
 use std::alloc::Global;
 

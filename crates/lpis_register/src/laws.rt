@@ -3,8 +3,8 @@
 ghost use Rattle.std.specs.Prelude.{◌≡◌, ◌++◌, [], List};
 ghost use Rattle.sqlite.specs.Held.{state};
 ghost use Rattle.sqlite.specs.Tree.{Trees};
-ghost use Rattle.lpis_exact_lineage.specs.ExactLineage.{ShapesTurnOnce};
-ghost use Rattle.lpis_exact_lineage.specs.Shapes.{shape_named};
+ghost use Rattle.lpis_lineage_exact.specs.ExactLineage.{ShapesTurnOnce};
+ghost use Rattle.lpis_lineage_exact.specs.Shapes.{shape_named};
 ghost use Rattle.lpis_lineage.specs.declared.row.Entry.{Entry};
 ghost use Rattle.lpis_register_rows.specs.Content.{Content};
 ghost use Rattle.lpis_register_rows.specs.Histories.{IsSameHistory, TablesHave};

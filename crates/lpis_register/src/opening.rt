@@ -10,9 +10,9 @@ ghost use Rattle.lpis_register.specs.Faults.{IsFailure};
 ghost use Rattle.lpis_register.specs.declared.fault.PublishFault.TheVariants.{Memory, Store};
 
 use crate::fault::PublishFault;
-use lpis_covers::Id;
 use lpis_lineage::History;
 use lpis_rings::Polygon;
+use lpis_tables::Id;
 use sqlite::{Error, ErrorCode};
 use std::alloc::Global;
 

@@ -11,10 +11,10 @@ ghost use Rattle.lpis_register.specs.declared.fault.PublishFault.TheVariants.{St
 use crate::fault::PublishFault;
 use crate::finding::find_rows;
 use crate::laws::rows_have_one_history;
-use lpis_covers::Id;
 use lpis_lineage::History;
 use lpis_register_sql::tables_in;
 use lpis_rings::Polygon;
+use lpis_tables::Id;
 use sqlite::{Alter, Connection};
 use std::alloc::{AllocError, Global};
 

@@ -1,5 +1,5 @@
 -- The names that most proofs of this crate cite, passed on from one place. Declares nothing.
-pub use Rattle.lpis_covers.specs.Ids.{has_id, is_id, same_id}
+pub use Rattle.lpis_tables.specs.Ids.{has_id, is_id, same_id}
 pub use Rattle.lpis_lineage.proofs.Shared.{above-zero, entry-after, entry-before, entry-here, filter-none, in-history, longer, before-at-after, same-exact, same-refl, take-at}
 pub use Rattle.lpis_lineage.specs.Accepts.{Adds}
 pub use Rattle.lpis_lineage.specs.Lawful.{IsLawful, RowsFit}

@@ -9,7 +9,7 @@ use Rattle.std.specs.Ordering.{match_ordering, ordering_reverse}
 use Rattle.std.proofs.lemmas.List.Sorted.{IsPermutation-cons, IsPermutation-keeps, IsPermutation-map, IsPermutation-middle, IsPermutation-refl}
 use Rattle.lpis_lineage.specs.Order.{IsAscending}
 use Rattle.lpis_points.specs.Chain.{IsEquality}
-use Rattle.lpis_country_rows.specs.Equality.{same_polygon}
+use Rattle.lpis_release.specs.Equality.{same_polygon}
 use Rattle.lpis_rings.specs.declared.polygon.Member.{Member}
 use Rattle.lpis_register_rows.specs.Content.{StoredText, TextEdit, Deletes, Replaces, Inserts, edited, put_at, with_replaced, with_text, without_text}
 use Rattle.lpis_register_rows.specs.Shapes.{IsSpelled, IsTextOfShape, Shape, ShapesAre, edits_beside, edits_of, shape_ids, text_edits, written_text}

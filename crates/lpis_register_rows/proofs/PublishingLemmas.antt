@@ -16,7 +16,7 @@ use Rattle.lpis_lineage.specs.Lineage.{last_year}
 use Rattle.lpis_lineage.specs.Order.{IsAscending}
 use Rattle.lpis_lineage.specs.Spans.{span_between}
 use Rattle.lpis_lineage.proofs.Shared.{Follows, begun, ended_in, same-by_order, filter-append, follows-back, first-index, span-more}
-use Rattle.lpis_country_rows.specs.Equality.{same_polygon}
+use Rattle.lpis_release.specs.Equality.{same_polygon}
 use Rattle.lpis_points.specs.Chain.{IsEquality}
 use Rattle.lpis_register_rows.specs.Shapes.{AreLive, IsLive, IsSpelled, Shape, ShapesAre, shape_ids, text_edits}
 use Rattle.lpis_register_rows.specs.Content.{StoredText, TextEdit, Deletes, Replaces, Inserts, edited, published, released, with_mark, with_marks, with_replaced, with_text, without_text, marks_from}

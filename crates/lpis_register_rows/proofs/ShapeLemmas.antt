@@ -10,8 +10,8 @@ use Rattle.std.proofs.lemmas.List.{get_or_default, map-id}
 use Rattle.std.proofs.lemmas.List.Sorted.{IsPermutation-map, IsPermutation-refl, ranks_by, sorted_far}
 use Rattle.std.proofs.lemmas.Map.Keys.{IsDistinct-IsPermutation, Less-from_sorted, apart_from_distinct, sorted_from_all_adjacent, sorted_head, sorted_tail}
 use Rattle.lpis_lineage.specs.Order.{IsAscending}
-use Rattle.lpis_parcels.specs.Release.{parcel_ids}
-use Rattle.lpis_parcels.specs.declared.parcel.Parcel.{Parcel}
+use Rattle.lpis_release.specs.Release.{parcel_ids}
+use Rattle.lpis_release.specs.declared.parcel.Parcel.{Parcel}
 use Rattle.lpis_rings.specs.declared.polygon.Member.{Member}
 use Rattle.lpis_wkt.specs.Answer.{polygon_of}
 use Rattle.lpis_wkt.specs.Text.{PolygonText}

@@ -2,7 +2,7 @@
 use Rattle.std.specs.Prelude.{◌≡◌, ◌<◌, ◌≤◌, ◌&&◌, ◌++◌, true, not, ℕ, ℤ, pos, List, []}
 use Rattle.std.specs.Prelude.{◌∷◌, length, Option, None, Some, IsPermutation}
 use Rattle.std.specs.List.{AllByRecursion, Contains, filter, list_any}
-use Rattle.lpis_covers.specs.Ids.{has_id, is_id, same_id}
+use Rattle.lpis_tables.specs.Ids.{has_id, is_id, same_id}
 use Rattle.lpis_lineage.specs.declared.row.Entry.{Entry}
 use Rattle.lpis_lineage.specs.declared.span.Span.{Span as Years}
 use Rattle.lpis_lineage.specs.Lawful.{IsLawful, RowsFit}

@@ -4,13 +4,13 @@ use Rattle.std.specs.Prelude.{IsPermutation}
 use Rattle.std.specs.Cmp.Lexicographic.{slice_cmp}
 use Rattle.std.specs.List.{AllByRecursion, AllZip}
 use Rattle.std.specs.Ordering.{match_ordering, nat_cmp}
-use Rattle.lpis_country_rows.specs.Equality.{same_polygon}
-use Rattle.lpis_covers.specs.Ids.{has_id, is_id}
+use Rattle.lpis_release.specs.Equality.{same_polygon}
+use Rattle.lpis_tables.specs.Ids.{has_id, is_id}
 use Rattle.lpis_rings.specs.declared.polygon.Member.{Member}
 use Rattle.lpis_wkt.specs.Text.{PolygonText}
 use Rattle.lpis_wkt_writer.specs.Text.{polygon_text}
 use Rattle.lpis_lineage.specs.Order.{IsAscending}
-use Rattle.lpis_parcels.specs.declared.parcel.Parcel.{Parcel}
+use Rattle.lpis_release.specs.declared.parcel.Parcel.{Parcel}
 use Rattle.lpis_register_rows.specs.Content.{StoredText, TextEdit, Deletes, Replaces, Inserts}
 
 -- the identifier of a parcel, and its polygon

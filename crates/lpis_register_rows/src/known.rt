@@ -6,7 +6,7 @@ ghost use Rattle.std.specs.Prelude.{IsSorted, IsTrue};
 ghost use Rattle.std.specs.List.{All, filter};
 ghost use Rattle.std.specs.List.Sorted.{IsSortedByKey};
 ghost use Rattle.std.specs.Ordering.{nat_cmp};
-ghost use Rattle.lpis_covers.specs.Ids.{is_id, same_id};
+ghost use Rattle.lpis_tables.specs.Ids.{is_id, same_id};
 ghost use Rattle.lpis_register_rows.specs.declared.fault.RowsFault.TheVariants.{Unlawful};
 ghost use Rattle.lpis_register_rows.specs.Content.{successor_text};
 ghost use Rattle.lpis_register_rows.specs.Histories.{last_of_years};
@@ -17,8 +17,8 @@ ghost use Rattle.lpis_register_rows.specs.private.Known.{span_in};
 
 use crate::fault::RowsFault;
 use crate::rows::{LineRow, SpanRow};
-use lpis_covers::Id;
 use lpis_lineage::Row;
+use lpis_tables::Id;
 use std::alloc::{AllocError, Global};
 use std::collections::BTreeSet;
 

@@ -24,7 +24,7 @@ ghost use Rattle.lpis_register_rows.specs.Histories.{HasHistoryBySpans};
 ghost use Rattle.lpis_register_rows.specs.Histories.{last_of_years};
 ghost use Rattle.lpis_register_rows.specs.declared.version.Version.{Version};
 
-use lpis_country_rows::laws::tests_find_equal_rows;
+use lpis_release::laws::tests_find_equal_rows;
 use lpis_wkt::laws::function_of_text;
 
 /// Where tables say a history, they say that history with a release more after what publishing it

@@ -3,7 +3,7 @@
 ghost use Rattle.std.specs.Prelude.{◌≡◌, ◌↔◌, true, false, pos, List, map, Contains, IfErr, IfOk};
 ghost use Rattle.std.specs.Prelude.{IsTrue};
 ghost use Rattle.std.specs.List.{All};
-ghost use Rattle.lpis_covers.specs.Ids.{is_id};
+ghost use Rattle.lpis_tables.specs.Ids.{is_id};
 ghost use Rattle.lpis_lineage.specs.declared.row.Entry.{Entry};
 ghost use Rattle.lpis_register_rows.specs.declared.fault.RowsFault.TheVariants.{Unlawful};
 ghost use Rattle.lpis_register_rows.specs.Histories.{HasHistoryByLive};

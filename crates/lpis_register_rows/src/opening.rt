@@ -3,7 +3,7 @@
 ghost use Rattle.std.specs.Prelude.{◌≡◌, ◌↔◌, ◌≤◌, ◌+◌, ◌++◌, ◌∷◌, ◌&&◌, [], pos, true, ℕ, List};
 ghost use Rattle.std.specs.Prelude.{length, take, IfErr, IfOk, IsTrue};
 ghost use Rattle.std.specs.List.{All, list_any};
-ghost use Rattle.lpis_covers.specs.Ids.{has_id, same_id};
+ghost use Rattle.lpis_tables.specs.Ids.{has_id, same_id};
 ghost use Rattle.lpis_register_rows.specs.declared.fault.RowsFault.TheVariants.{Unlawful};
 ghost use Rattle.lpis_register_rows.specs.Histories.{IsSpanRow, only_format};
 ghost use Rattle.lpis_register_rows.specs.private.Covering.{covers};
@@ -13,8 +13,8 @@ ghost use Rattle.lpis_register_rows.specs.private.Known.{known_from, known_line_
 use crate::fault::RowsFault;
 use crate::known::{KnownLine, KnownSpan};
 use crate::rows::FormatRow;
-use lpis_covers::Id;
 use lpis_lineage::{History, Row};
+use lpis_tables::Id;
 use std::alloc::{AllocError, Global};
 
 /// Whether these are the one row of a version.

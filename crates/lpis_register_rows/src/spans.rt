@@ -2,14 +2,14 @@
 
 ghost use Rattle.std.specs.Prelude.{◌≡◌, ◌++◌, true, is_some, map, ℕ, List, IfOk, OnOk};
 ghost use Rattle.std.specs.List.{All};
-ghost use Rattle.lpis_covers.specs.Ids.{has_id};
+ghost use Rattle.lpis_tables.specs.Ids.{has_id};
 ghost use Rattle.lpis_lineage.specs.Spans.{span_of};
 ghost use Rattle.lpis_register_rows.specs.Histories.{IsSpanRow, AreSpansOf};
 ghost use Rattle.lpis_register_rows.specs.private.Known.{all_live};
 
 use crate::rows::SpanRow;
-use lpis_covers::Id;
 use lpis_lineage::{Entry, History, IdSet};
+use lpis_tables::Id;
 use std::alloc::{AllocError, Global};
 
 /// Copies of a set's identifiers, after others.

@@ -4,9 +4,9 @@ ghost use Rattle.std.specs.Prelude.{◌≡◌, ◌+◌, ◌<◌, ◌++◌, [], M
 ghost use Rattle.lpis_register_rows.specs.Shapes.{edits_of, text_edits};
 ghost use Rattle.lpis_register_rows.specs.Editing.{edits_in};
 
-use lpis_country_rows::is_same_polygon;
-use lpis_covers::Id;
+use lpis_release::is_same_polygon;
 use lpis_rings::Polygon;
+use lpis_tables::Id;
 use std::cmp::Ordering;
 
 /// What becomes of a text.

@@ -10,9 +10,9 @@ ghost use Rattle.lpis_register_sql.specs.Stopping.{StopsWithin, release_statemen
 
 use crate::steps::steps_of;
 use crate::writing::write_steps;
-use lpis_covers::Id;
 use lpis_lineage::Row;
 use lpis_register_rows::ShapeChange;
+use lpis_tables::Id;
 use sqlite::{Alter, Connection, Error};
 use std::alloc::Global;
 

@@ -10,8 +10,8 @@ ghost use Rattle.lpis_register_sql.specs.private.Lines.{line_with, row_line};
 ghost use Rattle.lpis_register_sql.specs.Stopping.{ending_statement, line_statement};
 ghost use Rattle.lpis_register_sql.specs.Stopping.{span_statement, year_statement};
 
-use lpis_covers::Id;
 use lpis_lineage::Row;
+use lpis_tables::Id;
 use sqlite::types::ValueRef;
 use sqlite::{Alter, Error, Transaction, params};
 

@@ -8,9 +8,9 @@ ghost use Rattle.lpis_register_sql.specs.private.StepStatements.{spans_left, spa
 ghost use Rattle.lpis_register_sql.specs.private.StepStatements.{statements_in, statements_left};
 
 use crate::placed::{Placed, RowsFrom, next_placed};
-use lpis_covers::Id;
 use lpis_lineage::Row;
 use lpis_register_rows::{Edit, ShapeChange, next_edit};
+use lpis_tables::Id;
 
 /// A step of writing a release.
 #[derive(Clone, Copy)]

@@ -9,9 +9,9 @@ ghost use Rattle.lpis_register_sql.specs.private.Inside.{Makes};
 ghost use Rattle.lpis_register_sql.specs.private.Lines.{text_at};
 
 use crate::statements::run;
-use lpis_covers::Id;
 use lpis_register_rows::Edit;
 use lpis_rings::Polygon;
+use lpis_tables::Id;
 use lpis_wkt_writer::write;
 use sqlite::{Alter, Error, Transaction, params};
 use std::alloc::Global;

@@ -6,10 +6,10 @@ use Rattle.std.proofs.Math.Nat.{mul-add}
 use Rattle.lpis_points.proofs.Shared.{int_sum_by-append}
 use Rattle.lpis_rings.specs.Area.{area2}
 use Rattle.lpis_rings.specs.AreaBounds.{most_area}
-use Rattle.lpis_parcels.specs.declared.parcel.Parcel.{Parcel}
-use Rattle.lpis_parcels.specs.Release.{Contents}
-use Rattle.lpis_parcels.specs.Weighted.{most_weighted, weighted2}
-use Rattle.lpis_covers.specs.Table.{most_rows}
+use Rattle.lpis_release.specs.declared.parcel.Parcel.{Parcel}
+use Rattle.lpis_release.specs.Release.{Contents}
+use Rattle.lpis_release.specs.Weighted.{most_weighted, weighted2}
+use Rattle.lpis_tables.specs.Table.{most_rows}
 use Rattle.lpis_run.specs.Area.{most_printed}
 use Rattle.lpis_run.specs.declared.areas.Areas.{Areas}
 use Rattle.lpis_run.specs.Areas.{AreasOf}

@@ -1,6 +1,6 @@
 -- The answer to tables and a text, by what they say or by their first fault.
 use Rattle.std.proofs.Common.{◌≡◌, ◌≢◌, ◌∙◌, inl, inr, sym, subst, ap, ap₂, ℕ, List, Result, Ok, Err, IfOk}
-use Rattle.lpis_parcels.specs.Release.{Contents}
+use Rattle.lpis_release.specs.Release.{Contents}
 use Rattle.lpis_cert.specs.declared.cert.Cert.{Cert}
 use Rattle.lpis_cert.specs.declared.fault.CertCode.{CertCode}
 use Rattle.lpis_cert.specs.Contents.{IsCertText}
@@ -8,7 +8,7 @@ use Rattle.lpis_cert.specs.Faults.{verdict}
 use Rattle.lpis_cert.proofs.Shared.{no_fault}
 use Rattle.lpis_checker.specs.GoodCertificate.{IsGood}
 use Rattle.lpis_checker.specs.SoundMap.{IsSoundMap}
-use Rattle.lpis_covers.specs.declared.fault.TableFault.{TableFault}
+use Rattle.lpis_tables.specs.declared.fault.TableFault.{TableFault}
 use Rattle.lpis_run.specs.CheckAnswer.{Answer, Inputs, IsAnswer, IsCertAnswer, IsCheckAnswer, IsInputAnswer, IsProvedOf, IsRefusal, IsTableAnswer, release_in}
 use Rattle.lpis_run.specs.Inputs.{Say}
 use Rattle.lpis_run.specs.Refusals.{line_in_region}

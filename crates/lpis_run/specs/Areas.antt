@@ -3,9 +3,9 @@ use Rattle.std.specs.Prelude.{◌≡◌, ◌≤◌, ◌*◌, List, length, nat_a
 use Rattle.lpis_points.specs.Sums.{int_sum_by}
 use Rattle.lpis_rings.specs.Area.{area2}
 use Rattle.lpis_rings.specs.AreaBounds.{most_area}
-use Rattle.lpis_parcels.specs.declared.parcel.Parcel.{Parcel}
-use Rattle.lpis_parcels.specs.Weighted.{most_weighted, weighted2}
-use Rattle.lpis_parcels.specs.Release.{Contents}
+use Rattle.lpis_release.specs.declared.parcel.Parcel.{Parcel}
+use Rattle.lpis_release.specs.Weighted.{most_weighted, weighted2}
+use Rattle.lpis_release.specs.Release.{Contents}
 use Rattle.lpis_run.specs.declared.areas.Areas.{Areas}
 
 -- the areas of parcels of a release, added, are no greater than those of as many parcels can be

@@ -1,7 +1,7 @@
 -- The answer to three tables and a certificate: text and status, of the bytes of the four.
 use Rattle.std.specs.Prelude.{◌≡◌, ◌≢◌, ◌⊎◌, ℕ, List, Result, Ok, Err}
-use Rattle.lpis_covers.specs.declared.fault.TableFault.{TableFault}
-use Rattle.lpis_parcels.specs.Release.{Contents, release_of}
+use Rattle.lpis_tables.specs.declared.fault.TableFault.{TableFault}
+use Rattle.lpis_release.specs.Release.{Contents, release_of}
 use Rattle.lpis_cert.specs.declared.cert.Cert.{Cert}
 use Rattle.lpis_cert.specs.declared.fault.CertCode.{CertCode}
 use Rattle.lpis_cert.specs.declared.fault.CertFault.TheVariants as cert

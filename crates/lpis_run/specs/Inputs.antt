@@ -2,7 +2,7 @@
 use Rattle.std.specs.Prelude.{◌≡◌, Ok}
 use Rattle.lpis_cert.specs.Contents.{IsCertText}
 use Rattle.lpis_cert.specs.declared.cert.Cert.{Cert}
-use Rattle.lpis_parcels.specs.Release.{Contents}
+use Rattle.lpis_release.specs.Release.{Contents}
 use Rattle.lpis_run.specs.CheckAnswer.{Inputs, Tables, release_in}
 use Rattle.lpis_run.specs.declared.folder.InputBytes.{InputBytes}
 use Rattle.lpis_run.specs.declared.folder.TableBytes.{TableBytes}

@@ -4,9 +4,9 @@ use Rattle.std.specs.Fmt.{decimal}
 use Rattle.lpis_wkt.specs.declared.fault.WktFault.{WktFault}
 use Rattle.lpis_wkt.specs.declared.fault.WktFault.TheVariants as wkt
 use Rattle.lpis_wkt.specs.Codes.{wkt_code_text}
-use Rattle.lpis_covers.specs.declared.fault.TableFault.{TableFault}
-use Rattle.lpis_covers.specs.declared.fault.TableFault.TheVariants as table
-use Rattle.lpis_covers.specs.Codes.{table_code_text, table_text}
+use Rattle.lpis_tables.specs.declared.fault.TableFault.{TableFault}
+use Rattle.lpis_tables.specs.declared.fault.TableFault.TheVariants as table
+use Rattle.lpis_tables.specs.Codes.{table_code_text, table_text}
 use Rattle.lpis_cert.specs.declared.fault.CertFault.{CertFault}
 use Rattle.lpis_cert.specs.declared.fault.CertFault.TheVariants as cert
 use Rattle.lpis_cert.specs.Codes.{cert_code_text}

@@ -4,9 +4,9 @@ use Rattle.std.specs.Fmt.{decimal}
 use Rattle.std.specs.List.{flat_map}
 use Rattle.lpis_points.specs.Sums.{int_sum_by}
 use Rattle.lpis_rings.specs.Area.{area2}
-use Rattle.lpis_parcels.specs.declared.parcel.Parcel.{Parcel}
-use Rattle.lpis_parcels.specs.Weighted.{weighted2}
-use Rattle.lpis_parcels.specs.Release.{Contents}
+use Rattle.lpis_release.specs.declared.parcel.Parcel.{Parcel}
+use Rattle.lpis_release.specs.Weighted.{weighted2}
+use Rattle.lpis_release.specs.Release.{Contents}
 use Rattle.lpis_run.specs.Area.{area_text, eligible_text}
 
 -- an area and how much of it is eligible, up to the end of the line

@@ -13,7 +13,7 @@ use crate::outputs::write_text;
 use crate::printing::PrintFault;
 use crate::refusal::{print_region, print_table_fault};
 use crate::status::UNREADABLE;
-use lpis_covers::TableFault;
+use lpis_tables::TableFault;
 use std::alloc::{AllocError, Global};
 use std::io::Write;
 

@@ -4,14 +4,14 @@ ghost use Rattle.std.specs.Prelude.{◌≡◌, ◌≤◌, ◌<◌, ◌+◌, ◌�
 ghost use Rattle.std.specs.Prelude.{Some, length, nat_abs, slice_get};
 ghost use Rattle.std.specs.Io.KnownBytes.{Appends};
 ghost use Rattle.lpis_checker.specs.SoundMap.{AreasAdd};
-ghost use Rattle.lpis_parcels.specs.Release.{Contents};
-ghost use Rattle.lpis_parcels.specs.declared.parcel.Parcel.{Parcel};
+ghost use Rattle.lpis_release.specs.Release.{Contents};
+ghost use Rattle.lpis_release.specs.declared.parcel.Parcel.{Parcel};
 ghost use Rattle.lpis_run.specs.Area.{most_printed};
 ghost use Rattle.lpis_run.specs.Areas.{AreasOf};
 ghost use Rattle.lpis_run.specs.Report.{areas_text};
 
 use crate::printing::{PrintFault, print_area, print_eligible};
-use lpis_parcels::{Release, weighted2_at};
+use lpis_release::{Release, weighted2_at};
 use lpis_rings::area2;
 use std::io::Write;
 

@@ -18,7 +18,7 @@ use crate::understanding::{ReadInputs, understand};
 use lpis_cert::Cert;
 use lpis_checker::{CheckFault, Yes, check};
 use lpis_pairs::Sweep;
-use lpis_parcels::Release;
+use lpis_release::Release;
 use std::alloc::{AllocError, Global};
 
 /// The line of a certificate that is not good.

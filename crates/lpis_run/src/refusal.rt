@@ -9,7 +9,7 @@ ghost use Rattle.lpis_run.specs.Refusals.{refusal_text, region_end, wkt_text};
 use crate::printing::PrintFault;
 use lpis_cert::CertFault;
 use lpis_checker::{CheckFault, Location};
-use lpis_covers::TableFault;
+use lpis_tables::TableFault;
 use lpis_wkt::WktFault;
 use std::io::Write;
 

@@ -5,8 +5,8 @@ ghost use Rattle.std.specs.Prelude.{nat_abs, slice_get};
 ghost use Rattle.std.specs.Io.KnownBytes.{Appends};
 ghost use Rattle.std.specs.List.{flat_map};
 ghost use Rattle.lpis_checker.specs.SoundMap.{AreasAdd, IsSoundMap};
-ghost use Rattle.lpis_parcels.specs.Release.{Contents};
-ghost use Rattle.lpis_parcels.specs.declared.parcel.Parcel.{Parcel};
+ghost use Rattle.lpis_release.specs.Release.{Contents};
+ghost use Rattle.lpis_release.specs.declared.parcel.Parcel.{Parcel};
 ghost use Rattle.lpis_run.specs.Area.{most_printed};
 ghost use Rattle.lpis_run.specs.Areas.{AreasOf};
 ghost use Rattle.lpis_run.specs.Report.{areas_text, counts_line, parcel_line, report_text};
@@ -14,7 +14,7 @@ ghost use Rattle.lpis_run.specs.Report.{areas_text, counts_line, parcel_line, re
 use crate::areas::{Areas, areas_at, print_areas};
 use crate::printing::PrintFault;
 use lpis_checker::Yes;
-use lpis_parcels::{Parcel, Release};
+use lpis_release::{Parcel, Release};
 use std::io::Write;
 
 /// Writes the line that counts parcels and pieces.

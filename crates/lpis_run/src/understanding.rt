@@ -17,8 +17,8 @@ use crate::refusal::print_cert_fault;
 use crate::status::UNREADABLE;
 use crate::stop::Stop;
 use lpis_cert::{Cert, CertFault, read_cert};
-use lpis_covers::TableFault;
-use lpis_parcels::{Release, read_release};
+use lpis_release::{Release, read_release};
+use lpis_tables::TableFault;
 use std::alloc::{AllocError, Global};
 
 /// A release and a certificate, as they were read.

@@ -3,10 +3,10 @@ use Rattle.std.specs.Prelude.{◌≡◌, ◌∷◌, [], ℕ, List, Option, Resul
 use Rattle.std.specs.List.{flat_map}
 use Rattle.lpis_rings.specs.declared.polygon.Member.{Member}
 use Rattle.lpis_rings.specs.Area.{area2}
-use Rattle.lpis_covers.specs.declared.fault.Table.TheVariants.{Area}
-use Rattle.lpis_covers.specs.declared.fault.TableFault.{TableFault}
-use Rattle.lpis_covers.specs.Faults.{RowsOf, polygon_faults, polygon_in, rows_of}
-use Rattle.lpis_covers.specs.Table.{field_of}
+use Rattle.lpis_tables.specs.declared.fault.Table.TheVariants.{Area}
+use Rattle.lpis_tables.specs.declared.fault.TableFault.{TableFault}
+use Rattle.lpis_tables.specs.Faults.{RowsOf, polygon_faults, polygon_in, rows_of}
+use Rattle.lpis_tables.specs.Table.{field_of}
 use Rattle.lpis_run.specs.Area.{area_line}
 use Rattle.lpis_run.specs.CheckAnswer.{Answer}
 use Rattle.lpis_run.specs.Refusals.{refusal_text}

@@ -3,8 +3,8 @@
 use Rattle.std.specs.Prelude.{◌≡◌, ◌⊎◌, ◌++◌, ℕ, List, length, codes, Some, None, Result}
 use Rattle.std.specs.Prelude.{Ok, Err, sum_by}
 use Rattle.std.specs.Fmt.{decimal}
-use Rattle.lpis_covers.specs.declared.fault.TableFault.{TableFault}
-use Rattle.lpis_parcels.specs.Release.{Contents}
+use Rattle.lpis_tables.specs.declared.fault.TableFault.{TableFault}
+use Rattle.lpis_release.specs.Release.{Contents}
 use Rattle.lpis_cert.specs.declared.cert.Cert.{Cert}
 use Rattle.lpis_cert.specs.declared.part.PiecePart.{PiecePart}
 use Rattle.lpis_cert.specs.Contents.{cert_text}

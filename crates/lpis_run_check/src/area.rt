@@ -2,9 +2,9 @@
 
 ghost use Rattle.std.specs.Prelude.{◌≡◌, ◌++◌, [], List, IfOk, MatchResult, Ok, Err};
 ghost use Rattle.lpis_rings.specs.declared.polygon.Member.{Member};
-ghost use Rattle.lpis_covers.specs.declared.fault.Table.TheVariants.{Area};
-ghost use Rattle.lpis_covers.specs.Faults.{rows_of, unless_faulty, values_of};
-ghost use Rattle.lpis_covers.specs.Table.{Answers};
+ghost use Rattle.lpis_tables.specs.declared.fault.Table.TheVariants.{Area};
+ghost use Rattle.lpis_tables.specs.Faults.{rows_of, unless_faulty, values_of};
+ghost use Rattle.lpis_tables.specs.Table.{Answers};
 ghost use Rattle.lpis_run_check.specs.AreaAnswer.{Measures, answer_from, area_answer, area_table};
 ghost use Rattle.lpis_run_check.specs.AreaAnswer.{polygon_area_line};
 ghost use Rattle.lpis_run.specs.Failures.{IsUnread};
@@ -12,9 +12,9 @@ ghost use Rattle.lpis_run.specs.Run.{Runs};
 ghost use Rattle.lpis_run.specs.Status.{done};
 ghost use Rattle.lpis_run.specs.declared.failure.Name.{Name};
 
-use lpis_covers::{Table, TableFault, TableReader};
 use lpis_rings::area2;
 use lpis_run::{Answer, DONE, Failure, Name, print_line, read_named};
+use lpis_tables::{Table, TableFault, TableReader};
 use std::alloc::{AllocError, Global};
 use std::io::{Read, Write};
 

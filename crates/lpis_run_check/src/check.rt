@@ -11,7 +11,7 @@ ghost use Rattle.lpis_run.specs.Run.{Runs};
 ghost use Rattle.lpis_run.specs.Status.{done};
 ghost use Rattle.lpis_run_check.specs.CheckRun.{Checks};
 
-use lpis_parcels::Release;
+use lpis_release::Release;
 use lpis_run::{
     Answer, DONE, Failure, Folder, InputBytes, checked_release, print_report, read_folder,
 };

@@ -15,7 +15,7 @@ ghost use Rattle.lpis_run.specs.Status.{done, refused};
 use crate::cut_line::{print_counts, print_refusal};
 use lpis_cert::Cert;
 use lpis_cutter::{CutFault, Refusal, cut};
-use lpis_parcels::Release;
+use lpis_release::Release;
 use lpis_run::{
     Answer, DONE, Failure, Outcome, REFUSED, TableBytes, TableReaders, read_tables, release_in,
 };

@@ -1,8 +1,8 @@
 //! Laws of answers, each the contract of a function that does nothing else.
 
 ghost use Rattle.std.specs.Prelude.{◌≡◌, ◌≤◌, ◌*◌};
-ghost use Rattle.lpis_covers.specs.Table.{most_rows};
-ghost use Rattle.lpis_parcels.specs.Weighted.{most_weighted};
+ghost use Rattle.lpis_tables.specs.Table.{most_rows};
+ghost use Rattle.lpis_release.specs.Weighted.{most_weighted};
 ghost use Rattle.lpis_run.specs.Area.{most_printed};
 ghost use Rattle.lpis_run.specs.CheckAnswer.{Answer, Inputs, IsAnswer};
 

@@ -1,7 +1,7 @@
 -- Which contents have a text in a version: in the one that is written every certificate's does.
 use Rattle.std.specs.Prelude.{◌+◌, ◌≤◌, ◌≡◌, true, length, sum_by}
 use Rattle.std.specs.List.{AllByRecursion}
-use Rattle.lpis_covers.specs.Ids.{is_id}
+use Rattle.lpis_tables.specs.Ids.{is_id}
 use Rattle.lpis_cert.specs.declared.version.Version.{Version}
 use Rattle.lpis_cert.specs.Versions.{has_exact}
 use Rattle.lpis_cert.specs.Limits.{most_flats, greatest_count}

@@ -2,7 +2,7 @@
 use Rattle.std.specs.Prelude.{◌≡◌, ⊤, ℕ, ◌<◌, List, length, slice_get, get_or, Some}
 use Rattle.std.specs.Prelude.{Bool, true, false}
 use Rattle.lpis_points.specs.declared.triangle.Triangle.{Triangle}
-use Rattle.lpis_parcels.specs.Release.{Contents}
+use Rattle.lpis_release.specs.Release.{Contents}
 use Rattle.lpis_cert.specs.declared.cert.Cert.{Cert}
 use Rattle.lpis_cert.specs.declared.part.PairLine.{PairLine}
 use Rattle.lpis_checker.specs.declared.condition.LineCondition.TheVariants as line

@@ -1,6 +1,6 @@
 -- What searches for the first site that fails answer.
 use Rattle.std.specs.Prelude.{◌≡◌, ℕ, ◌<◌, Option, MatchOption}
-use Rattle.lpis_parcels.specs.Release.{Contents}
+use Rattle.lpis_release.specs.Release.{Contents}
 use Rattle.lpis_cert.specs.declared.cert.Cert.{Cert}
 use Rattle.lpis_pairs.specs.NearPairs.{IsBelow}
 use Rattle.lpis_checker.specs.declared.condition.PieceCondition.TheVariants as piece

@@ -3,9 +3,9 @@ use Rattle.std.specs.Prelude.{◌++◌, ◌∷◌, ℕ, List, [], cond, map, fil
 use Rattle.std.specs.Prelude.{slice_get}
 use Rattle.std.specs.List.{list_any}
 use Rattle.lpis_points.specs.declared.boxes.Box4.{Box4}
-use Rattle.lpis_covers.specs.Ids.{has_id}
-use Rattle.lpis_parcels.specs.declared.parcel.Parcel.{Parcel}
-use Rattle.lpis_parcels.specs.Release.{Contents, pieces_named}
+use Rattle.lpis_tables.specs.Ids.{has_id}
+use Rattle.lpis_release.specs.declared.parcel.Parcel.{Parcel}
+use Rattle.lpis_release.specs.Release.{Contents, pieces_named}
 use Rattle.lpis_country.specs.Tiling.{reaches}
 use Rattle.lpis_country_seam.specs.declared.kept.KeptRow.{KeptRow}
 

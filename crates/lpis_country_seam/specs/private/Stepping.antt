@@ -1,7 +1,7 @@
 -- What a step tests and keeps, by what is kept of the regions before.
 use Rattle.std.specs.Prelude.{◌≡◌, ◌+◌, ◌||◌, ◌++◌, ℕ, List, [], drop, flat_map}
-use Rattle.lpis_covers.specs.Ids.{has_id}
-use Rattle.lpis_parcels.specs.Release.{Contents, parcel_ids}
+use Rattle.lpis_tables.specs.Ids.{has_id}
+use Rattle.lpis_release.specs.Release.{Contents, parcel_ids}
 use Rattle.lpis_country_seam.specs.declared.fault.SeamFault.{SeamFault}
 use Rattle.lpis_country_seam.specs.declared.seam.OpenSeam.{OpenSeam}
 use Rattle.lpis_country_seam.specs.Faults.{seam_class_faults}

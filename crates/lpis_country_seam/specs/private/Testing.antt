@@ -3,10 +3,10 @@ use Rattle.std.specs.Prelude.{◌++◌, ◌∷◌, ◌&&◌, Bool, not, cond, �
 use Rattle.std.specs.Prelude.{take, Option, Some, None}
 use Rattle.std.specs.List.{find}
 use Rattle.lpis_points.specs.declared.boxes.Box4.{Box4}
-use Rattle.lpis_covers.specs.Ids.{has_id, same_id}
-use Rattle.lpis_parcels.specs.declared.parcel.Parcel.{Parcel}
-use Rattle.lpis_parcels.specs.Release.{Contents, pieces_named}
-use Rattle.lpis_country_rows.specs.Equality.{same_pieces, same_polygon}
+use Rattle.lpis_tables.specs.Ids.{has_id, same_id}
+use Rattle.lpis_release.specs.declared.parcel.Parcel.{Parcel}
+use Rattle.lpis_release.specs.Release.{Contents, pieces_named}
+use Rattle.lpis_release.specs.Equality.{same_pieces, same_polygon}
 use Rattle.lpis_country_seam.specs.declared.kept.KeptRow.{KeptRow}
 use Rattle.lpis_country_seam.specs.declared.fault.SeamCode.TheVariants.{Elsewhere, Reused}
 use Rattle.lpis_country_seam.specs.declared.fault.SeamCode.TheVariants.{Differs, Lacks}

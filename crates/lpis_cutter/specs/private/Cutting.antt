@@ -5,8 +5,8 @@ use Rattle.lpis_points.specs.declared.point.Point.{Point}
 use Rattle.lpis_points.specs.Plane.{same_point}
 use Rattle.lpis_rings.specs.declared.polygon.Member.{Member}
 use Rattle.lpis_rings.specs.Polygon.{points_of}
-use Rattle.lpis_covers.specs.declared.piece.Piece.{Piece}
-use Rattle.lpis_parcels.specs.Release.{Contents}
+use Rattle.lpis_tables.specs.declared.piece.Piece.{Piece}
+use Rattle.lpis_release.specs.Release.{Contents}
 use Rattle.lpis_cert.specs.Limits.{most_flats}
 use Rattle.lpis_points.specs.Triangles.{most_triangles}
 use Rattle.lpis_cutter.specs.declared.fault.Refusal.{Refusal}

@@ -4,7 +4,7 @@ use Rattle.std.specs.Prelude.{Option, None, Some}
 use Rattle.std.specs.List.{list_any}
 use Rattle.lpis_lineage.specs.declared.row.Row.{Row}
 use Rattle.lpis_lineage.specs.declared.fates.Fates.{Fates}
-use Rattle.lpis_covers.specs.Ids.{has_id}
+use Rattle.lpis_tables.specs.Ids.{has_id}
 use Rattle.lpis_lineage.specs.Lineage.{is_row_of, is_ended}
 use Rattle.lpis_lineage.specs.Kinds.{predecessors}
 use Rattle.lpis_lineage.specs.private.Tally.{IsTally}

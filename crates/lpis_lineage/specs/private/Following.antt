@@ -1,7 +1,7 @@
 -- What following the rows keeps.
 use Rattle.std.specs.Prelude.{◌≡◌, ◌++◌, ◌∷◌, [], true, false, ℕ, List}
 use Rattle.std.specs.List.{list_any}
-use Rattle.lpis_covers.specs.Ids.{has_id}
+use Rattle.lpis_tables.specs.Ids.{has_id}
 use Rattle.lpis_lineage.specs.declared.row.Row.{Row}
 use Rattle.lpis_lineage.specs.Lineage.{is_row_of, is_this, names_successor}
 use Rattle.lpis_lineage.specs.Descendants.{Chain}

@@ -3,7 +3,7 @@ use Rattle.std.specs.Prelude.{◌≡◌, ◌≤◌, true, false, ℕ, List, leng
 use Rattle.std.specs.List.{list_any, filter}
 use Rattle.lpis_lineage.specs.declared.row.Row.{Row}
 use Rattle.lpis_lineage.specs.declared.row.Entry.{Entry}
-use Rattle.lpis_covers.specs.Ids.{has_id}
+use Rattle.lpis_tables.specs.Ids.{has_id}
 use Rattle.lpis_lineage.specs.Lineage.{holds, names_successor, is_row_of, same_row, last_live}
 use Rattle.lpis_lineage.specs.ExactGroups.{MarksHold}
 use Rattle.lpis_lineage.specs.Lawful.{IsAnswered}

@@ -1,7 +1,7 @@
 -- What one pass over the rows keeps of their marks.
 use Rattle.std.specs.Prelude.{◌≡◌, ◌&&◌, not, ℕ, List, Option}
 use Rattle.std.specs.List.{list_any}
-use Rattle.lpis_covers.specs.Ids.{has_id}
+use Rattle.lpis_tables.specs.Ids.{has_id}
 use Rattle.lpis_lineage.specs.declared.kind.Kind.{Kind}
 use Rattle.lpis_lineage.specs.declared.marks.Marks.{Marks}
 use Rattle.lpis_lineage.specs.declared.row.Row.{Row}

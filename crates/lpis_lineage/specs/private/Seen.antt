@@ -3,7 +3,7 @@ use Rattle.std.specs.Prelude.{◌≡◌, ◌&&◌, ℕ, List}
 use Rattle.std.specs.List.{list_any}
 use Rattle.lpis_lineage.specs.declared.row.Row.{Row}
 use Rattle.lpis_lineage.specs.declared.seen.Seen.{Seen}
-use Rattle.lpis_covers.specs.Ids.{has_id, same_id}
+use Rattle.lpis_tables.specs.Ids.{has_id, same_id}
 use Rattle.lpis_lineage.specs.Lineage.{is_ended, succeeded, is_row_of, names_successor}
 
 pub record IsSeen (seen : Seen) (rows : List Row) : Type 0 where

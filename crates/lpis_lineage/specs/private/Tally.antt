@@ -1,6 +1,6 @@
 -- Which identifiers a list has, and which more than once.
 use Rattle.std.specs.Prelude.{◌≡◌, nat_lt, ℕ, List}
-use Rattle.lpis_covers.specs.Ids.{has_id}
+use Rattle.lpis_tables.specs.Ids.{has_id}
 use Rattle.lpis_lineage.specs.declared.tally.Tally.{Tally}
 use Rattle.lpis_lineage.specs.Kinds.{id_times}
 

@@ -1,8 +1,8 @@
 -- What accepting a release answers.
 use Rattle.std.specs.Prelude.{◌≡◌, ◌≢◌, List, Result, IfErr, IfOk}
 use Rattle.lpis_checker.specs.SoundMap.{IsSoundMap}
-use Rattle.lpis_parcels.specs.declared.parcel.Parcel.{Parcel}
-use Rattle.lpis_parcels.specs.Release.{Contents}
+use Rattle.lpis_release.specs.declared.parcel.Parcel.{Parcel}
+use Rattle.lpis_release.specs.Release.{Contents}
 use Rattle.lpis_register.specs.Accepting.{IsAccepted}
 use Rattle.lpis_register.specs.Faults.{PublishRefuses}
 use Rattle.lpis_register.specs.Holdings.{Candidate, Holdings}

@@ -5,7 +5,7 @@ use Rattle.std.specs.Prelude.{ℤ, pos, negsuc, List, length, None, Some}
 use Rattle.std.specs.List.{list_any}
 use Rattle.std.specs.Ordering.{int_cmp, ordering_then}
 use Rattle.std.specs.declared.cmp.Ordering.{Ordering}
-use Rattle.lpis_covers.specs.Ids.{is_id, same_id}
+use Rattle.lpis_tables.specs.Ids.{is_id, same_id}
 use Rattle.lpis_lineage.specs.declared.row.Entry.{Entry}
 use Rattle.lpis_lineage.specs.declared.row.Row.{Row}
 use Rattle.lpis_lineage.specs.Lineage.{entry_at, holds}

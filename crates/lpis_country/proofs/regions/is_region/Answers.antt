@@ -1,5 +1,5 @@
 use Rattle.std.proofs.Common.{List, All, subst}
-use Rattle.lpis_parcels.specs.declared.parcel.Parcel.{Parcel}
+use Rattle.lpis_release.specs.declared.parcel.Parcel.{Parcel}
 use Rattle.lpis_country.specs.Polygons.{HasClosedRings}
 use Rattle.lpis_country.proofs.RegionLemmas.{joined_names}
 use Rattle.lpis_country.proofs.regions.is_region.Goals as goal

@@ -1,4 +1,4 @@
-use Rattle.lpis_parcels.specs.declared.parcel.Parcel.{Parcel}
+use Rattle.lpis_release.specs.declared.parcel.Parcel.{Parcel}
 use Rattle.lpis_country.specs.Polygons.{HasClosedRings}
 use Rattle.lpis_country.proofs.ListLemmas.{all_hold_at_end, one_more_holds}
 use Rattle.lpis_country.proofs.regions.parcels_are_closed.Goals as goal

@@ -1,5 +1,5 @@
 use Rattle.std.proofs.Common.{All, take}
-use Rattle.lpis_parcels.specs.declared.parcel.Parcel.{Parcel}
+use Rattle.lpis_release.specs.declared.parcel.Parcel.{Parcel}
 use Rattle.lpis_country.specs.Polygons.{HasClosedRings}
 use Rattle.lpis_country.proofs.regions.parcels_are_closed.Given as goal
 

@@ -1,5 +1,5 @@
 use Rattle.std.proofs.Common.{◌≡◌, ◌<◌, ◌+◌, ℕ, List, Some, filter, get_or, length, map, slice_get, subst, sym, take}
-use Rattle.lpis_parcels.specs.declared.parcel.Parcel.{Parcel}
+use Rattle.lpis_release.specs.declared.parcel.Parcel.{Parcel}
 use Rattle.lpis_country_seam.specs.private.Testing.{is_fresh, tested_row}
 use Rattle.lpis_country_seam.proofs.ReportLemmas.{places-more, reports-next, rows-told}
 use Rattle.lpis_country_seam.proofs.testing.check_rows.Goals as goal

@@ -2,7 +2,7 @@ use Rattle.std.proofs.Common.{◌≡◌, ◌<◌, ℕ, List, Some, length, get_o
 use Rattle.std.specs.List.{slice_get}
 use Rattle.std.proofs.lemmas.Option.{get_or_from_slice_get, slice_get_read, slice_get_within}
 use Rattle.lpis_points.specs.declared.triangle.Triangle.{Triangle}
-use Rattle.lpis_parcels.specs.Release.{Contents}
+use Rattle.lpis_release.specs.Release.{Contents}
 use Rattle.lpis_cutter.proofs.Common.{Piece}
 use Rattle.lpis_cutter.specs.declared.fault.Refusal.TheVariants.{NoSeparator}
 use Rattle.lpis_cutter.specs.Refusals.{AreUnseparated, IsOn, NoEdgeSeparates}

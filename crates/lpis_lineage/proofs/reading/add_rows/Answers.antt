@@ -2,10 +2,10 @@ use Rattle.std.proofs.Common.{◌≡◌, ◌+◌, ◌∙◌, ◌++◌, ◌∷◌
 use Rattle.lpis_lineage.proofs.Common.{Row}
 use Rattle.std.proofs.lemmas.List.{map-append}
 use Rattle.std.proofs.lemmas.Result.{err_from_is_err_and}
-use Rattle.lpis_covers.proofs.Shared.{rows-end, rows-fault, rows-start, rows-step, rows-stop}
-use Rattle.lpis_covers.specs.declared.fault.TableFault.{TableFault}
-use Rattle.lpis_covers.specs.Faults.{unless_faulty}
-use Rattle.lpis_covers.specs.Table.{field_of}
+use Rattle.lpis_tables.proofs.Shared.{rows-end, rows-fault, rows-start, rows-step, rows-stop}
+use Rattle.lpis_tables.specs.declared.fault.TableFault.{TableFault}
+use Rattle.lpis_tables.specs.Faults.{unless_faulty}
+use Rattle.lpis_tables.specs.Table.{field_of}
 use Rattle.lpis_lineage.specs.LineageTable.{lineage_faults, lineage_table, row_of}
 use Rattle.lpis_lineage.proofs.reading.add_rows.Goals as goal
 

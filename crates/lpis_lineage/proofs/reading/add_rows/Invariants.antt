@@ -1,6 +1,6 @@
 use Rattle.std.proofs.Common.{◌≡◌, length, map}
 use Rattle.lpis_lineage.proofs.Common.{Row}
-use Rattle.lpis_covers.proofs.Shared.{IsRead}
+use Rattle.lpis_tables.proofs.Shared.{IsRead}
 use Rattle.lpis_lineage.specs.LineageTable.{lineage_table}
 use Rattle.lpis_lineage.proofs.reading.add_rows.Given as goal
 

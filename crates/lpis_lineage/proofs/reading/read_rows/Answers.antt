@@ -1,5 +1,5 @@
 use Rattle.std.proofs.lemmas.Result.{err_from_is_err_and}
-use Rattle.lpis_covers.proofs.Shared.{table-start}
+use Rattle.lpis_tables.proofs.Shared.{table-start}
 use Rattle.lpis_lineage.specs.LineageTable.{lineage_table}
 use Rattle.lpis_lineage.proofs.RowsLemmas.{rows-answered}
 use Rattle.lpis_lineage.proofs.reading.read_rows.Goals as goal

@@ -1,6 +1,6 @@
 use Rattle.std.proofs.Common.{◌∙◌, sym}
 use Rattle.std.proofs.lemmas.Result.{err_from_is_err_and}
-use Rattle.lpis_covers.specs.Table.{field_of}
+use Rattle.lpis_tables.specs.Table.{field_of}
 use Rattle.lpis_lineage.proofs.RowsLemmas.{successor-fault, successor-none, successor-some}
 use Rattle.lpis_lineage.proofs.reading.read_successor.Goals as goal
 

@@ -2,7 +2,7 @@ use Rattle.std.proofs.Common.{◌≡◌, [], subst, sym}
 use Rattle.std.proofs.lemmas.Result.{err_from_is_err_and}
 use Rattle.lpis_lineage.specs.Changes.{IsChange}
 use Rattle.lpis_lineage.specs.Faults.{faults}
-use Rattle.lpis_parcels.specs.Release.{parcel_ids}
+use Rattle.lpis_release.specs.Release.{parcel_ids}
 use Rattle.lpis_register_rows.specs.Shapes.{AreShapesOf}
 use Rattle.lpis_register.proofs.Common.{last_live}
 use Rattle.lpis_register.proofs.AcceptingLemmas.{accepted_made}

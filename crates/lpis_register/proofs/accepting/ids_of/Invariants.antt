@@ -1,5 +1,5 @@
 use Rattle.std.proofs.Common.{◌≡◌, take}
-use Rattle.lpis_parcels.specs.Release.{parcel_ids}
+use Rattle.lpis_release.specs.Release.{parcel_ids}
 use Rattle.lpis_register.proofs.accepting.ids_of.Given as goal
 
 abbrev pub invariant-loop-parcel : goal.invariant-loop-parcel

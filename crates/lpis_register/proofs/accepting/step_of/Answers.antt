@@ -1,7 +1,7 @@
 use Rattle.std.proofs.Common.{◌∙◌, ap, subst, sym}
 use Rattle.std.proofs.lemmas.Result.{err_from_is_err_and}
 use Rattle.lpis_lineage.specs.Steps.{IsStep}
-use Rattle.lpis_parcels.specs.Release.{parcel_ids}
+use Rattle.lpis_release.specs.Release.{parcel_ids}
 use Rattle.lpis_register.proofs.AcceptingLemmas.{no_store_lineage, refused_lineage}
 use Rattle.lpis_register.specs.Holdings.{candidate, holdings}
 use Rattle.lpis_register.proofs.accepting.step_of.Goals as goal

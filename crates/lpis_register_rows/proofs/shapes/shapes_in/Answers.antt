@@ -1,4 +1,4 @@
-use Rattle.lpis_parcels.specs.Release.{parcel_ids}
+use Rattle.lpis_release.specs.Release.{parcel_ids}
 use Rattle.lpis_register_rows.proofs.AscendingLemmas.{all-moved}
 use Rattle.lpis_register_rows.proofs.ShapeLemmas.{sorted-ascends}
 use Rattle.lpis_register_rows.specs.Shapes.{IsLive, IsSpelled}

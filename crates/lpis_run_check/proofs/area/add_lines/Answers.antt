@@ -1,8 +1,8 @@
 use Rattle.std.proofs.Common.{◌∙◌, ◌++◌, ◌∷◌, [], ap, sym, refl, ℕ, List}
 use Rattle.lpis_run.specs.Status.{done}
 use Rattle.std.proofs.lemmas.Result.{err_from_is_err_and}
-use Rattle.lpis_covers.specs.Table.{field_of}
-use Rattle.lpis_covers.proofs.Shared.{rows-end, rows-fault, rows-start, rows-step, rows-stop}
+use Rattle.lpis_tables.specs.Table.{field_of}
+use Rattle.lpis_tables.proofs.Shared.{rows-end, rows-fault, rows-start, rows-step, rows-stop}
 use Rattle.lpis_run_check.specs.AreaAnswer.{answer_from, area_table, polygon_area_line}
 use Rattle.lpis_run.proofs.Shared.{flat_map-push}
 use Rattle.lpis_run_check.proofs.area.add_lines.Goals as goal

@@ -1,6 +1,6 @@
 use Rattle.std.proofs.Common.{◌≡◌, List, ℕ, length, flat_map}
 use Rattle.lpis_rings.specs.declared.polygon.Member.{Member}
-use Rattle.lpis_covers.proofs.Shared.{IsRead}
+use Rattle.lpis_tables.proofs.Shared.{IsRead}
 use Rattle.lpis_run_check.specs.AreaAnswer.{area_table, polygon_area_line}
 use Rattle.lpis_run_check.proofs.area.add_lines.Given as goal
 

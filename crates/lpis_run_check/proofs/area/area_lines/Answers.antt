@@ -1,7 +1,7 @@
 use Rattle.std.proofs.Common.{◌≡◌, ◌∷◌, [], refl, rules, codes, ℕ, List, Ok, Bor}
-use Rattle.lpis_covers.specs.declared.fault.Table.TheVariants.{Area}
-use Rattle.lpis_covers.specs.Table.{Reading, table_of, texts}
-use Rattle.lpis_covers.proofs.Shared.{table-start}
+use Rattle.lpis_tables.specs.declared.fault.Table.TheVariants.{Area}
+use Rattle.lpis_tables.specs.Table.{Reading, table_of, texts}
+use Rattle.lpis_tables.proofs.Shared.{table-start}
 use Rattle.lpis_run_check.proofs.area.area_lines.Goals as goal
 
 -- the table that was opened

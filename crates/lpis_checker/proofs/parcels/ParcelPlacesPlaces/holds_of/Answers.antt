@@ -1,7 +1,7 @@
 use Rattle.std.proofs.Common.{List}
 use Rattle.std.proofs.lemmas.Option.{slice_get_within}
 use Rattle.lpis_checker.proofs.Common.{Triangle, polygons_of}
-use Rattle.lpis_covers.specs.declared.piece.Piece.{Piece}
+use Rattle.lpis_tables.specs.declared.piece.Piece.{Piece}
 use Rattle.lpis_edge_sums.specs.Making.{EdgesCancel, FlatsHaveCorners}
 use Rattle.lpis_checker.proofs.SiteLemmas.{told_alike}
 use Rattle.lpis_checker.proofs.parcels.ParcelPlacesPlaces.holds_of.Goals as goal

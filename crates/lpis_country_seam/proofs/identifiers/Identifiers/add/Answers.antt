@@ -1,5 +1,5 @@
 use Rattle.std.proofs.Common.{◌∙◌, ℕ, List, true, cond, ap}
-use Rattle.lpis_covers.specs.Ids.{has_id, same_id}
+use Rattle.lpis_tables.specs.Ids.{has_id, same_id}
 use Rattle.std.proofs.Common.{is_eq, nat_cmp}
 use Rattle.std.specs.List.{list_any}
 use Rattle.std.specs.Cmp.Lexicographic.{slice_cmp}

@@ -1,5 +1,5 @@
 use Rattle.std.proofs.Common.{◌∙◌, ap, List, ℕ}
-use Rattle.lpis_covers.specs.Ids.{has_id}
+use Rattle.lpis_tables.specs.Ids.{has_id}
 use Rattle.lpis_country_seam.proofs.IdLemmas.{has-by-order}
 use Rattle.lpis_country_seam.proofs.identifiers.Identifiers.contains.Goals as goal
 

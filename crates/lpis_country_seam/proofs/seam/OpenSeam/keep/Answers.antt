@@ -1,9 +1,9 @@
 use Rattle.std.proofs.Common.{◌∙◌, ◌+◌, ◌-◌, ◌||◌, List, drop, length, refl, take, ap}
 use Rattle.std.proofs.lemmas.List.{take_rest}
 use Rattle.lpis_points.specs.declared.boxes.Box4.{Box4}
-use Rattle.lpis_covers.specs.Ids.{has_id}
-use Rattle.lpis_parcels.specs.declared.parcel.Parcel.{Parcel}
-use Rattle.lpis_parcels.specs.Release.{parcel_ids}
+use Rattle.lpis_tables.specs.Ids.{has_id}
+use Rattle.lpis_release.specs.declared.parcel.Parcel.{Parcel}
+use Rattle.lpis_release.specs.Release.{parcel_ids}
 use Rattle.lpis_country_seam.proofs.KeepLemmas.{all-kept}
 use Rattle.lpis_country_seam.proofs.seam.OpenSeam.keep.Goals as goal
 

@@ -1,5 +1,5 @@
 use Rattle.std.proofs.Common.{ℕ, List, refl, ap}
-use Rattle.lpis_covers.specs.Ids.{has_id}
+use Rattle.lpis_tables.specs.Ids.{has_id}
 use Rattle.lpis_country_seam.proofs.SeamLemmas.{none-joined}
 use Rattle.lpis_country_seam.proofs.seam.OpenSeam.new.Goals as goal
 

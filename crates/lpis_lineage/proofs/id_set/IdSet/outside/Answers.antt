@@ -1,6 +1,6 @@
 use Rattle.std.proofs.Common.{◌≡◌, ◌∙◌, ◌++◌, ◌∷◌, [], sym, ap, subst, append_assoc, true, ℕ, List, All}
 use Rattle.std.proofs.lemmas.List.Elements.{All-push}
-use Rattle.lpis_covers.specs.Ids.{is_id}
+use Rattle.lpis_tables.specs.Ids.{is_id}
 use Rattle.lpis_lineage.proofs.id_set.IdSet.outside.Goals as goal
 
 pub loop-id-preserved : goal.loop-id-preserved

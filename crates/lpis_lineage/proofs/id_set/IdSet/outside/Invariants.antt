@@ -1,5 +1,5 @@
 use Rattle.std.proofs.Common.{◌≡◌, ◌++◌, true, not, filter, All}
-use Rattle.lpis_covers.specs.Ids.{is_id}
+use Rattle.lpis_tables.specs.Ids.{is_id}
 use Rattle.lpis_lineage.proofs.Common.{has_id}
 use Rattle.lpis_lineage.proofs.id_set.IdSet.outside.Given as goal
 

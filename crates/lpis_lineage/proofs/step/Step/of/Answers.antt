@@ -1,6 +1,6 @@
 use Rattle.std.proofs.Common.{◌≡◌, ◌∙◌, refl, sym, ap, subst, true, ℕ, List, not, filter}
 use Rattle.std.proofs.lemmas.List.Elements.{recursion_from_All}
-use Rattle.lpis_covers.specs.Ids.{is_id}
+use Rattle.lpis_tables.specs.Ids.{is_id}
 use Rattle.lpis_lineage.proofs.Common.{has_id}
 use Rattle.lpis_lineage.specs.Changes.{IsChange}
 use Rattle.lpis_lineage.proofs.StepLemmas.{fresh-lacking, has-all}

@@ -1,9 +1,0 @@
-pub mod TreeLemmas
-pub mod NumberLemmas
-pub mod LineLemmas
-pub mod BegunLemmas
-pub mod FaultLemmas
-pub mod LawLemmas
-pub mod PlanLemmas
-pub mod DraftLemmas
-pub mod ReadingLemmas

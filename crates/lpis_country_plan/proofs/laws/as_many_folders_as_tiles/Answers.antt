@@ -1,5 +1,0 @@
-use Rattle.lpis_country_plan.proofs.TreeLemmas.{as_many_tiles}
-use Rattle.lpis_country_plan.proofs.laws.as_many_folders_as_tiles.Goals as goal
-
-pub returns : goal.returns
-returns c = λ t b. as_many_tiles t b

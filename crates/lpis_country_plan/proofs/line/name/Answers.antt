@@ -1,6 +1,0 @@
-use Rattle.std.proofs.Common.{rules}
-use Rattle.lpis_country_plan.proofs.LineLemmas.{name_utf8}
-use Rattle.lpis_country_plan.proofs.line.name.Goals as goal
-
-pub unreachable-requires : goal.unreachable-requires
-unreachable-requires c = ((rw c.in-Err.is at c.from_utf8.ensures.cases).0) (name_utf8 c.args.word.now (search rules))

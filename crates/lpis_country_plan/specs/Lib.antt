@@ -1,6 +1,0 @@
-pub mod Limits
-pub mod Tree
-pub mod CountryText
-pub mod Faults
-pub mod Plans
-pub mod private

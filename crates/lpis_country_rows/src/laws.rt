@@ -1,8 +1,0 @@
-//! Laws of equal rows, each the contract of a function that does nothing else.
-
-ghost use Rattle.lpis_country_rows.specs.Equality.{TestsFindEqualRows};
-
-/// The tests of polygons, of lists of pieces and of classes tell equal ones.
-pub fn tests_find_equal_rows()
-    ensures { TestsFindEqualRows }
-{}

@@ -1,7 +1,0 @@
-use Rattle.std.proofs.Common.{◌≡◌, ◌++◌, List, take}
-use Rattle.lpis_parcels.specs.declared.parcel.Parcel.{Parcel}
-use Rattle.lpis_country_run.specs.private.Totals.{AreAt}
-use Rattle.lpis_country_run.proofs.gathering.copy_at.Given as goal
-
-abbrev pub invariant-loop-count : goal.invariant-loop-count
-invariant-loop-count l = (ks : List Parcel) → AreAt l.release l.places ks → l.parcels.items ≡ l.fn.parcels.items ++ take l.count ks

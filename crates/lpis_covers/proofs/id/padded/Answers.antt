@@ -1,6 +1,0 @@
-use Rattle.std.proofs.Common.{refl}
-use Rattle.lpis_covers.proofs.IdLemmas.{characters-kept}
-use Rattle.lpis_covers.proofs.id.padded.Goals as goal
-
-pub returns : goal.returns
-returns c = rw c.copy_from_slice.ensures.after (characters-kept c.args.bytes.now _ c.requires refl)

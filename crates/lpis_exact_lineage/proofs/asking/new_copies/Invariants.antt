@@ -1,8 +1,0 @@
-use Rattle.std.proofs.Common.{take}
-use Rattle.std.specs.List.{AllZip}
-use Rattle.lpis_exact_lineage.specs.Asking.{HasShape}
-use Rattle.lpis_exact_lineage.specs.Shapes.{shape_named}
-use Rattle.lpis_exact_lineage.proofs.asking.new_copies.Given as goal
-
-abbrev pub invariant-loop-id : goal.invariant-loop-id
-invariant-loop-id l = AllZip (HasShape (shape_named l.new)) (take l.id-index l.ids) l.shapes.items

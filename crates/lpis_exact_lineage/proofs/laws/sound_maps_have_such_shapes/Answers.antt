@@ -1,5 +1,0 @@
-use Rattle.lpis_exact_lineage.proofs.ShapeLemmas.{share_nothing, turn_once}
-use Rattle.lpis_exact_lineage.proofs.laws.sound_maps_have_such_shapes.Goals as goal
-
-pub returns : goal.returns
-returns c = record { once = turn_once; apart = share_nothing }

@@ -1,5 +1,0 @@
-use Rattle.lpis_exact_lineage.proofs.ShownLemmas.{shown-is-exact}
-use Rattle.lpis_exact_lineage.proofs.laws.what_is_shown_has_exact_lineage.Goals as goal
-
-pub returns : goal.returns
-returns c = shown-is-exact c.a_split_is_exact.ensures c.a_merge_is_exact.ensures

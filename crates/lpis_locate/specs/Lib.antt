@@ -1,3 +1,0 @@
-pub mod LocateLines
-pub mod LocateAnswer
-pub mod private

@@ -1,3 +1,0 @@
--- Machinery, cited by private contracts alone: no promise rests on it.
-pub mod Lines
-pub mod LocateRuns

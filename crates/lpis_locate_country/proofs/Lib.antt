@@ -1,3 +1,0 @@
-pub mod FoundLemmas
-pub mod PassingLemmas
-pub mod CountryLemmas

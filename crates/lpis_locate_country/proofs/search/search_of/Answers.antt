@@ -1,9 +1,0 @@
-use Rattle.std.proofs.Common.{◌∙◌, ap, length}
-use Rattle.lpis_locate_country.proofs.FoundLemmas.{none_found}
-use Rattle.lpis_locate_country.proofs.search.search_of.Goals as goal
-
-pub returns : goal.returns
-returns c = λ table is. (
-  is,
-  none_found c.args.points c.in_ok-found.found.items (c.in_ok-found.ensures.count ∙ ap length c.as_slice.ensures) c.in_ok-found.ensures.none,
-)

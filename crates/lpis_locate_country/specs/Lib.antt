@@ -1,2 +1,0 @@
-pub mod LocateCountryAnswer
-pub mod private

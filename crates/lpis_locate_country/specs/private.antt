@@ -1,3 +1,0 @@
--- Machinery, cited by private contracts alone: no promise rests on it.
-pub mod Found
-pub mod Searching

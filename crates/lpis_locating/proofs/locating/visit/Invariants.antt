@@ -1,7 +1,0 @@
-use Rattle.lpis_locating.proofs.BoxLemmas.{SettledStrips}
-use Rattle.lpis_locating.specs.private.Visits.{AreTouched}
-use Rattle.lpis_locating.proofs.locating.visit.Given as goal
-
-abbrev pub invariant-loop-strip : goal.invariant-loop-strip
-invariant-loop-strip l = AreTouched l.release l.parcel l.points l.fn.found l.found
-    × SettledStrips l.parcel l.points l.slots l.found l.first l.strip

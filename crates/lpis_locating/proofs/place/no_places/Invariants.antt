@@ -1,6 +1,0 @@
-use Rattle.std.proofs.Common.{◌≡◌, All, None, Option, length}
-use Rattle.lpis_locating.specs.declared.place.Place.{Place}
-use Rattle.lpis_locating.proofs.place.no_places.Given as goal
-
-abbrev pub invariant-loop : goal.invariant-loop
-invariant-loop l = (length l.found.items ≡ l.counter) × All (λ (f : Option Place). f ≡ None) l.found.items

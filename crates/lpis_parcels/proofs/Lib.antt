@@ -1,7 +1,0 @@
-pub mod GroupLemmas
-pub mod Common
-pub mod JoinLemmas
-pub mod IndexLemmas
-pub mod WeightedLemmas
-pub mod Shared
-mod NamingLemmas

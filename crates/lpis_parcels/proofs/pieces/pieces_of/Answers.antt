@@ -1,6 +1,0 @@
-use Rattle.lpis_parcels.proofs.Common.{joined_pieces, names_parcel}
-use Rattle.lpis_parcels.proofs.IndexLemmas.{at-indices-where}
-use Rattle.lpis_parcels.proofs.pieces.pieces_of.Goals as goal
-
-pub returns : goal.returns
-returns c = at-indices-where (names_parcel c.args.parcel.now) c.args.release.now.pieces c.pieces.result.now (joined_pieces c.joins_of.result.now) c.pieces.ensures.pieces c.joins_of.ensures.pieces

@@ -1,4 +1,0 @@
-pub mod Parcels
-pub mod Release
-pub mod Weighted
-pub mod private

@@ -1,0 +1,5 @@
+pub mod Parcels
+pub mod Release
+pub mod Weighted
+pub mod Equality
+pub mod private

@@ -1,0 +1,361 @@
+-- How a run over regions goes on, and ends.
+use Rattle.std.proofs.Common.{◌≡◌, ◌≢◌, ◌<◌, ◌≤◌, ◌⊎◌, ◌∙◌, ◌++◌, ◌∷◌, ◌+◌, ◌*◌, [], refl, sym, ap, subst, arith, inl, inr, IfErr, IfOk, IsErrAnd}
+use Rattle.std.proofs.Common.{OnOk, ℕ, List, All, Option, None, Some, Result, Ok, Err, Vec, drop, get_or, length, map, take}
+use Rattle.std.proofs.Math.Seq.{take-append-add}
+use Rattle.std.proofs.lemmas.List.{append-nil, drop_more, length-append, length-map}
+use Rattle.std.proofs.lemmas.List.Elements.{All-head, All-tail}
+use Rattle.std.specs.Io.KnownBytes.{Appends, Keeps}
+use Rattle.std.specs.declared.alloc.Global.{Global}
+use Rattle.lpis_run.proofs.Shared.{appends-more, breaks_off_more, refused-more, stopped-in-region}
+use Rattle.lpis_release.specs.Release.{Contents}
+use Rattle.lpis_run.specs.declared.failure.Failure.{Failure}
+use Rattle.lpis_run.specs.declared.failure.Failure.TheVariants.{Memory, Read, ReadOf, Write, Store, StoreMemory}
+use Rattle.lpis_run.specs.declared.failure.Name.{Name}
+use Rattle.lpis_run.specs.declared.failure.Name.TheVariants.{Cert, Classes, Covers, Out, Parcels}
+use Rattle.lpis_run.specs.CheckAnswer.{Answer, Inputs, IsProvedOf, IsRefusal}
+use Rattle.lpis_run.specs.declared.answer.Answer.{Answer as Printed}
+use Rattle.lpis_run.specs.Status.{done}
+use Rattle.lpis_run.specs.Stops.{IsInRegion, IsRefusedAs}
+use Rattle.lpis_run.specs.Streams.{Begins}
+use Rattle.lpis_run.specs.declared.stop.Stop.{Stop}
+use Rattle.lpis_run.specs.declared.stop.Stop.TheVariants.{Refused}
+use Rattle.lpis_release.specs.declared.parcel.Parcel.{Parcel}
+use Rattle.lpis_country.specs.Country.{country_of, new_parcels}
+use Rattle.lpis_country.proofs.Shared.{country_is_region, country_snoc}
+use Rattle.lpis_run.specs.declared.detail.Detail.{Detail}
+use Rattle.lpis_country_seam.specs.Faults.{IsFirstSeamFault}
+use Rattle.lpis_country_seam.specs.Open.{IsSeamOf}
+use Rattle.lpis_country_seam.specs.declared.fault.SeamFault.{SeamFault}
+use Rattle.lpis_country_seam.specs.declared.fault.SeamFault.TheVariants.{Memory as NoMemory}
+use Rattle.lpis_run_country.specs.declared.progress.Progress.{Progress}
+use Rattle.lpis_run_country.specs.declared.totals.Totals.{Totals}
+use Rattle.lpis_run_country.specs.CountryAnswer.{IsRefusedByCheck, HavePassed, None as NonePassed, IsReachedBy, IsRefusedRegion, Setting}
+use Rattle.lpis_run_country.specs.CountryFailures.{IsStoppedBefore, IsUnreadFolder}
+use Rattle.lpis_run_country.specs.CountryLines.{country_lines, region_report}
+use Rattle.lpis_run_country.specs.Regions.{AreOfFolder, Texts}
+use Rattle.lpis_run_country.specs.RegionsOutcome.{IsRegionsRefusal, RegionsEnd, RegionsStop, StopsRegions}
+use Rattle.lpis_run_country.specs.private.Progressing.{AnswersRegions, RunsRegions}
+use Rattle.lpis_run_country.specs.private.Progressing.{AreOfRun, FollowsAs, HasGathered, HasPassedAll, IsAt, IsFailureOf, IsFinished, IsHere, IsMisfit, IsReady, IsStart, IsUnfinished}
+use Rattle.lpis_run_country.specs.private.Progressing.{IsUnwritten, IsVerdict, IsVerdictText, IsWritten, RegionsPass}
+use Rattle.lpis_run_country.specs.private.Totals.{AreTotalsOf, IsPrintable, last_lines}
+use Rattle.lpis_run_country.proofs.PassedLemmas.{passed_length, passed_more, reached_by, refused_next}
+use Rattle.lpis_run_country.proofs.TotalsLemmas.{bounded_of, few_new, last_lines_are, printable, totals_grow}
+
+-- ---- writers
+-- a beginning of what follows a text
+begins-more : (old now new : Option (List ℕ)) (a b : List ℕ) → Appends old now a → Begins now new b → Begins old new (a ++ b)
+begins-more old now new a b h (n, k) = (length a + n, subst (Appends old new) (sym (take-append-add a b n)) (appends-more old now new a (take n b) h k))
+
+keeps-nothing : (old new : Option (List ℕ)) → Keeps old new → Appends old new []
+keeps-nothing None new h = tt
+keeps-nothing (Some xs) None h = h
+keeps-nothing (Some xs) (Some ys) h = h ∙ sym (append-nil xs)
+
+-- nothing more
+appends-kept : (old now new : Option (List ℕ)) (a : List ℕ) → Appends old now a → Keeps now new → Appends old new a
+appends-kept old now new a h k = subst (Appends old new) (append-nil a) (appends-more old now new a [] h (keeps-nothing now new k))
+
+-- ---- the start
+room : (n m p : ℕ) → p ≤ 200000 * n → n < m → m ≤ 10000 → p + 200000 ≤ 200000 * 10000
+room n m p a b c = omega arith
+
+next-there : (next before n tiles names items : ℕ) → next ≡ before → before ≡ n → items ≡ tiles → names ≡ tiles → n < names → next < items
+next-there next before n tiles names items a b c d lt = omega arith
+
+-- the next region can be read
+pub ready : (s : Setting) (texts : List ℕ → Texts) (names : List (List ℕ)) (detail : Detail) (p q : Progress) (n : ℕ) (old new : Option (List ℕ)) → IsStart s texts names detail p
+    → IsHere s q n old new
+    → n < length names → IsReady q
+ready s texts names detail p q n old new start here lt = record {
+  next = next-there _ _ _ _ _ _ here.at.seam.number here.number (ap length here.at.seam.tiles_are) start.as_many lt;
+  setting = s;
+  before = here.before;
+  at = here.at;
+  room = room n (length names) q.totals.parcels (subst (λ (k : ℕ). q.totals.parcels ≤ 200000 * k) here.number here.at.few) lt start.few;
+}
+
+-- before the first region
+appends-nothing : (old : Option (List ℕ)) → Appends old old []
+appends-nothing None = tt
+appends-nothing (Some xs) = sym (append-nil xs)
+
+-- at the start no region has passed, and nothing has been written
+pub begun_here : (s : Setting) (texts : List ℕ → Texts) (names : List (List ℕ)) (detail : Detail) (p : Progress) (old : Option (List ℕ)) → IsStart s texts names detail p → IsHere s p 0 old old
+begun_here s texts names detail p old start = record { before = []; text = []; have_passed = NonePassed; written = appends-nothing old; at = start.at; number = refl }
+
+-- ---- the verdict
+-- on a region that is a sound map
+pub judged : (r : Result (Vec ℕ Global) Stop) (s : Setting) (before : List Contents) (name : List ℕ) (x : Inputs) (region : Contents) (p : Progress) → AreOfFolder x (s.texts name)
+    → IsProvedOf x region → FollowsAs s before name region p r → IsVerdict s before name p r
+judged (Ok text) s before name x region p told said (fits, is, at) = (region, record { inputs = x; told = told; said = said; fits = fits }, is, at)
+judged (Err stop) s before name x region p told said h =
+    refused-more (IsMisfit s before name region) (IsRefusedRegion s before name) stop
+    (λ a misfit. (x, told, inr (record { region = region; said = said; fault = misfit.0; first = misfit.1; is = misfit.2 }))) h
+
+-- on inputs that `check` refuses
+pub check_refused : (s : Setting) (before : List Contents) (name : List ℕ) (x : Inputs) (stop in_it : Stop) → AreOfFolder x (s.texts name) → IsRefusedAs (IsRefusal x) stop
+    → IsInRegion stop name in_it → IsRefusedAs (IsRefusedRegion s before name) in_it
+check_refused s before name x stop in_it told refusal of =
+    refused-more (IsRefusedByCheck x name) (IsRefusedRegion s before name) in_it (λ a refused. (x, told, inl refused)) (stopped-in-region (IsRefusal x) name stop in_it refusal of)
+
+-- the first fault, which is none of memory
+pub first_of : (faults : List SeamFault) (fault : SeamFault) → (fault ≡ NoMemory) ⊎ IsFirstSeamFault faults fault → (fault ≡ NoMemory → ⊥) → IsFirstSeamFault faults fault
+first_of faults fault (inl e) is_none = absurd (is_none e)
+first_of faults fault (inr first) is_none = first
+
+-- a refusal that was written
+pub refused_written : (s : Setting) (before : List Contents) (name : List ℕ) (p : Progress) (v : Result (Vec ℕ Global) Stop) (stop : Stop) (a : Printed) (status : ℕ) (old new : Option (List ℕ))
+    → v ≡ Err stop → stop ≡ Refused a → status ≡ a.status → Appends old new a.text.items → IsVerdict s before name p v
+    → (text : List ℕ) × IsRefusedRegion s before name (text, status) × Appends old new text
+refused_written s before name p v stop a status old new is refused same written verdict =
+    let told : IsRefusedAs (IsRefusedRegion s before name) stop = subst (IsVerdict s before name p) is verdict in
+    let refusal : IsRefusedRegion s before name (a.text.items, a.status) = subst (IsRefusedAs (IsRefusedRegion s before name)) refused told in
+    (a.text.items, subst (λ (n : ℕ). IsRefusedRegion s before name (a.text.items, n)) (sym same) refusal, written)
+
+-- ---- going on
+-- a region more
+pub goes_on : (s : Setting) (names : List (List ℕ)) (p q : Progress) (n : ℕ) (old now new : Option (List ℕ)) (name : List ℕ) (here : IsHere s p n old now) → s.names ≡ names → n < length names
+    → name ≡ get_or names n [] → IsWritten s here.before name q now new None → IsHere s q (n + 1) old new
+goes_on s names p q n old now new name here are lt is (r, passes, written, at) = record {
+  before = here.before ++ r ∷ [];
+  text = here.text ++ region_report s.detail (country_of s.classes here.before) name r;
+  have_passed = passed_more s n here.before here.text name r (subst (λ (ks : List (List ℕ)). n < length ks) (sym are) lt)
+      (is ∙ ap (λ (ks : List (List ℕ)). get_or ks n []) (sym are)) here.have_passed passes;
+  written = appends-more old now new here.text (region_report s.detail (country_of s.classes here.before) name r) here.written written;
+  at = at;
+  number = length-append here.before (r ∷ []) ∙ ap (λ (k : ℕ). k + 1) here.number;
+}
+
+-- a region that is refused is no yes
+refused-no : (s : Setting) (before : List Contents) (name text : List ℕ) (status : ℕ) → IsRefusedRegion s before name (text, status) → status ≢ done
+refused-no s before name text status (x, told, inl (b, refusal, is)) = λ e. refusal.1 (sym (ap (λ (a : Answer). a.1) is) ∙ e)
+refused-no s before name text status (x, told, inr at) = one-is-not-done status (ap (λ (a : Answer). a.1) at.is)
+  where
+    one-is-not-done : (n : ℕ) → n ≡ 1 → n ≡ 0 → ⊥
+    one-is-not-done n one zero = omega arith
+
+-- the next region is refused
+pub is_refused : (s : Setting) (names : List (List ℕ)) (p q : Progress) (n status : ℕ) (old now new : Option (List ℕ)) (name : List ℕ) (here : IsHere s p n old now) → s.names ≡ names
+    → n < length names
+    → name ≡ get_or names n [] → IsWritten s here.before name q now new (Some status) → RegionsPass s q old new (Some status)
+is_refused s names p q n status old now new name here are lt is (text, refusal, written) = (
+  (
+    here.text ++ text,
+    refused_next s n here.before here.text name text status (subst (λ (ks : List (List ℕ)). n < length ks) (sym are) lt)
+        (is ∙ ap (λ (ks : List (List ℕ)). get_or ks n []) (sym are)) here.have_passed refusal,
+    appends-more old now new here.text text here.written written,
+  ),
+  refused-no s here.before name text status refusal,
+)
+
+-- ---- one region more
+last-of : {A : Type 0} (P : A → Type 0) (xs : List A) (x : A) → All P (xs ++ x ∷ []) → P x
+last-of P [] x h = All-head P x [] h
+last-of P (y ∷ xs) x h = last-of P xs x (All-tail P y (xs ++ x ∷ []) h)
+
+counted : (q p l w n m : ℕ) → q ≡ l → l ≡ p + w → p ≤ 200000 * n → w ≤ 200000 → m ≡ n + 1 → q ≤ 200000 * m
+counted q p l w n m a b c d e = omega arith
+
+-- a progress with a region more in its seam, its new parcels in its totals and with what was gathered, is that of the regions with this one
+pub goes_at : (s : Setting) (before : List Contents) (r : Contents) (p q : Progress) (t : Totals) → IsAt s before p → IsSeamOf s.tiles s.classes (before ++ r ∷ []) q.seam → length r.parcels ≤ 200000
+    → AreTotalsOf r (new_parcels (country_of s.classes before) r) t
+    → ((x : Contents) (ks ls : List Parcel) → AreTotalsOf x ks p.totals → AreTotalsOf x ls t → AreTotalsOf x (ks ++ ls) q.totals)
+    → HasGathered ((country_of s.classes before).parcels ++ new_parcels (country_of s.classes before) r) q.gathered → IsAt s (before ++ r ∷ []) q
+goes_at s before r p q t at seam few news plus gathered =
+    let u = country_of s.classes before in
+    let same : r.classes ≡ s.classes = last-of (λ (x : Contents). x.classes ≡ s.classes) before r seam.joined.classes_are in
+    let totals = totals_grow s.classes before r p.totals t q.totals at.seam.joined.regions_are same at.totals news plus in
+    let grown = ap (λ (c : Contents). length c.parcels) (country_snoc s.classes before r) ∙ length-append u.parcels (new_parcels u r) in
+    record {
+      seam = seam;
+      totals = totals;
+      few = counted q.totals.parcels (length u.parcels) _ (length (new_parcels u r)) (length before) _ totals.parcels grown (subst (λ (n : ℕ). n ≤ 200000 * length before) at.totals.parcels at.few)
+          (few_new u r 200000 few) (length-append before (r ∷ []));
+      gathered = subst (λ (c : Contents). HasGathered c.parcels q.gathered) (sym (country_snoc s.classes before r)) gathered;
+    }
+
+-- ---- the next region
+-- over a list that stayed as it was the run is the same, and the next index and its name are in it
+pub next_region : {A : Type 0} (s : Setting) (texts : List ℕ → Texts) (bytes : A → List ℕ) (xs ys : List A) (detail : Detail) (p : Progress) (n : ℕ) → xs ≡ ys → n < length ys
+    → IsStart s texts (map bytes ys) detail p → AreOfRun s texts (map bytes xs) detail × (n < length (map bytes ys)) × (get_or (map bytes xs) n [] ≡ get_or (map bytes ys) n [])
+next_region s texts bytes xs ys detail p n same lt start =
+    let names = ap (map bytes) same in (
+      subst (λ ks. AreOfRun s texts ks detail) (sym names) start.run,
+      omega (arith, length-map ys bytes, lt),
+      ap (λ ks. get_or ks n []) names,
+    )
+
+-- ---- breaking off
+-- where a folder is not read, memory ran out, or a file was not read
+pub unread_is : (t : Texts) (failure : Failure) → IsUnreadFolder t failure → (failure ≡ Memory) ⊎ ((file : Name) × (failure ≡ Read file))
+unread_is t failure (inl (inl e)) = inl e
+unread_is t failure (inl (inr (inl (may, e)))) = inr (Parcels, e)
+unread_is t failure (inl (inr (inr (inl (may, e))))) = inr (Covers, e)
+unread_is t failure (inl (inr (inr (inr (inl (may, e)))))) = inr (Classes, e)
+unread_is t failure (inl (inr (inr (inr (inr (may, e)))))) = inr (Cert, e)
+unread_is t failure (inr (inl (inl e))) = inl e
+unread_is t failure (inr (inl (inr (inl e)))) = inr (Parcels, e)
+unread_is t failure (inr (inl (inr (inr (inl (w, e)))))) = inr (Covers, e)
+unread_is t failure (inr (inl (inr (inr (inr (w, v, e)))))) = inr (Classes, e)
+unread_is t failure (inr (inr (w, e))) = inr (Cert, e)
+
+-- another failure is none of these
+no_other : (failure : Failure) → (failure ≡ Memory) ⊎ ((file : Name) × (failure ≡ Read file)) → (failure ≡ Memory → ⊥) → ((file : Name) → failure ≡ Read file → ⊥) → ⊥
+no_other failure (inl e) m r = m e
+no_other failure (inr (file, e)) m r = r file e
+
+-- the folder was not read, or memory ran out
+pub is_stopped : (texts : List ℕ → Texts) (failure : Failure) (name : List ℕ) (left : List (List ℕ)) (f : Failure) → IsUnreadFolder (texts name) failure → IsFailureOf failure name f
+    → IsStoppedBefore texts (name ∷ left) f
+is_stopped texts Memory name left f u h = inl h
+is_stopped texts (Read file) name left f u h = inr (file, u, h)
+is_stopped texts (ReadOf file region) name left f u h = absurd (no_other (ReadOf file region) (unread_is (texts name) (ReadOf file region) u) (λ e. cc) (λ r e. cc))
+is_stopped texts (Write file) name left f u h = absurd (no_other (Write file) (unread_is (texts name) (Write file) u) (λ e. cc) (λ r e. cc))
+is_stopped texts Store name left f u h = absurd (no_other Store (unread_is (texts name) Store u) (λ e. cc) (λ r e. cc))
+is_stopped texts StoreMemory name left f u h = absurd (no_other StoreMemory (unread_is (texts name) StoreMemory u) (λ e. cc) (λ r e. cc))
+
+-- memory may run out before any folder
+pub memory_stops : (texts : List ℕ → Texts) (left : List (List ℕ)) → IsStoppedBefore texts left Memory
+memory_stops texts [] = refl
+memory_stops texts (name ∷ left) = inl refl
+
+-- a beginning of the verdict on the next region was written
+begun-verdict : (s : Setting) (n : ℕ) (before : List Contents) (lines name text : List ℕ) → n < length s.names → name ≡ get_or s.names n [] → HavePassed s (take n s.names) before lines
+    → IsVerdictText s before name text
+    → ((g : Failure) × StopsRegions s (lines ++ text) g) ⊎ ((status : ℕ) × IsRegionsRefusal s (lines ++ text, status))
+begun-verdict s n before lines name text lt is h (inl (r, passes, same)) =
+    let reached = reached_by s (n + 1) (before ++ r ∷ []) (lines ++ region_report s.detail (country_of s.classes before) name r) (passed_more s n before lines name r lt is h passes) in
+    let reached_text = subst (λ (x : List ℕ). IsReachedBy s (before ++ r ∷ []) (lines ++ x) (drop (n + 1) s.names)) (sym same) reached in
+    inl (Memory, (before ++ r ∷ [], drop (n + 1) s.names, reached_text, memory_stops s.texts (drop (n + 1) s.names)))
+begun-verdict s n before lines name text lt is h (inr (status, refusal)) =
+    inr (status, (refused_next s n before lines name text status lt is h refusal, refused-no s before name text status refusal))
+
+-- where the next folder is not read, or the output fails within the verdict on it, the run breaks off
+pub breaks_off : (s : Setting) (names : List (List ℕ)) (p : Progress) (n : ℕ) (old now new : Option (List ℕ)) (name : List ℕ) (failure : Failure) (f : Failure) (here : IsHere s p n old now)
+    → s.names ≡ names → n < length names → name ≡ get_or names n [] → IsUnwritten s here.before name now new failure → IsFailureOf failure name f → RegionsStop s old new f
+breaks_off s names p n old now new name failure f here are lt is (inl (unread, keeps)) of =
+    let there = subst (λ (ks : List (List ℕ)). n < length ks) (sym are) lt in
+    let named = is ∙ ap (λ (ks : List (List ℕ)). get_or ks n []) (sym are) in
+    inl (
+      here.text,
+      (
+        here.before,
+        name ∷ drop (n + 1) s.names,
+        subst (IsReachedBy s here.before here.text) (drop_more s.names n [] there ∙ ap (λ (x : List ℕ). x ∷ drop (n + 1) s.names) (sym named)) (reached_by s n here.before here.text here.have_passed),
+        is_stopped s.texts failure name (drop (n + 1) s.names) f unread of,
+      ),
+      appends-kept old now new here.text here.written keeps,
+    )
+breaks_off s names p n old now new name failure f here are lt is (inr (write, (text, verdict, begins))) of =
+    let there = subst (λ (ks : List (List ℕ)). n < length ks) (sym are) lt in
+    let named = is ∙ ap (λ (ks : List (List ℕ)). get_or ks n []) (sym are) in
+    inr (
+      subst (λ (x : Failure). IsFailureOf x name f) write of,
+      (here.text ++ text, begun-verdict s n here.before here.text name text there named here.have_passed verdict, begins-more old now new here.text text here.written begins),
+    )
+
+-- a refusal is an answer that is no yes
+refusal-answers : (s : Setting) (a : Answer) → IsRegionsRefusal s a → AnswersRegions s a
+refusal-answers s a (answer, other) = record { answer = answer; all = λ e. absurd (other e) }
+
+-- a run that stops before its last region breaks off
+pub stopped_run : (s : Setting) (old new : Option (List ℕ)) (f : Failure) → RegionsStop s old new f → RunsRegions s old new (Err f)
+stopped_run s old new f h = record {
+  answer = tt;
+  failure = inr (breaks_off_more (StopsRegions s) (StopsRegions s) (IsRegionsRefusal s) (AnswersRegions s) old new f (λ lines g stopped. stopped) (refusal-answers s) h);
+}
+
+-- a run ends with the first region that is refused
+pub refused_run : (s : Setting) (old new : Option (List ℕ)) (status : ℕ) → RegionsEnd s old new status → status ≢ done → RunsRegions s old new (Ok status)
+refused_run s old new status (text, answer, written) other = record { answer = (text, refusal-answers s (text, status) (answer, other), written); failure = tt }
+
+-- ---- the end
+-- the country's lines are of what passed
+pub last_are : (s : Setting) (regions : List Contents) (p : Progress) (n : ℕ) → IsAt s regions p → n ≡ length regions
+    → last_lines n p.totals ≡ country_lines (length regions) (country_of s.classes regions)
+last_are s regions p n at e =
+    last_lines_are n (length regions) (country_of s.classes regions) p.totals (country_is_region s.classes regions at.seam.joined.regions_are) at.totals e
+
+-- where the country's lines were written and the status is that of a yes, the run is finished
+pub finishes : (s : Setting) (regions : List Contents) (r : Result ℕ Failure) (old new : Option (List ℕ)) (text : List ℕ) (status : ℕ)
+    → text ≡ country_lines (length regions) (country_of s.classes regions) → status ≡ done → IfOk r (λ (n : ℕ). n ≡ status) → OnOk r (Appends old new text) → IfOk r (IsFinished s regions old new)
+finishes s regions (Ok n) old new text status is ends same written = record { done_is = same ∙ ends; written = subst (Appends old new) is written }
+finishes s regions (Err f) old new text status is ends same written = tt
+
+-- where the output failed within the country's lines, the run is not finished
+pub finishes_not : (s : Setting) (regions : List Contents) (r : Result ℕ Failure) (old new : Option (List ℕ)) (text : List ℕ) → text ≡ country_lines (length regions) (country_of s.classes regions)
+    → IfErr r (λ (f : Failure). (f ≡ Write Out) × Begins old new text) → IfErr r (IsUnfinished s regions old new)
+finishes_not s regions (Ok n) old new text is h = tt
+finishes_not s regions (Err f) old new text is h = inr (h.0, subst (Begins old new) is h.1)
+
+-- where as many regions passed as there are folders, those of all folders passed
+pub has_passed_all : (s : Setting) (names : List (List ℕ)) (p : Progress) (n : ℕ) (old now : Option (List ℕ)) (here : IsHere s p n old now) → s.names ≡ names → n ≡ length names
+    → HasPassedAll s p old now
+has_passed_all s names p n old now here are e = record {
+  regions = here.before;
+  lines = here.text;
+  have_passed = subst (λ (ks : List (List ℕ)). HavePassed s ks here.before here.text) (ap (λ (k : ℕ). take k s.names) (e ∙ sym (ap length are)) ∙ take-all s.names) here.have_passed;
+  at = here.at;
+  written = here.written;
+}
+  where
+    take-all : (xs : List (List ℕ)) → take (length xs) xs ≡ xs
+    take-all [] = refl
+    take-all (x ∷ xs) = ap (λ (ys : List (List ℕ)). x ∷ ys) (take-all xs)
+
+-- they leave no folder
+pub all_left : (s : Setting) (regions : List Contents) (lines : List ℕ) → HavePassed s s.names regions lines → IsReachedBy s regions lines []
+all_left s regions lines h = record { passed = s.names; all = sym (append-nil s.names); have_passed = h }
+
+-- there are as many as folders
+pub all_number : (s : Setting) (names : List (List ℕ)) (p : Progress) (old now : Option (List ℕ)) (h : HasPassedAll s p old now) → s.names ≡ names → length names ≡ length h.regions
+all_number s names p old now h are = sym (ap length are) ∙ passed_length s s.names h.regions h.lines h.have_passed
+
+-- what their country has can be printed
+pub all_printable : (s : Setting) (regions : List Contents) (p : Progress) (n : ℕ) → IsAt s regions p → n ≡ length regions → n ≤ 10000 → IsPrintable p.totals
+all_printable s regions p n at e few =
+    let u = country_of s.classes regions in
+    printable p.totals (bounded_of u u.parcels p.totals at.totals) (few-parcels p.totals.parcels (length regions) n at.few e few)
+  where
+    few-parcels : (k i m : ℕ) → k ≤ 200000 * i → m ≡ i → m ≤ 10000 → k ≤ 200000 * 10000
+    few-parcels k i m a b c = omega arith
+
+-- the answer to them
+whole-answer : (s : Setting) (p : Progress) (old now : Option (List ℕ)) (h : HasPassedAll s p old now)
+    → AnswersRegions s (h.lines ++ country_lines (length h.regions) (country_of s.classes h.regions), done)
+whole-answer s p old now h = record {
+  answer = record {
+    regions = h.regions;
+    text = h.lines;
+    left = [];
+    reached = all_left s h.regions h.lines h.have_passed;
+    end = (country_lines (length h.regions) (country_of s.classes h.regions), done);
+    follows = refl;
+    is = refl;
+  };
+  all = λ e. (h.regions, ((h.lines, h.have_passed), h.at.seam.joined));
+}
+
+-- after them the run ends with a yes, or breaks off
+pub whole_run : (s : Setting) (p : Progress) (old now new : Option (List ℕ)) (r : Result ℕ Failure) (h : HasPassedAll s p old now) → IfOk r (IsFinished s h.regions now new)
+    → IfErr r (IsUnfinished s h.regions now new) → RunsRegions s old new r
+whole_run s p old now new (Ok status) h fin unfinished = record {
+  answer = (
+    h.lines ++ country_lines (length h.regions) (country_of s.classes h.regions),
+    subst (λ (k : ℕ). AnswersRegions s (h.lines ++ country_lines (length h.regions) (country_of s.classes h.regions), k)) (sym fin.done_is) (whole-answer s p old now h),
+    appends-more old now new h.lines (country_lines (length h.regions) (country_of s.classes h.regions)) h.written fin.written,
+  );
+  failure = tt;
+}
+whole_run s p old now new (Err f) h fin (inl (memory, keeps)) = record {
+  answer = tt;
+  failure = inr (inl (h.lines, (h.regions, [], all_left s h.regions h.lines h.have_passed, memory), appends-kept old now new h.lines h.written keeps));
+}
+whole_run s p old now new (Err f) h fin (inr (write, begins)) =
+    let lines = country_lines (length h.regions) (country_of s.classes h.regions) in
+    record { answer = tt; failure = inr (inr (write, (h.lines ++ lines, inr (done, whole-answer s p old now h), begins-more old now new h.lines lines h.written begins))) }
+
+-- an error that is known
+pub err_is : {A E : Type 0} (r : Result A E) (P Q : E → Type 0) → IsErrAnd r P → ((e : E) → P e → Q e) → IfErr r Q
+err_is (Ok x) P Q h f = tt
+err_is (Err e) P Q h f = f e h

@@ -1,0 +1,64 @@
+-- What stands for a run over a country that gave no answer.
+use Rattle.std.specs.Prelude.{◌≡◌, ◌⊎◌, ◌∷◌, [], true, ℕ, List, Option, Ok, String}
+use Rattle.std.specs.String.{string_bytes}
+use Rattle.std.specs.declared.alloc.Global.{Global}
+use Rattle.lpis_tables.specs.declared.class.Class.{Class}
+use Rattle.lpis_tables.specs.Classes.{classes_table}
+use Rattle.lpis_tables.specs.Faults.{rows_of}
+use Rattle.lpis_release.specs.Release.{Contents}
+use Rattle.lpis_run.specs.declared.detail.Detail.{Detail}
+use Rattle.lpis_run.specs.declared.failure.Failure.{Failure}
+use Rattle.lpis_run.specs.declared.failure.Failure.TheVariants.{Memory, Read, ReadOf}
+use Rattle.lpis_run.specs.declared.failure.Name.{Name}
+use Rattle.lpis_run.specs.declared.failure.Name.TheVariants.{Cert, Classes, Country, Covers}
+use Rattle.lpis_run.specs.declared.failure.Name.TheVariants.{Parcels}
+use Rattle.lpis_run.specs.Failures.{IsUnchecked}
+use Rattle.lpis_run.specs.Streams.{IsWithin}
+use Rattle.lpis_country.specs.CountryText.{IsCountryText}
+use Rattle.lpis_country.specs.Tree.{Tree}
+use Rattle.lpis_run_country.specs.CountryAnswer.{IsReachedBy, setting_of}
+use Rattle.lpis_run_country.specs.Regions.{CountryInputs, Texts}
+
+-- a file of this name, which may be missing, was not opened
+abbrev pub IsMissing : Texts → Failure → Name → Type 0
+IsMissing t failure name = (t.may_be_missing name ≡ true) × (failure ≡ Read name)
+
+-- a file of a folder was not opened, or memory ran out
+abbrev pub IsUnopened : Texts → Failure → Type 0
+IsUnopened t failure = (failure ≡ Memory) ⊎ IsMissing t failure Parcels
+    ⊎ IsMissing t failure Covers ⊎ IsMissing t failure Classes ⊎ IsMissing t failure Cert
+
+-- so it is, or a file was not read, while those before it were
+abbrev pub IsUnreadFolder : Texts → Failure → Type 0
+IsUnreadFolder t failure = IsUnopened t failure ⊎ IsUnchecked t.given failure
+
+-- this file was not read, in the folder of the region of this name
+abbrev pub IsReadOf : Name → List ℕ → Failure → Type 0
+IsReadOf file name f =
+    (region : String Global) × (string_bytes region ≡ name) × (f ≡ ReadOf file region)
+
+-- a file at the top was not read, the table of classes while the plan was; or memory ran out
+abbrev pub IsUnreadTop : Option (List ℕ) → Failure → Type 0
+IsUnreadTop plan f =
+    (f ≡ Memory) ⊎ (f ≡ Read Country) ⊎ (IsWithin plan × (f ≡ Read Classes))
+
+-- before the next of these folders, if there is one: it was not read, or memory ran out
+abbrev pub IsStoppedBefore : (List ℕ → Texts) → List (List ℕ) → Failure → Type 0
+IsStoppedBefore texts [] f = (f ≡ Memory)
+IsStoppedBefore texts (name ∷ left) f = (f ≡ Memory)
+    ⊎ ((file : Name) × IsUnreadFolder (texts name) (Read file) × IsReadOf file name f)
+
+-- the regions before these folders passed, and this was printed of them
+pub record IsCountryPart (texts : List ℕ → Texts) (detail : Detail) (x : CountryInputs)
+    (text : List ℕ) (left : List (List ℕ)) : Type 0 where
+  pub plan : Tree
+  pub planned : IsCountryText x.plan plan
+  pub classes : List Class
+  pub table : rows_of classes_table x.classes ≡ Ok classes
+  pub regions : List Contents
+  pub reached : IsReachedBy (setting_of texts detail plan classes) regions text left
+
+-- behind these lines, of the regions that passed, the next folder was not read, or memory ran out
+abbrev pub StopsCountry : (List ℕ → Texts) → Detail → CountryInputs → List ℕ → Failure → Type 0
+StopsCountry texts detail x lines f =
+    (left : List (List ℕ)) × IsCountryPart texts detail x lines left × IsStoppedBefore texts left f

@@ -1,0 +1,66 @@
+-- The regions of a country, and what is known of the files of their folders.
+use Rattle.std.specs.Prelude.{◌≡◌, Bool, ℕ, List, [], ◌∷◌, All, Ok, Option}
+use Rattle.lpis_tables.specs.declared.class.Class.{Class}
+use Rattle.lpis_tables.specs.Classes.{classes_table}
+use Rattle.lpis_tables.specs.Faults.{rows_of}
+use Rattle.lpis_release.specs.Release.{Contents}
+use Rattle.lpis_checker.specs.SoundMap.{IsSoundMap}
+use Rattle.lpis_run.specs.CheckAnswer.{AreRead, Inputs, IsProvedOf}
+use Rattle.lpis_run.specs.Folders.{folder_texts}
+use Rattle.lpis_run.specs.Streams.{FolderTexts, IsRead}
+use Rattle.lpis_run.specs.declared.failure.Name.{Name}
+use Rattle.lpis_run.specs.declared.folder.Folder.{Folder}
+use Rattle.lpis_country.specs.Country.{country_of}
+use Rattle.lpis_country.specs.Union.{IsUnion}
+use Rattle.lpis_country.specs.CountryText.{IsCountryText}
+use Rattle.lpis_country.specs.Tree.{Tree, folders}
+
+-- ---- a folder
+-- the files of a folder: whether one may be missing, and their bytes as far as they are known
+pub record Texts : Type 0 where
+  pub may_be_missing : Name → Bool
+  pub given : FolderTexts
+
+-- the readers of a folder have these texts left
+abbrev pub AreGiven : {R : Type 0} → (R → Option (List ℕ)) → Folder R → Texts → Type 0
+AreGiven remaining f t = folder_texts remaining f ≡ t.given
+
+-- the inputs are what the files of a folder told, as far as it is known
+abbrev pub AreOfFolder : Inputs → Texts → Type 0
+AreOfFolder x t = AreRead x t.given
+
+-- they are the tables of this release, which is a sound map, and a certificate that is good for it
+abbrev pub IsRegionOf : Texts → Contents → Type 0
+IsRegionOf t r = (x : Inputs) × AreOfFolder x t × IsProvedOf x r
+
+-- ---- a country
+-- the bytes of the two files at the top of a country's folder
+pub record CountryInputs : Type 0 where
+  pub plan : List ℕ
+  pub classes : List ℕ
+
+-- these are what two readers reported, as far as it is known
+pub record AreCountryRead (x : CountryInputs) (plan classes : Option (List ℕ)) : Type 0 where
+  pub of_plan : IsRead x.plan plan
+  pub of_classes : IsRead x.classes classes
+
+-- a region of each folder, in this order
+abbrev pub AreRegionsOf : (List ℕ → Texts) → List (List ℕ) → List Contents → Type 0
+AreRegionsOf texts [] [] = Unit {0}
+AreRegionsOf texts (name ∷ names) (r ∷ rs) = IsRegionOf (texts name) r
+    × AreRegionsOf texts names rs
+AreRegionsOf texts _ _ = ⊥
+
+-- `country.txt` is the text of a plan, and `classes.csv` a table of classes. Each folder of the
+-- plan has a region with these classes. The country is the union of the regions, in which no parcel
+-- of a region is missing, and it is a sound map
+pub record IsCountry (texts : List ℕ → Texts) (x : CountryInputs) : Type 0 where
+  pub plan : Tree
+  pub text : IsCountryText x.plan plan
+  pub classes : List Class
+  pub table : rows_of classes_table x.classes ≡ Ok classes
+  pub regions : List Contents
+  pub of_folders : AreRegionsOf texts (folders plan) regions
+  pub same : All (λ (r : Contents). r.classes ≡ classes) regions
+  pub union : IsUnion regions (country_of classes regions)
+  pub sound : IsSoundMap (country_of classes regions)

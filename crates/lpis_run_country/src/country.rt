@@ -1,0 +1,132 @@
+//! The run over the regions of a country.
+
+ghost use Rattle.std.specs.Prelude.{◌≡◌, IfErr, IfOk, List, length, map, ℕ};
+ghost use Rattle.std.specs.String.{string_bytes};
+ghost use Rattle.lpis_release.specs.Release.{Contents};
+ghost use Rattle.lpis_run.specs.declared.detail.Detail.{Detail};
+ghost use Rattle.lpis_run_country.specs.CountryAnswer.{Setting};
+ghost use Rattle.lpis_run_country.specs.CountryRun.{RunsCountry, country_asked};
+ghost use Rattle.lpis_run_country.specs.Regions.{CountryInputs, Texts};
+ghost use Rattle.lpis_run_country.specs.private.Progressing.{RunsBegun, RunsRegions};
+ghost use Rattle.lpis_run_country.specs.Beginning.{IsBegun, IsUnbegun};
+ghost use Rattle.lpis_run_country.specs.private.Progressing.{IsAt, IsFinished};
+ghost use Rattle.lpis_run_country.specs.private.Progressing.{IsStart, IsUnfinished};
+ghost use Rattle.lpis_run_country.specs.private.Totals.{IsPrintable};
+
+use crate::beginning::{Begun, begin, read_top};
+use crate::folder::Regions;
+use crate::gathering::Gathered;
+use crate::lines::report_country;
+use crate::passing::pass_regions;
+use crate::progress::Progress;
+use crate::totals::Totals;
+use lpis_country_seam::OpenSeam;
+use lpis_country_seam::laws::a_country_of_joined_regions_is_sound;
+use lpis_run::{Answer, Detail, Failure};
+use std::alloc::Global;
+use std::io::{Read, Write};
+
+/// Writes the line of the country of so many regions, and the yes.
+fn finish<W: Write>(
+    alloc: Global,
+    count: usize,
+    progress: &Progress,
+    out: &mut W,
+) -> Result<u8, Failure>
+    requires { IsPrintable progress.now.totals }
+    ensures finished { (s : Setting) (regions : List Contents) → IsAt s regions progress.now
+        → count ≡ length regions → IfOk result (IsFinished s regions (W.contents out.old)
+        (W.contents out.new)) }
+    ensures failure { (s : Setting) (regions : List Contents) → IsAt s regions progress.now
+        → count ≡ length regions → IfErr result (IsUnfinished s regions (W.contents out.old)
+        (W.contents out.new)) }
+{
+    let answer = report_country(alloc, count, progress.totals)?;
+    answer.write_to(out)
+}
+
+/// Reads and judges the regions of these names, one after the other.
+fn run_regions<G: Regions, W: Write>(
+    alloc: Global,
+    regions: &G,
+    names: &mut Vec<String>,
+    progress: &mut Progress,
+    detail: Detail,
+    out: &mut W,
+) -> Result<u8, Failure>
+    requires { (s : Setting) × IsStart s (G.texts regions.now) (map string_bytes names.old.items)
+        detail progress.old }
+    ensures { (s : Setting) → IsStart s (G.texts regions.now)
+        (map string_bytes names.old.items) detail progress.old
+        → RunsRegions s (W.contents out.old) (W.contents out.new) result }
+{
+    match pass_regions(alloc, regions, names, progress, detail, out)? {
+        Some(status) => Ok(status),
+        None => finish(alloc, names.len(), progress, out),
+    }
+}
+
+/// The run over the regions of a plan.
+fn run_begun<G: Regions, W: Write>(
+    alloc: Global,
+    regions: &G,
+    begun: Begun,
+    detail: Detail,
+    out: &mut W,
+) -> Result<u8, Failure>
+    requires { (x : CountryInputs) × IsBegun x begun }
+    ensures { (x : CountryInputs) → IsBegun x begun → RunsBegun (G.texts regions.now) detail x
+        (W.contents out.old) (W.contents out.new) result }
+{
+    let Begun {
+        mut names,
+        tiles,
+        classes,
+    } = begun;
+    let mut progress = Progress {
+        seam: OpenSeam::new(alloc, tiles, classes),
+        totals: Totals::none(),
+        gathered: Gathered::Nothing,
+    };
+    // What all have passed is a sound map.
+    a_country_of_joined_regions_is_sound();
+    run_regions(alloc, regions, &mut names, &mut progress, detail, out)
+}
+
+/// Writes the answer that refuses a country before its first region.
+fn write_refusal<W: Write>(answer: &Answer, out: &mut W) -> Result<u8, Failure>
+    ensures { (texts : List ℕ → Texts) (detail : Detail) (x : CountryInputs)
+        → IsUnbegun x (answer.now.text.items, answer.now.status)
+        → RunsBegun texts detail x (W.contents out.old) (W.contents out.new) result }
+{
+    answer.write_to(out)
+}
+
+/// Checks a country, region by region, and prints what each region that passes has, and what all of
+/// them have together, with a yes where their union is a sound map; or the line of the first fault.
+///
+/// `country` is the text of its plan, `classes` the table of classes that all regions have. Faults
+/// come in this order: of the plan, of the classes, of the regions in the order of the plan. A
+/// region is read, checked against its certificate, tested against those before it, and let go
+/// before the next one is read; what is printed of it is written once it has passed. Ok is the
+/// status: `DONE`, `REFUSED` or `UNREADABLE`.
+pub fn run_country<P: Read + Drop, K: Read + Drop, G: Regions, W: Write>(
+    alloc: Global,
+    country: P,
+    classes: K,
+    regions: &G,
+    detail: Detail,
+    out: &mut W,
+) -> Result<u8, Failure>
+    ensures { RunsCountry (country_asked (G.texts regions.now) detail (P.remaining country)
+        (K.remaining classes)) (W.contents out.old) (W.contents out.new) result }
+{
+    let top = read_top(alloc, country, classes)?;
+    match begin(alloc, top) {
+        Ok(begun) => run_begun(alloc, regions, begun, detail, out),
+        Err(stop) => {
+            let answer = stop.into_answer()?;
+            write_refusal(&answer, out)
+        }
+    }
+}

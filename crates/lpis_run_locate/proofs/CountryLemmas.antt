@@ -1,0 +1,178 @@
+-- The search through the regions of a plan, as that in a country.
+use Rattle.std.proofs.Common.{◌≡◌, ◌⊎◌, ◌∙◌, ◌∷◌, [], refl, sym, ap, subst, arith, inl, inr, IfErr, IfOk, OnOk, ℕ, List, Option, None, Some, Result, Ok, Err, length, map}
+use Rattle.std.proofs.lemmas.List.{append-nil, length-map}
+use Rattle.std.specs.Io.KnownBytes.{Appends}
+use Rattle.std.specs.String.{string_bytes}
+use Rattle.lpis_tables.specs.Classes.{classes_table}
+use Rattle.lpis_tables.specs.Faults.{rows_of}
+use Rattle.lpis_tables.specs.declared.class.Class.{Class}
+use Rattle.lpis_tables.specs.declared.fault.TableFault.{TableFault}
+use Rattle.lpis_release.specs.Release.{Contents}
+use Rattle.lpis_run.proofs.Shared.{runs_stopped, runs_written, table-more}
+use Rattle.lpis_run.specs.Streams.{Begins}
+use Rattle.lpis_run.specs.declared.failure.Failure.TheVariants.{Write}
+use Rattle.lpis_run.specs.declared.failure.Name.TheVariants.{Out}
+use Rattle.lpis_run.specs.CheckAnswer.{Answer as TextStatus, IsTableAnswer}
+use Rattle.lpis_run.specs.Stops.{IsRefusedAs}
+use Rattle.lpis_run.specs.declared.answer.Answer.{Answer}
+use Rattle.lpis_run.specs.declared.detail.Detail.TheVariants.{Regions}
+use Rattle.lpis_run.specs.Status.{done}
+use Rattle.lpis_run.specs.declared.stop.Stop.{Stop}
+use Rattle.lpis_run.specs.declared.stop.Stop.TheVariants.{Refused}
+use Rattle.lpis_country.specs.Country.{country_of}
+use Rattle.lpis_country.specs.Tiling.{frame, rectangles}
+use Rattle.lpis_country.specs.Union.{IsUnion}
+use Rattle.lpis_country.specs.Tree.{folders, tiling_of}
+use Rattle.lpis_country_seam.specs.Laws.{JoinedCountryIsSound, JoinedCountryIsUnion}
+use Rattle.lpis_country_seam.specs.Open.{IsSeamOf}
+use Rattle.lpis_run_country.specs.Beginning.{IsBegun, IsUnbegun}
+use Rattle.lpis_run_country.specs.declared.beginning.Begun.{Begun}
+use Rattle.lpis_run.specs.declared.failure.Failure.{Failure}
+use Rattle.lpis_run_country.specs.CountryAnswer.{IsRefusedRegion, Setting, setting_of}
+use Rattle.lpis_run_country.specs.Regions.{IsCountry, Texts}
+use Rattle.lpis_run_country.proofs.Shared.{passed_length, passed_regions, passed_sound, two_is_not_done, unbegun_no}
+use Rattle.lpis_places.specs.declared.fault.PointsFault.{PointsFault}
+use Rattle.lpis_places.specs.Points.{Given, points_of}
+use Rattle.lpis_run_locate.specs.LocateAnswer.{IsPointsAnswer}
+use Rattle.lpis_run_locate.specs.declared.progress.Progress.{Progress}
+use Rattle.lpis_run_locate.specs.LocateCountryAnswer.{AreLocateCountryRead, IsLocateCountryAnswer, IsLocatedInCountry, IsRegionsPointsAnswer, IsStoppedIn}
+use Rattle.lpis_run_locate.specs.LocateCountryAnswer.{IsUnreadInput, LocateCountryAsked, LocateCountryInputs, OfInputs, RunsLocateCountry}
+use Rattle.lpis_run_locate.specs.private.Found.{IsSearched}
+use Rattle.lpis_run_locate.specs.private.Searching.{IsOutcome, IsStart, IsStopped, IsUnanswered}
+
+-- the setting of what was begun
+pub begun_setting : (List ℕ → Texts) → (x : LocateCountryInputs) (b : Begun) → IsBegun x.country b → Setting
+begun_setting texts x b begun = setting_of texts Regions begun.plan b.classes.items
+
+-- a search through its regions can start
+pub starts : (texts : List ℕ → Texts) (x : LocateCountryInputs) (b : Begun) (p : Progress) (begun : IsBegun x.country b) → IsSeamOf b.tiles.items b.classes.items [] p.seam
+    → IsSearched x.points [] p.sought → IsStart (begun_setting texts x b begun) texts x.points (map string_bytes b.names.items) p
+unfolding begun_setting
+starts texts x b p begun seam search = record {
+  at = record { seam = subst (λ tiles. IsSeamOf tiles b.classes.items [] p.seam) begun.tiles_are seam; sought = search };
+  texts_are = refl;
+  names_are = sym begun.names_are;
+  as_many = length-map b.names.items string_bytes ∙ begun.as_many ∙ ap length begun.tiles_are;
+}
+
+-- ---- the answer
+-- the answer to the regions is that to the country
+whole-answer : (texts : List ℕ → Texts) (x : LocateCountryInputs) (b : Begun) (begun : IsBegun x.country b) (a : TextStatus) → IsRegionsPointsAnswer x.points (begun_setting texts x b begun) a
+    → IsLocateCountryAnswer texts x a
+unfolding begun_setting
+whole-answer texts x b begun a h = inr (
+  begun.plan,
+  begun.text,
+  subst (λ (said : Result (List Class) TableFault). IsTableAnswer (λ classes. IsRegionsPointsAnswer x.points (setting_of texts Regions begun.plan classes)) said a) (sym begun.table) h,
+)
+
+-- the answer to a region that is refused is that to the country
+pub refused_answer : (texts : List ℕ → Texts) (x : LocateCountryInputs) (b : Begun) (begun : IsBegun x.country b) (p : Progress) (a : Answer)
+    → IsOutcome (begun_setting texts x b begun) x.points p (Some a) → IsLocateCountryAnswer texts x (a.text.items, a.status)
+refused_answer texts x b begun p a (regions, lines, name, left, reached, refusal) =
+    whole-answer texts x b begun (a.text.items, a.status) (record { regions = regions; lines = lines; left = name ∷ left; reached = reached; follows = refusal })
+
+-- and no yes
+pub refused_no : (s : Setting) (before : List Contents) (name text : List ℕ) (status : ℕ) → IsRefusedRegion s before name (text, status) → status ≡ done → ⊥
+refused_no s before name text status (x, told, inl (b, refusal, is)) e = refusal.1 (sym (ap (λ (a : TextStatus). a.1) is) ∙ e)
+refused_no s before name text status (x, told, inr seam) e = one-is-not-done status (ap (λ (a : TextStatus). a.1) seam.is) e
+  where
+    one-is-not-done : (n : ℕ) → n ≡ 1 → n ≡ 0 → ⊥
+    one-is-not-done n one zero = omega arith
+
+-- all regions make up their union
+pub all_unite : (texts : List ℕ → Texts) (x : LocateCountryInputs) (b : Begun) (begun : IsBegun x.country b) (p : Progress) → JoinedCountryIsUnion
+    → (out : IsOutcome (begun_setting texts x b begun) x.points p None) → IsUnion out.0 (country_of b.classes.items out.0)
+unfolding begun_setting
+all_unite texts x b begun p unites (all, passed, at) = unites (rectangles (tiling_of begun.plan) frame) b.classes.items all at.seam.joined
+
+-- the answer to the points in their union is that to the country
+pub points_answer : (texts : List ℕ → Texts) (x : LocateCountryInputs) (b : Begun) (begun : IsBegun x.country b) (p : Progress) (a : TextStatus)
+    → (out : IsOutcome (begun_setting texts x b begun) x.points p None) → IsPointsAnswer (country_of b.classes.items out.0) (points_of x.points) a → IsLocateCountryAnswer texts x a
+unfolding begun_setting
+points_answer texts x b begun p a (all, (lines, passed), at) said =
+    whole-answer texts x b begun a (record {
+      regions = all;
+      lines = lines;
+      left = [];
+      reached = record { passed = folders begun.plan; all = sym (append-nil (folders begun.plan)); have_passed = passed };
+      follows = said;
+    })
+
+-- ---- a yes
+-- points in the country of all regions, which is a sound map
+located-by : (texts : List ℕ → Texts) (x : LocateCountryInputs) (country : IsCountry texts x.country) (said : Result (List Given) PointsFault) (text : List ℕ) (status : ℕ) → points_of x.points ≡ said
+    → IsPointsAnswer (country_of country.classes country.regions) said (text, status) → status ≡ done → IsLocatedInCountry texts x text
+located-by texts x country (Err fault) text status table a e = absurd (two_is_not_done status (ap (λ (p : TextStatus). p.1) a) e)
+located-by texts x country (Ok points) text status table a e = record {
+  country = country;
+  points = points;
+  table = table;
+  lines = a.0;
+  are = a.1;
+  is = ap (λ (p : TextStatus). p.0) a.2;
+}
+
+-- where it is a yes, each point has the line of its own place in that country
+pub located : (texts : List ℕ → Texts) (x : LocateCountryInputs) (b : Begun) (begun : IsBegun x.country b) (p : Progress) (text : List ℕ) (status : ℕ) → JoinedCountryIsSound → JoinedCountryIsUnion
+    → (out : IsOutcome (begun_setting texts x b begun) x.points p None) → IsPointsAnswer (country_of b.classes.items out.0) (points_of x.points) (text, status) → status ≡ done
+    → IsLocatedInCountry texts x text
+unfolding begun_setting
+located texts x b begun p text status law unites (all, (lines, passed), at) said e =
+    let s = setting_of texts Regions begun.plan b.classes.items in
+    let tiling = tiling_of begun.plan in
+    let long = sym (passed_length s (folders begun.plan) all lines passed) ∙ ap length (sym begun.names_are) ∙ length-map b.names.items string_bytes ∙ begun.as_many ∙ ap length begun.tiles_are in
+    located-by texts x (record {
+      plan = begun.plan;
+      text = begun.text;
+      classes = b.classes.items;
+      table = begun.table;
+      regions = all;
+      of_folders = passed_regions s (folders begun.plan) all lines passed;
+      same = at.seam.joined.classes_are;
+      union = unites (rectangles tiling frame) b.classes.items all at.seam.joined;
+      sound = law tiling b.classes.items all at.seam.joined (passed_sound s (folders begun.plan) all lines passed) long;
+    }) (points_of x.points) text status refl said e
+
+-- ---- no answer
+-- a search that is stopped gives no answer to the country
+pub stopped : (texts : List ℕ → Texts) (x : LocateCountryInputs) (b : Begun) (begun : IsBegun x.country b) (f : Failure) → IsStopped (begun_setting texts x b begun) f → IsUnanswered texts x f
+unfolding begun_setting
+stopped texts x b begun f (regions, lines, left, reached, stop) =
+    inr (lines, left, record { plan = begun.plan; planned = begun.text; classes = b.classes.items; table = begun.table; regions = regions; reached = reached }, stop)
+
+-- ---- before the first region
+-- an answer to inputs that have a fault before the first region is one to the country
+unbegun-answer : (texts : List ℕ → Texts) (x : LocateCountryInputs) (a : TextStatus) → IsUnbegun x.country a → IsLocateCountryAnswer texts x a
+unbegun-answer texts x a (inl refused) = inl refused
+unbegun-answer texts x a (inr (plan, planned, refused)) = inr (
+  plan,
+  planned,
+  table-more (λ (classes : List Class) (b : TextStatus). ⊥) (λ (classes : List Class). IsRegionsPointsAnswer x.points (setting_of texts Regions plan classes))
+      (rows_of classes_table x.country.classes) a (λ classes never. absurd never) refused,
+)
+
+-- so it is of a step that stops
+pub unbegun_is_answer : (texts : List ℕ → Texts) (x : LocateCountryInputs) (stop : Stop) (a : Answer) → stop ≡ Refused a → IsRefusedAs (IsUnbegun x.country) stop
+    → IsLocateCountryAnswer texts x (a.text.items, a.status)
+unbegun_is_answer texts x stop a is may = unbegun-answer texts x (a.text.items, a.status) (subst (IsRefusedAs (IsUnbegun x.country)) is may)
+
+-- and no yes
+pub unbegun_is_no : (x : LocateCountryInputs) (stop : Stop) (a : Answer) → stop ≡ Refused a → IsRefusedAs (IsUnbegun x.country) stop → a.status ≡ done → ⊥
+unbegun_is_no x stop a is may = unbegun_no x.country (a.text.items, a.status) (subst (IsRefusedAs (IsUnbegun x.country)) is may)
+
+-- ---- the run
+-- where there is no answer, nothing was written
+pub unanswered_run : (asked : LocateCountryAsked) (x : LocateCountryInputs) (out : Option (List ℕ)) (f : Failure) → AreLocateCountryRead x asked.plan asked.classes asked.points
+    → IsUnanswered asked.texts x f → RunsLocateCountry asked out out (Err f)
+unanswered_run asked x out f told h = runs_stopped _ _ out f (stops h)
+  where
+    stops : IsUnanswered asked.texts x f → IsUnreadInput asked.plan asked.classes f ⊎ OfInputs asked (λ y. IsStoppedIn asked.texts y f)
+    stops (inl memory) = inl (inl (inl memory))
+    stops (inr stopped) = inr (x, told, stopped)
+
+-- an answer is written, or a beginning of it
+pub answered_run : (asked : LocateCountryAsked) (x : LocateCountryInputs) (text : List ℕ) (status : ℕ) (old new : Option (List ℕ)) (r : Result ℕ Failure)
+    → AreLocateCountryRead x asked.plan asked.classes asked.points → IsLocateCountryAnswer asked.texts x (text, status) → (status ≡ done → IsLocatedInCountry asked.texts x text)
+    → IfOk r (λ s. s ≡ status) → OnOk r (Appends old new text) → IfErr r (λ f. (f ≡ Write Out) × Begins old new text) → RunsLocateCountry asked old new r
+answered_run asked x text status old new r told answer located = runs_written _ _ text status old new r (x, told, record { answer = answer; located = located })

@@ -1,0 +1,6 @@
+pub mod LineLemmas
+pub mod AnswerLemmas
+pub mod FaultLemmas
+pub mod FoundLemmas
+pub mod PassingLemmas
+pub mod CountryLemmas

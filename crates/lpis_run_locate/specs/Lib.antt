@@ -1,0 +1,4 @@
+pub mod LocateLines
+pub mod LocateAnswer
+pub mod LocateCountryAnswer
+pub mod private

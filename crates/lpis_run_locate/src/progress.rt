@@ -1,0 +1,77 @@
+//! How far a search through regions has come.
+
+ghost use Rattle.std.specs.Prelude.{◌≡◌, IfErr, IfOk, List, map, ℕ};
+ghost use Rattle.std.specs.String.{string_bytes};
+ghost use Rattle.lpis_checker.specs.SoundMap.{IsSoundMap};
+ghost use Rattle.lpis_run.specs.Inputs.{inputs_of};
+ghost use Rattle.lpis_run.specs.Stops.{IsRefusedAs};
+ghost use Rattle.lpis_run_country.specs.CountryAnswer.{IsRefusedRegion, Setting};
+ghost use Rattle.lpis_run_country.specs.Regions.{AreOfFolder};
+ghost use Rattle.lpis_release.specs.Release.{Contents};
+ghost use Rattle.lpis_run_locate.specs.private.Searching.{Follows, HasPassed, IsAt, IsReady};
+ghost use Rattle.lpis_run_locate.specs.private.Searching.{IsSeamRefusal};
+
+use crate::search::{Sought, search_in};
+use lpis_country_seam::OpenSeam;
+use lpis_release::Release;
+use lpis_run::{InputBytes, Stop, checked_release};
+use lpis_run_country::refuse_seam;
+use std::alloc::Global;
+
+/// What is kept of the regions that passed, and what is looked for, with what was found of it there.
+#[derive(Drop)]
+pub(crate) struct Progress {
+    pub(crate) seam: OpenSeam,
+    pub(crate) sought: Sought,
+}
+
+/// Tests a region that is a sound map against those before it, and looks for the points in it; or
+/// the answer to its first fault.
+fn follow(
+    alloc: Global,
+    names: &[String],
+    name: &str,
+    progress: &mut Progress,
+    release: &Release,
+) -> Result<(), Stop>
+    requires ready { IsReady progress.old }
+    requires sound { IsSoundMap release.now }
+    ensures follows { (s : Setting) (table : List ℕ) (before : List Contents)
+        → IsAt s table before progress.old
+        → IfOk result (λ _. Follows s table before release.now progress.new) }
+    ensures refused { (s : Setting) (table : List ℕ) (before : List Contents)
+        → IsAt s table before progress.old → s.names ≡ map string_bytes names.now
+        → IfErr result (IsRefusedAs (IsSeamRefusal s before name.now release.now)) }
+{
+    match progress.seam.step(alloc, release) {
+        Ok(_places) => {
+            search_in(release, &mut progress.sought)?;
+            Ok(())
+        }
+        Err(fault) => Err(Stop::Refused(refuse_seam(alloc, names, name, &fault)?)),
+    }
+}
+
+/// Checks the region of a folder's bytes, tests it against those before it, and looks for the
+/// points in it; or the answer that refuses it.
+pub(crate) fn judge_inputs(
+    alloc: Global,
+    names: &[String],
+    name: &str,
+    progress: &mut Progress,
+    inputs: InputBytes,
+) -> Result<(), Stop>
+    requires { IsReady progress.old }
+    ensures passed { (s : Setting) (table : List ℕ) (before : List Contents)
+        → IsAt s table before progress.old → AreOfFolder (inputs_of inputs) (s.texts name.now)
+        → IfOk result (λ _. HasPassed s table before name.now progress.new) }
+    ensures refused { (s : Setting) (table : List ℕ) (before : List Contents)
+        → IsAt s table before progress.old → s.names ≡ map string_bytes names.now
+        → AreOfFolder (inputs_of inputs) (s.texts name.now)
+        → IfErr result (IsRefusedAs (IsRefusedRegion s before name.now)) }
+{
+    match checked_release(alloc, inputs) {
+        Ok(release) => follow(alloc, names, name, progress, &release),
+        Err(stop) => Err(stop.in_region(name)),
+    }
+}

@@ -1,0 +1,10 @@
+use Rattle.std.proofs.Common.{◌≡◌, ◌+◌, length, map, take, sum_by}
+use Rattle.lpis_checker.specs.ExactBlocks.{block_name, part_name}
+use Rattle.lpis_run_publish.proofs.blocks.blocks_of.Given as goal
+
+-- the first parts have their blocks, and these their flats
+abbrev pub invariant-loop-part : goal.invariant-loop-part
+invariant-loop-part l = record {
+  names : map block_name l.blocks.items ≡ map part_name (take l.part-index l.parts);
+  few : sum_by (λ b. length b.flats) l.blocks.items + l.left ≡ l.most;
+}

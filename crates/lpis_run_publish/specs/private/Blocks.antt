@@ -1,0 +1,11 @@
+-- Why a certificate does not get blocks.
+use Rattle.std.specs.Prelude.{◌≡◌, true, List, map}
+use Rattle.lpis_tables.specs.Ids.{has_id}
+use Rattle.lpis_checker.specs.declared.exact.ExactPart.{ExactPart}
+use Rattle.lpis_run_publish.specs.declared.blocks.BlockFault.{BlockFault}
+use Rattle.lpis_run_publish.specs.declared.blocks.BlockFault.TheVariants.{Memory, NoFlats}
+
+-- memory ran out, or one of these parts is named
+abbrev pub IsOf : List ExactPart → BlockFault → Type 0
+IsOf xs Memory = Unit {0}
+IsOf xs (NoFlats id) = has_id (map (λ (x : ExactPart). x.id) xs) id ≡ true

@@ -1,0 +1,254 @@
+//! The run of `publish`, over any register, readers and writer.
+
+ghost use Rattle.std.specs.Prelude.{◌≡◌, ◌++◌, IfErr, IfOk, OnOk};
+ghost use Rattle.std.specs.Io.KnownBytes.{Appends};
+ghost use Rattle.std.specs.List.{flat_map};
+ghost use Rattle.lpis_tables.specs.Ids.{has_id};
+ghost use Rattle.lpis_checker.specs.GoodCertificate.{IsGood};
+ghost use Rattle.lpis_checker.specs.SoundMap.{IsSoundMap};
+ghost use Rattle.lpis_lineage.specs.Changes.{kind_at};
+ghost use Rattle.lpis_lineage.specs.Order.{IsAscending};
+ghost use Rattle.lpis_register.specs.Accepting.{IsAccepted, WasMadeFor};
+ghost use Rattle.lpis_register.specs.Failing.{FailsToStore, HasStoreCause};
+ghost use Rattle.lpis_register.specs.Holdings.{Candidate};
+ghost use Rattle.lpis_run.specs.declared.failure.Failure.TheVariants.{Store};
+ghost use Rattle.lpis_run.specs.CheckAnswer.{IsCheckAnswer};
+ghost use Rattle.lpis_run.specs.Report.{report_text};
+ghost use Rattle.lpis_run.specs.Status.{done};
+ghost use Rattle.lpis_run_publish.specs.LineageLines.{lineage_line, published_line};
+ghost use Rattle.lpis_run_publish.specs.Output.{output};
+ghost use Rattle.lpis_run_publish.specs.Publication.{IsPublicationAnswer, IsReleasePublished};
+ghost use Rattle.lpis_run_publish.specs.Publication.{PublishLeaves};
+ghost use Rattle.lpis_run_publish.specs.PublishAnswer.{IsHistoryAnswer, IsPublishAnswer};
+ghost use Rattle.lpis_run_publish.specs.PublishAnswer.{IsSoundSubmission, MovesRegister};
+ghost use Rattle.lpis_run_publish.specs.PublishAnswer.{RunsPublish, candidate_of};
+ghost use Rattle.lpis_run_publish.specs.Stored.{IsStoreFailure};
+ghost use Rattle.lpis_run_publish.specs.Submission.{IsSubmissionUntouched, Submitted};
+ghost use Rattle.lpis_run_publish.specs.Submission.{submission_texts, submitted};
+ghost use Rattle.lpis_run_publish.specs.private.Marked.{is_marked};
+ghost use Rattle.lpis_run_publish.specs.private.Submitting.{submission_of, submitted_of};
+
+use crate::inputs::{SubmissionBytes, SubmissionReaders, read_submission};
+use crate::lineage_lines::{marked_ids, print_lineage, print_published, refuse};
+use crate::submission::{ReadSubmission, submission_in};
+use lpis_cert::Cert;
+use lpis_checker::Yes;
+use lpis_lineage::{Change, Row};
+use lpis_register::{Accepted, PublishFault, Register};
+use lpis_run::{Answer, DONE, Failure, PrintFault, REFUSED, say_yes, write_report};
+use lpis_tables::Id;
+use sqlite::Alter;
+use std::alloc::{AllocError, Global};
+use std::collections::HashSet;
+use std::io::{Read, Write};
+
+/// Writes the line of each identifier that a release drops, and its year.
+fn print_publication<W: Write>(
+    year: u16,
+    change: &Change,
+    marked: &HashSet<Id>,
+    out: &mut W,
+) -> Result<(), PrintFault>
+    ensures { OnOk result (Appends (W.contents out.old) (W.contents out.new)
+        (flat_map (lineage_line (kind_at change.now) (has_id marked.now.keys))
+        change.now.dropped_ids ++ published_line year)) }
+{
+    print_lineage(change, marked, out)?;
+    print_published(year, out)
+}
+
+/// What is printed, behind this text, of a release that is published.
+fn tell_change(
+    alloc: Global,
+    head: Vec<u8>,
+    year: u16,
+    change: &Change,
+) -> Result<Answer, AllocError>
+    ensures text { IfOk result (λ a. a.text.items ≡ head.items
+        ++ flat_map (lineage_line (kind_at change.now) (is_marked change.now.rows))
+        change.now.dropped_ids ++ published_line year) }
+    ensures status { IfOk result (λ a. a.status ≡ done) }
+    ensures ascend { IsAscending change.now.dropped_ids }
+{
+    // Its dropped identifiers ascend.
+    let _ = change.dropped();
+    let marked = marked_ids(alloc, change.rows())?;
+    let mut text = head;
+    match print_publication(year, change, &marked, &mut text) {
+        Ok(()) => Ok(Answer { text, status: DONE }),
+        Err(_) => Err(AllocError),
+    }
+}
+
+/// Publishes a release that was accepted: what is printed is this text, the line of each identifier
+/// that it drops, and its year. It is whole in memory before the register is written.
+pub fn publish_accepted<S: Alter>(
+    alloc: Global,
+    register: &mut Register<S>,
+    year: u16,
+    head: Vec<u8>,
+    accepted: Accepted,
+) -> Result<Answer, Failure>
+    requires made { WasMadeFor register.old.held accepted }
+    ensures answer { (c : Candidate) → c.year ≡ year → IsAccepted c register.old.held accepted
+        → IfOk result (λ a. IsPublicationAnswer head.items c register.old.held
+        (a.text.items, a.status)) }
+    ensures published { (c : Candidate) → IsAccepted c register.old.held accepted
+        → IfOk result (λ _. IsReleasePublished c register.old.held register.new.held) }
+    ensures leaves { PublishLeaves S.Store register.old register.new result }
+    ensures cause { IfErr result (λ failure. HasStoreCause S.Store accepted register.old
+        register.new (failure ≡ Store)) }
+{
+    let answer = tell_change(alloc, head, year, accepted.change())?;
+    match register.commit(accepted) {
+        Ok(_) => Ok(answer),
+        Err(PublishFault::Memory) => Err(Failure::Memory),
+        Err(PublishFault::Store) => Err(Failure::Store),
+        // The database's own memory ran out: a commit has no other fault.
+        Err(_) => Err(Failure::StoreMemory),
+    }
+}
+
+/// The report of a release.
+fn report_of(alloc: Global, yes: &Yes<'_>) -> Result<Vec<u8>, AllocError>
+    ensures { IfOk result (λ text. text.items ≡ report_text yes.now) }
+{
+    let mut text = Vec::new(alloc);
+    match write_report(yes, &mut text) {
+        Ok(()) => Ok(text),
+        Err(_) => Err(AllocError),
+    }
+}
+
+/// Publishes a checked release that was accepted, with its report.
+fn publish_reported<S: Alter>(
+    alloc: Global,
+    register: &mut Register<S>,
+    year: u16,
+    yes: &Yes<'_>,
+    accepted: Accepted,
+) -> Result<Answer, Failure>
+    requires made { WasMadeFor register.old.held accepted }
+    ensures answer { (c : Candidate) → c.year ≡ year → IsAccepted c register.old.held accepted
+        → IfOk result (λ a. IsPublicationAnswer (report_text yes.now) c register.old.held
+        (a.text.items, a.status)) }
+    ensures published { (c : Candidate) → IsAccepted c register.old.held accepted
+        → IfOk result (λ _. IsReleasePublished c register.old.held register.new.held) }
+    ensures leaves { PublishLeaves S.Store register.old register.new result }
+    ensures cause { IfErr result (λ failure. HasStoreCause S.Store accepted register.old
+        register.new (failure ≡ Store)) }
+{
+    let report = report_of(alloc, yes)?;
+    publish_accepted(alloc, register, year, report, accepted)
+}
+
+/// Publishes a checked release where the history lets it follow, and its certificate shows what its
+/// marked rows ask for.
+fn publish_checked<S: Alter>(
+    alloc: Global,
+    register: &mut Register<S>,
+    year: u16,
+    yes: &Yes<'_>,
+    cert: &Cert,
+    rows: &[Row],
+) -> Result<Answer, Failure>
+    ensures answer { IfOk result (λ a. IsHistoryAnswer (candidate_of year
+        (submitted yes.now cert.now rows.now)) register.old.held (a.text.items, a.status)) }
+    ensures published { IfOk result (λ a. a.status ≡ done → IsReleasePublished (candidate_of year
+        (submitted yes.now cert.now rows.now)) register.old.held register.new.held) }
+    ensures leaves { PublishLeaves S.Store register.old register.new result }
+    ensures cause { IfErr result (λ failure. IsStoreFailure failure → FailsToStore S.Store
+        (candidate_of year (submitted yes.now cert.now rows.now)) register.old register.new
+        (failure ≡ Store)) }
+{
+    match register.accept(year, yes, rows, cert) {
+        Ok(accepted) => publish_reported(alloc, register, year, yes, accepted),
+        Err(PublishFault::Memory) => Err(Failure::Memory),
+        Err(fault) => Ok(refuse(alloc, &fault, REFUSED)?),
+    }
+}
+
+/// The answer to a release, a certificate and rows of lineage.
+fn answer_to_submission<S: Alter>(
+    alloc: Global,
+    register: &mut Register<S>,
+    year: u16,
+    said: &ReadSubmission,
+) -> Result<Answer, Failure>
+    ensures answer { IfOk result (λ a. IsCheckAnswer said.now.release said.now.cert
+        (IsHistoryAnswer (candidate_of year (submitted_of said.now)) register.old.held)
+        (a.text.items, a.status)) }
+    ensures published { IfOk result (λ a. a.status ≡ done → IsSoundMap said.now.release
+        × IsGood said.now.release said.now.cert × IsReleasePublished
+        (candidate_of year (submitted_of said.now)) register.old.held register.new.held) }
+    ensures leaves { PublishLeaves S.Store register.old register.new result }
+    ensures cause { IfErr result (λ failure. IsStoreFailure failure → IsSoundMap said.now.release
+        × IsGood said.now.release said.now.cert × FailsToStore S.Store
+        (candidate_of year (submitted_of said.now)) register.old register.new
+        (failure ≡ Store)) }
+{
+    match say_yes(alloc, &said.release, &said.cert) {
+        Ok(yes) => publish_checked(
+            alloc,
+            register,
+            year,
+            &yes,
+            &said.cert,
+            said.rows.as_slice(),
+        ),
+        Err(stop) => Ok(stop.into_answer()?),
+    }
+}
+
+/// The answer to what is to be published.
+fn answer_to<S: Alter>(
+    alloc: Global,
+    register: &mut Register<S>,
+    year: u16,
+    submission: SubmissionBytes,
+) -> Result<Answer, Failure>
+    ensures answer { IfOk result (λ a. IsPublishAnswer year (submission_of submission)
+        register.old.held (a.text.items, a.status)) }
+    ensures moves { IfOk result (λ a. MovesRegister year (submission_of submission)
+        register.old.held register.new.held a.status) }
+    ensures leaves { PublishLeaves S.Store register.old register.new result }
+    ensures cause { IfErr result (λ failure. IsStoreFailure failure → (said : Submitted)
+        × IsSoundSubmission (submission_of submission) said × FailsToStore S.Store
+        (candidate_of year said) register.old register.new (failure ≡ Store)) }
+{
+    match submission_in(alloc, submission) {
+        Ok(said) => answer_to_submission(alloc, register, year, &said),
+        Err(stop) => Ok(stop.into_answer()?),
+    }
+}
+
+/// Checks the release of three tables against a certificate and publishes it in a register, with
+/// its year and the rows of a lineage table. It prints the report of a release that is a sound map,
+/// what became of each identifier that it drops, and its year; or the line of the first fault: of
+/// the tables, of the certificate's text, of the lineage table, of the certificate, of the
+/// register. The certificate has to have the blocks that the marked rows ask for, and no others:
+/// they are checked against the shapes that the register keeps of the last release.
+///
+/// All inputs are read to their ends, in the order in which they stand here, before anything is
+/// decided, and what is printed is whole in memory before the register is written. Ok is the
+/// status: `DONE`, where the release was published and its parcels' shapes are kept, or `REFUSED`
+/// or `UNREADABLE`, where the register is as it was. So it is at each failure but that of the
+/// output: then the release may be published, as `trace` shows. A failed read names the input that
+/// failed; the readers behind it are as they were.
+pub fn run_publish<S: Alter, R: Read + Drop, W: Write>(
+    alloc: Global,
+    register: &mut Register<S>,
+    year: u16,
+    submission: &mut SubmissionReaders<R>,
+    out: &mut W,
+) -> Result<u8, Failure>
+    ensures runs { RunsPublish S.Store (record {
+      year = year;
+      given = submission_texts R.remaining submission.old;
+    }) register.old register.new (output (W.contents out.old) (W.contents out.new)) result }
+    ensures untouched { IfErr result (IsSubmissionUntouched submission.old submission.new) }
+{
+    let bytes = read_submission(alloc, submission)?;
+    let answer = answer_to(alloc, register, year, bytes)?;
+    answer.write_to(out)
+}

@@ -1,0 +1,199 @@
+-- How a run over a country and a register ends.
+use Rattle.std.proofs.Common.{◌≡◌, ◌⊎◌, ◌++◌, ◌∷◌, ◌∙◌, ◌+◌, ◌≢◌, [], inl, inr, refl, sym, ap, subst, ℕ, List, Option, Result, Ok, Err, IfErr, IfOk, OnOk, length, take}
+use Rattle.std.proofs.KnownBytes.{Appends-kept, Appends-trans}
+use Rattle.std.proofs.Math.Seq.{take-append-add}
+use Rattle.std.proofs.lemmas.Result.{IfErr-weaker}
+use Rattle.std.specs.Io.KnownBytes.{Appends, Keeps}
+use Rattle.sqlite_trees.specs.declared.store.Store.{Ghosts}
+use Rattle.lpis_release.specs.Release.{Contents}
+use Rattle.lpis_country.specs.Tree.{folders}
+use Rattle.lpis_register.specs.Failing.{FailsToStore}
+use Rattle.lpis_register.specs.Holdings.{RegisterState}
+use Rattle.lpis_run.proofs.Shared.{breaks_off_more, runs_stopped, runs_written}
+use Rattle.lpis_run.specs.CheckAnswer.{Answer}
+use Rattle.lpis_run.specs.Run.{BreaksOffIn}
+use Rattle.lpis_run.specs.Status.{done}
+use Rattle.lpis_run.specs.Streams.{Begins}
+use Rattle.lpis_run.specs.declared.answer.Answer.{Answer as Printed}
+use Rattle.lpis_run.specs.declared.failure.Failure.{Failure}
+use Rattle.lpis_run.specs.declared.failure.Failure.TheVariants.{Memory, Read, ReadOf, Store, Write}
+use Rattle.lpis_run.specs.declared.failure.Name.{Name}
+use Rattle.lpis_run.specs.declared.failure.Name.TheVariants.{Out}
+use Rattle.lpis_run_country.specs.CountryAnswer.{HavePassed, IsEnd, IsReachedBy, IsRegionsAnswer, Setting}
+use Rattle.lpis_run_country.specs.CountryFailures.{IsReadOf, IsStoppedBefore}
+use Rattle.lpis_run_country.specs.Regions.{Texts}
+use Rattle.lpis_run_country.specs.RegionsOutcome.{IsRegionsRefusal, RegionsEnd, RegionsStop, StopsRegions}
+use Rattle.lpis_run_country.proofs.Shared.{all_left}
+use Rattle.lpis_run_publish.specs.Output.{output}
+use Rattle.lpis_run_publish.specs.Publication.{IsMemoryOrStore, PublishLeaves}
+use Rattle.lpis_run_publish.specs.Stored.{IsStoreFailure, Stays}
+use Rattle.lpis_run_publish_country.specs.PublishCountryAnswer.{AreSaid, CountryCandidate, CountryRequest, CountrySaid, IsPublishCountryAnswer, IsPublishEnd, IsUnionAnswer, PublishCountryInputs}
+use Rattle.lpis_run_publish_country.specs.PublishCountryAnswer.{country_asked, setting_said, union_of}
+use Rattle.lpis_run_publish_country.specs.PublishCountryRuns.{FailsToPublishCountry, IsPublishPart, PublishesCountry, StopsBehind}
+use Rattle.lpis_run_publish_country.specs.private.Deciding.{DecidesUnion, EndsUnion, RunsPrepared, StopsUnion}
+
+-- ---- writers
+-- a beginning of what follows a text
+pub begins_behind : (old now new : Option (List ℕ)) (a b : List ℕ) → Appends old now a → Begins now new b → Begins old new (a ++ b)
+begins_behind old now new a b h (n, k) = (length a + n, subst (Appends old new) (sym (take-append-add a b n)) (Appends-trans old now new a (take n b) h k))
+
+-- ---- failures
+-- the database did not fail where a file was not read, or the output failed, or memory ran out
+pub none_of_store : (failure : Failure) → (failure ≡ Memory) ⊎ ((n : Name) × (failure ≡ Read n)) ⊎ (failure ≡ Write Out) → IsStoreFailure failure → ⊥
+none_of_store failure (inl e) (inl x) = cc (e, x)
+none_of_store failure (inl e) (inr x) = cc (e, x)
+none_of_store failure (inr (inl r)) (inl x) = cc (r.1, x)
+none_of_store failure (inr (inl r)) (inr x) = cc (r.1, x)
+none_of_store failure (inr (inr e)) (inl x) = cc (e, x)
+none_of_store failure (inr (inr e)) (inr x) = cc (e, x)
+
+-- nor where a file of a region's folder was not read
+pub read_no_store : (file : Name) (name : List ℕ) (f : Failure) → IsReadOf file name f → IsStoreFailure f → ⊥
+read_no_store file name f (region, told, is) (inl x) = cc (is, x)
+read_no_store file name f (region, told, is) (inr x) = cc (is, x)
+
+-- nor where a run stopped before a region
+stopped-no-store : (texts : List ℕ → Texts) (left : List (List ℕ)) (f : Failure) → IsStoppedBefore texts left f → IsStoreFailure f → ⊥
+stopped-no-store texts [] f memory = none_of_store f (inl memory)
+stopped-no-store texts (name ∷ left) f (inl memory) = none_of_store f (inl memory)
+stopped-no-store texts (name ∷ left) f (inr (file, unread, read)) = read_no_store file name f read
+
+-- so it is of a run that broke off before its last region
+pub stop_no_store : (s : Setting) (old new : Option (List ℕ)) (f : Failure) → RegionsStop s old new f → IsStoreFailure f → ⊥
+stop_no_store s old new f (inl (lines, (regions, left, reached, stopped), written)) = stopped-no-store s.texts left f stopped
+stop_no_store s old new f (inr (write, begun)) = none_of_store f (inr (inr write))
+
+-- ---- a register
+-- it holds what it held
+pub stays_same : {S : Type 0} (store : Ghosts S) (old : RegisterState S) (r : Result ℕ Failure) → Stays store old old r
+stays_same store old (Ok status) = record { holds = λ clean opened o held. held; served = λ other clean o held. held }
+stays_same store old (Err failure) = record { holds = λ clean opened o held. held; served = λ other clean o held. held }
+
+-- a call that refuses leaves it so
+pub leaves_same : {S : Type 0} (store : Ghosts S) (old : RegisterState S) (a : Printed) → PublishLeaves store old old (Ok a)
+leaves_same store old a = record { same = λ other. refl; failure = tt; stored = record { holds = λ clean opened o held. held; served = λ other clean o held. held } }
+
+-- ---- the union
+module _ {S : Type 0} (store : Ghosts S) (c : CountryCandidate) (regions : List Contents) (old new : RegisterState S) where
+  -- memory runs out, or the database fails
+  pub union_stopped : (out : Option (List ℕ)) (failure : Failure) → IsMemoryOrStore failure × (new.held ≡ old.held) → Stays {A = Printed} store old new (Err failure)
+      → (IsStoreFailure failure → FailsToStore store (union_of c regions) old new (failure ≡ Store)) → EndsUnion store c regions old new (output out out) (Err failure)
+  union_stopped out failure why stays cause = record {
+    runs = runs_stopped _ _ out failure why;
+    stored = record { holds = stays.holds; served = stays.served };
+    cause = cause;
+  }
+
+  -- the answer is written, or a beginning of it
+  pub union_written : (before after : Option (List ℕ)) (a : Printed) (r : Result ℕ Failure) → IsUnionAnswer c regions old.held new.held (a.text.items, a.status)
+      → PublishLeaves store old new (Ok a) → IfOk r (λ s. s ≡ a.status) → OnOk r (Appends before after a.text.items)
+      → IfErr r (λ failure. (failure ≡ Write Out) × Begins before after a.text.items) → EndsUnion store c regions old new (output before after) r
+  union_written before after a r answer leaves is written begun = record {
+    runs = runs_written _ _ a.text.items a.status before after r (answer, leaves.same) is written begun;
+    stored = record { holds = leaves.stored.holds; served = λ other. leaves.stored.served tt };
+    cause = IfErr-weaker r _ _ (λ failure part of. absurd (none_of_store failure (inr (inr part.0)) of)) begun;
+  }
+
+-- ---- the run
+module _ {S : Type 0} (store : Ghosts S) (asked : CountryRequest) (x : PublishCountryInputs) (old new : RegisterState S) (before after : Option (List ℕ))
+    (said : CountrySaid) (are_said : AreSaid asked.given x said) where
+  -- the setting of the regions
+  abbrev here : Setting
+  here = setting_said asked.given asked.detail said
+
+  -- the regions of these folders passed
+  part : (regions : List Contents) (lines : List ℕ) (left : List (List ℕ)) → IsReachedBy here regions lines left → IsPublishPart asked.given asked.detail x lines left
+  part regions lines left reached = record { said = said; are_said = are_said; regions = regions; reached = reached }
+
+  ends-at : (regions : List Contents) (left : List (List ℕ)) (end : Answer) → end.1 ≢ done → IsEnd here regions left end
+      → IsPublishEnd (country_asked asked said) regions left old.held new.held end
+  ends-at regions [] end not_done is = absurd (not_done (ap (λ (a : Answer). a.1) is))
+  ends-at regions (name ∷ left) end not_done is = is
+
+  -- a region is refused
+  refused-answer : (whole : Answer) → whole.1 ≢ done → IsRegionsAnswer here whole → IsPublishCountryAnswer asked x old.held new.held whole
+  refused-answer whole not_done a = inr (
+    said,
+    are_said,
+    record {
+      regions = a.regions;
+      lines = a.text;
+      left = a.left;
+      reached = a.reached;
+      end = a.end;
+      follows = ends-at a.regions a.left a.end (λ e. not_done (ap (λ (b : Answer). b.1) a.is ∙ e)) a.follows;
+      is = a.is;
+    },
+  )
+
+  -- and the register is as it was
+  publishes-none : new.held ≡ old.held → (a : Answer) → IsRegionsRefusal here a → PublishesCountry asked x old.held new.held a
+  publishes-none same a (answer, not_done) = record { answer = refused-answer a not_done answer; same = λ other. same }
+
+  -- the run stops behind these lines
+  stops-in-regions : new.held ≡ old.held → (lines : List ℕ) (f : Failure) → StopsRegions here lines f → StopsBehind asked x old.held new.held lines f
+  stops-in-regions same lines f (regions, left, reached, stopped) = record { left = left; part = part regions lines left reached; stopped = inl stopped; same = same }
+
+  -- behind the last region
+  module _ (regions : List Contents) (lines : List ℕ) (now : Option (List ℕ)) (passed : HavePassed here (folders said.plan) regions lines) (printed : Appends before now lines) where
+    reached-all : IsReachedBy here regions lines []
+    reached-all = all_left here regions lines passed
+
+    publishes-union : (a : Answer) → DecidesUnion (country_asked asked said) regions old.held new.held a → PublishesCountry asked x old.held new.held (lines ++ a.0, a.1)
+    publishes-union a is = record {
+      answer = inr (said, are_said, record { regions = regions; lines = lines; left = []; reached = reached-all; end = a; follows = is.0; is = refl });
+      same = is.1;
+    }
+
+    -- memory ran out or the database failed
+    stops-union : (f : Failure) → IsMemoryOrStore f → new.held ≡ old.held → StopsBehind asked x old.held new.held lines f
+    stops-union f (inl memory) same = record { left = []; part = part regions lines [] reached-all; stopped = inl memory; same = same }
+    stops-union f (inr failed) same = record { left = []; part = part regions lines [] reached-all; stopped = inr (refl, failed); same = same }
+
+    union-breaks-off : (f : Failure) → (StopsUnion old.held new.held f × Keeps now after)
+        ⊎ ((f ≡ Write Out) × (a : Answer) × DecidesUnion (country_asked asked said) regions old.held new.held a × Begins now after a.0)
+        → BreaksOffIn (StopsBehind asked x old.held new.held) (PublishesCountry asked x old.held new.held) before after f
+    union-breaks-off f (inl (why, keeps)) = inl (lines, stops-union f why.0 why.1, Appends-kept before now after lines printed keeps)
+    union-breaks-off f (inr (write, a, is, begins)) =
+        inr (write, (lines ++ a.0, inr (a.1, publishes-union a is), begins_behind before now after lines a.0 printed begins))
+
+    cause-union : (f : Failure) → (IsStoreFailure f → FailsToStore store (union_of (country_asked asked said) regions) old new (f ≡ Store))
+        → IsStoreFailure f → FailsToPublishCountry store asked x old new (f ≡ Store)
+    cause-union f told is = record { said = said; are_said = are_said; regions = regions; lines = lines; have_passed = passed; fails = told is }
+
+    -- all of it
+    pub runs_union : (r : Result ℕ Failure) → EndsUnion store (country_asked asked said) regions old new (output now after) r
+        → RunsPrepared store asked x old new (output before after) r
+    runs_union (Ok status) e =
+        let (text, answer, written) = e.runs.answer in
+        record {
+          runs = record { answer = (lines ++ text, publishes-union (text, status) answer, Appends-trans before now after lines text printed written); failure = tt };
+          stored = e.stored;
+          cause = tt;
+        }
+    runs_union (Err f) e = record {
+      runs = record { answer = tt; failure = inr (union-breaks-off f e.runs.failure) };
+      stored = e.stored;
+      cause = cause-union f e.cause;
+    }
+
+  -- where a region is refused the register is as it was
+  pub runs_refused : (status : ℕ) → new.held ≡ old.held → Stays {A = ℕ} store old new (Ok status) → RegionsEnd here before after status × (status ≢ done)
+      → RunsPrepared store asked x old new (output before after) (Ok status)
+  runs_refused status same stays ((text, answer, written), not_done) = record {
+    runs = record { answer = (text, publishes-none same (text, status) (answer, not_done), written); failure = tt };
+    stored = stays;
+    cause = tt;
+  }
+
+  -- where the run stops before its last region it is too
+  pub runs_stopped_in : (f : Failure) → new.held ≡ old.held → Stays {A = ℕ} store old new (Err f) → RegionsStop here before after f
+      → RunsPrepared store asked x old new (output before after) (Err f)
+  runs_stopped_in f same stays stop = record {
+    runs = record {
+      answer = tt;
+      failure = inr (breaks_off_more (StopsRegions here) _ (IsRegionsRefusal here) _ before after f (stops-in-regions same) (publishes-none same) stop);
+    };
+    stored = stays;
+    cause = λ of. absurd (stop_no_store here before after f stop of);
+  }

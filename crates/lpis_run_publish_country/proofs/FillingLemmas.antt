@@ -1,0 +1,319 @@
+-- What a run that asks for the blocks of a country has decided, and how it ends.
+use Rattle.std.proofs.Common.{◌≡◌, ◌≢◌, ◌⊎◌, ◌<◌, ◌+◌, ◌-◌, ◌∙◌, ◌++◌, ◌∷◌, [], refl, sym, ap, ap₂, subst, arith, inl, inr, IfErr, IfOk, OnOk, ℕ, List, Option, None, Some, Result, Ok, Err}
+use Rattle.std.proofs.Common.{length, take}
+use Rattle.std.proofs.KnownBytes.{Appends-trans, Keeps-refl}
+use Rattle.std.proofs.Math.Seq.{take-append-add}
+use Rattle.std.proofs.lemmas.Bool.{cases_lt}
+use Rattle.std.proofs.lemmas.List.{append-nil, append_assoc, take-append-le}
+use Rattle.std.proofs.lemmas.Result.{IfOk-weaker}
+use Rattle.std.specs.Io.KnownBytes.{Appends, Keeps, append_known}
+use Rattle.lpis_release.specs.declared.parcel.Parcel.{Parcel}
+use Rattle.lpis_release.specs.Release.{Contents, parcel_ids}
+use Rattle.lpis_cert.specs.declared.cert.Cert.{Cert}
+use Rattle.lpis_country.specs.Country.{country_of}
+use Rattle.lpis_lineage.specs.declared.fault.LineageFault.{LineageFault}
+use Rattle.lpis_lineage.specs.declared.fault.LineageFault.TheVariants.{Memory as NoMemory}
+use Rattle.lpis_lineage.specs.declared.row.Entry.{Entry}
+use Rattle.lpis_lineage.specs.declared.row.Row.{Row}
+use Rattle.lpis_lineage.specs.Changes.{Changes, IsChange}
+use Rattle.lpis_lineage.specs.Faults.{faults, first}
+use Rattle.lpis_lineage.specs.Lineage.{last_live}
+use Rattle.lpis_register.specs.Holdings.{Holdings, holdings}
+use Rattle.lpis_register.specs.declared.fault.PublishFault.TheVariants.{Lineage}
+use Rattle.lpis_run.proofs.Shared.{breaks_off_more}
+use Rattle.lpis_run.specs.CheckAnswer.{Answer}
+use Rattle.lpis_run.specs.Outputs.{BreaksOff, Held, Outputs, Writes, held, outputs_of}
+use Rattle.lpis_run.specs.Status.{done, refused}
+use Rattle.lpis_run.specs.Streams.{Begins}
+use Rattle.lpis_run.specs.declared.answer.Answer.{Answer as Printed}
+use Rattle.lpis_run.specs.declared.detail.Detail.TheVariants.{Regions}
+use Rattle.lpis_run.specs.declared.failure.Failure.{Failure}
+use Rattle.lpis_run.specs.declared.failure.Failure.TheVariants.{Memory, Write}
+use Rattle.lpis_run.specs.declared.failure.Name.TheVariants.{Out}
+use Rattle.lpis_run.specs.declared.outcome.Outcome.{Outcome}
+use Rattle.lpis_run_country.proofs.Shared.{setting_begun}
+use Rattle.lpis_run_country.specs.CountryAnswer.{IsEnd, IsReachedBy, IsRegionsAnswer, Setting}
+use Rattle.lpis_run_country.specs.CountryFailures.{IsStoppedBefore, IsUnreadTop}
+use Rattle.lpis_run_country.specs.Regions.{Texts}
+use Rattle.lpis_run_country.specs.RegionsOutcome.{IsSettingOf, JoinsAll, RegionsEnd, RegionsStop, StopsRegions}
+use Rattle.lpis_run_publish.specs.ExactAnswer.{IsBlocksAnswer, IsBlocksOutcome}
+use Rattle.lpis_run_publish.specs.Submission.{submitted}
+use Rattle.lpis_run_publish_country.specs.CountryLineage.{country_refusal_text, rows_in}
+use Rattle.lpis_run_publish_country.specs.ExactCountryAnswer.{BreaksOffInBoth, FillsRegions, HasNoParts, IsFillAnswer, IsFillEnd, IsFillOutcome}
+use Rattle.lpis_run_publish_country.specs.ExactCountryAnswer.{RunsExactCountry, RunsOnBoth, StopsFill, StopsFillBehind}
+use Rattle.lpis_run_publish_country.specs.PublishCountryAnswer.{AreTopRead, CountryFiles, CountrySaid, IsRefusedBefore, PublishCountryInputs, setting_said}
+use Rattle.lpis_run_publish_country.specs.PublishCountryRuns.{IsPublishPart}
+use Rattle.lpis_run_publish_country.specs.declared.inputs.Prepared.{Prepared}
+use Rattle.lpis_run_publish_country.specs.private.Filling.{FillsPrepared}
+use Rattle.lpis_run_publish_country.specs.private.Preparing.{IsPrepared, said_of}
+
+-- ---- the union
+-- without faults there is no first one
+no-first : (fs : List LineageFault) (fault : LineageFault) → fs ≡ [] → first fs ≡ Some fault → ⊥
+no-first fs fault none is = nothing (sym (ap first none) ∙ is)
+  where
+    nothing : None ≡ Some fault → ⊥
+    nothing e = cc
+
+module _ (g : Setting) (tables : List (List Row)) (regions : List Contents) (before : Holdings) where
+  -- the answer to a union that may follow
+  fill-answer : (c : Cert) (text : Option (List ℕ)) (a : Answer) → HasNoParts c → faults before.history (parcel_ids (country_of g.classes regions).parcels) (rows_in tables) ≡ []
+      → IsBlocksAnswer (submitted (country_of g.classes regions) c (rows_in tables)) before text a → IsFillAnswer g tables regions before text a
+  fill-answer c text a none clean (inl (fault, is, told)) = absurd (no-first _ fault clean is)
+  fill-answer c text a none clean (inr (inl unkept)) = inr (inl unkept)
+  fill-answer c text a none clean (inr (inr filled)) = inr (inr (c, none, filled))
+
+  -- with what was found of a change
+  pub fill_change_ends : {E : Type 0} (c : Cert) (rows : List Row) (parcels : List Parcel) (change : Changes) (r : Result Outcome E)
+      → parcels ≡ (country_of g.classes regions).parcels → rows ≡ rows_in tables
+      → HasNoParts c → faults before.history (parcel_ids parcels) rows ≡ [] → IsChange (last_live before.history) (parcel_ids parcels) rows change
+      → ((u : Contents) (h : List Entry) (ls : List Row) → u.parcels ≡ parcels → faults h (parcel_ids u.parcels) ls ≡ [] → IsChange (last_live h) (parcel_ids u.parcels) ls change
+      → IfOk r (λ o. IsBlocksOutcome (submitted u c ls) (holdings h before.shapes) (outputs_of o)))
+      → IfOk r (λ o. IsFillOutcome g tables regions before (outputs_of o))
+  fill_change_ends c rows parcels change r are of_rows none clean changed fills =
+      let h = before.history in
+      let is_clean = subst (λ (xs : List Parcel). faults h (parcel_ids xs) (rows_in tables) ≡ []) are (subst (λ (ls : List Row). faults h (parcel_ids parcels) ls ≡ []) of_rows clean) in
+      let is_change = subst (λ (xs : List Parcel). IsChange (last_live h) (parcel_ids xs) (rows_in tables) change) are
+      (subst (λ (ls : List Row). IsChange (last_live h) (parcel_ids parcels) ls change) of_rows changed) in
+      IfOk-weaker r _ _ (λ o out. record { answer = fill-answer c _ _ none is_clean out.answer; no_text = out.no_text })
+      (fills (country_of g.classes regions) h (rows_in tables) (sym are) is_clean is_change)
+
+  -- the line of the first fault of its lineage
+  pub fill_refused : (rows : List Row) (parcels : List Parcel) (fault : LineageFault) (names : List (List ℕ)) (o : Outputs) (a : Printed) → parcels ≡ (country_of g.classes regions).parcels
+      → rows ≡ rows_in tables → names ≡ g.names → (fault ≡ NoMemory) ⊎ (first (faults before.history (parcel_ids parcels) rows) ≡ Some fault) → (fault ≡ NoMemory → ⊥)
+      → o ≡ record { cert = None; line = a.text.items; status = a.status } → a.text.items ≡ country_refusal_text names tables (Lineage fault) → a.status ≡ refused
+      → IsFillOutcome g tables regions before o
+  fill_refused rows parcels fault names o a are of_rows of_names (inl memory) other is line status = absurd (other memory)
+  fill_refused rows parcels fault names o a are of_rows of_names (inr is_first) other is line status =
+      let of_union = subst (λ (xs : List Parcel). first (faults before.history (parcel_ids xs) (rows_in tables)) ≡ Some fault) are
+      (subst (λ (ls : List Row). first (faults before.history (parcel_ids parcels) ls) ≡ Some fault) of_rows is_first) in
+      let text = line ∙ ap (λ (ks : List (List ℕ)). country_refusal_text ks tables (Lineage fault)) of_names in
+      subst (IsFillOutcome g tables regions before) (sym is) (record {
+        answer = inl (fault, of_union, ap₂ (λ (t : List ℕ) (n : ℕ). (t, n)) text status);
+        no_text = λ _. refl;
+      })
+
+-- ---- what was begun
+-- what the files before the regions say
+abbrev fill-said : (given : CountryFiles) (x : PublishCountryInputs) (p : Prepared) → IsPrepared given x p → CountrySaid
+fill-said given x p h = said_of h.begun.plan p h.tables
+
+-- and the setting of the regions
+abbrev pub fill_setting : (given : CountryFiles) (x : PublishCountryInputs) (p : Prepared) → IsPrepared given x p → Setting
+fill_setting given x p h = setting_said given Regions (fill-said given x p h)
+
+-- it is that of a run over the regions
+pub is_fill_setting : (given : CountryFiles) (x : PublishCountryInputs) (p : Prepared) (h : IsPrepared given x p) (texts : List ℕ → Texts) → given.texts ≡ texts
+    → IsSettingOf (fill_setting given x p h) texts Regions p.begun
+is_fill_setting given x p h texts told =
+    subst (λ (t : List ℕ → Texts). IsSettingOf (fill_setting given x p h) t Regions p.begun) told (setting_begun given.texts Regions x.country p.begun h.begun)
+
+-- ---- the regions
+-- the lines of the regions that passed
+fill-part : (given : CountryFiles) (x : PublishCountryInputs) (p : Prepared) (h : IsPrepared given x p) (regions : List Contents) (text : List ℕ) (left : List (List ℕ))
+    → IsReachedBy (fill_setting given x p h) regions text left → IsPublishPart given Regions x text left
+fill-part given x p h regions text left reached = record { said = fill-said given x p h; are_said = h.said; regions = regions; reached = reached }
+
+-- all of them
+all-reached : (s : Setting) (regions : List Contents) (lines : List ℕ) → JoinsAll s regions lines → IsReachedBy s regions lines []
+all-reached s regions lines joins = record { passed = s.names; all = sym (append-nil s.names); have_passed = joins.have_passed }
+
+-- a beginning of two texts is one of the first, or all of it and one of the second
+begins-split : (old new : Option (List ℕ)) (a b text : List ℕ) → text ≡ a ++ b → Begins old new text → Begins old new a ⊎ ((mid : Option (List ℕ)) × Appends old mid a × Begins mid new b)
+begins-split old new a b text is (n, got) = elim (cases_lt (length a) n) [
+  | inl more ↦ inr (append_known old a, all old, (n - length a, rest old new (subst (Appends old new) (takes more) got)))
+  | inr few ↦ inl (n, subst (Appends old new) (ap (take n) is ∙ take-append-le n a b few) got)
+]
+  where
+    all : (o : Option (List ℕ)) → Appends o (append_known o a) a
+    all None = tt
+    all (Some xs) = refl
+
+    back : length a < n → n ≡ length a + (n - length a)
+    back lt = omega arith
+
+    takes : length a < n → take n text ≡ a ++ take (n - length a) b
+    takes lt = ap (take n) is ∙ ap (λ (m : ℕ). take m (a ++ b)) (back lt) ∙ take-append-add a b (n - length a)
+
+    rest : (o q : Option (List ℕ)) → Appends o q (a ++ take (n - length a) b) → Appends (append_known o a) q (take (n - length a) b)
+    rest None q e = tt
+    rest (Some xs) None e = e
+    rest (Some xs) (Some ys) e = e ∙ sym (append_assoc xs a (take (n - length a) b))
+
+-- memory may run out before any folder
+stops-memory : (texts : List ℕ → Texts) (left : List (List ℕ)) → IsStoppedBefore texts left Memory
+stops-memory texts [] = refl
+stops-memory texts (name ∷ left) = inl refl
+
+appends-nothing : (old : Option (List ℕ)) → Appends old old []
+appends-nothing None = tt
+appends-nothing (Some xs) = sym (append-nil xs)
+
+-- ---- a region is refused
+module _ (given : CountryFiles) (x : PublishCountryInputs) (p : Prepared) (h : IsPrepared given x p) (before : Holdings) where
+  -- its line ends the run
+  refused-end : (g : Setting) (regions : List Contents) (left : List (List ℕ)) (end : Answer) → IsEnd g regions left end → end.1 ≢ done
+      → IsFillEnd g h.tables regions left before (record { cert = None; line = end.0; status = end.1 })
+  refused-end g regions [] end is other = absurd (other (ap (λ (a : Answer). a.1) is))
+  refused-end g regions (name ∷ left) end is other = (is, refl)
+
+  -- it and the lines before it
+  abbrev refusal_of : {a : Answer} → IsRegionsAnswer (fill_setting given x p h) a → Outputs
+  refusal_of answer = record { cert = None; line = answer.end.0; status = answer.end.1 }
+
+  fills-refusal : (text : List ℕ) (status : ℕ) (answer : IsRegionsAnswer (fill_setting given x p h) (text, status)) → status ≢ done → FillsRegions given x before answer.text (refusal_of answer)
+  fills-refusal text status answer other = record {
+    said = fill-said given x p h;
+    are_said = h.said;
+    regions = answer.regions;
+    left = answer.left;
+    reached = answer.reached;
+    follows = refused-end (fill_setting given x p h) answer.regions answer.left answer.end answer.follows (λ e. other (ap (λ (a : Answer). a.1) answer.is ∙ e));
+  }
+
+  -- where it was written
+  pub fill_refuses : (file old new : Option (List ℕ)) (status : ℕ) → RegionsEnd (fill_setting given x p h) old new status → status ≢ done
+      → FillsPrepared given x before (held file old) (held file new) (Ok status)
+  fill_refuses file old new status (text, answer, written) other = record {
+    answer = (
+      answer.text,
+      refusal_of answer,
+      fills-refusal text status answer other,
+      record {
+        status_told = ap (λ (a : Answer). a.1) answer.is;
+        certificate = Keeps-refl file;
+        line = subst (Appends old new) (ap (λ (a : Answer). a.0) answer.is) written;
+      },
+    );
+    failure = tt;
+  }
+
+  -- ---- no end of the regions
+  -- a run that broke off so
+  abbrev Broken : (file old new : Option (List ℕ)) → Failure → Type 0
+  Broken file old new f = BreaksOffInBoth (StopsFillBehind given x) (FillsRegions given x before) (held file old) (held file new) f
+
+  stops-behind : (lines : List ℕ) (f : Failure) → StopsRegions (fill_setting given x p h) lines f → StopsFillBehind given x lines f
+  stops-behind lines f (regions, left, reached, stopped) = (left, fill-part given x p h regions lines left reached, stopped)
+
+  -- where a beginning of a refusal was written
+  refusal-broken : (file old new : Option (List ℕ)) (f : Failure) (text : List ℕ) (status : ℕ) (answer : IsRegionsAnswer (fill_setting given x p h) (text, status)) → status ≢ done
+      → (f ≡ Write Out) → Begins old new answer.text ⊎ ((mid : Option (List ℕ)) × Appends old mid answer.text × Begins mid new answer.end.0) → Broken file old new f
+  refusal-broken file old new f text status answer other write (inl begins) =
+      let part = fill-part given x p h answer.regions answer.text answer.left answer.reached in
+      inl (inr (write, (answer.text, inl (Memory, (answer.left, part, stops-memory given.texts answer.left)), begins)), Keeps-refl file)
+  refusal-broken file old new f text status answer other write (inr (mid, written, begins)) = inr (record {
+    lines = answer.text;
+    end = refusal_of answer;
+    answer = fills-refusal text status answer other;
+    passed = mid;
+    written = written;
+    broken = inr (write, Keeps-refl file, begins);
+  })
+
+  breaks-in-regions : (file old new : Option (List ℕ)) (f : Failure) → RegionsStop (fill_setting given x p h) old new f → Broken file old new f
+  breaks-in-regions file old new f (inl (lines, stopped, written)) = inl (inl (lines, stops-behind lines f stopped, written), Keeps-refl file)
+  breaks-in-regions file old new f (inr (write, (text, inl (other, stopped), begins))) =
+      inl (inr (write, (text, inl (other, stops-behind text other stopped), begins)), Keeps-refl file)
+  breaks-in-regions file old new f (inr (write, (text, inr (status, (answer, other)), begins))) =
+      refusal-broken file old new f text status answer other write (begins-split old new answer.text answer.end.0 text (ap (λ (a : Answer). a.0) answer.is) begins)
+
+  pub fill_stops : (file old new : Option (List ℕ)) (f : Failure) → RegionsStop (fill_setting given x p h) old new f
+      → FillsPrepared given x before (held file old) (held file new) (Err f)
+  fill_stops file old new f stop = record { answer = tt; failure = inr (breaks-in-regions file old new f stop) }
+
+  -- ---- behind the regions, which all passed
+  module _ (regions : List Contents) (lines : List ℕ) (joins : JoinsAll (fill_setting given x p h) regions lines) (file old now : Option (List ℕ)) (written : Appends old now lines) where
+    fills-all : (o : Outputs) → IsFillOutcome (fill_setting given x p h) h.tables regions before o → FillsRegions given x before lines o
+    fills-all o out = record {
+      said = fill-said given x p h;
+      are_said = h.said;
+      regions = regions;
+      left = [];
+      reached = all-reached (fill_setting given x p h) regions lines joins;
+      follows = out;
+    }
+
+    -- the outcome was written, or a part of it
+    pub fill_writes : (o : Outputs) (cert out : Option (List ℕ)) (r : Result ℕ Failure) → IsFillOutcome (fill_setting given x p h) h.tables regions before o
+        → IfOk r (λ status. Writes o status (held file now) (held cert out)) → IfErr r (λ f. BreaksOff o f (held file now) (held cert out))
+        → FillsPrepared given x before (held file old) (held cert out) r
+    fill_writes o cert out (Ok status) decided w broken = record {
+      answer = (
+        lines,
+        o,
+        fills-all o decided,
+        record { status_told = w.status_told; certificate = w.certificate; line = Appends-trans old now out lines o.line written w.line },
+      );
+      failure = tt;
+    }
+    fill_writes o cert out (Err f) decided w broken = record {
+      answer = tt;
+      failure = inr (inr (record { lines = lines; end = o; answer = fills-all o decided; passed = now; written = written; broken = broken }));
+    }
+
+    -- memory ran out before
+    pub fill_spent : FillsPrepared given x before (held file old) (held file now) (Err Memory)
+    fill_spent =
+        let part = fill-part given x p h regions lines [] (all-reached (fill_setting given x p h) regions lines joins) in
+        record { answer = tt; failure = inr (inl (inl (lines, ([], part, refl), written), Keeps-refl file)) }
+
+-- ---- a run that writes a certificate behind its lines
+-- what ends so ends as a run that more stops, and that has more answers
+both-more : (P Q : Failure → Type 0) (S T : List ℕ → Failure → Type 0) (A B : List ℕ → Outputs → Type 0) (old new : Held) (r : Result ℕ Failure) → ((f : Failure) → P f → Q f)
+    → ((lines : List ℕ) (f : Failure) → S lines f → T lines f) → ((lines : List ℕ) (end : Outputs) → A lines end → B lines end) → RunsOnBoth P S A old new r → RunsOnBoth Q T B old new r
+both-more P Q S T A B old new (Ok status) before behind answers runs =
+    let (lines, end, answer, written) = runs.answer in
+    record { answer = (lines, end, answers lines end answer, written); failure = tt }
+both-more P Q S T A B old new (Err f) before behind answers runs = record { answer = tt; failure = more runs.failure }
+  where
+    more : (P f × Keeps old.cert new.cert × Keeps old.out new.out) ⊎ BreaksOffInBoth S A old new f → (Q f × Keeps old.cert new.cert × Keeps old.out new.out) ⊎ BreaksOffInBoth T B old new f
+    more (inl (stopped, file, out)) = inl (before f stopped, file, out)
+    more (inr (inl (broken, file))) = inr (inl (breaks_off_more S T (λ a. ⊥) (λ a. ⊥) old.out new.out f behind (λ a never. never) broken, file))
+    more (inr (inr b)) = inr (inr (record { lines = b.lines; end = b.end; answer = answers b.lines b.end b.answer; passed = b.passed; written = b.written; broken = b.broken }))
+
+-- ---- the run
+-- the files of a run that names no certificate
+abbrev pub files_without : (plan classes : Option (List ℕ)) → (List ℕ → Texts) → (List ℕ → Option (List ℕ)) → CountryFiles
+files_without plan classes texts lineages = record { plan = plan; classes = classes; exact = None; texts = texts; lineages = lineages }
+
+module _ (given : CountryFiles) (before : Holdings) (file out : Option (List ℕ)) where
+  -- a file was not read
+  pub runs_unread : (f : Failure) → IsUnreadTop given.plan f → RunsExactCountry given before (held file out) (held file out) (Err f)
+  runs_unread f unread = record { answer = tt; failure = inl (inl unread, Keeps-refl file, Keeps-refl out) }
+
+  module _ (x : PublishCountryInputs) (read : AreTopRead given x) where
+    -- nor a lineage table
+    pub runs_earlier : (f : Failure) → StopsFill given x f → RunsExactCountry given before (held file out) (held file out) (Err f)
+    runs_earlier f stopped = record { answer = tt; failure = inl (inr (x, read, stopped), Keeps-refl file, Keeps-refl out) }
+
+    -- what was read has a fault, whose line was written, or a beginning of it
+    pub runs_refused : (new : Option (List ℕ)) (a : Printed) (r : Result ℕ Failure) → IsRefusedBefore given x (a.text.items, a.status) → IfOk r (λ s. s ≡ a.status)
+        → OnOk r (Appends out new a.text.items) → IfErr r (λ failure. (failure ≡ Write Out) × Begins out new a.text.items)
+        → RunsExactCountry given before (held file out) (held file new) r
+    runs_refused new a (Ok status) refusal same written begun = record {
+      answer = (
+        [],
+        record { cert = None; line = a.text.items; status = a.status },
+        (x, read, inl (refl, refl, refusal)),
+        record { status_told = same; certificate = Keeps-refl file; line = written },
+      );
+      failure = tt;
+    }
+    runs_refused new a (Err f) refusal same written begun = record {
+      answer = tt;
+      failure = inr (inr (record {
+        lines = [];
+        end = record { cert = None; line = a.text.items; status = a.status };
+        answer = (x, read, inl (refl, refl, refusal));
+        passed = out;
+        written = appends-nothing out;
+        broken = inr (begun.0, Keeps-refl file, begun.1);
+      }));
+    }
+
+    -- it has none
+    pub runs_prepared : (cert new : Option (List ℕ)) (r : Result ℕ Failure) → FillsPrepared given x before (held file out) (held cert new) r
+        → RunsExactCountry given before (held file out) (held cert new) r
+    runs_prepared cert new r h =
+        both-more _ _ _ _ _ _ (held file out) (held cert new) r (λ f never. absurd never) (λ lines f why. (x, read, why)) (λ lines end is. (x, read, inr is)) h

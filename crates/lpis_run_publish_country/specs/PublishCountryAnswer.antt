@@ -1,0 +1,186 @@
+-- The answer to a country that is to be published: text and status, of the bytes of its files, the
+-- year, and what the register holds before; and what it holds after.
+use Rattle.std.specs.Prelude.{◌≡◌, ◌⊎◌, ◌++◌, ◌∷◌, [], ℕ, List, Option, None, Some, Ok, All, length}
+use Rattle.lpis_tables.specs.declared.class.Class.{Class}
+use Rattle.lpis_tables.specs.Classes.{classes_table}
+use Rattle.lpis_tables.specs.Faults.{rows_of}
+use Rattle.lpis_release.specs.Release.{Contents}
+use Rattle.lpis_cert.specs.declared.cert.Cert.{Cert}
+use Rattle.lpis_cert.specs.declared.part.ExactBlock.{ExactBlock}
+use Rattle.lpis_cert.specs.Contents.{IsCertText}
+use Rattle.lpis_cert.specs.Faults.{verdict}
+use Rattle.lpis_checker.specs.SoundMap.{IsSoundMap}
+use Rattle.lpis_country.specs.Country.{country_of}
+use Rattle.lpis_country.specs.Union.{IsUnion}
+use Rattle.lpis_country.specs.CountryText.{IsCountryText}
+use Rattle.lpis_country.specs.Tree.{Tree, folders}
+use Rattle.lpis_lineage.specs.declared.row.Row.{Row}
+use Rattle.lpis_lineage_exact.specs.Asking.{IsShown}
+use Rattle.lpis_register.specs.Faults.{IsRefused, IsSetAside}
+use Rattle.lpis_register.specs.Holdings.{Candidate, Holdings, candidate}
+use Rattle.lpis_register.specs.declared.fault.PublishFault.{PublishFault}
+use Rattle.lpis_run.specs.CheckAnswer.{Answer, IsCertAnswer, IsTableAnswer}
+use Rattle.lpis_run.specs.Status.{done, refused}
+use Rattle.lpis_run.specs.Streams.{IsRead}
+use Rattle.lpis_run.specs.declared.detail.Detail.{Detail}
+use Rattle.lpis_run_country.specs.CountryAnswer.{IsPlanAnswer, IsReachedBy, IsRefusedRegion}
+use Rattle.lpis_run_country.specs.CountryAnswer.{Setting, setting_of}
+use Rattle.lpis_run_country.specs.CountryLines.{country_lines}
+use Rattle.lpis_run_country.specs.Regions.{AreCountryRead, AreRegionsOf, CountryInputs, Texts}
+use Rattle.lpis_run_publish.specs.Publication.{IsReleasePublished, publication_text}
+use Rattle.lpis_run_publish_country.specs.CountryLineage.{AreTablesOf, AreTablesRefused}
+use Rattle.lpis_run_publish_country.specs.CountryLineage.{country_refusal_text, rows_in}
+
+-- ---- what is handed in
+-- what is known of the files of a country: the bytes of its plan, of its table of classes and of
+-- the certificate whose blocks are used, where one is named; of the files in the folder of each
+-- region; and of the lineage table there
+pub record CountryFiles : Type 0 where
+  pub plan : Option (List ℕ)
+  pub classes : Option (List ℕ)
+  pub exact : Option (Option (List ℕ))
+  pub texts : List ℕ → Texts
+  pub lineages : List ℕ → Option (List ℕ)
+
+-- the bytes of the files that are no region's
+pub record PublishCountryInputs : Type 0 where
+  pub country : CountryInputs
+  pub exact : Option (List ℕ)
+
+-- the certificate, where one is named, has these bytes
+abbrev pub IsExactRead : Option (List ℕ) → Option (Option (List ℕ)) → Type 0
+IsExactRead None None = Unit {0}
+IsExactRead (Some bytes) (Some told) = IsRead bytes told
+IsExactRead None (Some told) = ⊥
+IsExactRead (Some bytes) None = ⊥
+
+-- these are the bytes of those files, as far as they are known
+pub record AreTopRead (given : CountryFiles) (x : PublishCountryInputs) : Type 0 where
+  pub of_country : AreCountryRead x.country given.plan given.classes
+  pub of_exact : IsExactRead x.exact given.exact
+
+-- ---- before the regions
+-- the blocks of a certificate, of whose text this is the answer where it has a fault; where no
+-- certificate is named there are none
+abbrev pub IsExactTextAnswer : (List ExactBlock → Answer → Type 0) → Option (List ℕ) → Answer
+    → Type 0
+IsExactTextAnswer IsNext None = IsNext []
+IsExactTextAnswer IsNext (Some text) = IsCertAnswer (λ c. IsNext c.exact) text (verdict text)
+
+-- the blocks of the certificate of this text; none where no certificate is named
+abbrev pub AreBlocksOf : Option (List ℕ) → List ExactBlock → Type 0
+AreBlocksOf None blocks = blocks ≡ []
+AreBlocksOf (Some text) blocks = (c : Cert) × IsCertText text c × (blocks ≡ c.exact)
+
+-- the answer to the files before the regions: the line of the first fault, of the plan, of the
+-- classes, of the certificate, of the lineage tables in the order of the plan
+abbrev pub IsRefusedBefore : CountryFiles → PublishCountryInputs → Answer → Type 0
+IsRefusedBefore given x =
+    IsPlanAnswer (λ plan. IsTableAnswer (λ classes. IsExactTextAnswer
+    (λ blocks. AreTablesRefused given.lineages (folders plan)) x.exact)
+    (rows_of classes_table x.country.classes))
+    x.country.plan
+
+-- a plan, classes, the blocks of a certificate, and tables of lineage
+pub record CountrySaid : Type 0 where
+  pub plan : Tree
+  pub classes : List Class
+  pub blocks : List ExactBlock
+  pub tables : List (List Row)
+
+-- the files before the regions have no fault, and say these
+pub record AreSaid (given : CountryFiles) (x : PublishCountryInputs) (said : CountrySaid) : Type 0
+  where
+    pub planned : IsCountryText x.country.plan said.plan
+    pub table : rows_of classes_table x.country.classes ≡ Ok said.classes
+    pub of_exact : AreBlocksOf x.exact said.blocks
+    pub of_lineages : AreTablesOf given.lineages (folders said.plan) said.tables
+
+-- the setting in which the regions are read then
+abbrev pub setting_said : CountryFiles → Detail → CountrySaid → Setting
+setting_said given detail said = setting_of given.texts detail said.plan said.classes
+
+-- ---- the union
+-- a country that is to be published: its year, the setting of its regions, the blocks of its
+-- certificate, and its tables of lineage
+pub record CountryCandidate : Type 0 where
+  pub year : ℕ
+  pub setting : Setting
+  pub blocks : List ExactBlock
+  pub tables : List (List Row)
+
+abbrev pub country_candidate : ℕ → Setting → List ExactBlock → List (List Row) → CountryCandidate
+country_candidate year setting blocks tables =
+    record { year = year; setting = setting; blocks = blocks; tables = tables }
+
+-- as a release that is to be published, the union of these regions with the rows of all tables
+abbrev pub union_of : CountryCandidate → List Contents → Candidate
+union_of c regions =
+    candidate c.year (country_of c.setting.classes regions) c.blocks (rows_in c.tables)
+
+-- the regions, one of each folder, have the same classes; their union is a sound map, of which the
+-- blocks show what its marked rows ask for; and it was published
+pub record IsCountryPublished (c : CountryCandidate) (regions : List Contents)
+    (before after : Holdings) : Type 0 where
+  pub of_folders : AreRegionsOf c.setting.texts c.setting.names regions
+  pub same : All (λ (r : Contents). r.classes ≡ c.setting.classes) regions
+  pub union : IsUnion regions (union_of c regions).release
+  pub sound : IsSoundMap (union_of c regions).release
+  pub shown : IsShown before.history before.shapes (union_of c regions).release c.blocks
+      (rows_in c.tables)
+  pub published : IsReleasePublished (union_of c regions) before after
+
+-- what is printed of it behind the lines of its regions: as of a release, behind the line of the
+-- country and the yes
+abbrev pub country_publication_text : CountryCandidate → List Contents → Holdings → List ℕ
+country_publication_text c regions before =
+    publication_text (country_lines (length regions) (union_of c regions).release)
+    (union_of c regions) before
+
+-- of the regions of all folders: the line of what the register refuses, in its order; or what is
+-- printed of their union, which was published
+abbrev pub IsUnionAnswer : CountryCandidate → List Contents → Holdings → Holdings → Answer → Type 0
+IsUnionAnswer c regions before after a =
+    ((fault : PublishFault) × IsRefused (union_of c regions) before fault
+    × (IsSetAside fault → ⊥)
+    × (a ≡ (country_refusal_text c.setting.names c.tables fault, refused)))
+    ⊎ (IsCountryPublished c regions before after
+    × (a ≡ (country_publication_text c regions before, done)))
+
+-- what follows the regions that passed: where no folder is left the answer to their union, else the
+-- line of the next region, which is refused
+abbrev pub IsPublishEnd : CountryCandidate → List Contents → List (List ℕ) → Holdings → Holdings
+    → Answer → Type 0
+IsPublishEnd c regions [] before after a = IsUnionAnswer c regions before after a
+IsPublishEnd c regions (name ∷ left) before after a = IsRefusedRegion c.setting regions name a
+
+-- the lines of the regions up to the first that is refused, and what follows them
+pub record IsRegionsPublishAnswer (c : CountryCandidate) (before after : Holdings) (a : Answer)
+    : Type 0 where
+  pub regions : List Contents
+  pub lines : List ℕ
+  pub left : List (List ℕ)
+  pub reached : IsReachedBy c.setting regions lines left
+  pub end : Answer
+  pub follows : IsPublishEnd c regions left before after end
+  pub is : a ≡ (lines ++ end.0, end.1)
+
+-- ---- the answer
+-- what is asked for: a year, the files of a country, and what is to be printed of its regions
+pub record CountryRequest : Type 0 where
+  pub year : ℕ
+  pub given : CountryFiles
+  pub detail : Detail
+
+-- the country that is to be published where the files before the regions say this
+abbrev pub country_asked : CountryRequest → CountrySaid → CountryCandidate
+country_asked asked said = country_candidate asked.year (setting_said asked.given asked.detail said)
+    said.blocks said.tables
+
+-- the answer in a year above the last one: faults of the files before the regions come first
+abbrev pub IsPublishCountryAnswer : CountryRequest → PublishCountryInputs → Holdings → Holdings
+    → Answer → Type 0
+IsPublishCountryAnswer asked x before after a =
+    IsRefusedBefore asked.given x a
+    ⊎ ((said : CountrySaid) × AreSaid asked.given x said
+    × IsRegionsPublishAnswer (country_asked asked said) before after a)

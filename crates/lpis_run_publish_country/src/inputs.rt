@@ -1,0 +1,157 @@
+//! The files of a country that come before its regions.
+
+ghost use Rattle.std.specs.Prelude.{◌≡◌, ◌≢◌, ◌⊎◌, IfErr, IfOk, None};
+ghost use Rattle.std.specs.Option.{option_map};
+ghost use Rattle.lpis_run.specs.Stops.{IsRefusedAs};
+ghost use Rattle.lpis_run.specs.declared.failure.Failure.TheVariants.{Memory};
+ghost use Rattle.lpis_run_country.specs.Beginning.{IsBegun};
+ghost use Rattle.lpis_run_country.specs.CountryFailures.{IsUnreadTop};
+ghost use Rattle.lpis_run_publish_country.specs.ExactCountryAnswer.{HasNoParts};
+ghost use Rattle.lpis_run_publish_country.specs.PublishCountryAnswer.{AreBlocksOf, AreTopRead};
+ghost use Rattle.lpis_run_publish_country.specs.PublishCountryAnswer.{CountryFiles};
+ghost use Rattle.lpis_run_publish_country.specs.PublishCountryAnswer.{IsExactTextAnswer};
+ghost use Rattle.lpis_run_publish_country.specs.PublishCountryAnswer.{IsExactRead, IsRefusedBefore};
+ghost use Rattle.lpis_run_publish_country.specs.PublishCountryRuns.{IsUnreadInput, IsUnreadLineage};
+ghost use Rattle.lpis_run_publish_country.specs.private.Preparing.{IsPrepared, inputs_of};
+ghost use Rattle.lpis_run_publish_country.specs.private.Unprepared.{IsUnprepared};
+
+use crate::lineage::{CountryLineage, Lineages, read_lineage};
+use crate::unprepared::Unprepared;
+use lpis_cert::Cert;
+use lpis_memory::Sequence;
+use lpis_run::{Failure, Name, Stop, certificate_in, read_named};
+use lpis_run_country::{Begun, CountryBytes, begin, read_top};
+use std::alloc::Global;
+use std::io::Read;
+
+/// The bytes of the files that are no region's.
+#[derive(Drop)]
+pub(crate) struct PublishCountryBytes {
+    /// The plan and the table of classes.
+    pub(crate) country: CountryBytes,
+    /// The certificate whose blocks are used, where one is named.
+    pub(crate) exact: Option<Vec<u8>>,
+}
+
+/// What the files before the regions say.
+#[derive(Drop)]
+pub(crate) struct Prepared {
+    /// The plan and the classes.
+    pub(crate) begun: Begun,
+    /// The certificate whose blocks are used; one without any where none is named.
+    pub(crate) cert: Cert,
+    /// The rows of the lineage tables.
+    pub(crate) lineage: CountryLineage,
+}
+
+/// All bytes of the certificate, where one is named.
+fn read_exact<E: Read + Drop>(alloc: Global, exact: Option<E>) -> Result<Option<Vec<u8>>, Failure>
+    ensures bytes { IfOk result (λ b. IsExactRead (option_map (λ v. v.items) b)
+        (option_map E.remaining exact)) }
+    ensures failure { IfErr result (λ f. (f ≡ Failure.Memory)
+        ⊎ ((option_map E.remaining exact ≢ None) × (f ≡ Failure.Read Name.Cert))) }
+{
+    match exact {
+        Some(file) => Ok(Some(read_named(alloc, file, Name::Cert)?)),
+        None => Ok(None),
+    }
+}
+
+/// All bytes of the files that are no region's, which are read in this order.
+pub(crate) fn read_inputs<P: Read + Drop, K: Read + Drop, E: Read + Drop>(
+    alloc: Global,
+    country: P,
+    classes: K,
+    exact: Option<E>,
+) -> Result<PublishCountryBytes, Failure>
+    ensures bytes { (given : CountryFiles) → given.plan ≡ P.remaining country
+        → given.classes ≡ K.remaining classes → given.exact ≡ option_map E.remaining exact
+        → IfOk result (λ b. AreTopRead given (inputs_of b)) }
+    ensures failure { (given : CountryFiles) → given.plan ≡ P.remaining country
+        → given.classes ≡ K.remaining classes → given.exact ≡ option_map E.remaining exact
+        → IfErr result (IsUnreadInput given) }
+{
+    let country = read_top(alloc, country, classes)?;
+    let exact = read_exact(alloc, exact)?;
+    Ok(PublishCountryBytes { country, exact })
+}
+
+/// All bytes of the plan and of the table of classes, where no certificate is named.
+pub(crate) fn read_country<P: Read + Drop, K: Read + Drop>(
+    alloc: Global,
+    country: P,
+    classes: K,
+) -> Result<PublishCountryBytes, Failure>
+    ensures bytes { (given : CountryFiles) → given.plan ≡ P.remaining country
+        → given.classes ≡ K.remaining classes → given.exact ≡ None
+        → IfOk result (λ b. AreTopRead given (inputs_of b)) }
+    ensures failure { IfErr result (IsUnreadTop (P.remaining country)) }
+{
+    let country = read_top(alloc, country, classes)?;
+    Ok(PublishCountryBytes {
+        country,
+        exact: None,
+    })
+}
+
+/// A certificate without parts.
+pub(crate) fn no_parts(alloc: Global) -> Cert
+    ensures { HasNoParts result }
+{
+    Cert {
+        pieces: Sequence::new(Vec::new(alloc)),
+        parcels: Sequence::new(Vec::new(alloc)),
+        exact: Sequence::new(Vec::new(alloc)),
+        pairs: Sequence::new(Vec::new(alloc)),
+    }
+}
+
+/// The certificate of a text, whose bytes are let go, or the line of the text's first fault. Where
+/// there is no text, a certificate without blocks.
+fn blocks_in(alloc: Global, exact: Option<Vec<u8>>) -> Result<Cert, Stop>
+    ensures blocks { IfOk result (λ c. AreBlocksOf (option_map (λ v. v.items) exact) c.exact) }
+    ensures refused { IfErr result (IsRefusedAs (IsExactTextAnswer (λ blocks a. ⊥)
+        (option_map (λ v. v.items) exact))) }
+{
+    match exact {
+        Some(text) => certificate_in(alloc, text),
+        None => Ok(no_parts(alloc)),
+    }
+}
+
+/// The plan and the classes, and the certificate whose blocks are used; or the line of the first
+/// fault.
+fn understand(alloc: Global, inputs: PublishCountryBytes) -> Result<(Begun, Cert), Stop>
+    ensures said { IfOk result (λ p. IsBegun (inputs_of inputs).country p.0
+        × AreBlocksOf (inputs_of inputs).exact p.1.exact) }
+    ensures refused { (given : CountryFiles) → IfErr result (IsRefusedAs (IsRefusedBefore given
+        (inputs_of inputs))) }
+{
+    let PublishCountryBytes { country, exact } = inputs;
+    let begun = begin(alloc, country)?;
+    let cert = blocks_in(alloc, exact)?;
+    Ok((begun, cert))
+}
+
+/// What the files before the regions say, or the line of the first fault: of the plan, of the
+/// classes, of the certificate, of the lineage tables in the order of the plan.
+pub(crate) fn prepare<L: Lineages>(
+    alloc: Global,
+    lineages: &L,
+    inputs: PublishCountryBytes,
+) -> Result<Prepared, Unprepared>
+    ensures prepared { (given : CountryFiles) → given.lineages ≡ L.lineages lineages.now
+        → IfOk result (IsPrepared given (inputs_of inputs)) }
+    ensures unprepared { (given : CountryFiles) → given.lineages ≡ L.lineages lineages.now
+        → IfErr result (IsUnprepared (λ f. (f ≡ Memory)
+        ⊎ IsUnreadLineage given (inputs_of inputs) f)
+        (IsRefusedBefore given (inputs_of inputs))) }
+{
+    let (mut begun, cert) = understand(alloc, inputs)?;
+    let lineage = read_lineage(alloc, lineages, &mut begun.names)?;
+    Ok(Prepared {
+        begun,
+        cert,
+        lineage,
+    })
+}
