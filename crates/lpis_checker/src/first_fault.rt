@@ -223,6 +223,7 @@ fn pair_fault<S: PairSource>(
     match naming_of(alloc, release, cert, triangles, found.as_slice())? {
         Naming::Named(apart) => Ok(line_fault(release, cert, triangles, apart)),
         Naming::Unnamed => {
+            drop(found);
             let near = source.pairs(alloc, triangles)?;
             Ok(listed_fault(release, cert, triangles, near.as_slice()))
         }

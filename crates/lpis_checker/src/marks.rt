@@ -6,7 +6,7 @@ ghost use Rattle.lpis_checker.specs.GoodCertificate.{triangles_of};
 ghost use Rattle.lpis_checker.specs.private.Marking.{IsMarked, Marks, Names, NamesAt};
 ghost use Rattle.lpis_checker.specs.private.Searches.{AreLinesInOrder};
 
-use crate::near_pairs::{names_at, skip_to};
+use crate::near_pairs::names_at;
 use lpis_cert::{Cert, PairLine};
 use lpis_points::Triangle;
 use lpis_release::Release;
@@ -34,15 +34,17 @@ fn first_lines(alloc: Global, lines: &[PairLine], count: usize) -> Result<Vec<u3
     Ok(starts)
 }
 
-/// The index of the line that names (i, j).
+/// The index of the line that names (i, j), looked for by halving among the lines of i.
 fn line_of(lines: &[PairLine], starts: &[u32], i: u32, j: u32) -> Option<usize>
     ensures { IfSome result (λ k. NamesAt lines.now k i j) }
 {
-    let from = *starts.get(i as usize)? as usize;
-    if from > lines.len() {
-        return None;
-    }
-    let at = skip_to(lines, from, i, j);
+    let first = *starts.get(i as usize)? as usize;
+    let past = match starts.get((i as usize).saturating_add(1)) {
+        Some(next) => *next as usize,
+        None => lines.len(),
+    };
+    let of_first = lines.get(first..past)?;
+    let at = first.saturating_add(of_first.partition_point(|line| line.j < j));
     if names_at(lines, at, i, j) {
         Some(at)
     } else {

@@ -13,7 +13,7 @@ use lpis_points::Triangle;
 use lpis_release::Release;
 
 /// The first line from an index on that names (i, j) or a later pair.
-pub(crate) fn skip_to(lines: &[PairLine], from: usize, i: u32, j: u32) -> usize
+fn skip_to(lines: &[PairLine], from: usize, i: u32, j: u32) -> usize
     requires { from ≤ length lines.now }
     ensures low { from ≤ result }
     ensures high { result ≤ length lines.now }

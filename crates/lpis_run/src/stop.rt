@@ -35,6 +35,7 @@ impl Stop {
             Stop::Refused(answer) => Ok(answer),
         }
     }
+
     /// The same with the region that an answer's line is of, at its end.
     pub fn in_region(self, region: &str) -> Stop
         ensures { IsInRegion self region.now result }
