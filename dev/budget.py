@@ -3,22 +3,22 @@
 from pathlib import Path
 
 TOP = Path(__file__).resolve().parent.parent
-ALL_WORDS = 45_650
+ALL_WORDS = 45_950
 PAGE_WORDS = {
-    "README.md": 1_180,
+    "README.md": 1_330,
     "docs/IDEA.md": 1_230,
-    "docs/GUIDE.md": 7_320,
+    "docs/GUIDE.md": 7_370,
     "docs/FORMATS.md": 8_300,
-    "docs/PROOF.md": 6_950,
+    "docs/PROOF.md": 6_960,
     "docs/ARCHITECTURE.md": 4_700,
-    "docs/DECISIONS.md": 4_460,
+    "docs/DECISIONS.md": 4_500,
     "CONTRIBUTING.md": 3_660,
     "CHANGELOG.md": 1_900,
     "bench/RESULTS.md": 1_710,
     "docs/*.1": 4_720,  # the pages of the manual together
 }
 RELEASE_BYTES = 7_000_000  # of release/ together
-PAGE_LINES = {"docs/DECISIONS.md": 271, "docs/PROOF.md": 360, "bench/RESULTS.md": 250}
+PAGE_LINES = {"docs/DECISIONS.md": 274, "docs/PROOF.md": 360, "bench/RESULTS.md": 250}
 
 
 def sizes():

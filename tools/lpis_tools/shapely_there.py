@@ -6,7 +6,7 @@ import subprocess
 import sys
 
 SYSTEM = "/usr/bin/python3"
-LACKING = "Shapely is not there (Debian: python3-shapely)"
+LACKING = "Shapely is not there: install the package python3-shapely (Debian, Ubuntu), in a clone by dev/packages"
 
 
 def is_there(python=None):
