@@ -3,9 +3,9 @@
 from pathlib import Path
 
 TOP = Path(__file__).resolve().parent.parent
-ALL_WORDS = 46_000
+ALL_WORDS = 46_100
 PAGE_WORDS = {
-    "README.md": 1_370,
+    "README.md": 1_450,
     "docs/IDEA.md": 1_230,
     "docs/GUIDE.md": 7_370,
     "docs/FORMATS.md": 8_300,
