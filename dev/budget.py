@@ -14,7 +14,7 @@ PAGE_WORDS = {
     "docs/DECISIONS.md": 4_500,
     "CONTRIBUTING.md": 3_660,
     "CHANGELOG.md": 1_900,
-    "bench/RESULTS.md": 1_710,
+    "bench/RESULTS.md": 1_740,
     "docs/*.1": 4_720,  # the pages of the manual together
 }
 RELEASE_BYTES = 7_000_000  # of release/ together
