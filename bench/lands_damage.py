@@ -11,6 +11,7 @@ import lands_source
 from lands_land import Land
 
 FILES, PACKAGES, SHEETS = [], [], []
+MOST_CALLS, STEPS = 5_000, 1_000  # a statement of this module over a view with an endless recursion is stopped after so many steps of the engine
 
 
 def damage(*kinds):
@@ -243,7 +244,8 @@ def damaged(number, folder):
 def damage_package(path, draw):
     if draw.random() < 0.35:
         return damage_file(path, draw)
-    function, base = draw.choice(PACKAGES), sqlite3.connect(path)
+    function, base, calls = draw.choice(PACKAGES), sqlite3.connect(path), iter(range(MOST_CALLS))
+    base.set_progress_handler(lambda: next(calls, None) is None, STEPS)
     try:
         function(base, draw)
         base.commit()
