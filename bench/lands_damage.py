@@ -249,7 +249,7 @@ def damage_package(path, draw):
     try:
         function(base, draw)
         base.commit()
-    except (sqlite3.Error, OverflowError):
+    except (sqlite3.Error, OverflowError, UnicodeError):
         pass  # it was damaged before
     finally:
         base.close()
