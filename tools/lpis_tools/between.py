@@ -26,65 +26,83 @@ class Gap:
 
 
 class Between:
-    """The gaps of a rounded map, up to a width in metres. `held` has the parcel that each cycle's face belongs to, or None."""
+    """The gaps of a map, up to a width in metres. `is_nobody` says of each cycle whether nobody has its face, `names_of` of half edges which parcels lie behind them."""
 
-    def __init__(self, made, held, width):
-        self.faces, self.points, self.width, self.held = made, made.network.points, width * 1000 + TINY, held
-        nobody = numpy.array([name is None for name in held], bool)
-        self.face = made.joined(numpy.zeros(len(made.network.first), bool))
-        cycle = made.cycle
-        self.halves = numpy.nonzero(nobody[cycle] & ~nobody[cycle[numpy.arange(len(cycle)) ^ 1]])[0]  # borders, with nobody to their left
+    def __init__(self, made, is_nobody, names_of, width):
+        self.faces, self.points, self.width, self.names_of = made, made.network.points, width, names_of
+        self.face = made.joined(is_nobody[made.cycle[0::2]] & is_nobody[made.cycle[1::2]])  # a line within nobody's land parts nothing
+        rings = faces.Rings(made, numpy.where(is_nobody, 0, faces.NOBODY))
+        self.halves, self.following = rings.halves, rings.following  # borders, with nobody to their left
         outer = [self.face[root] for root, around in zip(made.outer, made.around) if around == faces.NOBODY]
-        self.inner = nobody & (self.face != outer[0]) if outer else nobody
+        self.inner = is_nobody & (self.face != outer[0]) if outer else is_nobody
 
     def find(self):
         """The gaps, in the order of the map."""
         if not len(self.halves):
             return []
-        narrow, gaps = self.whole()
-        return gaps + self.arms(self.halves[~narrow[self.faces.cycle[self.halves]]])
+        gaps = self.narrow()
+        return [*gaps.values(), *self.arms(~numpy.isin(self.face[self.faces.cycle[self.halves]], list(gaps)))]
 
-    def whole(self):
-        """Which cycles are of faces that are narrow, and these faces as gaps."""
-        narrow, shapes, rings = numpy.zeros(len(self.face), bool), {}, {}
+    def narrow(self):
+        """The faces that are narrow, by their numbers, as gaps."""
+        shapes, rings = {}, {}
         for owner, member, ring in faces.Rings(self.faces, numpy.where(self.inner, self.face, faces.NOBODY)).walked():
             rings.setdefault(owner, []).append((member, ring))
         for owner, found in rings.items():
             members = [[self.points[ring] / 1000 for ring in member] for member in faces.members_of(found, self.points)]
             shape = unary_union([Polygon(shell, holes) for shell, *holes in members])
-            if width_of(shape) * 1000 <= self.width:
+            if is_narrow(shape, self.width):
                 shapes[owner] = shape
-        narrow[numpy.isin(self.face, list(shapes))] = True
         beside = {owner: {} for owner in shapes}
-        mine = self.halves[narrow[self.faces.cycle[self.halves]]]
+        face = self.face[self.faces.cycle[self.halves]]
+        mine = self.halves[numpy.isin(face, list(shapes))]
         a, b = self.ends(mine)
-        for owner, there, length in zip(self.face[self.faces.cycle[mine]].tolist(), self.faces.cycle[mine ^ 1].tolist(), numpy.hypot(*(b - a).T.astype(float)).tolist()):
-            beside[owner][self.held[there]] = beside[owner].get(self.held[there], 0.0) + length
-        return narrow, [Gap(in_order(beside[owner]), shape) for owner, shape in shapes.items()]
+        for owner, name, length in zip(self.face[self.faces.cycle[mine]].tolist(), self.names_of(mine), numpy.hypot(*(b - a).T.astype(float)).tolist()):
+            beside[owner][name] = beside[owner].get(name, 0.0) + length
+        return {owner: Gap(in_order(beside[owner]), shape) for owner, shape in shapes.items()}
 
     def ends(self, halves):
         """The places where half edges begin and end."""
         start = self.faces.start
         return self.points[start[halves]], self.points[start[halves ^ 1]]
 
-    def borders(self, halves, whose):
-        """The ends of borders, as lines that have a direction, and whose they are."""
-        following = self.faces.following[halves]
-        place = numpy.minimum(numpy.searchsorted(halves, following), max(0, len(halves) - 1))
-        return straightened(*(ends.astype(float) for ends in self.ends(halves)), whose, numpy.where(halves[place] == following, place, -1))
-
-    def arms(self, halves):
+    def arms(self, is_wide):
         """The narrow arms between two parcels, among borders that nobody's wider land lies beside."""
-        names = [self.held[there] for there in self.faces.cycle[halves ^ 1].tolist()]
-        numbers = {name: number for number, name in enumerate(sorted(set(names)))}
-        strips = {}
-        for one, other, *strip in Facing(*self.borders(halves, numpy.array([numbers[name] for name in names], int))).strips(self.width):
+        halves, number = self.halves[is_wide], numpy.cumsum(is_wide) - 1
+        names = Names(self.names_of(halves))
+        a, b, whose = straightened(*self.ends(halves), names.numbers, number[self.following[is_wide]])
+        return arms(a, b, [names.all[number] for number in whose.tolist()], self.width)
+
+
+class Names:
+    """Names, and the number of each in their order."""
+
+    def __init__(self, names):
+        self.all = sorted(set(names))
+        numbers = {name: number for number, name in enumerate(self.all)}
+        self.numbers = numpy.array([numbers[name] for name in names], int)
+
+
+def arms(a, b, names, width, own=None):
+    """The narrow arms between two parcels, up to a width in metres, of borders from a to b in millimetres, with nobody to their left and a parcel to their right. `own`:
+    those alone of which the parcel with the lesser name is one of these."""
+    names, strips = Names(names), {}
+    for one, other, *strip in Facing(a.astype(float), b.astype(float), names.numbers).strips(millimetres(width)):
+        if own is None or names.all[min(one, other)] in own:
             strips.setdefault((min(one, other), max(one, other)), {}).setdefault(one, []).append(strip)
-        gaps, names = [], list(numbers)
-        for pair, sides in sorted(strips.items()):
-            whole = land_of([side for _, side in sorted(sides.items())]).buffer(HAIR, join_style=2).buffer(-HAIR, join_style=2)
-            gaps += [Gap([names[number] for number in pair], part) for part in getattr(whole, "geoms", [whole]) if part.area > 0]
-        return gaps
+    gaps = []
+    for pair, sides in sorted(strips.items()):
+        whole = land_of([side for _, side in sorted(sides.items())]).buffer(HAIR, join_style=2).buffer(-HAIR, join_style=2)
+        gaps += [Gap([names.all[number] for number in pair], part) for part in getattr(whole, "geoms", [whole]) if part.area > 0]
+    return gaps
+
+
+def millimetres(width):
+    return width * 1000 + TINY
+
+
+def is_narrow(shape, width):
+    return width_of(shape) * 1000 <= millimetres(width)
 
 
 def land_of(sides):

@@ -8,16 +8,15 @@ import json
 import os
 import sqlite3
 
-from . import balance, conflicts, files, last_year, outcome, polygons, rounding, wkb
 from shapely import wkb as shapely_wkb
 from shapely.geometry import box
 from shapely.prepared import prep
 
-from . import balance, conflicts, files, outcome, polygons, rounding, store, wkb
+from . import balance, conflicts, files, last_year, outcome, polygons, rounding, store, ways, wkb
 from .snapping import REACH
 
 FAR = 2 * REACH  # from a shape, whose borders move
-RULE = "lpis cells 2"  # what another rule gave is not taken
+RULE = "lpis cells 3"  # what another rule gave is not taken
 OWN = "SELECT row.id, left, low, right, high FROM row JOIN cell USING (parcel) WHERE cell.number = ? AND is_kept"
 BESIDE = "SELECT id, left, low, right, high FROM box WHERE left <= ? AND right >= ? AND low <= ? AND high >= ?"
 FIELDS = "SELECT id, is_cover, name, parcel, class, area, why, shape, read FROM row JOIN shape USING (id) WHERE id = ? AND is_kept"
@@ -104,7 +103,8 @@ def made(path, number, results):
 
 
 def records_of(cell):
-    """The records of a cell: `piece` and `parcel` with the text, `loss`, `greatest` with the greatest change of a parcel, `sum` of the balance."""
+    """The records of a cell: `piece` and `parcel` with the text, `loss`, `greatest` with the greatest change of a parcel, `sum` of the balance, and the ways beside land that
+    nobody has."""
     made_map = rounding.Map(cell.parcels, cell.covers, lambda words: None, then=cell.then)
     texts = {"covers": texts_of_pieces(cell, made_map), "parcels": texts_of_parcels(cell, made_map)}
     for kind, name in (("piece", "covers"), ("parcel", "parcels")):
@@ -126,6 +126,7 @@ def records_of(cell):
         yield "greatest", change, record_of(loss, loss.words), any(one is loss for one in source.losses)
     for (layer, land_class), sums in whole.sums.items():
         yield "sum", layer, land_class, list(sums.values())
+    yield from ways.ways_of(made_map, cell.wanted)
 
 
 def texts_of_pieces(cell, made_map):

@@ -216,7 +216,7 @@ def find_conflicts(source, say, found=None, between=land.BETWEEN):
     for piece, row in progress.over(found.outsides, "measuring", "outsides"):
         find_outside(source, piece, row)
     source.losses += [kept_of(border, rows) for border, rows in found.kept]
-    source.losses += [loss for gap in found.between if (loss := between_of(gap)).width >= LEAST - ROUNDING]
+    source.losses += between_all(found.between)
 
 
 def find_overlap(source, row, other):
@@ -237,6 +237,11 @@ def find_outside(source, piece, row):
     named = [("parcels", row["parcel"], row), ("covers", piece["piece"], piece)]
     outside = by_geos("the outside", named, source.shapes.get(id(piece)).difference, source.shapes.get(id(row)))
     source.losses += pieces_found("outside", [piece["piece"], row["parcel"]], [number_of(piece), number_of(row)], outside, "the piece has this place, and its parcel has not")
+
+
+def between_all(gaps):
+    """A loss for each gap, but for those that are rounding."""
+    return [loss for loss in map(between_of, gaps) if loss.width >= LEAST - ROUNDING]
 
 
 def between_of(gap):

@@ -40,9 +40,8 @@ class Run(prepared.Run):
     def tested(self):
         self.say(f"reading {self.words.land}")
         layers = land.read(self.words.land, self.names, ("parcels", "covers", "classes"), self.spare, outlined=store.LAYERS)
-        counts = {name: layer.origin and parts.count_of(layer.origin) for name, layer in layers.items()}
         for name in store.LAYERS:
-            if layers[name].origin and counts[name]:
+            if layers[name].origin and parts.count_of(layers[name].origin):
                 layers[name].rows = [parts.first_of(layers[name].origin, lambda found: True) or land.Row(None, {})]
         work = passes.Preparation(layers, self.words.epsg, self.say)
         work.tables()
@@ -74,7 +73,7 @@ class Run(prepared.Run):
     def stored(self, work, layers):
         """Makes the store of all rows; answers where each layer begins in it and how many rows it has, and whether the source is in metres."""
         plan, are_metres = self.planned(work, layers)
-        made = self.parts_made(plan, layers)
+        made = engines.prepared(self.words, self.results, "part", plan)
         self.say("writing all rows by their places")
         self.base, begins = store.merged(os.path.join(self.results, jobs.STORE), [os.path.join(self.results, name) for name in made])
         ends = [*begins[1:], self.base.execute("SELECT count(*) FROM row").fetchone()[0]]
@@ -90,17 +89,9 @@ class Run(prepared.Run):
 
     def planned(self, work, layers):
         options = {"epsg": work.epsg, "given": {kind: sorted(names) for kind, names in self.given.items()}}
-        if any(layers[name].origin is None for name in store.LAYERS):
-            are_metres = any(row.found and land.reads_as_metres(row.found.box()) for name in store.LAYERS for row in layers[name].rows)
-            return parts.of_memory(layers, {**options, "are_metres": are_metres}), are_metres
         origins = {name: [layers[name].origin, *filter(None, [work.transformed.get(name)])] for name in store.LAYERS}
         are_metres = any(parts.first_of(origins[name][-1], lambda found: land.reads_as_metres(found.box())) for name in store.LAYERS)
         return parts.planned(origins, {name: layers[name].key for name in store.LAYERS}, {**options, "are_metres": are_metres}), are_metres
-
-    def parts_made(self, plan, layers):
-        if "rows" in plan[0]:
-            return [parts.made_of_memory(part, layers, self.results) for part in plan]
-        return engines.prepared(self.words, self.results, "part", plan)
 
     # The rounding.
 
@@ -116,11 +107,20 @@ class Run(prepared.Run):
             self.whole.begin(None)
             self.gathered = gathering.Gathered(self.base, self.results, names, self.whole)
             self.gathered.read(progress.Progress("country", "reading what was rounded", count, "cells"))
+            names = [*names, *self.between(count)]
             jobs.clear(self.results, [*self.kept_files, *names, jobs.STORE])
             if self.previous:
                 self.say(f"comparing with {self.previous.folder}")
                 self.previous.count(self.base, self.gathered.text_of_parcel)
         return self.gathered
+
+    def between(self, count):
+        """Has the land looked for that nobody has between parcels; the names of the files that have its arms."""
+        self.say(f"land between parcels, up to {self.words.between:g} m")
+        self.gathered.read_narrow(self.words.between)
+        names = engines.prepared(self.words, self.results, "gap", [None] * count)
+        self.gathered.read_arms(names, progress.Progress("country", "reading what is between parcels", count, "cells"))
+        return names
 
     def conflicts(self, _work, seen):
         return list(seen.losses.conflicts())

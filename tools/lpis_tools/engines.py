@@ -48,14 +48,14 @@ def prepared(words, folder, kind, plan):
             with files.anew(os.path.join(folder, name)) as file:
                 file.write(text)
     else:
-        jobs.forget_cells(folder)
+        jobs.forget(folder, kind)
         with files.anew(os.path.join(folder, jobs.COUNT)) as file:
             file.write(f"{len(plan)}\n")
     at_once = words.workers or len(os.sched_getaffinity(0))
     if words.snakemake or words.profile:
         by_snakemake(words.out, f"{kind}s", at_once, words.profile, progress.Quiet.is_quiet, {"LPIS_COUNTRY": shlex.join([sys.executable, jobs.TOOL])})
         return jobs.done(folder, kind, plan)
-    what, things = {"part": ("reading", "parts"), "cell": ("rounding", "cells")}[kind]
+    what, things = {"part": ("reading", "parts"), "cell": ("rounding", "cells"), "gap": ("land between parcels", "cells")}[kind]
     return jobs.do_all(folder, kind, len(plan), at_once, progress.Progress("country", what, len(plan), things))
 
 

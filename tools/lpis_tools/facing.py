@@ -17,7 +17,9 @@ class Facing:
     """Borders from a to b (in millimetres), with nobody's land to their left, and the number of whom each one belongs to."""
 
     def __init__(self, a, b, whose):
-        self.a, self.b, self.whose, self.looked = a, b, whose.tolist(), 0
+        order = numpy.lexsort((*b.T, *a.T))  # so that nothing hangs on where else borders are
+        a, b = a[order], b[order]
+        self.a, self.b, self.whose, self.looked = a, b, whose[order].tolist(), 0
         self.length = numpy.hypot(*(b - a).T)
         self.along = (b - a) / self.length[:, None]
         self.normal = numpy.stack([-self.along[:, 1], self.along[:, 0]], axis=1)
@@ -35,11 +37,11 @@ class Facing:
             for start in range(0, len(waiting), PART):
                 left += self.look(waiting[start : start + PART], width, found)
             waiting, width = left if width < most else [], min(most, 2 * width)
-        for border, owner, pieces in sorted(found, key=lambda one: (one[0], one[2][0][0])):
-            yield self.whose[border], owner, self.polygon(border, pieces), max(max(piece[2:]) for piece in pieces) / (pieces[-1][1] - pieces[0][0])
+        for border, owner, pieces in in_a_row(sorted(found), self.whose):
+            yield self.whose[border], owner, self.polygon(border, pieces), max(max(piece[2:4]) for piece in pieces) / (pieces[-1][1] - pieces[0][0])
 
     def look(self, waiting, width, found):
-        """Adds what faces some places, (border, from, to), up to a width, and gives those that nothing faces."""
+        """Adds what faces some places, (border, from, to), up to a width: how far it is at both ends, and which line. Gives those that nothing faces."""
         one, low, high = (numpy.array(some) for some in zip(*waiting))
         item, other = self.near(one, low, high, width)
         e = one[item]
@@ -50,19 +52,17 @@ class Facing:
         starts = numpy.searchsorted(item[over], numpy.arange(len(waiting) + 1)).tolist()
         left = []
         for (border, begin, end), start, behind in zip(waiting, starts, starts[1:]):
-            pieces = []
             for number, *piece in envelope(lines[start:behind], begin, end, width):
                 if number is None:
                     left.append((border, *piece))
                 elif facing[start + number] and self.whose[others[start + number]] != self.whose[border]:
-                    pieces.append((self.whose[others[start + number]], piece))
-            found += [(border, owner, part) for owner, part in in_a_row(pieces)]
+                    found.append((border, *piece, others[start + number]))
         return left
 
     def polygon(self, border, pieces):
         """What lies over a part of a border, up to lines one after the other."""
         x, y, dx, dy = self.frames[border]
-        corners = [(pieces[-1][1], 0.0), *((u, v) for low, high, at_low, at_high in reversed(pieces) for u, v in ((high, at_high), (low, at_low))), (pieces[0][0], 0.0)]
+        corners = [(pieces[-1][1], 0.0), *((u, v) for low, high, at_low, at_high, _ in reversed(pieces) for u, v in ((high, at_high), (low, at_low))), (pieces[0][0], 0.0)]
         return [((x + u * dx - v * dy) / 1000, (y + u * dy + v * dx) / 1000) for u, v in corners]
 
     def fill(self, width):
@@ -147,14 +147,18 @@ def is_beside(one, other, corners):
     return True
 
 
-def in_a_row(pieces):
-    """The pieces of each owner that follow one another, with the owner."""
+def in_a_row(found, whose):
+    """Over each border the pieces that follow one another and have lines of one owner above them, with the owner. What goes on under the same line is one piece."""
     rows = []
-    for owner, piece in pieces:
-        if rows and rows[-1][0] == owner and rows[-1][1][-1][1] == piece[0]:
-            rows[-1][1].append(piece)
+    for border, low, high, at_low, at_high, line in found:
+        goes_on = rows and rows[-1][:2] == (border, whose[line]) and low - rows[-1][2][-1][1] <= TINY
+        if not goes_on:
+            rows.append((border, whose[line], [(low, high, at_low, at_high, line)]))
+        elif rows[-1][2][-1][4] == line:
+            before = rows[-1][2][-1]
+            rows[-1][2][-1] = before[0], high, before[2], at_high, line
         else:
-            rows.append((owner, [piece]))
+            rows[-1][2].append((low, high, at_low, at_high, line))
     return rows
 
 

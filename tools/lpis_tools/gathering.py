@@ -3,11 +3,12 @@
 from __future__ import annotations
 
 import json
+import math
 import os
 
 from shapely import wkb as shapely_wkb
 
-from . import land, rounding
+from . import around, conflicts, land, rounding, ways
 from .conflicts import ORDER, Loss
 
 CONFLICTS = ("overlap", "gap", "outside")
@@ -16,6 +17,7 @@ FOUND = "SELECT id FROM row WHERE is_cover = ? AND name = ? AND is_kept"
 TEXT = "SELECT cell, at FROM row JOIN text USING (id) WHERE is_cover = 0 AND name = ? AND is_kept"
 AS_TOLD, AS_FOUND = "words || told", "words"
 MOST_OPEN = 200  # files at once
+WAY = f'["{ways.KIND}", '.encode()
 BETWEEN = "\x01"  # names in the order of lists of names
 
 
@@ -81,6 +83,26 @@ class Gathered:
             self.add_loss(self.greatest[1])
         self.base.commit()
 
+    def read_narrow(self, width):
+        """Joins the ways of all cells, and takes the land between parcels that is narrow as a whole."""
+        around.close(self.base)
+        self.base.execute("INSERT INTO asked VALUES (?)", (width,))
+        read = ways.Files(self.path)
+        for loss in conflicts.between_all(around.narrow(self.base, read, width)):
+            self.losses.add(loss)
+        read.close()
+        self.base.commit()
+
+    def read_arms(self, names, progress):
+        """Takes the land between parcels that is a narrow arm, by the files that have it."""
+        for name in names:
+            with open(os.path.join(self.folder, name), encoding="utf-8") as file:
+                for line in file:
+                    self.take(*json.loads(line))
+            progress.add()
+        self.whole.between = math.fsum(area for (area,) in self.base.execute("SELECT area FROM loss WHERE kind = ?", (ORDER.index("between"),)))
+        self.base.commit()
+
     def read_cell(self, cell):
         texts = {"parcel": [], "piece": []}
         with open(self.path(cell), "rb") as file:
@@ -89,6 +111,8 @@ class Gathered:
                 if line.startswith((b'["piece"', b'["parcel"')):
                     kind, name = json.loads(line[: line.index(b", \"MULTI")] + b"]")
                     texts[kind].append((name, cell, at))
+                elif line.startswith(WAY):
+                    around.put(self.base, cell, at, json.loads(line[len(WAY) : line.index(b"]") + 1]))
                 else:
                     self.take(*json.loads(line))
                 at += len(line)

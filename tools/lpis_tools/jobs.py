@@ -1,4 +1,5 @@
-"""The jobs of a country's preparation, many at once: each is a part of the source that is read, or a cell that is rounded, and gives one file that takes its
+"""The jobs of a country's preparation, many at once: each is a part of the source that is read, a cell that is rounded, or the gaps beside
+its parcels, and gives one file that takes its
 place when it is whole. So what was done stays done, whoever ends the run. PLAN is the file `plan.json` of the folder of the results."""
 
 from __future__ import annotations
@@ -14,8 +15,9 @@ import threading
 
 from . import ending, files, land, progress
 
+OF_CELLS = ("cell", "gap")  # kinds of jobs of which there is one for each cell
 FOLDER, PLAN, PARTS, COUNT, STORE = ".cells", "plan.json", "parts", "count", "rows.db"
-OWN = re.compile(r"[0-9a-f]{64}\.(jsonl|part)|\d+\.cell|plan\.json|parts|count|rows\.db(-journal)?|\.lpis-[0-9a-f]+\.new")  # names of results, and of what a killed worker left
+OWN = re.compile(r"[0-9a-f]{64}\.(jsonl|part)|\d+\.(cell|gap)|plan\.json|parts|count|rows\.db(-journal)?|\.lpis-[0-9a-f]+\.new")  # names of results, and of what a killed worker left
 TOOL = os.path.join(os.path.dirname(os.path.dirname(os.path.realpath(__file__))), "country")
 
 
@@ -27,11 +29,11 @@ class Worker:
 
     def do(self, kind, number):
         """The name of the file that a job gives."""
-        if kind == "cell":
-            from . import cell
+        if kind in OF_CELLS:
+            from . import cell, gap
 
-            name = cell.made(os.path.join(self.folder, STORE), number, self.folder)
-            with files.anew(os.path.join(self.folder, f"{number}.cell")) as file:
+            name = (cell if kind == "cell" else gap).made(os.path.join(self.folder, STORE), number, self.folder)
+            with files.anew(os.path.join(self.folder, f"{number}.{kind}")) as file:
                 file.write(name)
             return name
         from . import parts
@@ -94,8 +96,8 @@ def done(folder, kind, plan):
     for number, part in enumerate(plan):
         name = part["file"] if part else None
         with contextlib.suppress(FileNotFoundError):
-            if kind == "cell":
-                with open(os.path.join(folder, f"{number}.cell"), encoding="utf-8") as file:
+            if kind in OF_CELLS:
+                with open(os.path.join(folder, f"{number}.{kind}"), encoding="utf-8") as file:
                     name = file.read()
         names.append(name if name and OWN.fullmatch(name) and os.path.exists(os.path.join(folder, name)) else None)
     judge(names, kind)
@@ -116,10 +118,10 @@ def begin(folder):
     return folder
 
 
-def forget_cells(folder):
+def forget(folder, kind):
     """Removes what a run before says of its cells, which are others now; what they gave is named by all that it hangs on, and stays."""
     for name in os.listdir(folder):
-        if re.fullmatch(r"\d+\.cell", name):
+        if re.fullmatch(rf"\d+\.{kind}", name):
             files.remove(os.path.join(folder, name))
 
 

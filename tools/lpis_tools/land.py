@@ -3,6 +3,7 @@ tables as a spreadsheet writes them. A GeoPackage is read by sqlite3 alone."""
 
 from __future__ import annotations
 
+import contextlib
 import os
 import re
 import shutil
@@ -18,6 +19,7 @@ COLUMNS = {"parcels": ["parcel"], "covers": ["piece", "parcel", "class"], "class
 SHAPED = ("parcels", "covers")
 BETWEEN = 1.0  # metres: wider land that no parcel has is a road, or whatever else is none
 PACKAGE = b"SQLite format 3\0"
+USUAL = "that of most shapes"
 
 
 class Trouble(Exception):
@@ -44,13 +46,15 @@ class Row:
 
 @dataclass
 class Origin:
-    """What is read of a layer of a GeoPackage: the table, the columns by what they are for, that of the shapes with its system, and the key, if there is one."""
+    """What is read of a layer of a GeoPackage: the table, the columns by what they are for, that of the shapes with its system, and the key, if there is one. Shapes are
+    texts where a folder's tables were put into a file of their own."""
 
     path: str
     table: str
     chosen: dict
     shape: tuple | None
     key: str | None
+    is_text: bool = False
 
 
 @dataclass
@@ -78,11 +82,11 @@ class Layer:
 
 
 def read(path, names=None, wanted=("parcels", "covers"), spare=None, outlined=()):
-    """The layers of a land by their names. `names` says what a layer or column is called in it: {'parcels': 'blocks', 'parcels.parcel': 'id'}. Of a GeoPackage
-    the layers that are to be outlined have no rows yet: `rows_of` reads them."""
+    """The layers of a land by their names. `names` says what a layer or column is called in it: {'parcels': 'blocks', 'parcels.parcel': 'id'}. The layers that are to be
+    outlined have no rows yet: `rows_of` reads them, of a folder's tables from a file in the spare folder."""
     names = names or {}
     if os.path.isdir(path) and not is_of_another_program(path):
-        return read_folder(path, names, wanted)
+        return read_folder(path, names, wanted, spare, outlined)
     try:
         with open(path, "rb") as file:
             start = file.read(16)
@@ -276,8 +280,9 @@ def rows_of(connection, origin, among=None, first=1):
     for number, values in unforeseen.each(origin.table, found):
         row = Row(values[0] if origin.key else number - 1 + first, dict(zip(origin.chosen, map(text_of, values[start:]))))
         if shape:
-            put_shape(row, values[-1], wkb.of_package)
-            of_one_system(row, shape[1], "its layer's")
+            put_shape(row, values[-1], wkt.read if origin.is_text else wkb.of_package)
+            if not origin.is_text or shape[1] is not None:
+                of_one_system(row, shape[1], USUAL if origin.is_text else "its layer's")
         yield row
 
 
@@ -313,7 +318,7 @@ def system_of(connection, srs):
     return systems.of_definition(number if str(organization).upper() == "EPSG" else None, str(definition or ""))
 
 
-def read_folder(path, names, wanted):
+def read_folder(path, names, wanted, spare=None, outlined=()):
     """The tables of a folder, as a spreadsheet or another program wrote them."""
     reasons, layers = [], {}
     for name in wanted:
@@ -330,7 +335,11 @@ def read_folder(path, names, wanted):
         reasons += lacking
         layers[name] = layer = Layer(name, faults=sheet.faults + faults, others=[shown(column) for column in columns if column not in chosen.values()])
         if not lacking and not layer.faults:
-            read_rows(sheet, layer, chosen)
+            if name in outlined:
+                keep_rows(sheet, layer, chosen, os.path.join(spare, "tables.db"))
+            else:
+                read_rows(sheet, layer, chosen)
+            tell_sheet(sheet, layer)
     if reasons:
         raise Trouble(*reasons)
     return layers
@@ -345,20 +354,45 @@ def read_rows(sheet, layer, chosen):
         if shape is not None:
             put_shape(row, fields[shape].strip(" \t\r\n"), wkt.read)
         layer.rows.append(row)
+    numbers = Counter(row.found.srid for row in layer.rows if row.found and row.found.srid is not None)
+    usual = usual_system(layer, numbers)
+    for row in layer.rows if numbers else ():
+        of_one_system(row, usual, USUAL)
+
+
+def keep_rows(sheet, layer, chosen, path):
+    """The same into a table of a file, so that one row at a time is in memory."""
+    places, numbers = {column: sheet.columns.index(found) for column, found in chosen.items()}, Counter()
+
+    def fields_of():
+        for number, fields in sheet.rows():
+            texts = {column: fields[place] for column, place in places.items()}
+            texts["wkt"] = texts["wkt"].strip(" \t\r\n")
+            if texts["wkt"][:5].upper() == "SRID=":
+                with contextlib.suppress(wkb.Unreadable):
+                    found = wkt.read(texts["wkt"])
+                    numbers.update([found.srid] if found and found.srid is not None else [])
+            yield [number, *texts.values()]
+
+    with contextlib.closing(sqlite3.connect(path)) as base:
+        base.executescript(f"PRAGMA journal_mode = OFF; PRAGMA synchronous = OFF; CREATE TABLE {layer.name} (number INTEGER PRIMARY KEY, {', '.join(map(quoted, places))})")
+        base.executemany(f"INSERT INTO {layer.name} VALUES (?{', ?' * len(places)})", fields_of())
+        base.commit()
+    layer.origin = Origin(path, layer.name, {column: column for column in places if column != "wkt"}, ("wkt", usual_system(layer, numbers)), "number", True)
+
+
+def tell_sheet(sheet, layer):
+    """What was met while a table was read."""
     layer.faults = sheet.faults
     if sheet.encoding == sheets.WINDOWS:
         layer.notes.append("its letters are read as those of Windows (CP1252): write it in UTF-8 where they are others")
     if sheet.blank:
         layer.notes.append(f"{sheet.blank} records without any field passed over")
-    if shape is not None:
-        system_of_texts(layer)
 
 
-def system_of_texts(layer):
-    """The system that SRID= before the shapes names: that of most; the others have no shape."""
-    numbers = Counter(row.found.srid for row in layer.rows if row.found and row.found.srid is not None)
-    if numbers:
-        usual = min(numbers, key=lambda number: (-numbers[number], number))
+def usual_system(layer, numbers):
+    """The system that SRID= before the shapes names: that of most, or None; the others have no shape."""
+    usual = min(numbers, key=lambda number: (-numbers[number], number), default=None)
+    if usual is not None:
         layer.system = systems.of_number(usual)
-        for row in layer.rows:
-            of_one_system(row, usual, "that of most shapes")
+    return usual

@@ -1,5 +1,5 @@
 """The rows of a source in parts of so many rows, each read, tested and mended alone: what a part gives is a file of its own, with the rows, their shapes and
-what was found. A source that is no GeoPackage is read at once, and parted then."""
+what was found."""
 
 from __future__ import annotations
 
@@ -121,19 +121,3 @@ def first_of(origin, test):
 def count_of(origin):
     with contextlib.closing(land.opened(origin.path)) as connection:
         return connection.execute(f"SELECT count(*) FROM {land.quoted(origin.table)}").fetchone()[0]
-
-
-# A source that is in memory.
-
-
-def of_memory(layers, options):
-    return [{"layer": name, "rows": [start, start + MOST], **options} for name in store.LAYERS for start in range(0, max(1, len(layers[name].rows)), MOST)]
-
-
-def made_of_memory(part, layers, folder):
-    """The name of the file of a part of such a source, made anew."""
-    name, (start, end) = part["layer"], part["rows"]
-    file = part_name([os.getpid(), name, start])
-    with files.beside(os.path.join(folder, file)) as new:
-        write(new, name, layers[name].rows[start:end], layers[name].key, part)
-    return file

@@ -79,7 +79,12 @@ class Map:
             gaps.update((number, None) for number in parcels if self.parcels[number]["parcel"] not in held and self.parcels[number]["parcel"] in named)
             outsides.update(((number, one), None) for number in pieces for one in asked.get(self.covers[number]["parcel"], ()) if one not in parcels)
         return Conflicts([(self.covers[a], self.covers[b]) for a, b in self.overlaps()], [self.parcels[number] for number in sorted(gaps)],
-                         [(self.covers[piece], self.parcels[number]) for piece, number in sorted(outsides)], self.kept(), Between(self.faces, self.held(), between).find() if between else [])
+                         [(self.covers[piece], self.parcels[number]) for piece, number in sorted(outsides)], self.kept(), self.between(between) if between else [])
+
+    def between(self, width):
+        """Land that nobody has, up to a width in metres."""
+        held = self.held()
+        return Between(self.faces, numpy.array([name is None for name in held], bool), lambda halves: [held[there] for there in self.faces.cycle[halves ^ 1].tolist()], width).find()
 
     def held(self):
         """The parcel that has each cycle's face, by its piece or else by its own shape; None where nobody has it."""

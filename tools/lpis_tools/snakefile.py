@@ -8,7 +8,7 @@ import subprocess
 
 SNAKEFILE = """# A country by Snakemake, which runs what is missing or whose inputs changed: the parts of its source and the cells (by `country prepare`), the
 # certificates of the regions of country.txt, and the check. snakemake -k -j 4 TARGET, or on a cluster snakemake -k --profile slurm TARGET.
-# TARGET is certificates or check; parts and cells are asked for by `country prepare`. LPIS is the program. Written by `country`.
+# TARGET is certificates or check; parts, cells and gaps are asked for by `country prepare`. LPIS is the program. Written by `country`.
 import os
 import sys
 
@@ -49,6 +49,11 @@ rule cells:
         expand(".cells/{cell}.cell", cell=CELLS),
 
 
+rule gaps:
+    input:
+        expand(".cells/{cell}.gap", cell=CELLS),
+
+
 rule part:
     output:
         ".cells/{part}.part",
@@ -71,6 +76,18 @@ rule cell:
         runtime=60,
     shell:
         "{COUNTRY} job .cells cell {wildcards.cell} >/dev/null"
+
+
+rule gap:
+    input:
+        ".cells/rows.db",
+    output:
+        ".cells/{cell}.gap",
+    resources:
+        mem_mb=1000,
+        runtime=60,
+    shell:
+        "{COUNTRY} job .cells gap {wildcards.cell} >/dev/null"
 
 
 rule cut:

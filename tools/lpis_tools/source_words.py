@@ -5,14 +5,12 @@ from __future__ import annotations
 from . import accepting, land, recipe
 
 
-def add_options(parser, is_whole=True):
-    """`is_whole`: the land is rounded whole, so that land which nobody has is named too."""
+def add_options(parser):
     accepting.add_to(parser, "mend or leave out what is wrong, and report it")
     parser.add_argument("--classes", metavar="FILE", help="the table of classes (class, percent); without it that of LAND, else OUT/classes.csv")
     parser.add_argument("--epsg", metavar="N", type=int, help="the system of coordinates of the release, in metres")
     parser.add_argument("--name", metavar="WHAT=FOUND", action="append", default=[], help="what a layer or a column is called in LAND: parcels=blocks, parcels.parcel=block_id")
-    if is_whole:
-        recipe.add_between(parser)
+    recipe.add_between(parser)
     parser.add_argument("--identifiers", metavar="FILE", help="identifiers.csv of an earlier year (kind, old, new), whose names are used again")
 
 

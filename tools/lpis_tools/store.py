@@ -7,7 +7,7 @@ import sqlite3
 
 import numpy
 
-from . import files, land, wkb
+from . import around, files, land, wkb
 from .findings import Finding
 
 PAGE = 20_000  # rows in memory at once
@@ -147,7 +147,7 @@ def merged(path, parts):
     """A new store of the parts of a source, in their order; and where each begins in it."""
     files.remove(path)
     try:
-        base = new(path, ROWS, WHOLE)
+        base = new(path, ROWS, WHOLE, around.WAYS)
         return base, filled(base, parts)
     except sqlite3.OperationalError as error:
         files.remove(path)

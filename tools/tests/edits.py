@@ -31,14 +31,29 @@ class Land:
     def __init__(self, folder):
         self.folder = folder
         self.parcels = {row["parcel"]: wkt.loads(row["wkt"]) for row in self.rows("parcels")}
-        self.pieces = {row["piece"]: (row["parcel"], row["class"], wkt.loads(row["wkt"])) for row in self.rows("covers")}
+        self.pieces, self.of_parcel = {}, {}  # pieces, and the names of those of each parcel
+        for row in self.rows("covers"):
+            self.put(row["piece"], row["parcel"], row["class"], wkt.loads(row["wkt"]))
 
     def rows(self, name):
         with open(os.path.join(self.folder, f"{name}.csv"), newline="", encoding="ascii") as file:
             yield from csv.DictReader(file)
 
+    def put(self, name, parcel, land_class, shape):
+        """A new piece, or one that gets another parcel."""
+        if name in self.pieces:
+            self.of_parcel[self.pieces[name][0]].remove(name)
+        self.pieces[name] = parcel, land_class, shape
+        self.of_parcel.setdefault(parcel, []).append(name)
+
+    def take(self, name):
+        """A piece that goes."""
+        piece = self.pieces.pop(name)
+        self.of_parcel[piece[0]].remove(name)
+        return piece
+
     def pieces_of(self, parcel):
-        return [name for name, piece in self.pieces.items() if piece[0] == parcel]
+        return list(self.of_parcel.get(parcel, ()))
 
     def write(self, folder, moved):
         os.makedirs(folder, exist_ok=True)
@@ -75,13 +90,13 @@ class Land:
 
     def divide(self, name, halves):
         del self.parcels[name]
-        pieces = {piece: self.pieces.pop(piece) for piece in self.pieces_of(name)}
+        pieces = {piece: self.take(piece) for piece in self.pieces_of(name)}
         for number, half in enumerate(halves, 1):
             self.parcels[f"{name}-{number}"] = half
             for piece, (_, land_class, shape) in pieces.items():
                 found = parts_of(shape.intersection(half))
                 if found:
-                    self.pieces[f"{piece}-{number}"] = f"{name}-{number}", land_class, MultiPolygon(found)
+                    self.put(f"{piece}-{number}", f"{name}-{number}", land_class, MultiPolygon(found))
 
     def split_by_pieces(self, name, chance):
         pieces = self.pieces_of(name)
@@ -93,7 +108,7 @@ class Land:
         for number, group in enumerate(groups, 1):
             self.parcels[f"{name}-{number}"] = unary_union([self.pieces[piece][2] for piece in group])
             for piece in group:
-                self.pieces[piece] = (f"{name}-{number}", *self.pieces[piece][1:])
+                self.put(piece, f"{name}-{number}", *self.pieces[piece][1:])
         return True
 
     def merge(self, name, chance, is_anew=False):
@@ -109,10 +124,10 @@ class Land:
         if is_anew:
             whole = Polygon(whole.exterior).simplify(STRAIGHT)
             for piece in pieces:
-                del self.pieces[piece]
-            self.pieces[f"{new}.1"] = new, "GRASS", whole
+                self.take(piece)
+            self.put(f"{new}.1", new, "GRASS", whole)
         for piece in () if is_anew else pieces:
-            self.pieces[piece] = (new, *self.pieces[piece][1:])
+            self.put(piece, new, *self.pieces[piece][1:])
         self.parcels[new] = whole
         return True
 
