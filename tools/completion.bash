@@ -52,7 +52,7 @@ _lpis_country() {
     return
   fi
   case ${COMP_WORDS[1]-} in
-    prepare) _lpis_options '--accept --accept-from --classes --epsg --name --identifiers --previous --tables --workers --snakemake --profile --lineage --parcels --covers --points --anew --quiet --help' ;;
+    prepare) _lpis_options '--accept --accept-from --between --classes --epsg --name --identifiers --previous --tables --workers --snakemake --profile --lineage --parcels --covers --points --anew --quiet --help' ;;
     split) _lpis_options '--lineage --parcels --covers --points --anew --quiet --help' -d ;;
     cut) _lpis_options '--jobs --snakemake --profile --lpis --quiet --help' -d ;;
     publish) _lpis_options '--lineage --new --year-anyway --jobs --snakemake --profile --lpis --quiet --help' ;;
@@ -61,7 +61,7 @@ _lpis_country() {
 }
 _lpis_explain() { _lpis_options '--cert --register --area --points --svg --geojson --epsg --status --name --codes --version --help'; }
 _lpis_faults() { _lpis_options '--html --epsg --lpis --version --help'; }
-_lpis_lineage() { _lpis_options '--register --check --rows --help'; }
+_lpis_lineage() { _lpis_options '--register --check --rows --workers --quiet --help'; }
 _lpis_prepare() { _lpis_options '--accept --accept-from --between --classes --epsg --name --identifiers --previous --quiet --help'; }
 _lpis_report() { _lpis_options '--json --html --diff --register --audit --lpis --version --help'; }
 _lpis_year() { _lpis_options '--new --year-anyway --register-anyway --audit --verify --lpis --help'; }

@@ -36,6 +36,10 @@ class Worker:
             with files.anew(os.path.join(self.folder, f"{number}.{kind}")) as file:
                 file.write(name)
             return name
+        if kind != "part":
+            from . import asking
+
+            return asking.do(self.folder, kind, number)
         from . import parts
 
         if self.parts is None:

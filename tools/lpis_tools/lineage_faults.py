@@ -46,7 +46,7 @@ def of_identifiers(rows, old, new):
     return found + [Fault("76", name=f"{name} {old.used[name]}") for name in new.shapes if name not in old.shapes and name in old.used]
 
 
-def of_marks(rows, old, new):
+def of_marks(rows, old, new, are_exact):
     """78 of marked rows outside of groups that are marked whole; 77 of old shapes that are not kept; 45 of groups that are not exact."""
     changes = Changes(rows, old.shapes, new.shapes)
     groups = {row: changes.group(row) for row in rows}
@@ -56,14 +56,14 @@ def of_marks(rows, old, new):
     for group in whole:
         kept = (group.parts if group.is_merge else (group.name,))
         found += [Fault("77", name=name) for name in kept if old.shapes.get(name, ()) is None]
-    for group in whole:
-        if changes.is_exact(group) is False:
+    for group, is_exact in zip(whole, are_exact(whole) if are_exact else map(changes.is_exact, whole)):
+        if is_exact is False:
             found.append(Fault("45", name=f"{'merge' if group.is_merge else 'split'} {group.name}", words="its shapes do not make up one another to the millimetre"))
     return found
 
 
-def faults(rows, old, new):
-    """All faults, in the order in which `publish` looks for them."""
+def faults(rows, old, new, are_exact=None):
+    """All faults, in the order in which `publish` looks for them. `are_exact` says of splits and merges whether they are, where many processes ask that."""
     if old.is_first:
         return [Fault("70", row.number, row.old) for row in rows]
-    return of_rows(rows, old.shapes, new.shapes) + of_identifiers(rows, old, new) + of_marks(rows, old, new)
+    return of_rows(rows, old.shapes, new.shapes) + of_identifiers(rows, old, new) + of_marks(rows, old, new, are_exact)

@@ -20,11 +20,13 @@ def words_of(name, before, after):
 
 def between(names, old, new):
     """A line for each of some kept identifiers whose land changed for the most part."""
-    found = []
-    for name in names:
-        if old[name] is None or old[name] == new[name]:
-            continue
-        before, after = shape_of(old[name]), shape_of(new[name])
-        if before.area > 0 and after.area > 0 and (line := words_of(name, before, after)):
-            found.append(line)
-    return found
+    return [line for name in names if (line := line_of(name, old, new))]
+
+
+def line_of(name, old, new):
+    """What is odd about one, or None."""
+    before, after = old[name], new[name]
+    if before is None or before == after:
+        return None
+    before, after = shape_of(before), shape_of(after)
+    return words_of(name, before, after) if before.area > 0 and after.area > 0 else None

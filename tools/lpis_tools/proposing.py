@@ -69,10 +69,11 @@ def shared_of(name, shape, near):
     return sorted(found, key=lambda it: (-it.area, it.new))
 
 
-def fate_of(name, shape, near):
+def fate_of(name, members, near):
     """The successors of a dropped parcel, where they are clear."""
-    if shape is None:
+    if members is None:
         return Fate(name, [], [], "the register keeps no shape of it")
+    shape = shape_of(members)
     if not shape.area > 0:
         return Fate(name, [], [], "its shape has no area")
     shared = shared_of(name, shape, near)
@@ -86,13 +87,15 @@ def fate_of(name, shape, near):
     return Fate(name, shared, sorted(successors))
 
 
-def fates(old, new):
+def fates(old, new, ask):
     """What became of each dropped parcel, ascending."""
-    near, found = Near(new.shapes), []
-    for name in sorted(name for name in old.shapes if name not in new.shapes):
-        members = old.shapes[name]
-        found.append(fate_of(name, members and shape_of(members), near))
-    return found
+    return [Fate(name, [Shared(name, *one) for one in shared], successors, doubt)
+            for name, shared, successors, doubt in ask.answers("fate", sorted(name for name in old.shapes if name not in new.shapes), "looking for what became of parcels")]
+
+
+def told(fate):
+    """A fate as one process tells it to another."""
+    return fate.name, [(it.new, it.area, it.of_old, it.of_new) for it in fate.shared], fate.successors, fate.doubt
 
 
 def rows_of(found):
@@ -101,12 +104,18 @@ def rows_of(found):
     return [Row(number, old, new, False) for number, (old, new) in enumerate(pairs, 1)]
 
 
-def marked(rows, old, new):
+def marked(rows, old, new, ask):
     """The rows, those of exact splits and merges marked."""
     changes = Changes(rows, old.shapes, new.shapes)
     groups = {row: changes.group(row) for row in rows}
-    exact = {group: changes.is_exact(group) for group in set(groups.values()) if group}
+    different = [group for group in dict.fromkeys(groups.values()) if group]
+    exact = dict(zip(different, are_exact(different, ask)))
     return [Row(row.number, row.old, row.new, bool(groups[row] and exact[groups[row]])) for row in rows], changes
+
+
+def are_exact(groups, ask):
+    """Whether each split or merge is exact; None where an old shape is not kept."""
+    return ask.answers("exact", [(group.is_merge, group.name, group.parts) for group in groups], "comparing splits and merges")
 
 
 def write_rows(path, rows):

@@ -47,11 +47,11 @@ class Rows:
 
 
 class Shapes(Rows):
-    """The parcels of a year: identifier to members, or to None where no shape of it is kept."""
+    """The parcels of a year: identifier to members, or to None where no shape of it is kept. In a file, where one is named, which others may read when it is made."""
 
-    def __init__(self):
-        base = sqlite3.connect("")
-        base.executescript(f"PRAGMA cache_size = -{CACHED};{TABLES}")
+    def __init__(self, path="", is_there=False):
+        base = sqlite3.connect(f"file:{path}?mode=ro", uri=True) if is_there else sqlite3.connect(path)
+        base.executescript(f"PRAGMA cache_size = -{CACHED};{'' if is_there else TABLES}")
         super().__init__(base, "parcel", "wkt")
         self.all += " ORDER BY id"
 
@@ -126,12 +126,32 @@ def regions_of(folder):
         raise Trouble(f"{path}: {error}") from None
 
 
-def of_folder(folder):
-    """The parcels of a folder."""
-    year = Year(folder)
-    for region in regions_of(folder):
-        add_region(year, os.path.join(folder, region), region)
+def of_folder(folder, path="", parts_of=lambda folder, regions: None):
+    """The parcels of a folder. `parts_of` may read regions by themselves: their files, or None."""
+    year, regions = Year(folder, Shapes(path)), regions_of(folder)
+    parts = parts_of(folder, regions)
+    for number, region in enumerate(regions):
+        if parts:
+            take_region(year, parts[number], path_of(os.path.join(folder, region), "parcels"))
+        else:
+            add_region(year, os.path.join(folder, region), region)
     return year
+
+
+def take_region(year, part, path):
+    """As `add_region`, of a region that was read into a file by itself."""
+    base = year.shapes.base
+    base.commit()
+    base.execute("ATTACH ? AS part", (part,))
+    unlike = base.execute("SELECT its.id, name, ours.region FROM part.parcel AS its JOIN main.parcel AS ours USING (name) WHERE ours.wkt <> its.wkt ORDER BY its.id LIMIT 1").fetchone()
+    if unlike:
+        raise Trouble(f"{path} row {unlike[0]}: {streams.shown(unlike[1])}: the region {unlike[2]} has another shape of it: `lpis country` reports it")
+    (last,) = base.execute("SELECT coalesce(max(id), 0) FROM main.parcel").fetchone()
+    new = "FROM part.parcel WHERE name NOT IN (SELECT name FROM main.parcel WHERE id <= ?2)"
+    base.execute(f"INSERT INTO main.box SELECT ?1 + box.id, left, right, low, high FROM part.box JOIN (SELECT id {new}) USING (id)", (last, last))
+    base.execute(f"INSERT INTO main.parcel SELECT ?1 + id, name, wkt, region {new} ORDER BY id", (last, last))
+    base.commit()
+    base.execute("DETACH part")
 
 
 def add_region(year, folder, region):
@@ -150,10 +170,10 @@ def add_region(year, folder, region):
         raise Trouble(f"{path}: {trouble}") from None
 
 
-def of_register(path):
+def of_register(path, place="", _=None):
     """The last release that a register has, with the shapes that it keeps; a parcel without one has None."""
     base, tables, last = opened(path)
-    year = Year(path, is_first=last is None)
+    year = Year(path, Shapes(place), is_first=last is None)
     texts = "LEFT JOIN lpis_text USING (id)" if "lpis_text" in tables else "JOIN (SELECT NULL AS wkt)"
     try:
         for name, until, text in base.execute(f"SELECT id, until, wkt FROM lpis_span {texts}"):
