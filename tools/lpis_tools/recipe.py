@@ -1,7 +1,5 @@
-"""What every recipe does: its words, the source, the tables beside those that stand until all is known, the report, and only then the tables."""
+"""What `prepare` and `compare` share: words, signals, files that take their place all or none; and how `compare` goes from a source and its tables to the report."""
 
-import contextlib
-import csv
 import os
 import shutil
 import sys
@@ -14,14 +12,7 @@ TROUBLE = 64
 MOST_WIDE = 100.0  # metres
 TABLES = ("parcels", "covers", "classes")
 REPORT = "OUT/report.csv, OUT/report.geojson and OUT/balance.csv have what was lost, settled and changed."
-CLASSES = "OUT/classes.csv is that of --classes FILE; else it stays as it is; where there is none it is the table classes of LAND."
 SOUND = "nothing is lost, no conflict is two centimetres wide, no shape changed by more than its border times a millimetre"
-WORDS = f"""{REPORT}
-{CLASSES}
-
-status 0: the tables are written: {SOUND},
-or --accept. 1: there is something to look at, and no table is written. 64: trouble of its own. 128 and a signal's number: stopped.
-{words.FAILED}"""
 COMPARING = f"""{REPORT}
 
 status 0: {SOUND}, or --accept.
@@ -29,16 +20,14 @@ status 0: {SOUND}, or --accept.
 {words.FAILED}"""
 
 
-def parser(name, text, engine):
+def parser(name, text):
     made = words.Parser(name, text)
-    made.epilog = WORDS if engine else COMPARING
+    made.epilog = COMPARING
     made.add_argument("land", metavar="LAND", help="a GeoPackage with the layers parcels and covers")
     made.add_argument("out", metavar="OUT", help="the folder of the tables and of the report")
     made.add_argument("--epsg", metavar="N", type=int, help="the coordinate system's number, where LAND does not name it")
-    if engine:
-        made.add_argument("--classes", metavar="FILE", help="the table class, percent: OUT/classes.csv is written anew from it")
     add_between(made)
-    accepting.add_to(made, "status 0 though something is lost, changed or in conflict" + ", and the tables are written" * bool(engine))
+    accepting.add_to(made, "status 0 though something is lost, changed or in conflict")
     return made
 
 
@@ -77,33 +66,20 @@ def stop_at_once(name, *folders):
     ending.listen(last)
 
 
-def run(name, text, engine=None):
-    """A recipe from its words to its report, and its status. `engine` makes the tables of a source in a folder, and gives the conflicts that its map
-    shows, where it has one; none: the tables that stand are compared."""
-    return words.ended(name, lambda: from_words(name, text, engine), land.Trouble)
+def run(name, text):
+    """The comparison from its words to its report, and its status."""
+    return words.ended(name, lambda: compared(name, text), land.Trouble)
 
 
-def from_words(name, text, engine):
-    said, say = parser(name, text, engine).parse_args(accepting.arguments_of(sys.argv[1:])), teller(name)
-    said.name = name
+def compared(name, text):
+    said, say = parser(name, text).parse_args(accepting.arguments_of(sys.argv[1:])), teller(name)
     shapely_there.go_on(name)
-    stop_at_once(name)
-    from . import rounding
-
-    try:
-        return made(said, engine, say)
-    except rounding.Restless as error:
-        raise land.Trouble(str(error)) from None
-
-
-def made(said, engine, say):
     from . import balance, conflicts, losses
 
     accept = accepting.Accepting(said.accept, said.accept_from)
-    asked = table_of(said.classes) if engine and said.classes else None
     land.apart(said.land, said.out)
     with tempfile.TemporaryDirectory() as spare:
-        stop_at_once(said.name, spare)
+        stop_at_once(name, spare)
         say(f"reading {said.land}")
         layers = land.read(said.land, spare=spare, wanted=TABLES)
         suited(layers)
@@ -111,32 +87,8 @@ def made(said, engine, say):
         whole = balance.Balance(layers)
         without_degrees([row for name in land.SHAPED for row in layers[name].rows if row.found])
         source = conflicts.Source(layers)
-        with staged(said.out) as stage:
-            stop_at_once(said.name, stage, spare)
-            source.losses += classes(asked, layers, stage, said.out)
-            seen = engine(source, stage, spare, say, said) if engine else None
-            status = losses.report(layers, said.out, accept, say, said.epsg, whole=whole, tables=stage if engine else said.out, source=source, seen=seen, between=said.between, refusal=unwritten(said.out) if engine else "")
-            if engine:
-                settle(stage, said.out, status)
-    return status
-
-
-@contextlib.contextmanager
-def staged(out):
-    """A folder for new tables in that of the tables, until it is known whether they take their place."""
-    stage = os.path.join(out, f".new-{os.getpid()}")
-    try:
-        os.makedirs(stage)
-        yield stage
-    finally:
-        shutil.rmtree(stage, ignore_errors=True)
-
-
-def settle(stage, out, status):
-    """Puts new tables in the place of those that stand, where they are sound or accepted."""
-    if status == 0:
-        put(stage, out, [name for name in (f"{table}.csv" for table in TABLES) if os.path.exists(os.path.join(stage, name))])
-        print(f"tables written in {out}")
+        source.losses += classes(layers, said.out)
+        return losses.report(layers, said.out, accept, say, said.epsg, whole=whole, source=source, between=said.between)
 
 
 def unwritten(out):
@@ -202,31 +154,16 @@ def tell_notes(layers, say):
             say(f"{name}: {NOTES.get(note, note)} in {count} rows")
 
 
-# The table of classes: never written over unasked.
+# The table of classes.
 
 
-def classes(asked, layers, stage, out):
-    """Writes the table of classes into the stage where it is to be written; what is wrong with the one that the release then has."""
+def classes(layers, out):
+    """What is wrong with the table of classes that stands beside the tables."""
     stands = os.path.join(out, "classes.csv")
-    of_land = [row.fields for row in layers["classes"].rows] if "classes" in layers else None
-    if asked is not None:
-        table = asked
-    elif os.path.exists(stands):
-        table = table_of(stands)
-        differing = differing_classes(table, of_land or [], stands)
-        return differing + lacking_classes(table, layers, stands)
-    elif of_land is not None:
-        table = of_land
-    else:
-        used = sorted({row["class"] for row in layers["covers"].rows})
-        print(f"classes: write {stands}, a row class,percent for each of: {' '.join(used)}")
+    if not os.path.exists(stands):
         return []
-    column = column_of(table)
-    with open(os.path.join(stage, "classes.csv"), "w", newline="", encoding="utf-8") as file:
-        written = csv.writer(file, lineterminator="\n")
-        written.writerow(["class", column])
-        written.writerows([record.get("class") or "", record.get(column) or ""] for record in table)
-    return lacking_classes(table, layers, stands)
+    table, of_land = table_of(stands), [row.fields for row in layers["classes"].rows] if "classes" in layers else []
+    return differing_classes(table, of_land, stands) + lacking_classes(table, layers, stands)
 
 
 def table_of(path):
@@ -250,7 +187,7 @@ def differing_classes(table, of_land, path):
 
     column, other = column_of(table), column_of(of_land)
     stand = {record.get("class"): record.get(column) for record in table}
-    return [Loss("class", [record.get("class") or ""], f"its {other} is {record.get(other)} in the source, and {stand.get(record.get('class'), 'no row')} in {path}, which stays: --classes FILE writes another", layer="classes")
+    return [Loss("class", [record.get("class") or ""], f"its {other} is {record.get(other)} in the source, and {stand.get(record.get('class'), 'no row')} in {path}", layer="classes")
             for record in of_land if (column, stand.get(record.get("class"))) != (other, record.get(other))]
 
 
