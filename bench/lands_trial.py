@@ -8,13 +8,14 @@ import shutil
 import lands_damage
 import lands_source
 from common import answer, lpis
-from lands_judge import Judge, Written, records
+from lands_judge import Judge, Written, records, rings_of
 
 STATUSES = {0, 1, 64}
 UNFORESEEN = 70  # the status of an error that nobody foresaw
 PROGRESS = re.compile(r"(prepare|compare|country): (reading|testing|borders|faces|tables|conflicts|comparing)")
 NO_CUT = "no cut parts them"
 KEPT = ".rounded"  # what a refused run keeps for one that accepts
+MOST_TRIANGLES = 2_000_000  # of a certificate
 TABLES = ("parcels.csv", "covers.csv", "classes.csv")
 
 
@@ -27,6 +28,12 @@ def digests(folder):
             with open(path, "rb") as file:
                 found[os.path.relpath(path, folder)] = hashlib.sha256(file.read()).hexdigest()
     return found
+
+
+def triangles_of(folder):
+    """How many triangles the pieces of a folder's tables want: two less than its corners for each member, and two more for each hole."""
+    rings = [ring for record in records(folder, "covers.csv") for ring in rings_of(record["wkt"])]
+    return sum(len(points) - 1 + (2 if is_hole else -2) for points, is_hole in rings)
 
 
 class Enough(Exception):
@@ -91,6 +98,8 @@ class Trial:
         cert = self.path("cert.txt")
         for words in (["cut", out, cert], ["check", out, cert]):
             status, text, told = answer([lpis(), *words])
+            if text.startswith("refused 40 ") and triangles_of(out) > MOST_TRIANGLES:
+                return  # too large for one certificate, as docs/GUIDE.md says: it goes into regions
             if status != 0:
                 self.say("refused", f"lpis {words[0]}: {(text + told).strip()[-200:]}")
                 return

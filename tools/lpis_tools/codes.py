@@ -75,8 +75,8 @@ NUMBERS = {
 
 CUTS = {
     "40": ("no cut into triangles was found for this piece",
-           "it crosses itself (a bow tie), covers a place twice, or has no area",
-           "repair it (`ST_MakeValid`, `v.clean`) before rounding all borders together"),
+           "it crosses itself (a bow tie), covers a place twice, or has no area; or the pieces up to it want more than 2,000,000 triangles",
+           "repair it (`ST_MakeValid`, `v.clean`) before rounding all borders together; a release so large goes into regions (`tools/country split`)"),
     "41": ("two parcels, or two pieces, overlap: the place is inside both (on a border: a hair to the right and above)",
            "each shape was rounded by itself, or the source overlaps",
            "round all borders together; where the overlap is wider than a millimetre or two, correct the source"),
