@@ -1,6 +1,7 @@
 -- The pairs that a sweep has joined so far.
-use Rattle.std.proofs.Common.{◌≡◌, ℕ, ◌+◌, ◌-◌, ◌<◌, ◌≤◌, true, ◌||◌, List, length, Some, ◌⊎◌, inl, inr, ap, sym, ◌∙◌, subst, arith, Contains, slice_get}
-use Rattle.lpis_pairs.proofs.Common.{same_Some, slice_get_within, Triangle, Event, IsNear, AreNear, Joins}
+use Rattle.std.proofs.Common.{◌≡◌, ℕ, ◌+◌, ◌-◌, ◌<◌, ◌≤◌, true, ◌||◌, List, [], ◌∷◌, ◌++◌, length, Some, ◌⊎◌, inl, inr, ap, sym, ◌∙◌, subst, arith, Contains, slice_get}
+use Rattle.lpis_pairs.proofs.Common.{same_Some, slice_get_within, Triangle, Event, IsNear, Joins}
+use Rattle.std.proofs.lemmas.List.Elements.{All-push, Contains-append_left}
 use Rattle.lpis_pairs.specs.private.Sweeping.{AreInOrder, GrowNear, width_of}
 
 -- each pair of the first list is in the second
@@ -12,9 +13,20 @@ pub record JoinsUpTo (ts : List Triangle) (es : List Event) (old new : List (ℕ
   pub grows : GrowNear ts old new
   pub found : (k : ℕ) → at < k → k < m → Joins ts es new at k
 
+-- a near pair comes to the pairs
+pub grows_by : (ts : List Triangle) (ps : List (ℕ × ℕ)) (p : ℕ × ℕ) → IsNear ts p.0 p.1 → GrowNear ts ps (ps ++ p ∷ [])
+grows_by ts ps p near = record {
+  kept = λ q h. Contains-append_left ps (p ∷ []) q h;
+  near = λ h. All-push (λ (q : ℕ × ℕ). IsNear ts q.0 q.1) ps p h near;
+}
+
 -- the same pairs are none more
 pub grows_by_nothing : (ts : List Triangle) (ps : List (ℕ × ℕ)) → GrowNear ts ps ps
 grows_by_nothing ts ps = record { kept = λ p h. h; near = λ h. h }
+
+-- nothing is behind an event before the next one
+pub joins_nothing_yet : (ts : List Triangle) (es : List Event) (ps : List (ℕ × ℕ)) (at : ℕ) → JoinsUpTo ts es ps ps at (at + 1)
+joins_nothing_yet ts es ps at = record { grows = grows_by_nothing ts ps; found = λ k l m. absurd (omega arith) }
 
 joins_kept : (ts : List Triangle) (es : List Event) (ps qs : List (ℕ × ℕ)) (k m : ℕ) → Keeps ps qs → Joins ts es ps k m → Joins ts es qs k m
 joins_kept ts es ps qs k m h j = λ e f g i l o. let r = j e f g i l o in (λ n. h _ (r.0 n), λ n. h _ (r.1 n))
@@ -81,16 +93,20 @@ pub found_to_end : (ts : List Triangle) (es : List Event) (old qs : List (ℕ ×
 found_to_end ts es old qs at m l j k r = λ e f g h. j.found k r (omega (arith, slice_get_within es k f h)) e f g h
 
 -- the events below n are joined with those behind them
-pub record JoinsBelow (ts : List Triangle) (es : List Event) (ps : List (ℕ × ℕ)) (n : ℕ) : Type 0 where
-  pub near : AreNear ts ps
-  pub found : (k m : ℕ) → k < n → k < m → Joins ts es ps k m
+pub record JoinsBelow (ts : List Triangle) (es : List Event) (old new : List (ℕ × ℕ)) (n : ℕ) : Type 0 where
+  pub grows : GrowNear ts old new
+  pub found : (k m : ℕ) → k < n → k < m → Joins ts es new k m
+
+-- no event is below 0
+pub joins_none_yet : (ts : List Triangle) (es : List Event) (ps : List (ℕ × ℕ)) → JoinsBelow ts es ps ps 0
+joins_none_yet ts es ps = record { grows = grows_by_nothing ts ps; found = λ k m l. absurd (omega arith) }
 
 -- with the event n joined with all behind it, the events below n + 1 are joined
-pub joins_one_more : (ts : List Triangle) (es : List Event) (ps qs : List (ℕ × ℕ)) (n : ℕ) → JoinsBelow ts es ps n
+pub joins_one_more : (ts : List Triangle) (es : List Event) (old ps qs : List (ℕ × ℕ)) (n : ℕ) → JoinsBelow ts es old ps n
     → GrowNear ts ps qs → ((m : ℕ) → n < m → Joins ts es qs n m)
-    → JoinsBelow ts es qs (n + 1)
-joins_one_more ts es ps qs n h g j = record {
-  near = g.near h.near;
+    → JoinsBelow ts es old qs (n + 1)
+joins_one_more ts es old ps qs n h g j = record {
+  grows = record { kept = λ p c. g.kept p (h.grows.kept p c); near = λ a. g.near (h.grows.near a) };
   found = λ i m l r. by_case i m r (grind arith);
 }
   where
@@ -99,5 +115,5 @@ joins_one_more ts es ps qs n h g j = record {
     by_case i m r (inr e) = subst (λ (v : ℕ). Joins ts es qs v m) (sym e) (j m (subst (λ (v : ℕ). v < m) e r))
 
 -- past the last event, each event is joined with each behind it
-pub joins_all : (ts : List Triangle) (es : List Event) (ps : List (ℕ × ℕ)) (n : ℕ) → length es ≤ n → JoinsBelow ts es ps n → (k m : ℕ) → k < m → Joins ts es ps k m
-joins_all ts es ps n l h k m r = λ e f g i. h.found k m (omega (arith, slice_get_within es k e g)) r e f g i
+pub joins_all : (ts : List Triangle) (es : List Event) (old ps : List (ℕ × ℕ)) (n : ℕ) → length es ≤ n → JoinsBelow ts es old ps n → (k m : ℕ) → k < m → Joins ts es ps k m
+joins_all ts es old ps n l h k m r = λ e f g i. h.found k m (omega (arith, slice_get_within es k e g)) r e f g i

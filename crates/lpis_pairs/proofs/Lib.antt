@@ -2,6 +2,7 @@ pub mod Common
 pub mod PushLemmas
 pub mod RowLemmas
 pub mod NearnessLemmas
+pub mod ReadLemmas
 pub mod ExtentLemmas
 pub mod PairOrderLemmas
 pub mod EventLemmas

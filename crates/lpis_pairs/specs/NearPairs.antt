@@ -1,7 +1,12 @@
 -- The pairs of triangles that are not apart.
-use Rattle.std.specs.Prelude.{◌≡◌, ℕ, ◌<◌, ◌⊎◌, false, List, slice_get, Some}
+use Rattle.std.specs.Prelude.{◌≡◌, ℕ, ◌<◌, ◌⊎◌, false, List, map, slice_get, Some}
+use Rattle.std.specs.Borrow.{Bor}
 use Rattle.lpis_points.specs.declared.triangle.Triangle.{Triangle}
 use Rattle.lpis_points.specs.Triangles.{are_apart}
+
+-- triangles that are read where they stand
+abbrev pub seen : List (Bor Triangle) → List Triangle
+seen triangles = map (λ (t : Bor Triangle). t.now) triangles
 
 -- i is below j, and the triangles of these numbers are not apart
 pub record IsNear (ts : List Triangle) (i j : ℕ) : Type 0 where

@@ -7,6 +7,7 @@ ghost use Rattle.lpis_pairs.specs.private.Strips.{most_offset, offset as offset_
 ghost use Rattle.lpis_pairs.specs.private.Strips.{rounded_down as down_spec};
 ghost use Rattle.lpis_pairs.specs.private.Strips.{rounded_up as up_spec};
 
+use crate::triangle_at::HasTriangle;
 use lpis_points::{LIMIT, Triangle, box_of};
 use std::alloc::{AllocError, Global};
 
@@ -60,12 +61,16 @@ pub fn extent_of(triangle: &Triangle) -> Extent
 }
 
 /// The boxes of triangles.
-pub fn extents_of(alloc: Global, triangles: &[Triangle]) -> Result<Vec<Extent>, AllocError>
-    ensures { IfOk result (λ extents. extents.items ≡ map extent_of_spec triangles.now) }
+pub fn extents_of<T: HasTriangle>(
+    alloc: Global,
+    triangles: &[T],
+) -> Result<Vec<Extent>, AllocError>
+    ensures { IfOk result (λ extents. extents.items
+        ≡ map extent_of_spec (map T.triangle triangles.now)) }
 {
     let mut extents = Vec::with_capacity(alloc, triangles.len())?;
     for triangle in triangles {
-        extents.push(extent_of(triangle))?;
+        extents.push(extent_of(triangle.triangle()))?;
     }
     Ok(extents)
 }

@@ -12,6 +12,8 @@ mod order;
 mod overlaps;
 mod source;
 mod sweep;
+mod taking;
+mod triangle_at;
 
 pub use all_pairs::AllPairs;
 pub use source::{MOST_TRIANGLES, PairSource};

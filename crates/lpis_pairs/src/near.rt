@@ -7,6 +7,7 @@ ghost use Rattle.lpis_pairs.specs.private.Strips.{extent_of};
 
 use crate::extents::Extent;
 use crate::overlaps::{Overlap, overlap_of};
+use crate::triangle_at::HasTriangle;
 use lpis_points::{Triangle, apart};
 
 /// Whether the boxes of two triangles are not apart.
@@ -44,17 +45,22 @@ fn extents_meet(
 }
 
 /// Whether (i, j) is a near pair, by the extents of the triangles.
-pub fn is_near_by_extents(triangles: &[Triangle], extents: &[Extent], i: u32, j: u32) -> bool
-    requires extents { extents.now ≡ map extent_of triangles.now }
+pub fn is_near_by_extents<T: HasTriangle>(
+    triangles: &[T],
+    extents: &[Extent],
+    i: u32,
+    j: u32,
+) -> bool
+    requires extents { extents.now ≡ map extent_of (map T.triangle triangles.now) }
     requires first { i < length triangles.now }
     requires second { j < length triangles.now }
-    ensures { IsTrue result ↔ IsNear triangles.now i j }
+    ensures { IsTrue result ↔ IsNear (map T.triangle triangles.now) i j }
 {
     i < j
         && extents_meet(
-            &triangles[i as usize],
+            triangles[i as usize].triangle(),
             &extents[i as usize],
-            &triangles[j as usize],
+            triangles[j as usize].triangle(),
             &extents[j as usize],
         )
 }

@@ -1,7 +1,7 @@
 //! Where near pairs come from.
 
-ghost use Rattle.std.specs.Prelude.{◌≤◌, length, IfOk};
-ghost use Rattle.lpis_pairs.specs.NearPairs.{HasNearPairs, IsNearList};
+ghost use Rattle.std.specs.Prelude.{◌≡◌, ◌≤◌, ℕ, List, length, IfOk, IfSome};
+ghost use Rattle.lpis_pairs.specs.NearPairs.{HasNearPairs, IsNearList, seen};
 ghost use Rattle.lpis_points.specs.Triangles.{most_triangles};
 
 use lpis_points::Triangle;
@@ -19,16 +19,26 @@ pub trait PairSource {
         requires { length triangles.now ≤ most_triangles }
         ensures { IfOk result (λ pairs. IsNearList triangles.now pairs.items) };
 
-    /// The same pairs in whatever order, maybe one of them more than once. The only error is out
-    /// of memory.
-    fn unordered_pairs(
-        &self,
-        alloc: Global,
-        triangles: &[Triangle],
-    ) -> Result<Vec<(u32, u32)>, AllocError>
+    /// How many pairs a list has of all of these, and of nothing else, in whatever order and maybe
+    /// one of them more than once, where a number holds it. The only error is out of memory.
+    fn count(&self, alloc: Global, triangles: &[&Triangle]) -> Result<Option<usize>, AllocError>
         requires { length triangles.now ≤ most_triangles }
-        ensures { IfOk result (λ pairs. HasNearPairs triangles.now pairs.items) }
+        ensures { IfOk result (λ o. IfSome o (λ n. (ps : List (ℕ × ℕ))
+            × HasNearPairs (seen triangles.now) ps × (length ps ≡ n))) }
     {
-        self.pairs(alloc, triangles)
+        let copies = copied(alloc, triangles)?;
+        let pairs = self.pairs(alloc, copies.as_slice())?;
+        Ok(Some(pairs.len()))
     }
+}
+
+/// The triangles that stand elsewhere.
+fn copied(alloc: Global, triangles: &[&Triangle]) -> Result<Vec<Triangle>, AllocError>
+    ensures { IfOk result (λ v. v.items ≡ seen triangles.now) }
+{
+    let mut copies = Vec::with_capacity(alloc, triangles.len())?;
+    for triangle in triangles {
+        copies.push(**triangle)?;
+    }
+    Ok(copies)
 }

@@ -1,16 +1,19 @@
 //! A sweep over strips.
 
-ghost use Rattle.std.specs.Prelude.{◌≡◌, ℕ, ◌<◌, ◌≤◌, ◌||◌, Contains, IfOk, OnOk, length, map};
+ghost use Rattle.std.specs.Prelude.{◌≡◌, ℕ, ◌<◌, ◌≤◌, ◌||◌, [], Contains, IfOk, List, OnOk};
+ghost use Rattle.std.specs.Prelude.{length, map};
 ghost use Rattle.lpis_points.specs.Triangles.{most_triangles};
 ghost use Rattle.lpis_pairs.specs.NearPairs.{HasNearPairs, IsNear};
 ghost use Rattle.lpis_pairs.specs.private.Strips.{extent_of};
-ghost use Rattle.lpis_pairs.specs.private.Sweeping.{AreNear, AreSwept, GrowNear, Joins};
+ghost use Rattle.lpis_pairs.specs.private.Sweeping.{AreSwept, Joins, Takes};
 
 use crate::events::{Event, events_of};
 use crate::extents::{Extent, extents_of, strip_height, width};
 use crate::near::is_near_by_extents;
 use crate::order::in_order;
 use crate::source::PairSource;
+use crate::taking::{PairCount, PairList, Taker};
+use crate::triangle_at::HasTriangle;
 use lpis_points::Triangle;
 use std::alloc::{AllocError, Global};
 
@@ -21,25 +24,26 @@ use std::alloc::{AllocError, Global};
 #[derive(Clone, Copy, Debug)]
 pub struct Sweep;
 
-/// Adds the pair of two triangles, the lesser number first, where they are not apart.
-fn push_near(
-    triangles: &[Triangle],
+/// Hands on the pair of two triangles, the lesser number first, where they are not apart.
+fn take_near<T: HasTriangle, S: Taker>(
+    triangles: &[T],
     extents: &[Extent],
     i: u32,
     j: u32,
-    pairs: &mut Vec<(u32, u32)>,
+    taker: &mut S,
 ) -> Result<(), AllocError>
-    requires extents { extents.now ≡ map extent_of triangles.now }
+    requires extents { extents.now ≡ map extent_of (map T.triangle triangles.now) }
     requires first { i < length triangles.now }
     requires second { j < length triangles.now }
-    ensures grows { GrowNear triangles.now pairs.old.items pairs.new.items }
-    ensures up { OnOk result (IsNear triangles.now i j → Contains pairs.new.items (i, j)) }
-    ensures down { OnOk result (IsNear triangles.now j i → Contains pairs.new.items (j, i)) }
+    ensures { OnOk result (Takes (S.is_of taker.old) (S.is_of taker.new)
+        (map T.triangle triangles.now) (λ qs.
+        (IsNear (map T.triangle triangles.now) i j → Contains qs (i, j))
+        × (IsNear (map T.triangle triangles.now) j i → Contains qs (j, i)))) }
 {
     if is_near_by_extents(triangles, extents, i, j) {
-        pairs.push((i, j))?;
+        taker.take(i, j)?;
     } else if is_near_by_extents(triangles, extents, j, i) {
-        pairs.push((j, i))?;
+        taker.take(j, i)?;
     }
     Ok(())
 }
@@ -52,21 +56,21 @@ fn one_starts(first: &Event, second: &Event) -> bool
     first.starts || second.starts
 }
 
-/// Adds the near pairs of an event and those behind it in its strip, up to the first that begins
+/// Hands on the near pairs of an event and those behind it in its strip, up to the first that begins
 /// where its box has ended.
-fn join_ahead(
-    triangles: &[Triangle],
+fn join_ahead<T: HasTriangle, S: Taker>(
+    triangles: &[T],
     extents: &[Extent],
     events: &[Event],
     at: usize,
-    pairs: &mut Vec<(u32, u32)>,
+    taker: &mut S,
 ) -> Result<(), AllocError>
     requires within { at < length events.now }
-    requires extents { extents.now ≡ map extent_of triangles.now }
-    requires swept { AreSwept triangles.now events.now }
-    ensures grows { GrowNear triangles.now pairs.old.items pairs.new.items }
-    ensures found { OnOk result ((m : ℕ) → at < m → Joins triangles.now events.now
-        pairs.new.items at m) }
+    requires extents { extents.now ≡ map extent_of (map T.triangle triangles.now) }
+    requires swept { AreSwept (map T.triangle triangles.now) events.now }
+    ensures { OnOk result (Takes (S.is_of taker.old) (S.is_of taker.new)
+        (map T.triangle triangles.now) (λ qs. (m : ℕ) → at < m
+        → Joins (map T.triangle triangles.now) events.now qs at m)) }
 {
     let first = &events[at];
     let wide = width(&extents[first.index as usize]);
@@ -76,55 +80,60 @@ fn join_ahead(
             return Ok(());
         }
         if one_starts(first, second) {
-            push_near(triangles, extents, first.index, second.index, pairs)?;
+            take_near(triangles, extents, first.index, second.index, taker)?;
         }
     }
     Ok(())
 }
 
-/// The near pairs of events that stand in order, in no order, and maybe more than once.
-fn join(
-    alloc: Global,
-    triangles: &[Triangle],
+/// Hands on the near pairs of events that stand in order, in no order, and maybe more than once.
+fn join<T: HasTriangle, S: Taker>(
+    triangles: &[T],
     extents: &[Extent],
     events: &[Event],
-) -> Result<Vec<(u32, u32)>, AllocError>
-    requires extents { extents.now ≡ map extent_of triangles.now }
-    requires swept { AreSwept triangles.now events.now }
-    ensures near { IfOk result (λ pairs. AreNear triangles.now pairs.items) }
-    ensures found { IfOk result (λ pairs. (k m : ℕ) → k < m → Joins triangles.now events.now
-        pairs.items k m) }
+    taker: &mut S,
+) -> Result<(), AllocError>
+    requires extents { extents.now ≡ map extent_of (map T.triangle triangles.now) }
+    requires swept { AreSwept (map T.triangle triangles.now) events.now }
+    ensures { OnOk result (Takes (S.is_of taker.old) (S.is_of taker.new)
+        (map T.triangle triangles.now) (λ qs. (k m : ℕ) → k < m
+        → Joins (map T.triangle triangles.now) events.now qs k m)) }
 {
-    let mut pairs = Vec::new(alloc);
     for at in 0..events.len() {
-        join_ahead(triangles, extents, events, at, &mut pairs)?;
+        join_ahead(triangles, extents, events, at, taker)?;
     }
-    Ok(pairs)
+    Ok(())
 }
 
-/// The near pairs of triangles, in no order, and maybe more than once.
-fn swept(alloc: Global, triangles: &[Triangle]) -> Result<Vec<(u32, u32)>, AllocError>
+/// Hands on the near pairs of triangles, in no order, and maybe more than once.
+fn sweep_strips<T: HasTriangle, S: Taker>(
+    alloc: Global,
+    triangles: &[T],
+    taker: &mut S,
+) -> Result<(), AllocError>
     requires { length triangles.now ≤ most_triangles }
-    ensures { IfOk result (λ pairs. HasNearPairs triangles.now pairs.items) }
+    ensures { OnOk result (S.is_of taker.old [] → (ps : List (ℕ × ℕ)) × S.is_of taker.new ps
+        × HasNearPairs (map T.triangle triangles.now) ps) }
 {
     let extents = extents_of(alloc, triangles)?;
     let mut events = events_of(alloc, &extents, strip_height(&extents))?;
-    events.sort_unstable();
-    let pairs = join(alloc, triangles, &extents, &events)?;
-    Ok(pairs)
+    events.sort_unstable_by_key(|event| event.key);
+    join(triangles, &extents, &events, taker)?;
+    Ok(())
 }
 
 impl PairSource for Sweep {
     fn pairs(&self, alloc: Global, triangles: &[Triangle]) -> Result<Vec<(u32, u32)>, AllocError> {
-        let pairs = swept(alloc, triangles)?;
-        Ok(in_order(pairs))
+        let mut list = PairList {
+            pairs: Vec::new(alloc),
+        };
+        sweep_strips(alloc, triangles, &mut list)?;
+        Ok(in_order(list.pairs))
     }
 
-    fn unordered_pairs(
-        &self,
-        alloc: Global,
-        triangles: &[Triangle],
-    ) -> Result<Vec<(u32, u32)>, AllocError> {
-        swept(alloc, triangles)
+    fn count(&self, alloc: Global, triangles: &[&Triangle]) -> Result<Option<usize>, AllocError> {
+        let mut number = PairCount { count: Some(0) };
+        sweep_strips(alloc, triangles, &mut number)?;
+        Ok(number.count)
     }
 }

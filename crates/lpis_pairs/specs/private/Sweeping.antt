@@ -60,6 +60,12 @@ pub record GrowNear (ts : List Triangle) (old new : List (ℕ × ℕ)) : Type 0 
   pub kept : (pair : ℕ × ℕ) → Contains old pair → Contains new pair
   pub near : AreNear ts old → AreNear ts new
 
+-- what was of some pairs is of more of them, to which near ones alone came
+abbrev pub Takes : (List (ℕ × ℕ) → Type 0) → (List (ℕ × ℕ) → Type 0) → List Triangle
+    → (List (ℕ × ℕ) → Type 0) → Type 0
+Takes Old New ts Found = (ps : List (ℕ × ℕ)) → Old ps
+    → (qs : List (ℕ × ℕ)) × New qs × GrowNear ts ps qs × Found qs
+
 -- the events of triangles stand in order
 pub record AreSwept (ts : List Triangle) (es : List Event) : Type 0 where
   pub events : AreEvents (length ts) es

@@ -1,10 +1,11 @@
-use Rattle.std.proofs.Common.{◌≡◌, ℕ, ◌+◌, ◌-◌, ◌<◌, ◌≤◌, Bool, true, false, ◌||◌, List, length, get_or, Vec, Global, sym, ◌∙◌, subst, arith, slice_get}
+use Rattle.std.proofs.Common.{◌≡◌, ℕ, ◌-◌, ◌<◌, ◌≤◌, Bool, true, false, ◌||◌, List, length, map, get_or, sym, ◌∙◌, arith, slice_get}
 use Rattle.lpis_pairs.proofs.Common.{Triangle, Event, Extent, Joins}
 use Rattle.std.proofs.lemmas.Option.{slice_get-get_or}
 use Rattle.lpis_pairs.specs.private.Sweeping.{AreEvents, width_of}
-use Rattle.lpis_pairs.proofs.JoinedLemmas.{JoinsUpTo, grows_by_nothing, joined_next, joins_read, found_all, found_to_end}
+use Rattle.lpis_pairs.proofs.JoinedLemmas.{grows_by_nothing, joined_next, joins_read, found_all, found_to_end}
+use Rattle.lpis_pairs.proofs.ReadLemmas.{within_unmapped}
 use Rattle.lpis_pairs.proofs.NearnessLemmas.{width_read}
-use Rattle.lpis_pairs.proofs.sweep.join_ahead.Goals.{then-one_starts+in_ok-push_near, else-one_starts}
+use Rattle.lpis_pairs.proofs.sweep.join_ahead.Goals.{then-one_starts+in_ok-take_near, else-one_starts}
 use Rattle.lpis_pairs.proofs.sweep.join_ahead.Goals as goal
 
 -- what the code reads past the end of the events, and of the boxes
@@ -24,59 +25,58 @@ unequal a r e f g = cc
 ended : (n v w : ℕ) → v ≡ w → w ≤ n → n < v → ⊥
 ended n v w e l m = omega arith
 
-pub push_near-requires-clause-first : goal.push_near-requires-clause-first
+pub take_near-requires-clause-first : goal.take_near-requires-clause-first
 unfolding none
-push_near-requires-clause-first c = within c.args.triangles.now c.args.events.now c.args.at none c.requires.swept.events c.requires.within
+take_near-requires-clause-first g c =
+    let f = g.T.HasTriangle.triangle in
+    within_unmapped f c.args.triangles.now _ (within (map f c.args.triangles.now) c.args.events.now c.args.at none c.requires.swept.events c.requires.within)
 
-pub push_near-requires-clause-second : goal.push_near-requires-clause-second
+pub take_near-requires-clause-second : goal.take_near-requires-clause-second
 unfolding none
-push_near-requires-clause-second c = within c.args.triangles.now c.args.events.now c.loop-m.m none c.requires.swept.events c.loop-m-test.true
+take_near-requires-clause-second g c =
+    let f = g.T.HasTriangle.triangle in
+    within_unmapped f c.args.triangles.now _ (within (map f c.args.triangles.now) c.args.events.now c.loop-m.m none c.requires.swept.events c.loop-m-test.true)
 
-pub returns-in_err-push_near-clause-grows : goal.returns-in_err-push_near-clause-grows
-returns-in_err-push_near-clause-grows c = record {
-  kept = λ p h. c.push_near.ensures.grows.kept p (c.loop-m.invariant.grows.kept p h);
-  near = λ h. c.push_near.ensures.grows.near (c.loop-m.invariant.grows.near h);
-}
-
-pub returns-then-second-first-clause-found : goal.returns-then-second-first-clause-found
+pub returns-then-second-first : goal.returns-then-second-first
 unfolding none no_box
-returns-then-second-first-clause-found c =
+returns-then-second-first g c = λ ps h.
     let es = c.args.events.now in
     let at = c.args.at in
     let m = c.loop-m.m in
-    let ts = c.args.triangles.now in
+    let ts = map g.T.HasTriangle.triangle c.args.triangles.now in
     let e = get_or es at none in
     let f = get_or es m none in
+    let x = c.loop-m.invariant ps h in
     let wide : width_of (slice_get ts e.index) ≡ c.width-wide.result =
     width_read ts c.args.extents.now e.index no_box c.requires.extents (within ts es at none c.requires.swept.events c.requires.within) ∙ sym c.width-wide.ensures in
-    found_all ts es c.args.pairs.now.items c.loop-m.pairs.items at m e f c.requires.swept.order (omega (arith, c.loop-m.auto.m))
+    (x.0, x.1, x.2.grows, found_all ts es ps x.0 at m e f c.requires.swept.order (omega (arith, c.loop-m.auto.m))
     (slice_get-get_or es at none c.requires.within) (slice_get-get_or es m none c.loop-m-test.true)
-    (λ l. ended (f.key - e.key) _ c.width-wide.result wide c.if-second-first.true l) c.loop-m.invariant
+    (λ l. ended (f.key - e.key) _ c.width-wide.result wide c.if-second-first.true l) x.2)
 
 pub loop-m-preserved : goal.loop-m-preserved
 unfolding none
-loop-m-preserved c =
-    let ts = c.args.triangles.now in
+loop-m-preserved g c = λ ps h.
+    let ts = map g.T.HasTriangle.triangle c.args.triangles.now in
     let es = c.args.events.now in
-    let old = c.args.pairs.now.items in
-    let ps = c.loop-m.pairs.items in
     let at = c.args.at in
     let m = c.loop-m.m in
     let e = get_or es at none in
     let f = get_or es m none in
     let at_e = slice_get-get_or es at none c.requires.within in
     let at_f = slice_get-get_or es m none c.loop-m-test.true in
+    let x = c.loop-m.invariant ps h in
     elim c.if-one_starts.branch [
-      | then-one_starts+in_ok-push_near w ↦
-          let qs = w.push_near.new.pairs.items in
-          let j : Joins ts es qs at m = joins_read ts es qs at m e f at_e at_f (λ l o. (w.in_ok-push_near.ensures.up, w.in_ok-push_near.ensures.down)) in
-          subst (λ (v : Vec (ℕ × ℕ) Global). JoinsUpTo ts es old v.items at (m + 1)) (sym w.pairs-is)
-          (joined_next ts es old ps qs at m c.loop-m.invariant w.push_near.ensures.grows j)
+      | then-one_starts+in_ok-take_near w ↦
+          let y = w.in_ok-take_near.ensures x.0 x.1 in
+          let j : Joins ts es y.0 at m = joins_read ts es y.0 at m e f at_e at_f (λ l o. y.3) in
+          rw w.taker-is (y.0, y.1, joined_next ts es ps x.0 y.0 at m x.2 y.2 j)
       | else-one_starts w ↦
-          let j : Joins ts es ps at m = joins_read ts es ps at m e f at_e at_f
+          let j : Joins ts es x.0 at m = joins_read ts es x.0 at m e f at_e at_f
           (λ l o. absurd (unequal (e.starts || f.starts) c.one_starts.result c.one_starts.ensures w.if-one_starts.false o)) in
-          subst (λ (v : Vec (ℕ × ℕ) Global). JoinsUpTo ts es old v.items at (m + 1)) (sym w.pairs-is) (joined_next ts es old ps ps at m c.loop-m.invariant (grows_by_nothing ts ps) j)
+          rw w.taker-is (x.0, x.1, joined_next ts es ps x.0 x.0 at m x.2 (grows_by_nothing ts x.0) j)
     ]
 
-pub returns-clause-found : goal.returns-clause-found
-returns-clause-found c = found_to_end c.args.triangles.now c.args.events.now c.args.pairs.now.items c.loop-m.pairs.items c.args.at c.loop-m.m c.loop-m-test.false c.loop-m.invariant
+pub returns : goal.returns
+returns g c = λ ps h.
+    let x = c.loop-m.invariant ps h in
+    (x.0, x.1, x.2.grows, found_to_end (map g.T.HasTriangle.triangle c.args.triangles.now) c.args.events.now ps x.0 c.args.at c.loop-m.m c.loop-m-test.false x.2)

@@ -1,0 +1,50 @@
+//! What takes the pairs that a sweep finds: a list of them, or their number alone.
+
+ghost use Rattle.std.specs.Prelude.{◌≡◌, IfSome, length};
+
+use std::alloc::{AllocError, Global};
+
+/// What takes pairs one by one. Contracts see of which lists of pairs it may be.
+pub trait Taker {
+    ghost use Rattle.std.specs.Prelude.{List, ◌++◌, ◌∷◌, [], ℕ, OnOk};
+
+    ghost is_of: { Self → List (ℕ × ℕ) → Type 0 };
+
+    /// Takes one more pair.
+    fn take(&mut self, i: u32, j: u32) -> Result<(), AllocError>
+        ensures { OnOk result ((ps : List (ℕ × ℕ)) → is_of self.old ps
+            → is_of self.new (ps ++ (i, j) ∷ [])) };
+}
+
+/// The pairs that were taken.
+#[derive(Drop)]
+pub struct PairList {
+    pub pairs: Vec<(u32, u32)>,
+}
+
+impl Taker for PairList {
+    ghost is_of = { λ s ps. s.pairs.items ≡ ps };
+
+    fn take(&mut self, i: u32, j: u32) -> Result<(), AllocError> {
+        self.pairs.push((i, j))?;
+        Ok(())
+    }
+}
+
+/// How many pairs were taken, where a number holds it.
+#[derive(Clone, Copy, Debug)]
+pub struct PairCount {
+    pub count: Option<usize>,
+}
+
+impl Taker for PairCount {
+    ghost is_of = { λ s ps. IfSome s.count (λ n. length ps ≡ n) };
+
+    fn take(&mut self, _i: u32, _j: u32) -> Result<(), AllocError> {
+        self.count = match self.count {
+            Some(count) => count.checked_add(1),
+            None => None,
+        };
+        Ok(())
+    }
+}
