@@ -4,7 +4,8 @@ pub mod DistinctLemmas
 pub mod WeightLemmas
 pub mod SoundMapLemmas
 pub mod PairLineLemmas
-pub mod MarkLemmas
+pub mod SeenLemmas
+pub mod NamingLemmas
 pub mod TurnedLemmas
 pub mod FaultLemmas
 pub mod ExactLemmas

@@ -8,7 +8,7 @@ use Rattle.lpis_release.proofs.Shared.{item-within}
 use Rattle.lpis_pairs.specs.NearPairs.{IsNear, IsNearList, IsBelow}
 use Rattle.lpis_checker.specs.declared.condition.Site.TheVariants as site
 use Rattle.lpis_checker.specs.GoodCertificate.{ConditionHolds, IsNamedPair, IsInOrder}
-use Rattle.lpis_checker.specs.private.Marking.{NamesAt}
+use Rattle.lpis_checker.specs.private.Naming.{NamesAt}
 use Rattle.lpis_checker.specs.private.Searches.{AreLinesInOrder}
 
 -- ---- the order of pairs

@@ -2,7 +2,9 @@
 use Rattle.std.specs.Prelude.{⊤}
 use Rattle.std.proofs.Common.{◌≡◌, ℕ, ◌+◌, ◌<◌, ◌≤◌, Bool, List, get_or, length, Option, Some, None, inl, inr, ◌↔◌, IsTrue, MatchOption, ap, sym, refl, ◌∙◌, subst, arith, slice_get}
 use Rattle.std.proofs.Common.{IfOk, Result}
-use Rattle.lpis_checker.proofs.Common.{cases_eq, cases_lt, same_Some, Cert, PairLine}
+use Rattle.lpis_checker.proofs.Common.{cases_eq, cases_lt, same_Some, Cert, PairLine, PiecePart, triangles_of}
+use Rattle.std.proofs.lemmas.List.Concat.{length-flat_map}
+use Rattle.lpis_points.specs.Triangles.{most_triangles}
 use Rattle.std.proofs.lemmas.Option.{MatchOption-from_none, none-some, slice_get_read, slice_get_past}
 use Rattle.lpis_checker.specs.GoodCertificate.{OfLine, SideBySide}
 
@@ -48,3 +50,7 @@ all_lines c P k long below m = elim (cases_lt m k) [ inl l ↦ below m l | inr g
 pub told_alike : {A B E : Type 0} (P : A → B → Type 0) {x y : A} {u v : B} (result : Result Bool E) → x ≡ y → u ≡ v → IfOk result (λ b. IsTrue b ↔ P x u) → IfOk result (λ b. IsTrue b ↔ P y v)
 told_alike P {x} {y} {u} {v} result e f told =
     subst (λ z. IfOk result (λ b. IsTrue b ↔ P z v)) e (subst (λ z. IfOk result (λ b. IsTrue b ↔ P x z)) f told)
+
+-- a certificate has few triangles
+pub few_triangles : (c : Cert) → length (triangles_of c.pieces) ≤ most_triangles
+few_triangles c = subst (λ n. n ≤ most_triangles) (sym (length-flat_map (λ (t : PiecePart). t.triangles) c.pieces)) c.triangles_few

@@ -1,4 +1,4 @@
 -- Machinery, cited by private contracts alone: no promise rests on it.
 pub mod ExactSearches
 pub mod Searches
-pub mod Marking
+pub mod Naming

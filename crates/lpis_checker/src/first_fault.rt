@@ -1,20 +1,17 @@
 //! The fault that is reported: the first place of the lowest code that fails.
 
-ghost use Rattle.std.specs.Prelude.{◌≡◌, ◌+◌, ◌≤◌, IfOk, length};
+ghost use Rattle.std.specs.Prelude.{◌≡◌, ◌+◌, ◌≤◌, ◌++◌, IfOk, IsTrue, OnOk, length};
 ghost use Rattle.lpis_points.specs.Triangles.{most_triangles};
-ghost use Rattle.lpis_pairs.specs.NearPairs.{IsNearList};
+ghost use Rattle.lpis_pairs.specs.NearPairs.{IsNearList, seen};
 ghost use Rattle.lpis_checker.specs.GoodCertificate.{triangles_of};
-ghost use Rattle.lpis_checker.specs.private.Marking.{Names, NotApartAt};
+ghost use Rattle.lpis_checker.specs.private.Naming.{AreAsMany};
 ghost use Rattle.lpis_checker.specs.private.Searches.{FindsPlace, FindsUntil, HoldUntil};
 ghost use Rattle.lpis_checker.specs.private.Searches.{all_searches, part_searches, search_of};
-ghost use Rattle.lpis_checker.specs.declared.condition.LineCondition.TheVariants.{NotApart};
-ghost use Rattle.lpis_checker.specs.declared.marks.Naming.TheVariants.{Named};
 ghost use Rattle.lpis_checker.specs.declared.condition.Site.TheVariants.{Line, Order, Parcel};
 ghost use Rattle.lpis_checker.specs.declared.condition.Site.TheVariants.{Piece};
 
 use crate::condition::{LineCondition, ParcelCondition, PieceCondition, Site};
-use crate::lines::{disordered_line, first_line, triangle_count};
-use crate::marks::{Naming, naming_of};
+use crate::lines::{are_lines_good, disordered_line, first_line, triangle_count};
 use crate::near_pairs::unnamed_pair;
 use crate::parcels::ParcelPlaces;
 use crate::places::first_place;
@@ -169,65 +166,54 @@ fn listed_fault(
     failing_line(release, cert, triangles, LineCondition::Separating)
 }
 
-/// The first pair line that names two triangles that are apart, as it was found.
-fn apart_line(
-    release: &Release,
+/// Whether the pair lines are as many as the near pairs that a source counts.
+fn are_as_many<S: PairSource>(
+    alloc: Global,
     cert: &Cert,
-    triangles: &[Triangle],
-    apart: Option<usize>,
-) -> Option<Site>
-    requires below { HoldUntil release.now cert.now (search_of (Line NotApart 0)) }
-    requires numbered { triangles.now ≡ triangles_of cert.now.pieces }
-    requires first { FindsPlace (NotApartAt cert.now triangles.now) apart }
-    ensures { FindsUntil release.now cert.now (search_of (Line NotApart 0) + 1) result }
+    triangles: &[&Triangle],
+    source: &S,
+) -> Result<bool, AllocError>
+    requires { length triangles.now ≤ most_triangles }
+    ensures { IfOk result (λ b. IsTrue b → AreAsMany cert.now (seen triangles.now)) }
 {
-    match apart {
-        Some(index) => Some(Site::Line(LineCondition::NotApart, index)),
-        None => None,
+    match source.count(alloc, triangles)? {
+        Some(count) => Ok(count == cert.pairs.as_slice().len()),
+        None => Ok(false),
     }
 }
 
-/// The fault of the lowest code, where each near pair has a line.
-fn line_fault(
+/// Whether no pair of triangles has a fault, which is found without a list of the near pairs. False
+/// says nothing.
+fn are_pairs_good<S: PairSource>(
+    alloc: Global,
     release: &Release,
     cert: &Cert,
-    triangles: &[Triangle],
-    apart: Option<usize>,
-) -> Option<Site>
-    requires parts { HoldUntil release.now cert.now part_searches }
-    requires numbered { triangles.now ≡ triangles_of cert.now.pieces }
-    requires named { Names release.now cert.now triangles.now (Named apart) }
-    ensures { FindsUntil release.now cert.now all_searches result }
+    source: &S,
+) -> Result<bool, AllocError>
+    requires { HoldUntil release.now cert.now part_searches }
+    ensures { IfOk result (λ b. IsTrue b → HoldUntil release.now cert.now all_searches) }
 {
-    if let Some(found) = apart_line(release, cert, triangles, apart) {
-        return Some(found);
+    let triangles = referred(alloc, cert)?;
+    if !are_lines_good(cert, triangles.as_slice()) {
+        return Ok(false);
     }
-    failing_line(release, cert, triangles, LineCondition::Separating)
+    let as_many = are_as_many(alloc, cert, triangles.as_slice(), source)?;
+    Ok(as_many)
 }
 
-/// The fault of the lowest code, where it is none of the parts. The near pairs are listed in order
-/// only where one of them has no line.
+/// The fault of the lowest code, where it is none of the parts, by a list of the near pairs.
 fn pair_fault<S: PairSource>(
     alloc: Global,
     release: &Release,
     cert: &Cert,
-    triangles: &[Triangle],
     source: &S,
 ) -> Result<Option<Site>, AllocError>
-    requires parts { HoldUntil release.now cert.now part_searches }
-    requires numbered { triangles.now ≡ triangles_of cert.now.pieces }
-    requires few { length triangles.now ≤ most_triangles }
+    requires { HoldUntil release.now cert.now part_searches }
     ensures { IfOk result (FindsUntil release.now cert.now all_searches) }
 {
-    let found = source.unordered_pairs(alloc, triangles)?;
-    match naming_of(alloc, release, cert, triangles, found.as_slice())? {
-        Naming::Named(apart) => Ok(line_fault(release, cert, triangles, apart)),
-        Naming::Unnamed => {
-            drop(found);
-            let near = source.pairs(alloc, triangles)?;
-            Ok(listed_fault(release, cert, triangles, near.as_slice()))
-        }
-    }
+    let triangles = numbered(alloc, cert)?;
+    let near = source.pairs(alloc, triangles.as_slice())?;
+    Ok(listed_fault(release, cert, triangles.as_slice(), near.as_slice()))
 }
 
 /// The triangles of a certificate, in the order of their numbers.
@@ -241,7 +227,33 @@ fn numbered(alloc: Global, cert: &Cert) -> Result<Vec<Triangle>, AllocError>
     Ok(triangles)
 }
 
-/// The fault of the lowest code.
+/// Adds references to triangles.
+fn add_references<'a>(
+    references: &mut Vec<&'a Triangle>,
+    triangles: &'a [Triangle],
+) -> Result<(), AllocError>
+    ensures { OnOk result (seen references.new.items
+        ≡ seen references.old.items ++ triangles.now) }
+{
+    for triangle in triangles {
+        references.push(triangle)?;
+    }
+    Ok(())
+}
+
+/// References to the triangles of a certificate, in the order of their numbers.
+fn referred<'a>(alloc: Global, cert: &'a Cert) -> Result<Vec<&'a Triangle>, AllocError>
+    ensures { IfOk result (λ v. seen v.items ≡ triangles_of cert.now.pieces) }
+{
+    let mut references = Vec::with_capacity(alloc, triangle_count(cert))?;
+    for part in cert.pieces.as_slice() {
+        add_references(&mut references, part.triangles.as_slice())?;
+    }
+    Ok(references)
+}
+
+/// The fault of the lowest code. The near pairs are listed only where a line has a fault, or one of
+/// them has no line.
 pub(crate) fn first_fault<S: PairSource>(
     alloc: Global,
     release: &Release,
@@ -253,6 +265,8 @@ pub(crate) fn first_fault<S: PairSource>(
     if let Some(found) = part_fault(alloc, release, cert)? {
         return Ok(Some(found));
     }
-    let triangles = numbered(alloc, cert)?;
-    pair_fault(alloc, release, cert, triangles.as_slice(), source)
+    if are_pairs_good(alloc, release, cert, source)? {
+        return Ok(None);
+    }
+    pair_fault(alloc, release, cert, source)
 }

@@ -14,7 +14,6 @@ mod first_fault;
 pub mod laws;
 mod lines;
 mod locating;
-mod marks;
 mod near_pairs;
 mod parcels;
 mod pieces;

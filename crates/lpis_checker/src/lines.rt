@@ -2,9 +2,10 @@
 
 ghost use Rattle.std.specs.Prelude.{◌≡◌, ◌↔◌, ◌<◌, ℕ, All, IsTrue, length};
 ghost use Rattle.lpis_points.specs.Triangles.{IsCounterClockwise};
-ghost use Rattle.lpis_pairs.specs.NearPairs.{IsBelow};
+ghost use Rattle.lpis_pairs.specs.NearPairs.{IsBelow, seen};
 ghost use Rattle.lpis_checker.specs.GoodCertificate.{EdgeSeparates, IsInOrder, LineSeparates};
 ghost use Rattle.lpis_checker.specs.GoodCertificate.{OfLine, OfTriangles, OnLine, triangles_of};
+ghost use Rattle.lpis_checker.specs.private.Naming.{IsGoodLine};
 ghost use Rattle.lpis_checker.specs.private.Searches.{FindsPlace};
 
 use crate::condition::LineCondition;
@@ -139,4 +140,32 @@ pub(crate) fn first_line(
         }
     }
     None
+}
+
+/// Whether a line names two triangles that are not apart and that its edge separates.
+fn is_good_line(triangles: &[&Triangle], line: &PairLine) -> bool
+    requires { All IsCounterClockwise (seen triangles.now) }
+    ensures { IsTrue result → IsGoodLine (seen triangles.now) line.now }
+{
+    match (
+        triangles.get(line.i as usize),
+        triangles.get(line.j as usize),
+    ) {
+        (Some(first), Some(second)) => {
+            holds_of_two(LineCondition::NotApart, line, first, second)
+                && holds_of_two(LineCondition::Separating, line, first, second)
+        }
+        _ => false,
+    }
+}
+
+/// Whether each line names two triangles that are not apart and that its edge separates.
+pub(crate) fn are_lines_good(cert: &Cert, triangles: &[&Triangle]) -> bool
+    requires { All IsCounterClockwise (seen triangles.now) }
+    ensures { IsTrue result → All (IsGoodLine (seen triangles.now)) cert.now.pairs }
+{
+    cert.pairs
+        .as_slice()
+        .iter()
+        .all(|line| is_good_line(triangles, line))
 }

@@ -4,7 +4,7 @@ ghost use Rattle.std.specs.Prelude.{◌≡◌, ◌↔◌, ◌<◌, ◌≤◌, �
 ghost use Rattle.lpis_cert.specs.declared.part.PairLine.{PairLine};
 ghost use Rattle.lpis_pairs.specs.NearPairs.{IsBelow, IsNearList};
 ghost use Rattle.lpis_checker.specs.GoodCertificate.{triangles_of};
-ghost use Rattle.lpis_checker.specs.private.Marking.{NamesAt};
+ghost use Rattle.lpis_checker.specs.private.Naming.{NamesAt};
 ghost use Rattle.lpis_checker.specs.private.Searches.{AreLinesInOrder, FindsPair};
 
 use crate::lines::is_before;

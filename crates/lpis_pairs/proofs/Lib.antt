@@ -9,3 +9,5 @@ pub mod EventLemmas
 pub mod JoinedLemmas
 pub mod OrderedLemmas
 pub mod FoundLemmas
+pub mod CountLemmas
+pub mod Shared

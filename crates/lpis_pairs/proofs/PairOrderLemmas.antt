@@ -30,7 +30,8 @@ ties x y = numbers_tie x.0 x.1 y.0 y.1
 numbers_equal : (a b c d : ℕ) → (eqb a c && eqb b d) ≡ true → (a ≡ c) × (b ≡ d)
 numbers_equal a b c d e = (grind (arith, nat_tests), grind (arith, nat_tests))
 
-exact : (x y : ℕ × ℕ) → pair_eq x y ≡ true → x ≡ y
+-- pairs that the test takes for equal are
+pub exact : (x y : ℕ × ℕ) → pair_eq x y ≡ true → x ≡ y
 exact x y e = let h = numbers_equal x.0 x.1 y.0 y.1 e in ap₂ (λ (a b : ℕ). (a, b)) h.0 h.1
 
 one_test : (a b : ℕ) → (eqb a a && eqb b b) ≡ true
@@ -39,7 +40,8 @@ one_test a b = grind (arith, nat_tests)
 other_way : (a b c d : ℕ) → (eqb a c && eqb b d) ≡ (eqb c a && eqb d b)
 other_way a b c d = grind (arith, nat_tests)
 
-equivalence : IsEquivalence pair_eq
+-- the test of pairs is one of equality
+pub equivalence : IsEquivalence pair_eq
 equivalence = record {
   refl = λ x. one_test x.0 x.1;
   symm = λ x y. other_way x.0 x.1 y.0 y.1;

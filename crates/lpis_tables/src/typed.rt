@@ -75,12 +75,24 @@ fn add_row<T: TableRow>(
     Ok(())
 }
 
+/// What comes after the first line feed.
+fn past_line(bytes: &[u8]) -> Option<&[u8]> {
+    let at = bytes.iter().position(|b| *b == b'\n')?;
+    Some(&bytes[at + 1..])
+}
+
 /// For how many rows room is made: one for each line feed, and no more than a table may have. Room
 /// that is made at once leaves no gaps where a growing list lay before. Where lines end with a
 /// carriage return alone the lists grow.
 fn room_for_rows(bytes: &[u8]) -> usize {
-    let lines = bytes.iter().filter(|b| **b == b'\n').count();
-    lines.min(MOST_ROWS as usize)
+    let mut rest = bytes;
+    for count in 0..MOST_ROWS {
+        match past_line(rest) {
+            Some(left) => rest = left,
+            None => return count as usize,
+        }
+    }
+    MOST_ROWS as usize
 }
 
 /// Adds the rows of a table whose header alone was read, and their identifiers. A refusal is the

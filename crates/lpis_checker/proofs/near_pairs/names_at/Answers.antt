@@ -1,7 +1,7 @@
 use Rattle.std.proofs.Common.{◌≡◌, ◌<◌, ◌≤◌, ℕ, Bool, true, false, IsTrue, ◌↔◌, List, length, Some, sym, ap, ◌∙◌, refl, arith, slice_get}
 use Rattle.lpis_checker.proofs.Common.{slice_get_within, same_Some, PairLine}
 use Rattle.std.proofs.lemmas.Option.{slice_get_read}
-use Rattle.lpis_checker.specs.private.Marking.{NamesAt}
+use Rattle.lpis_checker.specs.private.Naming.{NamesAt}
 use Rattle.lpis_checker.proofs.near_pairs.names_at.Goals as goal
 
 there : (lines : List PairLine) (at i j : ℕ) (l : PairLine) (b : Bool) → slice_get lines at ≡ Some l → (IsTrue b ↔ ((l.i ≡ i) × (l.j ≡ j))) → IsTrue b ↔ NamesAt lines at i j

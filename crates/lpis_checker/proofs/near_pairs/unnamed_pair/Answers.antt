@@ -1,7 +1,7 @@
 use Rattle.std.proofs.Common.{ℕ, get_or, List, sym, subst}
 use Rattle.lpis_checker.proofs.Common.{slice_get-get_or, PairLine}
 use Rattle.lpis_edge_sums.proofs.Shared.{untrue}
-use Rattle.lpis_checker.specs.private.Marking.{NamesAt}
+use Rattle.lpis_checker.specs.private.Naming.{NamesAt}
 use Rattle.lpis_checker.proofs.PairLineLemmas.{skips_over, walk_more, walk_all, walk_fault}
 use Rattle.lpis_checker.proofs.near_pairs.unnamed_pair.Goals as goal
 
