@@ -9,6 +9,7 @@ pub mod FastPathLemmas
 pub mod HeadLemmas
 pub mod DraftLemmas
 pub mod ReadLemmas
+pub mod OpenLemmas
 pub mod CertEqualityLemmas
 pub mod LawLemmas
 pub mod ContentLemmas

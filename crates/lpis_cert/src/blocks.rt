@@ -1,6 +1,7 @@
 //! A draft with one more block.
 
-ghost use Rattle.std.specs.Prelude.{◌≡◌, ◌≤◌, ◌+◌, ◌∷◌, [], true, length, sum_by, IfOk, IfErr};
+ghost use Rattle.std.specs.Prelude.{◌≡◌, ◌≤◌, ◌+◌, ◌∷◌, [], ℕ, List, true, length, sum_by, IfOk};
+ghost use Rattle.std.specs.Prelude.{IfErr};
 ghost use Rattle.lpis_cert.specs.Limits.{most_flats, greatest_count};
 ghost use Rattle.lpis_points.specs.Triangles.{most_triangles};
 ghost use Rattle.lpis_tables.specs.Ids.{is_id};
@@ -189,20 +190,20 @@ fn flat_block<'a>(
     Ok(rest)
 }
 
-/// The pairs and the end.
+/// The pairs and the end. What stands before them, from the line that counts them on, may be any
+/// text.
 pub(crate) fn finish(
     alloc: Global,
     draft: Draft,
     count: u32,
-    start: Rest<'_>,
     after: Rest<'_>,
 ) -> Result<Cert, CertFault>
-    requires { ReadsLines draft.version start.text.now start.line (PairsLine count ∷ [])
-        after.text.now after.line }
-    ensures ok { IfOk result (λ cert. Whole draft.version (draft_lines draft)
-        (content_lines (content_of cert)) start.entry.text.now) }
-    ensures err { IfErr result (λ e. FaultFrom draft.version e start.entry.line
-        (draft_state draft) start.entry.text.now) }
+    ensures ok { IfOk result (λ cert. (text : List ℕ) (n : ℕ) → ReadsLines draft.version text n
+        (PairsLine count ∷ []) after.entry.text.now after.entry.line
+        → Whole draft.version (draft_lines draft) (content_lines (content_of cert)) text) }
+    ensures err { IfErr result (λ e. (text : List ℕ) (n : ℕ) → ReadsLines draft.version text n
+        (PairsLine count ∷ []) after.entry.text.now after.entry.line
+        → FaultFrom draft.version e n (draft_state draft) text) }
 {
     let (pairs, last) = pair_lines(alloc, draft.version, count, after)?;
     let rest = end_line(draft.version, last)?;

@@ -31,5 +31,5 @@ pub use laws::{
     texts_have_no_fault, texts_without_fault,
 };
 pub use part::{ExactBlock, PairLine, ParcelPart, PiecePart};
-pub use reading::read_cert;
+pub use reading::{read_cert, read_cert_of};
 pub use writing::append_cert;

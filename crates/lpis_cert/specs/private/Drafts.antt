@@ -23,7 +23,9 @@ use Rattle.lpis_cert.specs.CertText.{PieceBlock, ParcelBlock, ExactBlock as Flat
 use Rattle.lpis_cert.specs.CertText.{piece_lines, parcel_lines, exact_lines}
 use Rattle.lpis_cert.specs.CertText.{text_of_lines}
 use Rattle.lpis_cert.specs.Fitting.{LineFits}
-use Rattle.lpis_cert.specs.Faults.{LineState, InBody, lines_outcome, lines as cut}
+use Rattle.lpis_cert.specs.Faults.{LineState, InBody, first_state, lines_outcome, lines as cut}
+use Rattle.lpis_cert.specs.Faults.{verdict}
+use Rattle.lpis_cert.specs.Versions.{first_line}
 use Rattle.lpis_cert.specs.private.Taken.{ReadsLines}
 use Rattle.lpis_cert.specs.Contents.{block_of_piece, block_of_parcel, exact_of}
 
@@ -97,6 +99,25 @@ pub record Whole (v : Version) (before more : List CertLine) (text : List ℕ) :
   pub parts : text ≡ text_of_lines v added
   pub fits : AllByRecursion (LineFits v) added
   pub lines : more ≡ before ++ added
+
+-- from line n on, the lines of what was read, and then the line that counts the pairs
+pub record PairsCome (v : Version) (text : List ℕ) (n : ℕ) (d : Draft) (count : ℕ)
+    (before : List ℕ) (m : ℕ) (rest : List ℕ) (k : ℕ) : Type 0 where
+  pub version : d.version ≡ v
+  pub follows : ReadsLines v text n (draft_lines d) before m
+  pub state : lines_outcome v m (draft_state d) (cut before)
+      ≡ lines_outcome v n first_state (cut text)
+  pub pairs : ReadsLines v before m (PairsLine count ∷ []) rest k
+
+-- the text of a version begins so
+pub record Opens (bytes : List ℕ) (d : Draft) (count : ℕ) (rest : List ℕ) (k : ℕ) : Type 0 where
+  pub text : List ℕ
+  pub n : ℕ
+  pub before : List ℕ
+  pub m : ℕ
+  pub starts : bytes ≡ first_line d.version ++ (10 ∷ text)
+  pub told : verdict bytes ≡ lines_outcome d.version n first_state (cut text)
+  pub come : PairsCome d.version text n d count before m rest k
 
 -- a certificate consists of these
 pub record HasParts (c : Cert) (pieces : List PiecePart) (parcels : List ParcelPart)

@@ -1,8 +1,7 @@
 use Rattle.std.proofs.Common.{refl, ◌∙◌, sym}
-use Rattle.std.proofs.lemmas.Result.{IfOk-weaker}
-use Rattle.lpis_cert.proofs.Common.{content_lines, content_of, draft_state}
+use Rattle.lpis_cert.proofs.Common.{draft_state}
 use Rattle.lpis_cert.proofs.StepLemmas.{follows_none}
-use Rattle.lpis_cert.proofs.ReadLemmas.{follows_grown, whole_text}
+use Rattle.lpis_cert.proofs.ReadLemmas.{follows_grown}
 use Rattle.lpis_cert.specs.private.Drafts.{draft_lines}
 use Rattle.lpis_cert.proofs.reading.read_blocks.Goals as goal
 
@@ -36,15 +35,9 @@ returns-in-Pairs-clause-ok c =
     let pairs = rw is at c.in_ok-left.ensures.ok in
     let unchanged = pairs.0 in
     let same = c.reading.invariant.version in
-    let whole = rw (unchanged, same) at c.finish.ensures.ok in
-    IfOk-weaker c.finish.result _ _ (λ cert. whole_text c.args.version c.args.start.text.now c.args.start.line (draft_lines c.reading.draft)
-    (content_lines (content_of cert)) c.reading.rest.text.now c.reading.rest.line c.reading.invariant.follows) whole
-
-pub returns-in-Pairs-clause-err : goal.returns-in-Pairs-clause-err
-returns-in-Pairs-clause-err c =
-    let is = c.in-Pairs.is in
-    let pairs = rw is at c.in_ok-left.ensures.ok in
-    let unchanged = pairs.0 in
-    let same = c.reading.invariant.version in
-    let state = c.reading.invariant.state in
-    rw (← state, ← same, ← unchanged) c.finish.ensures.err
+    (c.reading.rest.text.now, c.reading.rest.line, rw unchanged (record {
+      version = same;
+      follows = c.reading.invariant.follows;
+      state = c.reading.invariant.state;
+      pairs = rw same at pairs.1;
+    }))
