@@ -61,10 +61,7 @@ pub fn extent_of(triangle: &Triangle) -> Extent
 }
 
 /// The boxes of triangles.
-pub fn extents_of<T: HasTriangle>(
-    alloc: Global,
-    triangles: &[T],
-) -> Result<Vec<Extent>, AllocError>
+pub fn extents_of<T: HasTriangle>(alloc: Global, triangles: &[T]) -> Result<Vec<Extent>, AllocError>
     ensures { IfOk result (λ extents. extents.items
         ≡ map extent_of_spec (map T.triangle triangles.now)) }
 {

@@ -34,10 +34,13 @@ returns-in-Pairs-clause-ok c =
     let is = c.in-Pairs.is in
     let pairs = rw is at c.in_ok-left.ensures.ok in
     let unchanged = pairs.0 in
-    let same = c.reading.invariant.version in
-    (c.reading.rest.text.now, c.reading.rest.line, rw unchanged (record {
-      version = same;
-      follows = c.reading.invariant.follows;
-      state = c.reading.invariant.state;
-      pairs = rw same at pairs.1;
-    }))
+    let same = c.reading.invariant.version in (
+      c.reading.rest.text.now,
+      c.reading.rest.line,
+      rw unchanged (record {
+        version = same;
+        follows = c.reading.invariant.follows;
+        state = c.reading.invariant.state;
+        pairs = rw same at pairs.1;
+      }),
+    )

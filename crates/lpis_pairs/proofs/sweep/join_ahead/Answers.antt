@@ -48,10 +48,14 @@ returns-then-second-first g c = λ ps h.
     let f = get_or es m none in
     let x = c.loop-m.invariant ps h in
     let wide : width_of (slice_get ts e.index) ≡ c.width-wide.result =
-    width_read ts c.args.extents.now e.index no_box c.requires.extents (within ts es at none c.requires.swept.events c.requires.within) ∙ sym c.width-wide.ensures in
-    (x.0, x.1, x.2.grows, found_all ts es ps x.0 at m e f c.requires.swept.order (omega (arith, c.loop-m.auto.m))
-    (slice_get-get_or es at none c.requires.within) (slice_get-get_or es m none c.loop-m-test.true)
-    (λ l. ended (f.key - e.key) _ c.width-wide.result wide c.if-second-first.true l) x.2)
+    width_read ts c.args.extents.now e.index no_box c.requires.extents (within ts es at none c.requires.swept.events c.requires.within) ∙ sym c.width-wide.ensures in (
+      x.0,
+      x.1,
+      x.2.grows,
+      found_all ts es ps x.0 at m e f c.requires.swept.order (omega (arith, c.loop-m.auto.m))
+          (slice_get-get_or es at none c.requires.within) (slice_get-get_or es m none c.loop-m-test.true)
+          (λ l. ended (f.key - e.key) _ c.width-wide.result wide c.if-second-first.true l) x.2,
+    )
 
 pub loop-m-preserved : goal.loop-m-preserved
 unfolding none

@@ -30,7 +30,10 @@ returns g c = λ start.
     let has = subst (λ (xs : List Extent). HasEvents xs c.strip_height.result before) all c.in_ok-events.ensures in
     let sorted = IsNonDecreasingBy-from_sort_by_key (λ (e : Event). e.key) es c.sort_unstable_by_key.ensures.sorted (λ a r f h. search rules) in
     let x = c.in_ok-join.ensures [] start in
-    let joined = subst (λ (xs : List Event). (k m : ℕ) → k < m → Joins ts xs x.0 k m) c.deref-4.ensures.value x.3 in
-    (x.0, x.1, has_near_pairs ts x.0 (x.2.near (All-nil (λ (p : ℕ × ℕ). IsNear ts p.0 p.1)))
-    (finds_near_pairs ts c.strip_height.result before es x.0 c.strip_height.ensures has
-    c.sort_unstable_by_key.ensures.permutation (in_order es sorted) joined))
+    let joined = subst (λ (xs : List Event). (k m : ℕ) → k < m → Joins ts xs x.0 k m) c.deref-4.ensures.value x.3 in (
+      x.0,
+      x.1,
+      has_near_pairs ts x.0 (x.2.near (All-nil (λ (p : ℕ × ℕ). IsNear ts p.0 p.1)))
+          (finds_near_pairs ts c.strip_height.result before es x.0 c.strip_height.ensures has
+          c.sort_unstable_by_key.ensures.permutation (in_order es sorted) joined),
+    )
