@@ -1,7 +1,7 @@
 //! Chains: the borders of rooms that are not yet cut, as far as the sweep has come.
 
 use crate::halt::{Halt, number_of};
-use crate::mesh::{Mesh, Side};
+use crate::mesh::{BORDER, Mesh, Side};
 use lpis_points::{Point, orient};
 use std::alloc::Global;
 
@@ -39,8 +39,8 @@ pub(crate) struct Chain {
 #[derive(Drop)]
 pub(crate) struct Chains {
     nodes: Vec<Node>,
-    /// The side that waits on the other side of each diagonal.
-    diagonals: Vec<Option<Side>>,
+    /// The side that waits on the other side of each diagonal: at first the border.
+    diagonals: Vec<Side>,
     pub(crate) mesh: Mesh,
 }
 
@@ -69,7 +69,7 @@ impl Chains {
     pub(crate) fn clear(&mut self) {
         self.nodes.clear();
         self.diagonals.clear();
-        self.mesh.triangles.clear();
+        self.mesh.flanks.clear();
     }
 
     fn node(&self, at: u32) -> Result<Node, Halt> {
@@ -104,16 +104,18 @@ impl Chains {
     fn glue(&mut self, link: Link, side: Side) {
         match link {
             Link::Border => {}
-            Link::Side(other) => self.mesh.glue(side, Some(other)),
+            Link::Side(other) => self.mesh.glue(side, other),
             Link::Diagonal(number) => self.glue_diagonal(number, side),
         }
     }
 
     fn glue_diagonal(&mut self, number: u32, side: Side) {
         if let Some(waiting) = self.diagonals.get_mut(number as usize) {
-            match *waiting {
-                None => *waiting = Some(side),
-                Some(other) => self.mesh.glue(side, Some(other)),
+            if *waiting == BORDER {
+                *waiting = side;
+            } else {
+                let other = *waiting;
+                self.mesh.glue(side, other);
             }
         }
     }
@@ -141,9 +143,9 @@ impl Chains {
                 return Ok(());
             }
             let triangle = self.mesh.add(c.point, f.point, d.point)?;
-            self.glue(f.link, Side { triangle, k: 0 });
-            self.glue(c.link, Side { triangle, k: 2 });
-            self.set_next(front, Some(second), Link::Side(Side { triangle, k: 1 }));
+            self.glue(f.link, Side::of(triangle, 0));
+            self.glue(c.link, Side::of(triangle, 2));
+            self.set_next(front, Some(second), Link::Side(Side::of(triangle, 1)));
             self.set_previous(second, Some(front));
         }
         Ok(())
@@ -165,9 +167,9 @@ impl Chains {
                 return Ok(());
             }
             let triangle = self.mesh.add(d.point, f.point, c.point)?;
-            self.glue(c.link, Side { triangle, k: 1 });
-            self.glue(d.link, Side { triangle, k: 2 });
-            self.set_next(second, Some(back), Link::Side(Side { triangle, k: 0 }));
+            self.glue(c.link, Side::of(triangle, 1));
+            self.glue(d.link, Side::of(triangle, 2));
+            self.set_next(second, Some(back), Link::Side(Side::of(triangle, 0)));
             self.set_previous(back, Some(second));
         }
         Ok(())
@@ -232,7 +234,7 @@ impl Chains {
         let middle = chain.last;
         let seen = self.node(middle)?;
         let diagonal = Link::Diagonal(number_of(self.diagonals.len())?);
-        self.diagonals.push(None)?;
+        self.diagonals.push(BORDER)?;
         let below = self.add_node(point)?;
         let above = self.add_node(point)?;
         let again = self.add_node(seen.point)?;

@@ -2,7 +2,7 @@
 
 use crate::boxes::{box_of_edge, box_round, boxes_beside, girth, length2, size_of};
 use crate::halt::{Halt, number_of};
-use crate::mesh::{Mesh, MeshTriangle, Side};
+use crate::mesh::{BORDER, Mesh, Side};
 use crate::trade::Trade;
 use lpis_points::{Box4, Point, orient};
 use std::alloc::Global;
@@ -36,7 +36,7 @@ struct Quad {
     c: u32,
     d: u32,
     /// What lies across the sides from a to d, d to b, b to c and c to a.
-    around: [Option<Side>; 4],
+    around: [Side; 4],
 }
 
 /// The corners of a quad.
@@ -53,8 +53,8 @@ struct Corners {
 #[derive(Drop)]
 pub(crate) struct Improver {
     waiting: Vec<Side>,
-    /// Whether each side of each triangle waits.
-    waits: Vec<[bool; 3]>,
+    /// Whether each side waits.
+    waits: Vec<bool>,
     /// The boxes of the triangles in their order; for `AllOverlaps` then those of the edges on the
     /// border, whose neighbour is at least as wide.
     boxes: Vec<Box4>,
@@ -69,40 +69,25 @@ fn corners_of(points: &[Point], corners: [u32; 3]) -> Option<(Point, Point, Poin
     ))
 }
 
-/// A triangle whose first corner is the one from which a side goes.
-fn turned(triangle: &MeshTriangle, k: u8) -> MeshTriangle {
-    let [a, b, c] = triangle.corners;
-    let [over_ab, over_bc, over_ca] = triangle.across;
-    match k {
-        0 => *triangle,
-        1 => MeshTriangle {
-            corners: [b, c, a],
-            across: [over_bc, over_ca, over_ab],
-        },
-        _ => MeshTriangle {
-            corners: [c, a, b],
-            across: [over_ca, over_ab, over_bc],
-        },
-    }
-}
-
 /// The two triangles on either side of a side, if it is a diagonal.
 fn quad_at(mesh: &Mesh, side: Side) -> Option<Quad> {
-    let first = turned(mesh.triangles.get(side.triangle as usize)?, side.k);
-    let [a, b, c] = first.corners;
-    let [other, over_bc, over_ca] = first.across;
-    let other = other?;
-    let second = turned(mesh.triangles.get(other.triangle as usize)?, other.k);
-    let [_, _, d] = second.corners;
-    let [_, over_ad, over_db] = second.across;
+    let ab = mesh.flank(side)?;
+    let ba = ab.across;
+    if ba == BORDER {
+        return None;
+    }
+    let bc = mesh.flank(side.next())?;
+    let ca = mesh.flank(side.before())?;
+    let ad = mesh.flank(ba.next())?;
+    let db = mesh.flank(ba.before())?;
     Some(Quad {
-        first: side.triangle,
-        second: other.triangle,
-        a,
-        b,
-        c,
-        d,
-        around: [over_ad, over_db, over_bc, over_ca],
+        first: side.triangle(),
+        second: ba.triangle(),
+        a: ab.corner,
+        b: bc.corner,
+        c: ca.corner,
+        d: db.corner,
+        around: [ad.across, db.across, bc.across, ca.across],
     })
 }
 
@@ -122,13 +107,17 @@ fn convex_corners(points: &[Point], quad: &Quad) -> Option<Corners> {
 fn exchange(mesh: &mut Mesh, quad: &Quad) {
     let (t, u) = (quad.first, quad.second);
     let [from_a_to_d, from_d_to_b, from_b_to_c, from_c_to_a] = quad.around;
-    mesh.set_corners(t, [quad.a, quad.d, quad.c]);
-    mesh.set_corners(u, [quad.d, quad.b, quad.c]);
-    mesh.glue(Side { triangle: t, k: 0 }, from_a_to_d);
-    mesh.glue(Side { triangle: t, k: 1 }, Some(Side { triangle: u, k: 2 }));
-    mesh.glue(Side { triangle: t, k: 2 }, from_c_to_a);
-    mesh.glue(Side { triangle: u, k: 0 }, from_d_to_b);
-    mesh.glue(Side { triangle: u, k: 1 }, from_b_to_c);
+    mesh.set_corner(Side::of(t, 0), quad.a);
+    mesh.set_corner(Side::of(t, 1), quad.d);
+    mesh.set_corner(Side::of(t, 2), quad.c);
+    mesh.set_corner(Side::of(u, 0), quad.d);
+    mesh.set_corner(Side::of(u, 1), quad.b);
+    mesh.set_corner(Side::of(u, 2), quad.c);
+    mesh.glue(Side::of(t, 0), from_a_to_d);
+    mesh.glue(Side::of(t, 1), Side::of(u, 2));
+    mesh.glue(Side::of(t, 2), from_c_to_a);
+    mesh.glue(Side::of(u, 0), from_d_to_b);
+    mesh.glue(Side::of(u, 1), from_b_to_c);
 }
 
 /// An eighth of the mean of w + h over boxes, rounded down to whole centimetres.
@@ -143,14 +132,6 @@ fn mean_girth(boxes: &[Box4]) -> i128 {
     centimetres.wrapping_mul(CENTIMETRE)
 }
 
-/// Whether a later triangle than this one is across.
-fn is_to_later(across: Option<Side>, number: u32) -> bool {
-    match across {
-        Some(other) => other.triangle > number,
-        None => false,
-    }
-}
-
 impl Improver {
     pub(crate) fn new(alloc: Global) -> Improver {
         Improver {
@@ -163,7 +144,7 @@ impl Improver {
     /// Two rounds over the diagonals: of few triangles, for overlaps nearby and then for all
     /// overlaps; of more, where that would take long, for size and then for overlaps nearby.
     pub(crate) fn improve(&mut self, points: &[Point], mesh: &mut Mesh) -> Result<(), Halt> {
-        let count = mesh.triangles.len();
+        let count = mesh.count();
         let looks = count.saturating_mul(12);
         if count < 2 {
             return Ok(());
@@ -242,11 +223,8 @@ impl Improver {
             (over_bc, b, c),
             (over_ca, c, a),
         ] {
-            let sides = match across {
-                Some(side) => self.boxes.get(side.triangle as usize).copied(),
-                None => None,
-            };
-            let sides = sides.unwrap_or(box_of_edge(from, to));
+            let beside = self.boxes.get(across.triangle() as usize).copied();
+            let sides = beside.unwrap_or(box_of_edge(from, to));
             gain = gain.wrapping_add(trade.gain(&sides));
         }
         gain
@@ -270,8 +248,10 @@ impl Improver {
     /// Makes the list of the triangles' boxes.
     fn fill_boxes(&mut self, points: &[Point], mesh: &Mesh) -> Result<(), Halt> {
         self.boxes.clear();
-        for triangle in &mesh.triangles {
-            if let Some((a, b, c)) = corners_of(points, triangle.corners) {
+        for number in 0..mesh.count() {
+            if let Some(corners) = mesh.corners(number)
+                && let Some((a, b, c)) = corners_of(points, corners)
+            {
                 self.boxes.push(box_round(a, b, c))?;
             }
         }
@@ -280,14 +260,17 @@ impl Improver {
 
     /// Lists the boxes of the edges on the border behind those of the triangles.
     fn add_borders(&mut self, points: &[Point], mesh: &Mesh) -> Result<(), Halt> {
-        for triangle in &mesh.triangles {
-            if let Some((a, b, c)) = corners_of(points, triangle.corners) {
-                let [over_ab, over_bc, over_ca] = triangle.across;
-                for (across, from, to) in [(over_ab, a, b), (over_bc, b, c), (over_ca, c, a)] {
-                    if across.is_none() {
-                        self.boxes.push(box_of_edge(from, to))?;
-                    }
-                }
+        for (index, flank) in mesh.flanks.iter().enumerate() {
+            let side = Side {
+                number: number_of(index)?,
+            };
+            if index & 3 != 3
+                && flank.across == BORDER
+                && let Some(next) = mesh.flank(side.next())
+                && let Some(from) = points.get(flank.corner as usize)
+                && let Some(to) = points.get(next.corner as usize)
+            {
+                self.boxes.push(box_of_edge(*from, *to))?;
             }
         }
         Ok(())
@@ -301,41 +284,29 @@ impl Improver {
     }
 
     fn set_waits(&mut self, side: Side, value: bool) {
-        if let Some(triangle) = self.waits.get_mut(side.triangle as usize)
-            && let Some(waits) = triangle.get_mut(side.k as usize)
-        {
+        if let Some(waits) = self.waits.get_mut(side.number as usize) {
             *waits = value;
         }
     }
 
     fn is_waiting(&self, side: Side) -> bool {
-        match self.waits.get(side.triangle as usize) {
-            Some(triangle) => triangle.get(side.k as usize) == Some(&true),
-            None => false,
-        }
+        self.waits.get(side.number as usize) == Some(&true)
     }
 
-    /// Lets each diagonal wait.
+    /// Lets each diagonal wait, as the side of its lesser triangle.
     fn fill(&mut self, mesh: &Mesh) -> Result<(), Halt> {
         self.waiting.clear();
         self.waits.clear();
-        for (index, triangle) in mesh.triangles.iter().enumerate() {
+        self.waits.resize(mesh.flanks.len(), false)?;
+        for (index, flank) in mesh.flanks.iter().enumerate() {
             let number = number_of(index)?;
-            let [ab, bc, ca] = triangle.across;
-            let waits = [
-                is_to_later(ab, number),
-                is_to_later(bc, number),
-                is_to_later(ca, number),
-            ];
-            for (k, is_waiting) in waits.iter().enumerate() {
-                if *is_waiting {
-                    self.waiting.push(Side {
-                        triangle: number,
-                        k: k as u8,
-                    })?;
-                }
+            // Where nothing is across, the number across is the greatest.
+            let other = flank.across.number;
+            if other > number | 3 && other < BORDER.number {
+                let side = Side { number };
+                self.waiting.push(side)?;
+                self.set_waits(side, true);
             }
-            self.waits.push(waits)?;
         }
         Ok(())
     }
@@ -344,14 +315,15 @@ impl Improver {
     fn wait_around(&mut self, mesh: &Mesh, quad: &Quad) -> Result<(), Halt> {
         let (t, u) = (quad.first, quad.second);
         for side in [
-            Side { triangle: t, k: 0 },
-            Side { triangle: t, k: 2 },
-            Side { triangle: u, k: 0 },
-            Side { triangle: u, k: 1 },
+            Side::of(t, 0),
+            Side::of(t, 2),
+            Side::of(u, 0),
+            Side::of(u, 1),
         ] {
-            if let Some(other) = mesh.across(side)
+            if let Some(flank) = mesh.flank(side)
+                && flank.across != BORDER
                 && !self.is_waiting(side)
-                && !self.is_waiting(other)
+                && !self.is_waiting(flank.across)
             {
                 self.waiting.push(side)?;
                 self.set_waits(side, true);

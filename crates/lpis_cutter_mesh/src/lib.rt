@@ -13,6 +13,7 @@ mod improve;
 mod mesh;
 mod mesher;
 mod plane;
+mod quads;
 mod replacing;
 mod sweep;
 mod trade;

@@ -2,6 +2,7 @@
 
 use crate::halt::Halt;
 use crate::improve::Improver;
+use crate::quads::ConvexQuad;
 use crate::sweep::{Rooms, Sweep};
 use lpis_points::{Point, Triangle};
 use std::alloc::{AllocError, Global};
@@ -61,10 +62,13 @@ impl Mesher {
 
     fn try_cut(&mut self) -> Result<Cut, Halt> {
         if let Some(triangle) = self.sweep.plane.lone_triangle() {
-            return self.cut_of(triangle);
+            return self.cut_of(&[triangle]);
+        }
+        if let Some(quad) = ConvexQuad::of(self.sweep.plane.walk.as_slice()) {
+            return self.cut_of(&quad.cut());
         }
         self.sweep.run(Rooms::Once)?;
-        if self.sweep.chains.mesh.triangles.is_empty() {
+        if self.sweep.chains.mesh.flanks.is_empty() {
             return Err(Halt::NoCut);
         }
         let points = &self.sweep.plane.points;
@@ -75,10 +79,10 @@ impl Mesher {
         })
     }
 
-    /// The cut of one triangle.
-    fn cut_of(&self, triangle: Triangle) -> Result<Cut, Halt> {
-        let mut triangles = Vec::with_capacity(self.alloc, 1)?;
-        triangles.push(triangle)?;
+    /// A cut without flats.
+    fn cut_of(&self, few: &[Triangle]) -> Result<Cut, Halt> {
+        let mut triangles = Vec::with_capacity(self.alloc, few.len())?;
+        triangles.extend_from_slice(few)?;
         Ok(Cut {
             triangles,
             flats: Vec::new(self.alloc),
@@ -87,9 +91,11 @@ impl Mesher {
 
     fn triangles(&self) -> Result<Vec<Triangle>, Halt> {
         let mesh = &self.sweep.chains.mesh;
-        let mut triangles = Vec::with_capacity(self.alloc, mesh.triangles.len())?;
-        for triangle in &mesh.triangles {
-            triangles.push(self.triangle_of(triangle.corners)?)?;
+        let mut triangles = Vec::with_capacity(self.alloc, mesh.count())?;
+        for number in 0..mesh.count() {
+            if let Some(corners) = mesh.corners(number) {
+                triangles.push(self.triangle_of(corners)?)?;
+            }
         }
         Ok(triangles)
     }

@@ -216,9 +216,12 @@ impl Sweep {
             .copied()
             .ok_or(Halt::NoCut)?;
         for _ in 0..self.plane.edges.len() {
-            let Some(edge) = next else { break };
-            self.found.push(edge)?;
-            next = self.plane.edge(edge)?.next;
+            let Some(number) = next else { break };
+            let edge = self.plane.edge(number)?;
+            if edge.count != 0 {
+                self.found.push(number)?;
+            }
+            next = edge.next;
         }
         if self.found.len() > 1 {
             let plane = &self.plane;

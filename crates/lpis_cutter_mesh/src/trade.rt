@@ -40,12 +40,11 @@ fn inner_of(outer: i64, ends: [i64; 4]) -> (i64, Lacking) {
     }
 }
 
-/// How many of these boxes are new ones, less those that are old.
+/// How many of these boxes are new ones, less those that are old, by their bits.
+const BALANCES: [i32; 16] = [0, -1, -1, -2, 1, 0, 0, -1, 1, 0, 0, -1, 2, 1, 1, 0];
+
 fn balance(boxes: Lacking) -> i32 {
-    let bits = i32::from(boxes);
-    let new = (bits >> 2 & 1).wrapping_add(bits >> 3 & 1);
-    let old = (bits & 1).wrapping_add(bits >> 1 & 1);
-    new.wrapping_sub(old)
+    BALANCES.get(boxes as usize).copied().unwrap_or(0)
 }
 
 /// 1 where two boxes meet.
