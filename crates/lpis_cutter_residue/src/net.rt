@@ -26,8 +26,12 @@ struct End {
 #[derive(Drop)]
 pub struct Net {
     alloc: Global,
-    /// All edges, sorted.
+    /// The edges that were added: equal ones are mostly summed at once.
     edges: Vec<NetEdge>,
+    /// How many were added.
+    added: usize,
+    /// In the place of each edge, the index of the last one with that place.
+    places: [u32; PLACES],
     /// Those that are left, in the order of their lines.
     net: Vec<NetEdge>,
     ends: Vec<End>,
@@ -36,6 +40,18 @@ pub struct Net {
     rest: Vec<NetEdge>,
     /// The flats that make up the others.
     flats: Vec<Triangle>,
+}
+
+/// How many places edges have.
+const PLACES: usize = 1024;
+
+/// The place of an edge: equal edges have the same one.
+fn place_of(low: Point, high: Point) -> usize {
+    let mut mixed = low.x.wrapping_mul(31).wrapping_add(low.y);
+    mixed = mixed.wrapping_mul(31).wrapping_add(high.x);
+    mixed = mixed.wrapping_mul(31).wrapping_add(high.y);
+    mixed = mixed.wrapping_mul(0x5E37_79B9_7F4A_7C15);
+    usize::try_from((mixed >> 48) & 1023).unwrap_or(0)
 }
 
 /// The direction of two edges, and then on which side of the first line the second lies.
@@ -58,6 +74,8 @@ impl Net {
         Net {
             alloc,
             edges: Vec::new(alloc),
+            added: 0,
+            places: [0; PLACES],
             net: Vec::new(alloc),
             ends: Vec::new(alloc),
             rest: Vec::new(alloc),
@@ -68,26 +86,34 @@ impl Net {
     /// Takes all edges away.
     pub fn clear(&mut self) {
         self.edges.clear();
+        self.added = 0;
     }
 
     /// Adds an edge so many times; where the count is below 0, it is taken off.
     pub fn add(&mut self, a: Point, b: Point, count: i64) -> Result<(), AllocError> {
         match a.cmp(&b) {
-            Ordering::Less => self.edges.push(NetEdge {
-                low: a,
-                high: b,
-                count,
-            })?,
-            Ordering::Greater => {
-                let count = count.wrapping_neg();
-                self.edges.push(NetEdge {
-                    low: b,
-                    high: a,
-                    count,
-                })?
-            }
-            Ordering::Equal => {}
+            Ordering::Less => self.count_edge(a, b, count),
+            Ordering::Greater => self.count_edge(b, a, count.wrapping_neg()),
+            Ordering::Equal => Ok(()),
         }
+    }
+
+    /// Counts an edge at the one that is in its place, if that is equal, else apart from it.
+    fn count_edge(&mut self, low: Point, high: Point, count: i64) -> Result<(), AllocError> {
+        self.added = self.added.saturating_add(1);
+        let place = place_of(low, high);
+        if let Some(index) = self.places.get(place)
+            && let Some(edge) = self.edges.get_mut(*index as usize)
+            && edge.low == low
+            && edge.high == high
+        {
+            edge.count = edge.count.wrapping_add(count);
+            return Ok(());
+        }
+        if let Some(slot) = self.places.get_mut(place) {
+            *slot = u32::try_from(self.edges.len()).unwrap_or(u32::MAX);
+        }
+        self.edges.push(NetEdge { low, high, count })?;
         Ok(())
     }
 
@@ -96,6 +122,7 @@ impl Net {
         self.net.clear();
         self.rest.clear();
         self.flats.clear();
+        self.edges.retain(|edge| edge.count != 0);
         self.edges.sort_unstable();
         self.sum_edges()?;
         if !self.net.is_empty() {
@@ -108,7 +135,7 @@ impl Net {
 
     /// How many edges were added.
     pub fn size(&self) -> usize {
-        self.edges.len()
+        self.added
     }
 
     /// Whether flats make up all that is left.
