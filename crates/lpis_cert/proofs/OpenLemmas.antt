@@ -15,6 +15,7 @@ abbrev pub Closes : Draft → ℕ → List ℕ → ℕ → Cert → Type 0
 Closes d count rest k cert = (text : List ℕ) (n : ℕ) → ReadsLines d.version text n (PairsLine count ∷ []) rest k
     → Whole d.version (draft_lines d) (content_lines (content_of cert)) text
 
+-- and its fault
 abbrev pub Breaks : Draft → ℕ → List ℕ → ℕ → CertFault → Type 0
 Breaks d count rest k fault = (text : List ℕ) (n : ℕ) → ReadsLines d.version text n (PairsLine count ∷ []) rest k
     → FaultFrom d.version fault n (draft_state d) text

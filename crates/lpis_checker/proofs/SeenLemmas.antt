@@ -14,6 +14,7 @@ pub seen_at : (xs : List (Bor Triangle)) (i : ℕ) (x : Bor Triangle) → i < le
 seen_at xs i x l e =
     slice_get-map (λ (t : Bor Triangle). t.now) xs i ∙ ap (λ (o : Option (Bor Triangle)). option_map (λ (t : Bor Triangle). t.now) o) (slice_get_read xs (length xs) i x refl l e)
 
+-- the triangle at an index is counter-clockwise where all are
 pub turned_at : (ts : List Triangle) (i : ℕ) (t : Triangle) → All IsCounterClockwise ts → slice_get ts i ≡ Some t → IsCounterClockwise t
 turned_at ts i t h e = subst IsCounterClockwise (get_or_from_slice_get ts i t t e) (h i t (slice_get_within ts i t e))
 

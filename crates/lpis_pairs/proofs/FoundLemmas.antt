@@ -2,7 +2,7 @@
 -- joined.
 use Rattle.std.specs.Option.{option_map}
 use Rattle.std.proofs.Common.{◌≡◌, ℕ, ◌+◌, ◌-◌, ◌*◌, ◌/◌, ◌<◌, ◌≤◌, Bool, true, ◌||◌, nat_eq, List, map, Option, Some, ◌⊎◌, inl, inr, ap, sym, ◌∙◌, subst, arith, Contains, slice_get, IsPermutation}
-use Rattle.lpis_pairs.proofs.Common.{nat_tests, same_Some, slice_get_within, get_or_from_slice_get, Triangle, Event, extent_of, IsNear, AreNear, Joins, event}
+use Rattle.lpis_pairs.proofs.Common.{nat_tests, same_Some, slice_get_within, get_or_from_slice_get, Triangle, Event, extent_of, IsNear, Joins, event}
 use Rattle.std.proofs.Math.Nat.{div-mul-le_self}
 use Rattle.std.proofs.lemmas.Nat.{le-div}
 use Rattle.std.proofs.lemmas.Bool.{cases_order}
@@ -10,7 +10,7 @@ use Rattle.std.proofs.lemmas.List.Sorted.{Contains-permutation}
 use Rattle.std.proofs.lemmas.List.Elements.{All-contains}
 use Rattle.std.proofs.lemmas.Option.{slice_get-get_or, slice_get-map}
 use Rattle.lpis_pairs.specs.NearPairs.{HasNearPairs, IsNearList}
-use Rattle.lpis_pairs.specs.private.Sweeping.{AreInOrder, HasEvents, IsRising}
+use Rattle.lpis_pairs.specs.private.Sweeping.{AreInOrder, AreNear, HasEvents, IsRising}
 use Rattle.lpis_pairs.proofs.ExtentLemmas.{Meet, near_boxes_meet, bottom_upto_top}
 
 -- a higher place is in no lower strip

@@ -24,10 +24,6 @@ grows_by ts ps p near = record {
 pub grows_by_nothing : (ts : List Triangle) (ps : List (ℕ × ℕ)) → GrowNear ts ps ps
 grows_by_nothing ts ps = record { kept = λ p h. h; near = λ h. h }
 
--- nothing is behind an event before the next one
-pub joins_nothing_yet : (ts : List Triangle) (es : List Event) (ps : List (ℕ × ℕ)) (at : ℕ) → JoinsUpTo ts es ps ps at (at + 1)
-joins_nothing_yet ts es ps at = record { grows = grows_by_nothing ts ps; found = λ k l m. absurd (omega arith) }
-
 joins_kept : (ts : List Triangle) (es : List Event) (ps qs : List (ℕ × ℕ)) (k m : ℕ) → Keeps ps qs → Joins ts es ps k m → Joins ts es qs k m
 joins_kept ts es ps qs k m h j = λ e f g i l o. let r = j e f g i l o in (λ n. h _ (r.0 n), λ n. h _ (r.1 n))
 
@@ -96,10 +92,6 @@ found_to_end ts es old qs at m l j k r = λ e f g h. j.found k r (omega (arith, 
 pub record JoinsBelow (ts : List Triangle) (es : List Event) (old new : List (ℕ × ℕ)) (n : ℕ) : Type 0 where
   pub grows : GrowNear ts old new
   pub found : (k m : ℕ) → k < n → k < m → Joins ts es new k m
-
--- no event is below 0
-pub joins_none_yet : (ts : List Triangle) (es : List Event) (ps : List (ℕ × ℕ)) → JoinsBelow ts es ps ps 0
-joins_none_yet ts es ps = record { grows = grows_by_nothing ts ps; found = λ k m l. absurd (omega arith) }
 
 -- with the event n joined with all behind it, the events below n + 1 are joined
 pub joins_one_more : (ts : List Triangle) (es : List Event) (old ps qs : List (ℕ × ℕ)) (n : ℕ) → JoinsBelow ts es old ps n

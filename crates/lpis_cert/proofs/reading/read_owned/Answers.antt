@@ -7,7 +7,8 @@ pub finish_owned-requires : goal.finish_owned-requires
 finish_owned-requires c =
     let rest = c.in_ok-draft.rest in
     let o = subst (λ (bs : List ℕ). Opens bs c.in_ok-draft.draft c.in_ok-draft.count rest.text.now rest.line) c.as_slice.ensures.value c.in_ok-draft.ensures.ok in
-    let same : rest.text.now ≡ c.in_ok-part.part.items = opens_last c.args.text.items c.in_ok-draft.draft c.in_ok-draft.count _ rest.text.now c.in_ok-part.part.items rest.line o refl c.in_ok-part.ensures in
+    let same : rest.text.now ≡ c.in_ok-part.part.items =
+    opens_last c.args.text.items c.in_ok-draft.draft c.in_ok-draft.count _ rest.text.now c.in_ok-part.part.items rest.line o refl c.in_ok-part.ensures in
     subst (λ (bs : List ℕ). rest.line + length bs < 2 ^ 64) same rest.room
 
 pub returns-clause-found : goal.returns-clause-found
@@ -16,7 +17,8 @@ returns-clause-found c =
     let d = c.in_ok-draft.draft in
     let count = c.in_ok-draft.count in
     let o = subst (λ (bs : List ℕ). Opens bs d count rest.text.now rest.line) c.as_slice.ensures.value c.in_ok-draft.ensures.ok in
-    let same : rest.text.now ≡ c.in_ok-part.part.items = opens_last c.args.text.items d count _ rest.text.now c.in_ok-part.part.items rest.line o refl c.in_ok-part.ensures in
+    let same : rest.text.now ≡ c.in_ok-part.part.items =
+    opens_last c.args.text.items d count _ rest.text.now c.in_ok-part.part.items rest.line o refl c.in_ok-part.ensures in
     closed_text c.finish_owned.result c.args.text.items d count c.in_ok-part.part.items rest.line
     (subst (λ (bs : List ℕ). Opens c.args.text.items d count bs rest.line) same o) c.finish_owned.ensures.ok
 
@@ -26,6 +28,7 @@ returns-clause-fault c =
     let d = c.in_ok-draft.draft in
     let count = c.in_ok-draft.count in
     let o = subst (λ (bs : List ℕ). Opens bs d count rest.text.now rest.line) c.as_slice.ensures.value c.in_ok-draft.ensures.ok in
-    let same : rest.text.now ≡ c.in_ok-part.part.items = opens_last c.args.text.items d count _ rest.text.now c.in_ok-part.part.items rest.line o refl c.in_ok-part.ensures in
+    let same : rest.text.now ≡ c.in_ok-part.part.items =
+    opens_last c.args.text.items d count _ rest.text.now c.in_ok-part.part.items rest.line o refl c.in_ok-part.ensures in
     broken_text c.finish_owned.result c.args.text.items d count c.in_ok-part.part.items rest.line
     (subst (λ (bs : List ℕ). Opens c.args.text.items d count bs rest.line) same o) c.finish_owned.ensures.err
