@@ -7,6 +7,7 @@ from fractions import Fraction
 
 import numpy
 
+from . import progress
 from .between import Between, Names
 from .faces import Faces
 from .noding import Corners, Network
@@ -37,7 +38,7 @@ def close(base):
     base.executescript(INDICES)
     base.execute("UPDATE way SET ring = id WHERE is_closed")
     base.execute("INSERT INTO ring SELECT id, CAST(area AS REAL) / 2000000, length FROM way WHERE is_closed")
-    following = {way: next_way(base, *ends) for way, *ends in base.execute("SELECT id, yx, yy, zx, zy FROM way WHERE NOT is_closed").fetchall()}
+    following = {way: next_way(base, *ends) for way, *ends in base.execute("SELECT id, yx, yy, zx, zy FROM way WHERE NOT is_closed")}
     for first in list(following):
         at, doubled, length = first, 0, 0.0
         while at in following:
@@ -66,12 +67,14 @@ def turn(way, other):
 
 def narrow(base, files, width):
     """The narrow faces, as gaps. Their ways are marked."""
-    for ring, area, length, *box in base.execute("SELECT id, area, length, left, right, low, high FROM ring JOIN box_of_ring USING (id) WHERE area > 0 ORDER BY id").fetchall():
+    (count,) = base.execute("SELECT count(*) FROM ring WHERE area > 0").fetchone()
+    found = base.execute("SELECT id, area, length, left, right, low, high FROM ring JOIN box_of_ring USING (id) WHERE area > 0 ORDER BY id")
+    for ring, area, length, *box in progress.each(found, progress.Quiet.tool, "narrow land between parcels", count, "rings"):
         islands, shores = base.execute(f"SELECT total(area), total(length) {WITHIN.format('ring USING (id)')} AND area < 0", box).fetchone()
         if area + islands <= width * (length + shores) / 2 * DOUBT:
-            found = Group(base, files, box).face(ring, width)
-            if found:
-                gap, rings = found
+            face = Group(base, files, box).face(ring, width)
+            if face:
+                gap, rings = face
                 base.executemany("UPDATE way SET is_narrow = 1 WHERE ring = ?", ((one,) for one in rings))
                 yield gap
 
