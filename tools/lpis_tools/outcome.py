@@ -8,6 +8,7 @@ import os
 from bisect import bisect_left, bisect_right
 
 from shapely.geometry import Point
+from shapely.prepared import prep
 
 from . import land, polygons, progress
 from .conflicts import LEAST, Loss, Source, by_geos, number_of, parts_of, polygons_by, width_of
@@ -177,7 +178,7 @@ class Outcome:
 def spikes(change, after):
     """The parts of a change that are narrower than a millimetre and lead away from the border that a shape has afterwards."""
     narrow = [part for part in parts_of(change) if width_of(part) < LEAST and part.length > 4 * ROUNDED]
-    near = after.boundary.buffer(1.5 * ROUNDED, resolution=1) if narrow else None
+    near = prep(after.boundary.buffer(1.5 * ROUNDED, resolution=1)) if narrow else None
     return [part for part in narrow if not near.contains(part)]
 
 
