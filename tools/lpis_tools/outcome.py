@@ -34,8 +34,9 @@ class Places:
         return [(x, y, number) for x, y, number in self.points[low:high] if box[1] <= y <= box[3]]
 
     def give(self, name, shape, near):
+        whole = prep(shape) if near else None
         for x, y, number in near:
-            if shape.contains(Point(x, y)):
+            if whole.contains(Point(x, y)):
                 self.holders[number].append(name)
 
     def tell(self, parcel_of):
