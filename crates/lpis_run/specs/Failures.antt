@@ -9,7 +9,9 @@ use Rattle.lpis_run.specs.declared.failure.Failure.{Failure}
 use Rattle.lpis_run.specs.declared.failure.Failure.TheVariants.{Memory, Read, ReadOf}
 use Rattle.lpis_run.specs.declared.failure.Failure.TheVariants.{Store, StoreMemory, Write}
 use Rattle.lpis_run.specs.Refusals.{region_end}
-use Rattle.lpis_run.specs.Streams.{FolderTexts, IsWithin, TableTexts}
+use Rattle.lpis_run.specs.Streams.{IsWithin, Known}
+use Rattle.lpis_run.specs.declared.folder.Folder.{Folder}
+use Rattle.lpis_run.specs.declared.folder.Tables.{Tables}
 
 -- an input or an output by its name
 abbrev pub name_text : Name → List ℕ
@@ -38,22 +40,22 @@ abbrev pub IsUnread : Name → Failure → Type 0
 IsUnread name failure = (failure ≡ Memory) ⊎ (failure ≡ Read name)
 
 -- a table of a release was not read, while those before it were; or memory ran out
-abbrev pub IsUnreadRelease : TableTexts → Failure → Type 0
+abbrev pub IsUnreadRelease : Tables Known → Failure → Type 0
 IsUnreadRelease t failure =
     (failure ≡ Memory) ⊎ (failure ≡ Read Parcels) ⊎ (IsWithin t.parcels × (failure ≡ Read Covers))
     ⊎ (IsWithin t.parcels × IsWithin t.covers × (failure ≡ Read Classes))
 
 -- what readers reported of each table is within the limit, as far as it is known
-abbrev pub AreWithin : TableTexts → Type 0
+abbrev pub AreWithin : Tables Known → Type 0
 AreWithin t = IsWithin t.parcels × IsWithin t.covers × IsWithin t.classes
 
 -- so it is of the tables, or the certificate was not read, while the tables were
-abbrev pub IsUnchecked : FolderTexts → Failure → Type 0
+abbrev pub IsUnchecked : Folder Known → Failure → Type 0
 IsUnchecked f failure =
     IsUnreadRelease f.tables failure ⊎ (AreWithin f.tables × (failure ≡ Read Cert))
 
 -- so it is of these, or the lineage table was not read, while they were
-abbrev pub IsUnpublished : FolderTexts → Failure → Type 0
+abbrev pub IsUnpublished : Folder Known → Failure → Type 0
 IsUnpublished f failure =
     IsUnchecked f failure
     ⊎ (AreWithin f.tables × IsWithin f.cert × (failure ≡ Read Lineage))

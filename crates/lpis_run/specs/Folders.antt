@@ -1,27 +1,23 @@
--- The readers of a folder's files.
-use Rattle.std.specs.Prelude.{◌≡◌, ◌∷◌, [], ℕ, List, Option}
-use Rattle.lpis_run.specs.Streams.{FolderTexts, TableTexts}
+-- The files of a release.
+use Rattle.std.specs.Prelude.{◌≡◌, ◌∷◌, [], List}
 use Rattle.lpis_run.specs.declared.failure.Failure.{Failure}
 use Rattle.lpis_run.specs.declared.failure.Failure.TheVariants.{Read}
 use Rattle.lpis_run.specs.declared.failure.Name.{Name}
 use Rattle.lpis_run.specs.declared.failure.Name.TheVariants.{Cert, Classes, Covers, Parcels}
 use Rattle.lpis_run.specs.declared.folder.Folder.{Folder}
-use Rattle.lpis_run.specs.declared.folder.TableReaders.{TableReaders}
+use Rattle.lpis_run.specs.declared.folder.Submission.{Submission}
+use Rattle.lpis_run.specs.declared.folder.Tables.{Tables}
 
--- ---- what they will give
--- by what is known of each reader
-abbrev pub table_texts : {R : Type 0} → (R → Option (List ℕ)) → TableReaders R → TableTexts
-table_texts remaining t = record {
-  parcels = remaining t.parcels;
-  covers = remaining t.covers;
-  classes = remaining t.classes;
-}
+-- ---- what is kept of them
+-- the same files, of each of which something else is kept
+abbrev pub tables_by : {S T : Type 0} → (S → T) → Tables S → Tables T
+tables_by f t = record { parcels = f t.parcels; covers = f t.covers; classes = f t.classes }
 
-abbrev pub folder_texts : {R : Type 0} → (R → Option (List ℕ)) → Folder R → FolderTexts
-folder_texts remaining f = record {
-  tables = table_texts remaining f.tables;
-  cert = remaining f.cert;
-}
+abbrev pub folder_by : {S T : Type 0} → (S → T) → Folder S → Folder T
+folder_by f x = record { tables = tables_by f x.tables; cert = f x.cert }
+
+abbrev pub submission_by : {S T : Type 0} → (S → T) → Submission S → Submission T
+submission_by f x = record { folder = folder_by f x.folder; lineage = f x.lineage }
 
 -- ---- what a failure leaves of them
 -- the files of a folder, which are read before an input that stands beside it
@@ -35,7 +31,7 @@ IsUntouched (name ∷ names) old new failure =
     (failure ≡ Read name → new ≡ old) × IsUntouched names old new failure
 
 -- the readers behind the one that the failure names are as they were
-abbrev pub AreTablesUntouched : {R : Type 0} → TableReaders R → TableReaders R → Failure → Type 0
+abbrev pub AreTablesUntouched : {R : Type 0} → Tables R → Tables R → Failure → Type 0
 AreTablesUntouched old new failure =
     IsUntouched (Parcels ∷ []) old.covers new.covers failure
     × IsUntouched (Parcels ∷ Covers ∷ []) old.classes new.classes failure

@@ -27,7 +27,7 @@ pub use areas::{Areas, areas_at, print_areas};
 pub use checked::{checked_release, say_yes};
 pub use detail::Detail;
 pub use failure::{Failure, Name, print_failure};
-pub use folder::{Folder, InputBytes, TableBytes, TableReaders, read_folder, read_tables};
+pub use folder::{Folder, Submission, Tables, read_folder, read_tables};
 pub use outcome::Outcome;
 pub use outputs::write_text;
 pub use printing::{PrintFault, print_line};
