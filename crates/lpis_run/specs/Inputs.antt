@@ -5,15 +5,19 @@ use Rattle.lpis_cert.specs.Contents.{IsCertText}
 use Rattle.lpis_cert.specs.declared.cert.Cert.{Cert}
 use Rattle.lpis_release.specs.Release.{Contents}
 use Rattle.lpis_run.specs.CheckAnswer.{Inputs, release_in}
-use Rattle.lpis_run.specs.Folders.{folder_by, tables_by}
+use Rattle.lpis_run.specs.Folders.{folder_by, tables_by, top_by}
 use Rattle.lpis_run.specs.declared.folder.Folder.{Folder}
 use Rattle.lpis_run.specs.declared.folder.Tables.{Tables}
+use Rattle.lpis_run.specs.declared.folder.Top.{Top}
 
 abbrev pub tables_of : Tables (Vec ℕ Global) → Tables (List ℕ)
 tables_of = tables_by (λ v. v.items)
 
 abbrev pub inputs_of : Folder (Vec ℕ Global) → Inputs
 inputs_of = folder_by (λ v. v.items)
+
+abbrev pub top_of : Top (Vec ℕ Global) → Top (List ℕ)
+top_of = top_by (λ v. v.items)
 
 -- tables and a text say a release and a certificate
 abbrev pub Say : Inputs → Contents → Cert → Type 0

@@ -1,10 +1,9 @@
-//! The files of a release: their readers, and their bytes.
+//! The files that a command reads: their readers, and their bytes.
 
 ghost use Rattle.std.specs.Prelude.{IfErr, IfOk};
 ghost use Rattle.lpis_run.specs.CheckAnswer.{AreRead, AreTablesRead};
-ghost use Rattle.lpis_run.specs.Failures.{IsUnchecked, IsUnreadRelease};
-ghost use Rattle.lpis_run.specs.Folders.{AreTablesUntouched, IsFolderUntouched};
-ghost use Rattle.lpis_run.specs.Folders.{folder_by, tables_by};
+ghost use Rattle.lpis_run.specs.Failures.{AreUnread, AreUntouched};
+ghost use Rattle.lpis_run.specs.Folders.{folder_by, folder_named, tables_by, tables_named};
 ghost use Rattle.lpis_run.specs.Inputs.{inputs_of, tables_of};
 
 use crate::failure::{Failure, Name};
@@ -43,6 +42,15 @@ pub struct Submission<T: Drop> {
     pub lineage: T,
 }
 
+/// The two files at the top of a country's folder.
+#[derive(Debug, Drop)]
+pub struct Top<T: Drop> {
+    /// The text that says how the country is cut into regions.
+    pub plan: T,
+    /// The table of classes that all regions have.
+    pub classes: T,
+}
+
 /// All bytes of the tables, which are read in their order. Where one is not read, those behind it
 /// are as they were.
 pub fn read_tables<R: Read + Drop>(
@@ -51,8 +59,9 @@ pub fn read_tables<R: Read + Drop>(
 ) -> Result<Tables<Vec<u8>>, Failure>
     ensures read { IfOk result (λ t. AreTablesRead (tables_of t)
         (tables_by R.remaining tables.old)) }
-    ensures failure { IfErr result (IsUnreadRelease (tables_by R.remaining tables.old)) }
-    ensures untouched { IfErr result (AreTablesUntouched tables.old tables.new) }
+    ensures failure { IfErr result (AreUnread (tables_named (tables_by R.remaining tables.old))) }
+    ensures untouched { IfErr result
+        (AreUntouched (tables_named tables.old) (tables_named tables.new)) }
 {
     let parcels = read_lent(alloc, &mut tables.parcels, Name::Parcels)?;
     let covers = read_lent(alloc, &mut tables.covers, Name::Covers)?;
@@ -71,8 +80,9 @@ pub fn read_folder<R: Read + Drop>(
     folder: &mut Folder<R>,
 ) -> Result<Folder<Vec<u8>>, Failure>
     ensures read { IfOk result (λ i. AreRead (inputs_of i) (folder_by R.remaining folder.old)) }
-    ensures failure { IfErr result (IsUnchecked (folder_by R.remaining folder.old)) }
-    ensures untouched { IfErr result (IsFolderUntouched folder.old folder.new) }
+    ensures failure { IfErr result (AreUnread (folder_named (folder_by R.remaining folder.old))) }
+    ensures untouched { IfErr result
+        (AreUntouched (folder_named folder.old) (folder_named folder.new)) }
 {
     let tables = read_tables(alloc, &mut folder.tables)?;
     let cert = read_lent(alloc, &mut folder.cert, Name::Cert)?;
