@@ -33,7 +33,7 @@ pub use outputs::write_text;
 pub use printing::{PrintFault, print_line};
 pub use reading::{GREATEST_LIMIT, ReadFault, read_all, read_lent, read_named};
 pub use refusal::{print_region, print_table_fault};
-pub use report::{print_parcel, report};
+pub use report::{print_parcel, report_of};
 pub use status::{DONE, FAILED, REFUSED, UNREADABLE, status_of};
 pub use stop::Stop;
 pub use understanding::{ReadInputs, certificate_in, release_in, understand};

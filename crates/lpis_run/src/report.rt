@@ -104,7 +104,7 @@ fn print_report<W: Write>(release: &Release, out: &mut W) -> Result<(), PrintFau
 /// The report of a release that is a sound map: how many parcels and pieces it has, the area and
 /// the maximum eligible area of each parcel in the order of their table, the sums over all parcels,
 /// and the yes.
-pub fn report(alloc: Global, release: &Release) -> Result<Vec<u8>, AllocError>
+pub fn report_of(alloc: Global, release: &Release) -> Result<Vec<u8>, AllocError>
     requires { IsSoundMap release.now }
     ensures { IfOk result (λ text. text.items ≡ report_text release.now) }
 {

@@ -12,7 +12,7 @@ ghost use Rattle.lpis_run.specs.Status.{done};
 ghost use Rattle.lpis_run_check.specs.CheckRun.{Checks};
 
 use lpis_release::Release;
-use lpis_run::{Answer, DONE, Failure, Folder, checked_release, read_folder, report};
+use lpis_run::{Answer, DONE, Failure, Folder, checked_release, read_folder, report_of};
 use std::alloc::{AllocError, Global};
 use std::io::{Read, Write};
 
@@ -22,7 +22,7 @@ fn say_done(alloc: Global, release: &Release) -> Result<Answer, AllocError>
     ensures { IfOk result (λ a. (a.text.items ≡ report_text release.now) × (a.status ≡ done)) }
 {
     Ok(Answer {
-        text: report(alloc, release)?,
+        text: report_of(alloc, release)?,
         status: DONE,
     })
 }

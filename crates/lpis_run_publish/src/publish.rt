@@ -35,7 +35,7 @@ use lpis_cert::Cert;
 use lpis_checker::Yes;
 use lpis_lineage::{Change, Row};
 use lpis_register::{Accepted, PublishFault, Register};
-use lpis_run::{Answer, DONE, Failure, PrintFault, REFUSED, Submission, report, say_yes};
+use lpis_run::{Answer, DONE, Failure, PrintFault, REFUSED, Submission, report_of, say_yes};
 use lpis_tables::Id;
 use sqlite::Alter;
 use std::alloc::{AllocError, Global};
@@ -127,7 +127,7 @@ fn publish_reported<S: Alter>(
     ensures cause { IfErr result (λ failure. HasStoreCause S.Store accepted register.old
         register.new (failure ≡ Store)) }
 {
-    let head = report(alloc, yes.release())?;
+    let head = report_of(alloc, yes.release())?;
     publish_accepted(alloc, register, year, head, accepted)
 }
 

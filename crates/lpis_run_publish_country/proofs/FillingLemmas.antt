@@ -157,7 +157,8 @@ appends-nothing (Some xs) = sym (append-nil xs)
 -- ---- a region is refused
 module _ (given : CountryFiles) (x : PublishCountryInputs) (p : Prepared) (h : IsPrepared given x p) (before : Holdings) where
   -- its line ends the run
-  refused-end : (g : Setting) (regions : List Contents) (left : List (List ℕ)) (end : Answer) → IsBehind g (λ rs a. a ≡ (country_lines (length rs) (country_of g.classes rs), done)) regions left end → end.1 ≢ done
+  refused-end : (g : Setting) (regions : List Contents) (left : List (List ℕ)) (end : Answer)
+      → IsBehind g (λ rs a. a ≡ (country_lines (length rs) (country_of g.classes rs), done)) regions left end → end.1 ≢ done
       → IsFillEnd g h.tables regions left before (record { cert = None; line = end.0; status = end.1 })
   refused-end g regions [] end is other = absurd (other (ap (λ (a : Answer). a.1) is))
   refused-end g regions (name ∷ left) end is other = (is, refl)

@@ -143,7 +143,7 @@ IsUnionAnswer c regions before after a =
     ⊎ (IsCountryPublished c regions before after
     × (a ≡ (country_publication_text c regions before, done)))
 
--- the lines of the regions up to the first that is refused, and at the end the answer to their union
+-- the lines of the regions up to the first that is refused; at the end the answer to their union
 abbrev pub IsRegionsPublishAnswer : CountryCandidate → Holdings → Holdings → Answer → Type 0
 IsRegionsPublishAnswer c before after =
     AfterRegions c.setting (λ regions. IsUnionAnswer c regions before after)
