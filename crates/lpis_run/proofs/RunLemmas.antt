@@ -16,10 +16,11 @@ use Rattle.std.specs.Io.KnownBytes.{Keeps}
 
 -- where an input is not read, or memory runs out, the failure says no more
 first-unread : (inputs : List (Name × Known)) (f : Failure) → IsFirstUnread inputs f → (name : Name) × (f ≡ Read name)
-first-unread [] f no = absurd no
+first-unread [] f never = absurd never
 first-unread (input ∷ inputs) f (inl is) = (input.0, is)
 first-unread (input ∷ inputs) f (inr (within, unread)) = first-unread inputs f unread
 
+-- so it is where some input is not read
 pub some_unread : (inputs : List (Name × Known)) (f : Failure) → AreUnread inputs f → (f ≡ Memory) ⊎ ((name : Name) × (f ≡ Read name))
 some_unread inputs f (inl memory) = inl memory
 some_unread inputs f (inr unread) = inr (first-unread inputs f unread)
