@@ -148,6 +148,9 @@ def items(text):
                 yield (head + text[start:at]).strip(), clauses, ""
                 at += 1
                 break
+            if sign == "{" and depth > 0:  # of an array's item
+                at = closing(text, at) + 1
+                continue
             if sign == "{":
                 end = closing(text, at)
                 head += text[start:at]

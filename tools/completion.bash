@@ -6,27 +6,30 @@ _lpis_files() { mapfile -t COMPREPLY < <(compgen "$@" -- "${COMP_WORDS[COMP_CWOR
 # The table of commands and their words, in the repository or installed.
 _lpis_words=$(cat -- "${BASH_SOURCE[0]%/*}"/{,../../../lib/lpis/}words.txt 2>/dev/null | grep -v -e '^#' -e '^$')
 
-# By the command and the place of the word among those that are no options: a folder, a number or an identifier, or a file.
+# By the command and the place of the word among those that are no options: a folder, a number or an identifier, or a file; or its options.
 _lpis() {
-  local row word before='' place=0
+  local words row=() options=() valued=' ' word before='' place=0
   if [[ $COMP_CWORD -eq 1 ]]; then
     _lpis_files -W "$(sed -n '/^[^ ]*\/ /!s/ .*//p' <<<"$_lpis_words") --help --version"
     return
   fi
-  read -ra row < <(grep "^${COMP_WORDS[1]-} " <<<"$_lpis_words")
+  read -ra words < <(grep "^${COMP_WORDS[1]-} " <<<"$_lpis_words")
+  for word in "${words[@]}"; do
+    case $word in
+      --*=*) options+=("${word%%=*}") valued+="${word%%=*} " ;;
+      --*) options+=("$word") ;;
+      *) row+=("$word") ;;
+    esac
+  done
   for word in "${COMP_WORDS[@]:1:COMP_CWORD-1}"; do
-    [[ $word == -* || $before == --exact ]] || place=$((place + 1))
+    [[ $word == -* || $valued == *" $before "* ]] || place=$((place + 1))
     before=$word
   done
-  if [[ $before == --exact ]]; then
+  if [[ $valued == *" $before "* ]]; then
     _lpis_files -f
     return
   elif [[ ${COMP_WORDS[COMP_CWORD]} == -* ]]; then
-    case ${COMP_WORDS[1]} in
-      country) _lpis_files -W --parcels ;;
-      publish-country) _lpis_files -W '--exact --parcels' ;;
-      *) COMPREPLY=() ;;
-    esac
+    _lpis_files -W "${options[*]}"
     return
   fi
   [[ ${row[*]} != *' -..' || $place -lt ${#row[@]} ]] || place=$((${#row[@]} - 1))

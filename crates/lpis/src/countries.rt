@@ -3,75 +3,56 @@
 
 use crate::created::Created;
 use crate::folders::Folders;
-use crate::open;
-use lpis_command_line::NamedFile;
+use crate::opening::{open, open_if_named, open_top};
+use lpis_command_line::{CountryFolder, NamedFile};
 use lpis_register::Register;
 use lpis_run::{Detail, Failure};
 use lpis_run_country::run_country;
-use lpis_run_locate::run_locate_country;
+use lpis_run_locate::{PointsIn, run_locate_country};
 use lpis_run_publish_country::{run_exact_country, run_publish_country};
 use sqlite::Alter;
-use std::fs::File;
 
-/// Checks the country of a folder, region by region.
+/// Checks a country, region by region.
 pub(crate) fn check_country(
     rt: &HostRuntime,
-    dir: &str,
-    country: &NamedFile,
-    classes: &NamedFile,
+    country: &CountryFolder<'_>,
     detail: Detail,
 ) -> Result<u8, Failure> {
-    let country = open(rt, country)?;
-    let classes = open(rt, classes)?;
-    let folders = Folders::new(rt, dir);
+    let top = open_top(rt, &country.top)?;
+    let folders = Folders::new(rt, country.path);
     let mut out = rt.stdout();
-    run_country(rt.alloc(), country, classes, &folders, detail, &mut out)
+    run_country(rt.alloc(), top, &folders, detail, &mut out)
 }
 
-/// Finds the points of this table in the country of a folder, which is checked first.
+/// Finds the points of this table in a country, which is checked first.
 pub(crate) fn locate_in_country(
     rt: &HostRuntime,
-    dir: &str,
-    country: &NamedFile,
-    classes: &NamedFile,
-    points: &NamedFile,
+    country: &CountryFolder<'_>,
+    points: &NamedFile<'_>,
 ) -> Result<u8, Failure> {
-    let country = open(rt, country)?;
-    let classes = open(rt, classes)?;
+    let files = open_top(rt, &country.top)?;
     let points = open(rt, points)?;
-    let folders = Folders::new(rt, dir);
+    let folders = Folders::new(rt, country.path);
     let mut out = rt.stdout();
-    run_locate_country(rt.alloc(), country, classes, points, &folders, &mut out)
-}
-
-/// Opens an input, where one is named.
-fn open_if_named(rt: &HostRuntime, input: &Option<NamedFile>) -> Result<Option<File>, Failure> {
-    match input {
-        Some(input) => Ok(Some(open(rt, input)?)),
-        None => Ok(None),
-    }
+    run_locate_country(rt.alloc(), PointsIn { files, points }, &folders, &mut out)
 }
 
 /// Writes the blocks that the marks of a country's lineage ask for after a register.
 pub(crate) fn fill_country<S: Alter>(
     rt: &HostRuntime,
     register: &Register<S>,
-    dir: &str,
-    country: &NamedFile,
-    classes: &NamedFile,
-    filled: &NamedFile,
+    country: &CountryFolder<'_>,
+    filled: &str,
 ) -> Result<u8, Failure> {
-    let country = open(rt, country)?;
-    let classes = open(rt, classes)?;
-    let folders = Folders::new(rt, dir);
+    let top = open_top(rt, &country.top)?;
+    let folders = Folders::new(rt, country.path);
     // Where there are no such blocks, a file that stands at this path stays as it is.
-    let mut filled = Created::new(rt, filled.path.as_str());
+    let mut filled = Created::new(rt, filled);
     let mut out = rt.stdout();
     run_exact_country(
         rt.alloc(),
         register,
-        country,
-        classes,
+        top,
         &folders,
         &folders,
         &mut filled,
@@ -79,28 +60,24 @@ pub(crate) fn fill_country<S: Alter>(
     )
 }
 
-/// Publishes the country of a folder in a register.
+/// Publishes a country in a register.
 pub(crate) fn publish_country<S: Alter>(
     rt: &HostRuntime,
     register: &mut Register<S>,
     year: u16,
-    dir: &str,
-    country: &NamedFile,
-    classes: &NamedFile,
-    exact: &Option<NamedFile>,
+    country: &CountryFolder<'_>,
+    exact: &Option<NamedFile<'_>>,
     detail: Detail,
 ) -> Result<u8, Failure> {
-    let country = open(rt, country)?;
-    let classes = open(rt, classes)?;
+    let top = open_top(rt, &country.top)?;
     let exact = open_if_named(rt, exact)?;
-    let folders = Folders::new(rt, dir);
+    let folders = Folders::new(rt, country.path);
     let mut out = rt.stdout();
     run_publish_country(
         rt.alloc(),
         register,
         year,
-        country,
-        classes,
+        top,
         exact,
         &folders,
         &folders,

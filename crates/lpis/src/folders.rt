@@ -3,9 +3,9 @@
 ghost use Rattle.std.specs.Prelude.{IfErr, None, true};
 ghost use Rattle.lpis_run_country.specs.CountryFailures.{IsUnopened};
 
-use crate::open_at;
-use lpis_command_line::{RegionFiles, region_files, region_lineage};
-use lpis_run::{Failure, Folder, Name, TableReaders};
+use crate::opening::{open, open_folder};
+use lpis_command_line::{lineage_in, path_in, region_in};
+use lpis_run::{Failure, Folder};
 use lpis_run_country::Regions;
 use lpis_run_publish_country::Lineages;
 use std::fs::File;
@@ -25,7 +25,7 @@ impl<'a> Folders<'a> {
 }
 
 /// Opens the four files of a region's folder, or reports the first that cannot be read.
-fn open_folder(rt: &HostRuntime, files: &RegionFiles) -> Result<Folder<File>, Failure>
+fn open_region(rt: &HostRuntime, folder: &str) -> Result<Folder<File>, Failure>
     ensures { IfErr result (IsUnopened (record {
       may_be_missing = λ _. true;
       given = record {
@@ -34,18 +34,7 @@ fn open_folder(rt: &HostRuntime, files: &RegionFiles) -> Result<Folder<File>, Fa
       };
     })) }
 {
-    let parcels = open_at(rt, files.tables.parcels.path.as_str(), Name::Parcels)?;
-    let covers = open_at(rt, files.tables.covers.path.as_str(), Name::Covers)?;
-    let classes = open_at(rt, files.tables.classes.path.as_str(), Name::Classes)?;
-    let cert = open_at(rt, files.cert.path.as_str(), Name::Cert)?;
-    Ok(Folder {
-        tables: TableReaders {
-            parcels,
-            covers,
-            classes,
-        },
-        cert,
-    })
+    open_folder(rt, &region_in(folder))
 }
 
 impl Regions for Folders<'_> {
@@ -63,8 +52,8 @@ impl Regions for Folders<'_> {
     } };
 
     fn open(&self, name: &str) -> Result<Folder<File>, Failure> {
-        let files = region_files(self.rt.alloc(), self.dir, name)?;
-        open_folder(self.rt, &files)
+        let folder = path_in(self.rt.alloc(), self.dir, name)?;
+        open_region(self.rt, folder.as_str())
     }
 }
 
@@ -77,7 +66,7 @@ impl Lineages for Folders<'_> {
     ghost lineages = { λ _ _. None };
 
     fn open_lineage(&self, name: &str) -> Result<File, Failure> {
-        let table = region_lineage(self.rt.alloc(), self.dir, name)?;
-        open_at(self.rt, table.path.as_str(), Name::Lineage)
+        let folder = path_in(self.rt.alloc(), self.dir, name)?;
+        open(self.rt, &lineage_in(folder.as_str()))
     }
 }

@@ -1,4 +1,6 @@
-pub mod Command
+pub mod Arguments
+pub mod Commands
 pub mod Files
 pub mod Usage
+pub mod Words
 pub mod private

@@ -1,2 +1,3 @@
 -- Machinery, cited by private contracts alone: no promise rests on it.
-pub mod Commands
+pub mod Found
+pub mod Table

@@ -1,18 +1,18 @@
-//! The words of the command line, with their help, and the files that a command names.
+//! The words of the command line, with their help, and what they ask for: a command with its files.
 //!
-//! The layer above may cite: which command words ask for, and its files in the order in which they
-//! are opened.
-//! Begin at `specs/Command.antt`, then `src/command.rt`.
+//! The layer above may cite: which command words ask for, with its files and its other words.
+//! Begin at `specs/Commands.antt`, then `src/commands.rt`.
 #![tactic(auto)]
 
-mod command;
+mod arguments;
 mod command_line;
-mod named;
+mod commands;
+mod files;
+mod request;
 mod usage;
+mod words;
 
-pub use command::{Cmd, command_of, matches_of};
-pub use named::{
-    CommandFiles, NamedFile, RegionFiles, SubmissionFiles, TableFiles, named_files, region_files,
-    region_lineage,
-};
+pub use commands::{Job, Request};
+pub use files::{CountryFolder, NamedFile, lineage_in, path_in, region_in};
+pub use request::{matches_of, request_of};
 pub use usage::usage_ends;

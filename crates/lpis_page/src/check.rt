@@ -5,7 +5,7 @@ ghost use Rattle.lpis_page.specs.Calls.{IsCheckOf, IsUnansweredOr, inputs};
 ghost use Rattle.lpis_run.specs.Status.{failed};
 
 use crate::reply::Reply;
-use lpis_run::{Answer, Failure, Folder, TableReaders};
+use lpis_run::{Answer, Failure, Folder, Tables};
 use lpis_run_check::run_check;
 use std::alloc::Global;
 
@@ -21,7 +21,7 @@ fn answer_to(
         a.status a.text.items) }
 {
     let mut folder = Folder {
-        tables: TableReaders {
+        tables: Tables {
             parcels,
             covers,
             classes,

@@ -5,7 +5,7 @@ ghost use Rattle.lpis_page.specs.Calls.{IsCutOf, IsUncutOr};
 ghost use Rattle.lpis_run.specs.Status.{failed};
 
 use crate::reply::{Reply, put};
-use lpis_run::{Answer, Failure, TableReaders};
+use lpis_run::{Answer, Failure, Tables};
 use lpis_run_check::run_cut;
 use std::alloc::Global;
 
@@ -54,7 +54,7 @@ fn cut_of(alloc: Global, parcels: &[u8], covers: &[u8], classes: &[u8]) -> Resul
     ensures { IfOk result (λ c. IsCutOf parcels.now covers.now classes.now c.line.status
         c.cert.items c.line.text.items) }
 {
-    let mut tables = TableReaders {
+    let mut tables = Tables {
         parcels,
         covers,
         classes,

@@ -1,16 +1,29 @@
 -- How a run ends.
-use Rattle.std.proofs.Common.{◌≡◌, ◌⊎◌, inl, inr, subst, sym, ℕ, List, Option, Result, Ok, Err, IfErr, IfOk, OnOk}
+use Rattle.std.proofs.Common.{◌≡◌, ◌⊎◌, ◌∷◌, [], inl, inr, subst, sym, ℕ, List, Option, Result, Ok, Err, IfErr, IfOk, OnOk}
 use Rattle.std.proofs.KnownBytes.{Keeps-refl}
 use Rattle.std.proofs.lemmas.Result.{IfErr-weaker, IfOk-weaker}
 use Rattle.lpis_run.specs.CheckAnswer.{Answer}
 use Rattle.lpis_run.specs.Outputs.{BreaksOff, Held, Outputs, Writes}
 use Rattle.lpis_run.specs.Run.{BreaksOffIn, Runs, RunsBoth, RunsOn}
-use Rattle.lpis_run.specs.Streams.{Begins}
+use Rattle.lpis_run.specs.Failures.{AreUnread, IsFirstUnread}
+use Rattle.lpis_run.specs.Streams.{Begins, Known}
 use Rattle.lpis_run.specs.declared.failure.Failure.{Failure}
-use Rattle.lpis_run.specs.declared.failure.Failure.TheVariants.{Write}
+use Rattle.lpis_run.specs.declared.failure.Failure.TheVariants.{Memory, Read, Write}
+use Rattle.lpis_run.specs.declared.failure.Name.{Name}
 use Rattle.lpis_run.specs.declared.failure.Name.TheVariants.{Out}
 use Rattle.lpis_run.proofs.Common.{Appends}
 use Rattle.std.specs.Io.KnownBytes.{Keeps}
+
+-- where an input is not read, or memory runs out, the failure says no more
+first-unread : (inputs : List (Name × Known)) (f : Failure) → IsFirstUnread inputs f → (name : Name) × (f ≡ Read name)
+first-unread [] f never = absurd never
+first-unread (input ∷ inputs) f (inl is) = (input.0, is)
+first-unread (input ∷ inputs) f (inr (within, unread)) = first-unread inputs f unread
+
+-- so it is where some input is not read
+pub some_unread : (inputs : List (Name × Known)) (f : Failure) → AreUnread inputs f → (f ≡ Memory) ⊎ ((name : Name) × (f ≡ Read name))
+some_unread inputs f (inl memory) = inl memory
+some_unread inputs f (inr unread) = inr (first-unread inputs f unread)
 
 -- a run that was stopped wrote nothing
 pub runs_stopped : (Stops : Failure → Type 0) (Answers : Answer → Type 0) (out : Option (List ℕ)) (failure : Failure) → Stops failure → Runs Stops Answers out out (Err failure)

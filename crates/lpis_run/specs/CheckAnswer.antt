@@ -15,21 +15,16 @@ use Rattle.lpis_checker.specs.SoundMap.{IsSoundMap}
 use Rattle.lpis_run.specs.Refusals.{cert_refusal_text, check_refusal_text, refusal_text}
 use Rattle.lpis_run.specs.Report.{report_text}
 use Rattle.lpis_run.specs.Status.{done, refused, unreadable}
-use Rattle.lpis_run.specs.Streams.{FolderTexts, IsRead, TableTexts}
-
--- the bytes of three tables
-pub record Tables : Type 0 where
-  pub parcels : List ℕ
-  pub covers : List ℕ
-  pub classes : List ℕ
+use Rattle.lpis_run.specs.Streams.{IsRead, Known}
+use Rattle.lpis_run.specs.declared.folder.Folder.{Folder}
+use Rattle.lpis_run.specs.declared.folder.Tables.{Tables}
 
 -- the bytes of three tables and a certificate
-pub record Inputs : Type 0 where
-  pub tables : Tables
-  pub cert : List ℕ
+abbrev pub Inputs : Type 0
+Inputs = Folder (List ℕ)
 
 -- the release that tables say, or their first fault
-abbrev pub release_in : Tables → Result Contents TableFault
+abbrev pub release_in : Tables (List ℕ) → Result Contents TableFault
 release_in t = release_of t.parcels t.covers t.classes
 
 -- a text with a status
@@ -81,10 +76,10 @@ abbrev pub IsProved : Inputs → Type 0
 IsProved x = (release : Contents) × IsProvedOf x release
 
 -- tables are what three readers reported, as far as it is known
-abbrev pub AreTablesRead : Tables → TableTexts → Type 0
+abbrev pub AreTablesRead : Tables (List ℕ) → Tables Known → Type 0
 AreTablesRead x t =
     IsRead x.parcels t.parcels × IsRead x.covers t.covers × IsRead x.classes t.classes
 
 -- the inputs are what four readers reported, as far as it is known
-abbrev pub AreRead : Inputs → FolderTexts → Type 0
+abbrev pub AreRead : Inputs → Folder Known → Type 0
 AreRead x f = AreTablesRead x.tables f.tables × IsRead x.cert f.cert

@@ -1,5 +1,5 @@
 -- What stands for a run that gave no answer.
-use Rattle.std.specs.Prelude.{◌≡◌, ◌⊎◌, ℕ, List, ◌++◌, codes}
+use Rattle.std.specs.Prelude.{◌≡◌, ◌⊎◌, ◌∷◌, [], ℕ, List, ◌++◌, codes}
 use Rattle.std.specs.String.{string_bytes}
 use Rattle.lpis_run.specs.declared.failure.Name.{Name}
 use Rattle.lpis_run.specs.declared.failure.Name.TheVariants.{Area, Parcels, Covers, Classes}
@@ -9,7 +9,7 @@ use Rattle.lpis_run.specs.declared.failure.Failure.{Failure}
 use Rattle.lpis_run.specs.declared.failure.Failure.TheVariants.{Memory, Read, ReadOf}
 use Rattle.lpis_run.specs.declared.failure.Failure.TheVariants.{Store, StoreMemory, Write}
 use Rattle.lpis_run.specs.Refusals.{region_end}
-use Rattle.lpis_run.specs.Streams.{FolderTexts, IsWithin, TableTexts}
+use Rattle.lpis_run.specs.Streams.{IsWithin, Known}
 
 -- an input or an output by its name
 abbrev pub name_text : Name → List ℕ
@@ -37,23 +37,20 @@ failure_text StoreMemory = codes "failed store\n"
 abbrev pub IsUnread : Name → Failure → Type 0
 IsUnread name failure = (failure ≡ Memory) ⊎ (failure ≡ Read name)
 
--- a table of a release was not read, while those before it were; or memory ran out
-abbrev pub IsUnreadRelease : TableTexts → Failure → Type 0
-IsUnreadRelease t failure =
-    (failure ≡ Memory) ⊎ (failure ≡ Read Parcels) ⊎ (IsWithin t.parcels × (failure ≡ Read Covers))
-    ⊎ (IsWithin t.parcels × IsWithin t.covers × (failure ≡ Read Classes))
+-- of inputs that are read in this order, each by its name: one was not read, those before it were
+abbrev pub IsFirstUnread : List (Name × Known) → Failure → Type 0
+IsFirstUnread [] failure = ⊥
+IsFirstUnread (input ∷ inputs) failure =
+    (failure ≡ Read input.0) ⊎ (IsWithin input.1 × IsFirstUnread inputs failure)
 
--- what readers reported of each table is within the limit, as far as it is known
-abbrev pub AreWithin : TableTexts → Type 0
-AreWithin t = IsWithin t.parcels × IsWithin t.covers × IsWithin t.classes
+-- so it is, or memory ran out
+abbrev pub AreUnread : List (Name × Known) → Failure → Type 0
+AreUnread inputs failure = (failure ≡ Memory) ⊎ IsFirstUnread inputs failure
 
--- so it is of the tables, or the certificate was not read, while the tables were
-abbrev pub IsUnchecked : FolderTexts → Failure → Type 0
-IsUnchecked f failure =
-    IsUnreadRelease f.tables failure ⊎ (AreWithin f.tables × (failure ≡ Read Cert))
-
--- so it is of these, or the lineage table was not read, while they were
-abbrev pub IsUnpublished : FolderTexts → Failure → Type 0
-IsUnpublished f failure =
-    IsUnchecked f failure
-    ⊎ (AreWithin f.tables × IsWithin f.cert × (failure ≡ Read Lineage))
+-- of readers in this order: where the failure names one, those behind it are as they were, and no
+-- byte was asked of them
+abbrev pub AreUntouched : {R : Type 0} → List (Name × R) → List (Name × R) → Failure → Type 0
+AreUntouched [] [] failure = Unit {0}
+AreUntouched (reader ∷ old) (other ∷ new) failure =
+    (failure ≡ Read reader.0 → new ≡ old) × AreUntouched old new failure
+AreUntouched _ _ failure = ⊥

@@ -1,46 +1,39 @@
--- The readers of a folder's files.
-use Rattle.std.specs.Prelude.{◌≡◌, ◌∷◌, [], ℕ, List, Option}
-use Rattle.lpis_run.specs.Streams.{FolderTexts, TableTexts}
-use Rattle.lpis_run.specs.declared.failure.Failure.{Failure}
-use Rattle.lpis_run.specs.declared.failure.Failure.TheVariants.{Read}
+-- The files that a command reads.
+use Rattle.std.specs.Prelude.{◌∷◌, ◌++◌, [], List}
 use Rattle.lpis_run.specs.declared.failure.Name.{Name}
-use Rattle.lpis_run.specs.declared.failure.Name.TheVariants.{Cert, Classes, Covers, Parcels}
+use Rattle.lpis_run.specs.declared.failure.Name.TheVariants.{Cert, Classes, Country, Covers}
+use Rattle.lpis_run.specs.declared.failure.Name.TheVariants.{Lineage, Parcels}
 use Rattle.lpis_run.specs.declared.folder.Folder.{Folder}
-use Rattle.lpis_run.specs.declared.folder.TableReaders.{TableReaders}
+use Rattle.lpis_run.specs.declared.folder.Submission.{Submission}
+use Rattle.lpis_run.specs.declared.folder.Tables.{Tables}
+use Rattle.lpis_run.specs.declared.folder.Top.{Top}
 
--- ---- what they will give
--- by what is known of each reader
-abbrev pub table_texts : {R : Type 0} → (R → Option (List ℕ)) → TableReaders R → TableTexts
-table_texts remaining t = record {
-  parcels = remaining t.parcels;
-  covers = remaining t.covers;
-  classes = remaining t.classes;
-}
+-- ---- what is kept of them
+-- the same files, of each of which something else is kept
+module _ {S T : Type 0} (f : S → T) where
+  abbrev pub tables_by : Tables S → Tables T
+  tables_by t = record { parcels = f t.parcels; covers = f t.covers; classes = f t.classes }
 
-abbrev pub folder_texts : {R : Type 0} → (R → Option (List ℕ)) → Folder R → FolderTexts
-folder_texts remaining f = record {
-  tables = table_texts remaining f.tables;
-  cert = remaining f.cert;
-}
+  abbrev pub folder_by : Folder S → Folder T
+  folder_by x = record { tables = tables_by x.tables; cert = f x.cert }
 
--- ---- what a failure leaves of them
--- the files of a folder, which are read before an input that stands beside it
-abbrev pub folder_names : List Name
-folder_names = Parcels ∷ Covers ∷ Classes ∷ Cert ∷ []
+  abbrev pub submission_by : Submission S → Submission T
+  submission_by x = record { folder = folder_by x.folder; lineage = f x.lineage }
 
--- where the failure names one of these inputs, a reader is as it was: no byte was asked of it
-abbrev pub IsUntouched : {R : Type 0} → List Name → R → R → Failure → Type 0
-IsUntouched [] old new failure = Unit {0}
-IsUntouched (name ∷ names) old new failure =
-    (failure ≡ Read name → new ≡ old) × IsUntouched names old new failure
+  abbrev pub top_by : Top S → Top T
+  top_by x = record { plan = f x.plan; classes = f x.classes }
 
--- the readers behind the one that the failure names are as they were
-abbrev pub AreTablesUntouched : {R : Type 0} → TableReaders R → TableReaders R → Failure → Type 0
-AreTablesUntouched old new failure =
-    IsUntouched (Parcels ∷ []) old.covers new.covers failure
-    × IsUntouched (Parcels ∷ Covers ∷ []) old.classes new.classes failure
+-- ---- the order in which they are read
+-- each with its name
+module _ {T : Type 0} where
+  abbrev pub tables_named : Tables T → List (Name × T)
+  tables_named t = (Parcels, t.parcels) ∷ (Covers, t.covers) ∷ (Classes, t.classes) ∷ []
 
-abbrev pub IsFolderUntouched : {R : Type 0} → Folder R → Folder R → Failure → Type 0
-IsFolderUntouched old new failure =
-    AreTablesUntouched old.tables new.tables failure
-    × IsUntouched (Parcels ∷ Covers ∷ Classes ∷ []) old.cert new.cert failure
+  abbrev pub folder_named : Folder T → List (Name × T)
+  folder_named x = tables_named x.tables ++ (Cert, x.cert) ∷ []
+
+  abbrev pub submission_named : Submission T → List (Name × T)
+  submission_named x = folder_named x.folder ++ (Lineage, x.lineage) ∷ []
+
+  abbrev pub top_named : Top T → List (Name × T)
+  top_named x = (Country, x.plan) ∷ (Classes, x.classes) ∷ []

@@ -1,21 +1,23 @@
 -- The bytes that a check has read, and what they say.
-use Rattle.std.specs.Prelude.{◌≡◌, Ok}
+use Rattle.std.specs.Prelude.{◌≡◌, ℕ, List, Ok, Vec}
+use Rattle.std.specs.declared.alloc.Global.{Global}
 use Rattle.lpis_cert.specs.Contents.{IsCertText}
 use Rattle.lpis_cert.specs.declared.cert.Cert.{Cert}
 use Rattle.lpis_release.specs.Release.{Contents}
-use Rattle.lpis_run.specs.CheckAnswer.{Inputs, Tables, release_in}
-use Rattle.lpis_run.specs.declared.folder.InputBytes.{InputBytes}
-use Rattle.lpis_run.specs.declared.folder.TableBytes.{TableBytes}
+use Rattle.lpis_run.specs.CheckAnswer.{Inputs, release_in}
+use Rattle.lpis_run.specs.Folders.{folder_by, tables_by, top_by}
+use Rattle.lpis_run.specs.declared.folder.Folder.{Folder}
+use Rattle.lpis_run.specs.declared.folder.Tables.{Tables}
+use Rattle.lpis_run.specs.declared.folder.Top.{Top}
 
-abbrev pub tables_of : TableBytes → Tables
-tables_of t = record {
-  parcels = t.parcels.items;
-  covers = t.covers.items;
-  classes = t.classes.items;
-}
+abbrev pub tables_of : Tables (Vec ℕ Global) → Tables (List ℕ)
+tables_of = tables_by (λ v. v.items)
 
-abbrev pub inputs_of : InputBytes → Inputs
-inputs_of i = record { tables = tables_of i.tables; cert = i.cert.items }
+abbrev pub inputs_of : Folder (Vec ℕ Global) → Inputs
+inputs_of = folder_by (λ v. v.items)
+
+abbrev pub top_of : Top (Vec ℕ Global) → Top (List ℕ)
+top_of = top_by (λ v. v.items)
 
 -- tables and a text say a release and a certificate
 abbrev pub Say : Inputs → Contents → Cert → Type 0

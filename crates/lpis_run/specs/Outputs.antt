@@ -1,12 +1,12 @@
 -- What a run that writes a certificate has decided, and what its two writers got of it.
-use Rattle.std.specs.Prelude.{◌≡◌, ◌⊎◌, ℕ, List, Option, MatchOption}
+use Rattle.std.specs.Prelude.{◌≡◌, ◌⊎◌, ◌++◌, ℕ, List, Option, MatchOption}
 use Rattle.std.specs.Option.{option_map}
 use Rattle.std.specs.Io.KnownBytes.{Appends, Keeps}
 use Rattle.lpis_run.specs.declared.failure.Failure.{Failure}
 use Rattle.lpis_run.specs.declared.failure.Failure.TheVariants.{Write}
 use Rattle.lpis_run.specs.declared.failure.Name.TheVariants.{Cert, Out}
 use Rattle.lpis_run.specs.declared.outcome.Outcome.{Outcome}
-use Rattle.lpis_run.specs.Streams.{Begins}
+use Rattle.lpis_run.specs.Streams.{Begins, Known}
 
 -- the certificate's text, if there is one; the line that is printed; the status
 pub record Outputs : Type 0 where
@@ -22,19 +22,19 @@ outputs_of o = record {
 }
 
 -- a writer got a text where there is one, else nothing
-abbrev pub Gets : Option (List ℕ) → Option (List ℕ) → Option (List ℕ) → Type 0
+abbrev pub Gets : Known → Known → Option (List ℕ) → Type 0
 Gets old new text = MatchOption text (Keeps old new) (Appends old new)
 
 -- it got a beginning of a text that there is
-abbrev pub GetsPart : Option (List ℕ) → Option (List ℕ) → Option (List ℕ) → Type 0
+abbrev pub GetsPart : Known → Known → Option (List ℕ) → Type 0
 GetsPart old new text = MatchOption text ⊥ (Begins old new)
 
 -- what a run's two writers hold, the certificate's and the other: before, and after
 pub record Held : Type 0 where
-  pub cert : Option (List ℕ)
-  pub out : Option (List ℕ)
+  pub cert : Known
+  pub out : Known
 
-abbrev pub held : Option (List ℕ) → Option (List ℕ) → Held
+abbrev pub held : Known → Known → Held
 held cert out = record { cert = cert; out = out }
 
 -- the run answered with this status, and wrote the certificate, if there is one, and the line
@@ -49,3 +49,7 @@ abbrev pub BreaksOff : Outputs → Failure → Held → Held → Type 0
 BreaksOff a failure old new =
     ((failure ≡ Write Cert) × GetsPart old.cert new.cert a.cert × Keeps old.out new.out)
     ⊎ ((failure ≡ Write Out) × Gets old.cert new.cert a.cert × Begins old.out new.out a.line)
+
+-- the outputs with these lines before their own
+abbrev pub behind : List ℕ → Outputs → Outputs
+behind lines a = record a { line = lines ++ a.line }

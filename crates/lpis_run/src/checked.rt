@@ -10,7 +10,7 @@ ghost use Rattle.lpis_run.specs.Status.{refused};
 ghost use Rattle.lpis_run.specs.Stops.{IsRefusedAs};
 
 use crate::answer::Answer;
-use crate::folder::InputBytes;
+use crate::folder::Folder;
 use crate::refusal::print_check_fault;
 use crate::status::REFUSED;
 use crate::stop::Stop;
@@ -63,7 +63,7 @@ fn proved_release(alloc: Global, read: ReadInputs) -> Result<Release, Stop>
 
 /// The release of three tables, if it is a sound map by the certificate, or the line that refuses
 /// them.
-pub fn checked_release(alloc: Global, inputs: InputBytes) -> Result<Release, Stop>
+pub fn checked_release(alloc: Global, inputs: Folder<Vec<u8>>) -> Result<Release, Stop>
     ensures release { IfOk result (IsProvedOf (inputs_of inputs)) }
     ensures refused { IfErr result (IsRefusedAs (IsRefusal (inputs_of inputs))) }
 {

@@ -1,10 +1,9 @@
-//! The readers of a folder's files, and their bytes.
+//! The files that a command reads: their readers, and their bytes.
 
 ghost use Rattle.std.specs.Prelude.{IfErr, IfOk};
 ghost use Rattle.lpis_run.specs.CheckAnswer.{AreRead, AreTablesRead};
-ghost use Rattle.lpis_run.specs.Failures.{IsUnchecked, IsUnreadRelease};
-ghost use Rattle.lpis_run.specs.Folders.{AreTablesUntouched, IsFolderUntouched};
-ghost use Rattle.lpis_run.specs.Folders.{folder_texts, table_texts};
+ghost use Rattle.lpis_run.specs.Failures.{AreUnread, AreUntouched};
+ghost use Rattle.lpis_run.specs.Folders.{folder_by, folder_named, tables_by, tables_named};
 ghost use Rattle.lpis_run.specs.Inputs.{inputs_of, tables_of};
 
 use crate::failure::{Failure, Name};
@@ -12,61 +11,62 @@ use crate::reading::read_lent;
 use std::alloc::Global;
 use std::io::Read;
 
-/// The readers of the tables of a release.
-#[derive(Drop)]
-pub struct TableReaders<R: Drop> {
+/// The tables of a release, in the order in which they are opened and read: what is kept of each, as
+/// a reader or bytes.
+#[derive(Debug, Drop)]
+pub struct Tables<T: Drop> {
     /// The parcels table.
-    pub parcels: R,
+    pub parcels: T,
     /// The covers table.
-    pub covers: R,
+    pub covers: T,
     /// The classes table.
-    pub classes: R,
+    pub classes: T,
 }
 
-/// The readers of the files of a release that has a certificate.
-#[derive(Drop)]
-pub struct Folder<R: Drop> {
+/// The files of a release that has a certificate.
+#[derive(Debug, Drop)]
+pub struct Folder<T: Drop> {
     /// The tables of the release.
-    pub tables: TableReaders<R>,
+    pub tables: Tables<T>,
     /// The certificate.
-    pub cert: R,
+    pub cert: T,
 }
 
-/// The bytes of the three tables of a release.
-#[derive(Drop)]
-pub struct TableBytes {
-    /// The parcels table.
-    pub parcels: Vec<u8>,
-    /// The covers table.
-    pub covers: Vec<u8>,
-    /// The classes table.
-    pub classes: Vec<u8>,
+/// The files of a release that is handed in to be published, or to be given the blocks of its exact
+/// lineage.
+#[derive(Debug, Drop)]
+pub struct Submission<T: Drop> {
+    /// The tables of the release and its certificate.
+    pub folder: Folder<T>,
+    /// The lineage table.
+    pub lineage: T,
 }
 
-/// The bytes of three tables and a certificate.
-#[derive(Drop)]
-pub struct InputBytes {
-    /// The tables.
-    pub tables: TableBytes,
-    /// The certificate.
-    pub cert: Vec<u8>,
+/// The two files at the top of a country's folder.
+#[derive(Debug, Drop)]
+pub struct Top<T: Drop> {
+    /// The text that says how the country is cut into regions.
+    pub plan: T,
+    /// The table of classes that all regions have.
+    pub classes: T,
 }
 
 /// All bytes of the tables, which are read in their order. Where one is not read, those behind it
 /// are as they were.
 pub fn read_tables<R: Read + Drop>(
     alloc: Global,
-    tables: &mut TableReaders<R>,
-) -> Result<TableBytes, Failure>
+    tables: &mut Tables<R>,
+) -> Result<Tables<Vec<u8>>, Failure>
     ensures read { IfOk result (λ t. AreTablesRead (tables_of t)
-        (table_texts R.remaining tables.old)) }
-    ensures failure { IfErr result (IsUnreadRelease (table_texts R.remaining tables.old)) }
-    ensures untouched { IfErr result (AreTablesUntouched tables.old tables.new) }
+        (tables_by R.remaining tables.old)) }
+    ensures failure { IfErr result (AreUnread (tables_named (tables_by R.remaining tables.old))) }
+    ensures untouched { IfErr result
+        (AreUntouched (tables_named tables.old) (tables_named tables.new)) }
 {
     let parcels = read_lent(alloc, &mut tables.parcels, Name::Parcels)?;
     let covers = read_lent(alloc, &mut tables.covers, Name::Covers)?;
     let classes = read_lent(alloc, &mut tables.classes, Name::Classes)?;
-    Ok(TableBytes {
+    Ok(Tables {
         parcels,
         covers,
         classes,
@@ -78,12 +78,13 @@ pub fn read_tables<R: Read + Drop>(
 pub fn read_folder<R: Read + Drop>(
     alloc: Global,
     folder: &mut Folder<R>,
-) -> Result<InputBytes, Failure>
-    ensures read { IfOk result (λ i. AreRead (inputs_of i) (folder_texts R.remaining folder.old)) }
-    ensures failure { IfErr result (IsUnchecked (folder_texts R.remaining folder.old)) }
-    ensures untouched { IfErr result (IsFolderUntouched folder.old folder.new) }
+) -> Result<Folder<Vec<u8>>, Failure>
+    ensures read { IfOk result (λ i. AreRead (inputs_of i) (folder_by R.remaining folder.old)) }
+    ensures failure { IfErr result (AreUnread (folder_named (folder_by R.remaining folder.old))) }
+    ensures untouched { IfErr result
+        (AreUntouched (folder_named folder.old) (folder_named folder.new)) }
 {
     let tables = read_tables(alloc, &mut folder.tables)?;
     let cert = read_lent(alloc, &mut folder.cert, Name::Cert)?;
-    Ok(InputBytes { tables, cert })
+    Ok(Folder { tables, cert })
 }

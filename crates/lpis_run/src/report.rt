@@ -13,8 +13,8 @@ ghost use Rattle.lpis_run.specs.Report.{areas_text, counts_line, parcel_line, re
 
 use crate::areas::{Areas, areas_at, print_areas};
 use crate::printing::PrintFault;
-use lpis_checker::Yes;
 use lpis_release::{Parcel, Release};
+use std::alloc::{AllocError, Global};
 use std::io::Write;
 
 /// Writes the line that counts parcels and pieces.
@@ -88,10 +88,8 @@ fn print_total<W: Write>(sum: Areas, out: &mut W) -> Result<(), PrintFault>
     Ok(())
 }
 
-/// Writes the report of a release that is a sound map: how many parcels and pieces it has, the area
-/// and the maximum eligible area of each parcel in the order of their table, the sums over all
-/// parcels, and the yes.
-pub fn print_report<W: Write>(release: &Release, out: &mut W) -> Result<(), PrintFault>
+/// Writes the report of a release that is a sound map.
+fn print_report<W: Write>(release: &Release, out: &mut W) -> Result<(), PrintFault>
     requires { IsSoundMap release.now }
     ensures { OnOk result (Appends (W.contents out.old) (W.contents out.new)
         (report_text release.now)) }
@@ -103,10 +101,16 @@ pub fn print_report<W: Write>(release: &Release, out: &mut W) -> Result<(), Prin
     print_total(sum, out)
 }
 
-/// Writes the report of a checked release.
-pub fn write_report<W: Write>(yes: &Yes<'_>, out: &mut W) -> Result<(), PrintFault>
-    ensures { OnOk result (Appends (W.contents out.old) (W.contents out.new)
-        (report_text yes.now)) }
+/// The report of a release that is a sound map: how many parcels and pieces it has, the area and
+/// the maximum eligible area of each parcel in the order of their table, the sums over all parcels,
+/// and the yes.
+pub fn report_of(alloc: Global, release: &Release) -> Result<Vec<u8>, AllocError>
+    requires { IsSoundMap release.now }
+    ensures { IfOk result (λ text. text.items ≡ report_text release.now) }
 {
-    print_report(yes.release(), out)
+    let mut text = Vec::new(alloc);
+    match print_report(release, &mut text) {
+        Ok(()) => Ok(text),
+        Err(_) => Err(AllocError),
+    }
 }

@@ -12,7 +12,7 @@ ghost use Rattle.lpis_run.specs.Status.{unreadable};
 ghost use Rattle.lpis_run.specs.Stops.{IsRefusedAs};
 
 use crate::answer::Answer;
-use crate::folder::{InputBytes, TableBytes};
+use crate::folder::{Folder, Tables};
 use crate::refusal::print_cert_fault;
 use crate::status::UNREADABLE;
 use crate::stop::Stop;
@@ -41,12 +41,12 @@ fn refuse_text(alloc: Global, fault: &CertFault) -> Result<Answer, AllocError>
 }
 
 /// The release of three tables, whose bytes are let go, or the line of their first fault.
-pub fn release_in(alloc: Global, tables: TableBytes) -> Result<Release, Stop>
+pub fn release_in(alloc: Global, tables: Tables<Vec<u8>>) -> Result<Release, Stop>
     ensures said { IfOk result (λ r. release_in (tables_of tables) ≡ Ok r) }
     ensures refused { IfErr result (IsRefusedAs (IsTableAnswer (λ r a. ⊥)
         (release_in (tables_of tables)))) }
 {
-    let TableBytes {
+    let Tables {
         parcels,
         covers,
         classes,
@@ -92,11 +92,11 @@ pub fn certificate_in(alloc: Global, text: Vec<u8>) -> Result<Cert, Stop>
 ///
 /// The certificate is read first, since its text is the longest as a rule, and the bytes of each
 /// input are let go when it is read; the fault of the tables is told first all the same.
-pub fn understand(alloc: Global, inputs: InputBytes) -> Result<ReadInputs, Stop>
+pub fn understand(alloc: Global, inputs: Folder<Vec<u8>>) -> Result<ReadInputs, Stop>
     ensures said { IfOk result (λ r. Say (inputs_of inputs) r.release r.cert) }
     ensures refused { IfErr result (IsRefusedAs (IsInputAnswer (λ r c a. ⊥) (inputs_of inputs))) }
 {
-    let InputBytes { tables, cert } = inputs;
+    let Folder { tables, cert } = inputs;
     let read = cert_in(alloc, cert);
     let release = release_in(alloc, tables)?;
     let cert = understand_cert(alloc, read)?;

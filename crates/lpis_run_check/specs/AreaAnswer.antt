@@ -1,5 +1,5 @@
 -- The answer to a table of polygons: text and status, as a function of the table's bytes.
-use Rattle.std.specs.Prelude.{◌≡◌, ◌∷◌, [], ℕ, List, Option, Result, Ok, Err, codes, true}
+use Rattle.std.specs.Prelude.{◌≡◌, ◌∷◌, [], ℕ, List, Result, Ok, Err, codes, true}
 use Rattle.std.specs.List.{flat_map}
 use Rattle.lpis_rings.specs.declared.polygon.Member.{Member}
 use Rattle.lpis_rings.specs.Area.{area2}
@@ -11,7 +11,7 @@ use Rattle.lpis_run.specs.Area.{area_line}
 use Rattle.lpis_run.specs.CheckAnswer.{Answer}
 use Rattle.lpis_run.specs.Refusals.{refusal_text}
 use Rattle.lpis_run.specs.Status.{done, unreadable}
-use Rattle.lpis_run.specs.Streams.{IsRead}
+use Rattle.lpis_run.specs.Streams.{IsRead, Known}
 
 -- a row is a polygon
 abbrev pub area_table : RowsOf (List Member)
@@ -38,7 +38,7 @@ area_answer bytes = answer_from (rows_of area_table bytes)
 
 -- a run that measures the polygons of a table: these bytes are what its reader reported, as far as
 -- it is known, and this is the answer to them
-pub record Measures (told : Option (List ℕ)) (a : Answer) : Type 0 where
+pub record Measures (told : Known) (a : Answer) : Type 0 where
   pub bytes : List ℕ
   pub read : IsRead bytes told
   pub answer : a ≡ area_answer bytes

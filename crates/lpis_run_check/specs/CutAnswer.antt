@@ -10,12 +10,13 @@ use Rattle.lpis_cert.specs.declared.part.PiecePart.{PiecePart}
 use Rattle.lpis_cert.specs.Contents.{cert_text}
 use Rattle.lpis_cutter.specs.declared.fault.Refusal.{Refusal}
 use Rattle.lpis_cutter.specs.Refusals.{RefusalReports}
-use Rattle.lpis_run.specs.CheckAnswer.{AreTablesRead, Tables, release_in}
+use Rattle.lpis_run.specs.CheckAnswer.{AreTablesRead, release_in}
 use Rattle.lpis_run_check.specs.CutRefusals.{cut_refusal_text}
 use Rattle.lpis_run.specs.Outputs.{Outputs}
 use Rattle.lpis_run.specs.Refusals.{refusal_text}
 use Rattle.lpis_run.specs.Status.{done, refused, unreadable}
-use Rattle.lpis_run.specs.Streams.{TableTexts}
+use Rattle.lpis_run.specs.Streams.{Known}
+use Rattle.lpis_run.specs.declared.folder.Tables.{Tables}
 
 -- the line of a certificate's counts
 abbrev pub counts_text : Cert → List ℕ
@@ -51,7 +52,7 @@ IsCutAnswer (Err fault) a = IsUnreadable fault a
 
 -- a run that cuts: these tables are what three readers reported, as far as it is known, and this is
 -- an answer to them
-pub record Cuts (given : TableTexts) (a : Outputs) : Type 0 where
-  pub tables : Tables
+pub record Cuts (given : Tables Known) (a : Outputs) : Type 0 where
+  pub tables : Tables (List ℕ)
   pub read : AreTablesRead tables given
   pub answer : IsCutAnswer (release_in tables) a

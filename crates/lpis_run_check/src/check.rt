@@ -3,8 +3,8 @@
 ghost use Rattle.std.specs.Prelude.{◌≡◌, IfErr, IfOk};
 ghost use Rattle.lpis_checker.specs.SoundMap.{IsSoundMap};
 ghost use Rattle.lpis_run.specs.CheckAnswer.{IsAnswer, IsProved};
-ghost use Rattle.lpis_run.specs.Failures.{IsUnchecked};
-ghost use Rattle.lpis_run.specs.Folders.{IsFolderUntouched, folder_texts};
+ghost use Rattle.lpis_run.specs.Failures.{AreUnread, AreUntouched};
+ghost use Rattle.lpis_run.specs.Folders.{folder_by, folder_named};
 ghost use Rattle.lpis_run.specs.Inputs.{inputs_of};
 ghost use Rattle.lpis_run.specs.Report.{report_text};
 ghost use Rattle.lpis_run.specs.Run.{Runs};
@@ -12,39 +12,39 @@ ghost use Rattle.lpis_run.specs.Status.{done};
 ghost use Rattle.lpis_run_check.specs.CheckRun.{Checks};
 
 use lpis_release::Release;
-use lpis_run::{
-    Answer, DONE, Failure, Folder, InputBytes, checked_release, print_report, read_folder,
-};
+use lpis_run::{Answer, DONE, Failure, Folder, checked_release, read_folder, report_of};
 use std::alloc::{AllocError, Global};
 use std::io::{Read, Write};
 
-/// The report of a release that is a sound map.
-fn report(alloc: Global, release: &Release) -> Result<Answer, AllocError>
+/// The answer to a release that is a sound map.
+fn say_done(alloc: Global, release: &Release) -> Result<Answer, AllocError>
     requires { IsSoundMap release.now }
     ensures { IfOk result (λ a. (a.text.items ≡ report_text release.now) × (a.status ≡ done)) }
 {
-    let mut text = Vec::new(alloc);
-    let printed = print_report(release, &mut text);
-    Answer::of(text, DONE, printed)
+    Ok(Answer {
+        text: report_of(alloc, release)?,
+        status: DONE,
+    })
 }
 
 /// The answer to three tables and a certificate.
-fn answer_to(alloc: Global, inputs: InputBytes) -> Result<Answer, AllocError>
+fn answer_to(alloc: Global, inputs: Folder<Vec<u8>>) -> Result<Answer, AllocError>
     ensures answer { IfOk result (λ a. IsAnswer (inputs_of inputs) (a.text.items, a.status)) }
     ensures proved { IfOk result (λ a. a.status ≡ done → IsProved (inputs_of inputs)) }
 {
     match checked_release(alloc, inputs) {
-        Ok(release) => report(alloc, &release),
+        Ok(release) => say_done(alloc, &release),
         Err(stop) => stop.into_answer(),
     }
 }
 
 /// The answer to what four readers give.
 fn decide<R: Read + Drop>(alloc: Global, folder: &mut Folder<R>) -> Result<Answer, Failure>
-    ensures answers { IfOk result (λ a. Checks (folder_texts R.remaining folder.old)
+    ensures answers { IfOk result (λ a. Checks (folder_by R.remaining folder.old)
         (a.text.items, a.status)) }
-    ensures unread { IfErr result (IsUnchecked (folder_texts R.remaining folder.old)) }
-    ensures untouched { IfErr result (IsFolderUntouched folder.old folder.new) }
+    ensures unread { IfErr result (AreUnread (folder_named (folder_by R.remaining folder.old))) }
+    ensures untouched { IfErr result
+        (AreUntouched (folder_named folder.old) (folder_named folder.new)) }
 {
     let inputs = read_folder(alloc, folder)?;
     let answer = answer_to(alloc, inputs)?;
@@ -64,10 +64,11 @@ pub fn run_check<R: Read + Drop, W: Write>(
     folder: &mut Folder<R>,
     out: &mut W,
 ) -> Result<u8, Failure>
-    ensures runs { Runs (IsUnchecked (folder_texts R.remaining folder.old))
-        (Checks (folder_texts R.remaining folder.old)) (W.contents out.old) (W.contents out.new)
+    ensures runs { Runs (AreUnread (folder_named (folder_by R.remaining folder.old)))
+        (Checks (folder_by R.remaining folder.old)) (W.contents out.old) (W.contents out.new)
         result }
-    ensures untouched { IfErr result (IsFolderUntouched folder.old folder.new) }
+    ensures untouched { IfErr result
+        (AreUntouched (folder_named folder.old) (folder_named folder.new)) }
 {
     let answer = decide(alloc, folder)?;
     answer.write_to(out)

@@ -5,8 +5,8 @@ ghost use Rattle.lpis_cutter.specs.Refusals.{RefusesRightly};
 ghost use Rattle.lpis_run.specs.CheckAnswer.{release_in};
 ghost use Rattle.lpis_run_check.specs.CutAnswer.{CertIsCut, Cuts, IsCutAnswer, counts_text};
 ghost use Rattle.lpis_run_check.specs.CutRefusals.{cut_refusal_text};
-ghost use Rattle.lpis_run.specs.Failures.{IsUnreadRelease};
-ghost use Rattle.lpis_run.specs.Folders.{AreTablesUntouched, table_texts};
+ghost use Rattle.lpis_run.specs.Failures.{AreUnread, AreUntouched};
+ghost use Rattle.lpis_run.specs.Folders.{tables_by, tables_named};
 ghost use Rattle.lpis_run.specs.Inputs.{tables_of};
 ghost use Rattle.lpis_run.specs.Outputs.{held, outputs_of};
 ghost use Rattle.lpis_run.specs.Run.{RunsBoth};
@@ -16,9 +16,7 @@ use crate::cut_line::{print_counts, print_refusal};
 use lpis_cert::Cert;
 use lpis_cutter::{CutFault, Refusal, cut};
 use lpis_release::Release;
-use lpis_run::{
-    Answer, DONE, Failure, Outcome, REFUSED, TableBytes, TableReaders, read_tables, release_in,
-};
+use lpis_run::{Answer, DONE, Failure, Outcome, REFUSED, Tables, read_tables, release_in};
 use std::alloc::{AllocError, Global};
 use std::io::{Read, Write};
 
@@ -71,7 +69,7 @@ fn answer_to_release(alloc: Global, release: Release) -> Result<Outcome, AllocEr
 }
 
 /// The answer to three tables.
-fn answer_to(alloc: Global, tables: TableBytes) -> Result<Outcome, AllocError>
+fn answer_to(alloc: Global, tables: Tables<Vec<u8>>) -> Result<Outcome, AllocError>
     ensures { IfOk result (λ o. IsCutAnswer (release_in (tables_of tables)) (outputs_of o)) }
 {
     match release_in(alloc, tables) {
@@ -81,10 +79,11 @@ fn answer_to(alloc: Global, tables: TableBytes) -> Result<Outcome, AllocError>
 }
 
 /// The answer to what three readers give.
-fn decide<R: Read + Drop>(alloc: Global, tables: &mut TableReaders<R>) -> Result<Outcome, Failure>
-    ensures cuts { IfOk result (λ o. Cuts (table_texts R.remaining tables.old) (outputs_of o)) }
-    ensures unread { IfErr result (IsUnreadRelease (table_texts R.remaining tables.old)) }
-    ensures untouched { IfErr result (AreTablesUntouched tables.old tables.new) }
+fn decide<R: Read + Drop>(alloc: Global, tables: &mut Tables<R>) -> Result<Outcome, Failure>
+    ensures cuts { IfOk result (λ o. Cuts (tables_by R.remaining tables.old) (outputs_of o)) }
+    ensures unread { IfErr result (AreUnread (tables_named (tables_by R.remaining tables.old))) }
+    ensures untouched { IfErr result
+        (AreUntouched (tables_named tables.old) (tables_named tables.new)) }
 {
     let tables = read_tables(alloc, tables)?;
     let outcome = answer_to(alloc, tables)?;
@@ -100,14 +99,15 @@ fn decide<R: Read + Drop>(alloc: Global, tables: &mut TableReaders<R>) -> Result
 /// `UNREADABLE`. A failed read names the table that failed; the readers behind it are as they were.
 pub fn run_cut<R: Read + Drop, E: Write, W: Write>(
     alloc: Global,
-    tables: &mut TableReaders<R>,
+    tables: &mut Tables<R>,
     cert_out: &mut E,
     out: &mut W,
 ) -> Result<u8, Failure>
-    ensures runs { RunsBoth (IsUnreadRelease (table_texts R.remaining tables.old))
-        (Cuts (table_texts R.remaining tables.old)) (held (E.contents cert_out.old)
+    ensures runs { RunsBoth (AreUnread (tables_named (tables_by R.remaining tables.old)))
+        (Cuts (tables_by R.remaining tables.old)) (held (E.contents cert_out.old)
         (W.contents out.old)) (held (E.contents cert_out.new) (W.contents out.new)) result }
-    ensures untouched { IfErr result (AreTablesUntouched tables.old tables.new) }
+    ensures untouched { IfErr result
+        (AreUntouched (tables_named tables.old) (tables_named tables.new)) }
 {
     let outcome = decide(alloc, tables)?;
     outcome.write_to(cert_out, out)

@@ -9,7 +9,10 @@ use Rattle.lpis_tables.specs.declared.fault.TableFault.{TableFault}
 use Rattle.lpis_release.specs.Release.{Contents}
 use Rattle.lpis_run.specs.CheckAnswer.{Answer, IsTableAnswer}
 use Rattle.lpis_run.proofs.Shared.{runs_on_more, runs_on_stopped, runs_on_written, table-more, table-status}
-use Rattle.lpis_run.specs.Streams.{Begins}
+use Rattle.lpis_run.specs.Failures.{AreUnread}
+use Rattle.lpis_run.specs.Folders.{top_named}
+use Rattle.lpis_run.specs.Streams.{Begins, Known}
+use Rattle.lpis_run.specs.declared.folder.Top.{Top}
 use Rattle.lpis_run.specs.declared.failure.Failure.TheVariants.{Write}
 use Rattle.lpis_run.specs.declared.failure.Name.TheVariants.{Out}
 use Rattle.std.specs.Io.KnownBytes.{Appends}
@@ -23,8 +26,8 @@ use Rattle.lpis_run_country.specs.declared.beginning.Begun.{Begun}
 use Rattle.lpis_run.specs.declared.failure.Failure.{Failure}
 use Rattle.lpis_run_country.specs.declared.progress.Progress.{Progress}
 use Rattle.lpis_run_country.specs.CountryAnswer.{AnswersCountry, IsCountryAnswer, IsRegionsAnswer, Setting, setting_of}
-use Rattle.lpis_run_country.specs.CountryFailures.{IsUnreadTop, StopsCountry}
-use Rattle.lpis_run_country.specs.CountryRun.{CountryAsked, OfInputs, RunsCountry}
+use Rattle.lpis_run_country.specs.CountryFailures.{StopsCountry}
+use Rattle.lpis_run_country.specs.CountryRun.{OfTop, RunsCountry}
 use Rattle.lpis_run_country.specs.Regions.{AreCountryRead, CountryInputs, IsCountry, Texts}
 use Rattle.lpis_run_country.specs.Beginning.{IsBegun, IsUnbegun}
 use Rattle.lpis_run_country.specs.RegionsOutcome.{IsSettingOf, StopsRegions}
@@ -153,14 +156,14 @@ unbegun_run texts detail x a old new r unbegun =
     (record { answer = unbegun_answer texts detail x a unbegun; proved = λ e. absurd (unbegun_no x a unbegun e) })
 
 -- and of the bytes that two readers gave
-pub read_run : (asked : CountryAsked) (x : CountryInputs) (old new : Option (List ℕ)) (r : Result ℕ Failure) → AreCountryRead x asked.plan asked.classes
-    → RunsBegun asked.texts asked.detail x old new r → RunsCountry asked old new r
-read_run asked x old new r read =
-    runs_on_more (λ f. ⊥) (IsUnreadTop asked.plan) (StopsCountry asked.texts asked.detail x) (λ lines f. OfInputs asked (λ y. StopsCountry asked.texts asked.detail y lines f))
-    (AnswersCountry asked.texts asked.detail x) (λ a. OfInputs asked (λ y. AnswersCountry asked.texts asked.detail y a)) old new r (λ f no. absurd no) (λ lines f stops. (x, read, stops))
+pub read_run : (texts : List ℕ → Texts) (detail : Detail) (given : Top Known) (x : CountryInputs) (old new : Known) (r : Result ℕ Failure) → AreCountryRead x given
+    → RunsBegun texts detail x old new r → RunsCountry texts detail given old new r
+read_run texts detail given x old new r read =
+    runs_on_more (λ f. ⊥) (AreUnread (top_named given)) (StopsCountry texts detail x) (λ lines f. OfTop given (λ y. StopsCountry texts detail y lines f))
+    (AnswersCountry texts detail x) (λ a. OfTop given (λ y. AnswersCountry texts detail y a)) old new r (λ f no. absurd no) (λ lines f stops. (x, read, stops))
     (λ a answers. (x, read, answers))
 
 -- where a file at the top is not read, nothing was written
-pub stopped_before : (asked : CountryAsked) (out : Option (List ℕ)) (f : Failure) → IsUnreadTop asked.plan f → RunsCountry asked out out (Err f)
-stopped_before asked out f unread = runs_on_stopped (IsUnreadTop asked.plan) (λ lines g. OfInputs asked (λ y. StopsCountry asked.texts asked.detail y lines g))
-    (λ a. OfInputs asked (λ y. AnswersCountry asked.texts asked.detail y a)) out f unread
+pub stopped_before : (texts : List ℕ → Texts) (detail : Detail) (given : Top Known) (out : Known) (f : Failure) → AreUnread (top_named given) f → RunsCountry texts detail given out out (Err f)
+stopped_before texts detail given out f unread = runs_on_stopped (AreUnread (top_named given)) (λ lines g. OfTop given (λ y. StopsCountry texts detail y lines g))
+    (λ a. OfTop given (λ y. AnswersCountry texts detail y a)) out f unread

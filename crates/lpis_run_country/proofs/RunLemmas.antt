@@ -6,14 +6,15 @@ use Rattle.std.proofs.lemmas.List.{append-nil, drop_more, length-append, length-
 use Rattle.std.proofs.lemmas.List.Elements.{All-head, All-tail}
 use Rattle.std.specs.Io.KnownBytes.{Appends, Keeps}
 use Rattle.std.specs.declared.alloc.Global.{Global}
-use Rattle.lpis_run.proofs.Shared.{appends-more, breaks_off_more, refused-more, stopped-in-region}
+use Rattle.lpis_run.proofs.Shared.{appends-more, breaks_off_more, refused-more, some_unread, stopped-in-region}
 use Rattle.lpis_release.specs.Release.{Contents}
 use Rattle.lpis_run.specs.declared.failure.Failure.{Failure}
 use Rattle.lpis_run.specs.declared.failure.Failure.TheVariants.{Memory, Read, ReadOf, Write, Store, StoreMemory}
 use Rattle.lpis_run.specs.declared.failure.Name.{Name}
 use Rattle.lpis_run.specs.declared.failure.Name.TheVariants.{Cert, Classes, Covers, Out, Parcels}
-use Rattle.lpis_run.specs.CheckAnswer.{Answer, Inputs, IsProvedOf, IsRefusal}
+use Rattle.lpis_run.specs.CheckAnswer.{Answer, AreRead, Inputs, IsProvedOf, IsRefusal}
 use Rattle.lpis_run.specs.declared.answer.Answer.{Answer as Printed}
+use Rattle.lpis_run.specs.Folders.{folder_named}
 use Rattle.lpis_run.specs.Status.{done}
 use Rattle.lpis_run.specs.Stops.{IsInRegion, IsRefusedAs}
 use Rattle.lpis_run.specs.Streams.{Begins}
@@ -32,7 +33,7 @@ use Rattle.lpis_run_country.specs.declared.totals.Totals.{Totals}
 use Rattle.lpis_run_country.specs.CountryAnswer.{IsRefusedByCheck, HavePassed, None as NonePassed, IsReachedBy, IsRefusedRegion, Setting}
 use Rattle.lpis_run_country.specs.CountryFailures.{IsStoppedBefore, IsUnreadFolder}
 use Rattle.lpis_run_country.specs.CountryLines.{country_lines, region_report}
-use Rattle.lpis_run_country.specs.Regions.{AreOfFolder, Texts}
+use Rattle.lpis_run_country.specs.Regions.{Texts}
 use Rattle.lpis_run_country.specs.RegionsOutcome.{IsRegionsRefusal, RegionsEnd, RegionsStop, StopsRegions}
 use Rattle.lpis_run_country.specs.private.Progressing.{AnswersRegions, RunsRegions}
 use Rattle.lpis_run_country.specs.private.Progressing.{AreOfRun, FollowsAs, HasGathered, HasPassedAll, IsAt, IsFailureOf, IsFinished, IsHere, IsMisfit, IsReady, IsStart, IsUnfinished}
@@ -85,7 +86,7 @@ begun_here s texts names detail p old start = record { before = []; text = []; h
 
 -- ---- the verdict
 -- on a region that is a sound map
-pub judged : (r : Result (Vec ℕ Global) Stop) (s : Setting) (before : List Contents) (name : List ℕ) (x : Inputs) (region : Contents) (p : Progress) → AreOfFolder x (s.texts name)
+pub judged : (r : Result (Vec ℕ Global) Stop) (s : Setting) (before : List Contents) (name : List ℕ) (x : Inputs) (region : Contents) (p : Progress) → AreRead x (s.texts name).given
     → IsProvedOf x region → FollowsAs s before name region p r → IsVerdict s before name p r
 judged (Ok text) s before name x region p told said (fits, is, at) = (region, record { inputs = x; told = told; said = said; fits = fits }, is, at)
 judged (Err stop) s before name x region p told said h =
@@ -93,7 +94,7 @@ judged (Err stop) s before name x region p told said h =
     (λ a misfit. (x, told, inr (record { region = region; said = said; fault = misfit.0; first = misfit.1; is = misfit.2 }))) h
 
 -- on inputs that `check` refuses
-pub check_refused : (s : Setting) (before : List Contents) (name : List ℕ) (x : Inputs) (stop in_it : Stop) → AreOfFolder x (s.texts name) → IsRefusedAs (IsRefusal x) stop
+pub check_refused : (s : Setting) (before : List Contents) (name : List ℕ) (x : Inputs) (stop in_it : Stop) → AreRead x (s.texts name).given → IsRefusedAs (IsRefusal x) stop
     → IsInRegion stop name in_it → IsRefusedAs (IsRefusedRegion s before name) in_it
 check_refused s before name x stop in_it told refusal of =
     refused-more (IsRefusedByCheck x name) (IsRefusedRegion s before name) in_it (λ a refused. (x, told, inl refused)) (stopped-in-region (IsRefusal x) name stop in_it refusal of)
@@ -193,11 +194,7 @@ unread_is t failure (inl (inr (inl (may, e)))) = inr (Parcels, e)
 unread_is t failure (inl (inr (inr (inl (may, e))))) = inr (Covers, e)
 unread_is t failure (inl (inr (inr (inr (inl (may, e)))))) = inr (Classes, e)
 unread_is t failure (inl (inr (inr (inr (inr (may, e)))))) = inr (Cert, e)
-unread_is t failure (inr (inl (inl e))) = inl e
-unread_is t failure (inr (inl (inr (inl e)))) = inr (Parcels, e)
-unread_is t failure (inr (inl (inr (inr (inl (w, e)))))) = inr (Covers, e)
-unread_is t failure (inr (inl (inr (inr (inr (w, v, e)))))) = inr (Classes, e)
-unread_is t failure (inr (inr (w, e))) = inr (Cert, e)
+unread_is t failure (inr unread) = some_unread (folder_named t.given) failure unread
 
 -- another failure is none of these
 no_other : (failure : Failure) → (failure ≡ Memory) ⊎ ((file : Name) × (failure ≡ Read file)) → (failure ≡ Memory → ⊥) → ((file : Name) → failure ≡ Read file → ⊥) → ⊥

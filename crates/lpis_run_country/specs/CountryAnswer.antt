@@ -5,7 +5,8 @@ use Rattle.lpis_tables.specs.declared.class.Class.{Class}
 use Rattle.lpis_tables.specs.Classes.{classes_table}
 use Rattle.lpis_tables.specs.Faults.{rows_of}
 use Rattle.lpis_release.specs.Release.{Contents}
-use Rattle.lpis_run.specs.CheckAnswer.{Answer, Inputs, IsProvedOf, IsRefusal, IsTableAnswer}
+use Rattle.lpis_run.specs.CheckAnswer.{Answer, AreRead, Inputs, IsProvedOf, IsRefusal}
+use Rattle.lpis_run.specs.CheckAnswer.{IsTableAnswer}
 use Rattle.lpis_run.specs.Refusals.{line_in_region}
 use Rattle.lpis_run.specs.declared.detail.Detail.{Detail}
 use Rattle.lpis_run.specs.Status.{done, refused, unreadable}
@@ -18,7 +19,7 @@ use Rattle.lpis_country_seam.specs.declared.fault.SeamFault.{SeamFault}
 use Rattle.lpis_country_seam.specs.Faults.{IsFirstSeamFault, seam_faults}
 use Rattle.lpis_run_country.specs.CountryLines.{country_lines, plan_refusal_text, region_report}
 use Rattle.lpis_run_country.specs.CountryLines.{seam_refusal_text}
-use Rattle.lpis_run_country.specs.Regions.{AreOfFolder, CountryInputs, IsCountry, Texts}
+use Rattle.lpis_run_country.specs.Regions.{CountryInputs, IsCountry, Texts}
 
 -- what is known before the first region is read: the bytes of each folder's files, as far as they
 -- are known; what is to be printed; the folders and tiles of the plan; the table of classes
@@ -43,7 +44,7 @@ setting_of texts detail plan classes = record {
 pub record Passes (s : Setting) (before : List Contents) (name : List ℕ) (r : Contents) : Type 0
   where
     pub inputs : Inputs
-    pub told : AreOfFolder inputs (s.texts name)
+    pub told : AreRead inputs (s.texts name).given
     pub said : IsProvedOf inputs r
     pub fits : seam_faults s.tiles s.classes before r ≡ []
 
@@ -62,7 +63,7 @@ pub record IsRefusedAtSeam (s : Setting) (before : List Contents) (x : Inputs) (
 
 -- the region of a folder is refused
 abbrev pub IsRefusedRegion : Setting → List Contents → List ℕ → Answer → Type 0
-IsRefusedRegion s before name a = (x : Inputs) × AreOfFolder x (s.texts name)
+IsRefusedRegion s before name a = (x : Inputs) × AreRead x (s.texts name).given
     × (IsRefusedByCheck x name a ⊎ IsRefusedAtSeam s before x name a)
 
 -- ---- the regions
@@ -74,12 +75,12 @@ pub data HavePassed (s : Setting) : List (List ℕ) → List Contents → List �
       → HavePassed s (names ++ name ∷ []) (before ++ r ∷ [])
       (text ++ region_report s.detail (country_of s.classes before) name r)
 
--- what follows the regions that passed: where no folder is left the country's line and the yes,
--- else the line of the next region, which is refused
-abbrev pub IsEnd : Setting → List Contents → List (List ℕ) → Answer → Type 0
-IsEnd s regions [] a =
-    a ≡ (country_lines (length regions) (country_of s.classes regions), done)
-IsEnd s regions (name ∷ left) a = IsRefusedRegion s regions name a
+-- what follows the regions that passed: where no folder is left an end, of these regions, else the
+-- line of the next region, which is refused
+abbrev pub IsBehind : Setting → (List Contents → Answer → Type 0) → List Contents → List (List ℕ)
+    → Answer → Type 0
+IsBehind s IsEnd regions [] a = IsEnd regions a
+IsBehind s IsEnd regions (name ∷ left) a = IsRefusedRegion s regions name a
 
 -- regions passed, and this is what they leave: their lines, and the folders behind them
 pub record IsReachedBy (s : Setting) (regions : List Contents) (text : List ℕ)
@@ -89,29 +90,34 @@ pub record IsReachedBy (s : Setting) (regions : List Contents) (text : List ℕ)
   pub have_passed : HavePassed s passed regions text
 
 -- the lines of the regions up to the first that is refused, and what follows them
-pub record IsRegionsAnswer (s : Setting) (a : Answer) : Type 0 where
+pub record AfterRegions (s : Setting) (IsEnd : List Contents → Answer → Type 0) (a : Answer)
+    : Type 0 where
   pub regions : List Contents
   pub text : List ℕ
   pub left : List (List ℕ)
   pub reached : IsReachedBy s regions text left
   pub end : Answer
-  pub follows : IsEnd s regions left end
+  pub follows : IsBehind s IsEnd regions left end
   pub is : a ≡ (text ++ end.0, end.1)
 
--- ---- the country
--- of the text of a plan: the first line at which it is none, or the answer to the plan
-abbrev pub IsPlanAnswer : (Tree → Answer → Type 0) → List ℕ → Answer → Type 0
-IsPlanAnswer IsNext text a =
-    ((line : ℕ) × (plan_fault text ≡ Some line) × (a ≡ (plan_refusal_text line, unreadable)))
-    ⊎ ((plan : Tree) × IsCountryText text plan × IsNext plan a)
+-- at the end the country's line and the yes
+abbrev pub IsRegionsAnswer : Setting → Answer → Type 0
+IsRegionsAnswer s = AfterRegions s
+    (λ regions a. a ≡ (country_lines (length regions) (country_of s.classes regions), done))
 
--- the answer to a country: the fault of `country.txt` comes first, then that of `classes.csv`, then
--- the regions in the order of the plan
+-- ---- the country
+-- of the files at the top: the line at which `country.txt` is none, else that of the first fault of
+-- `classes.csv`, or the answer to a plan and classes
+abbrev pub IsTopAnswer : (Tree → List Class → Answer → Type 0) → CountryInputs → Answer → Type 0
+IsTopAnswer IsNext x a =
+    ((line : ℕ) × (plan_fault x.plan ≡ Some line) × (a ≡ (plan_refusal_text line, unreadable)))
+    ⊎ ((plan : Tree) × IsCountryText x.plan plan
+    × IsTableAnswer (IsNext plan) (rows_of classes_table x.classes) a)
+
+-- the answer to a country: of these files, and then of the regions in the order of the plan
 abbrev pub IsCountryAnswer : (List ℕ → Texts) → Detail → CountryInputs → Answer → Type 0
-IsCountryAnswer texts detail x =
-    IsPlanAnswer (λ plan. IsTableAnswer (λ classes. IsRegionsAnswer
-    (setting_of texts detail plan classes)) (rows_of classes_table x.classes))
-    x.plan
+IsCountryAnswer texts detail =
+    IsTopAnswer (λ plan classes. IsRegionsAnswer (setting_of texts detail plan classes))
 
 -- the same, where a yes comes only for a country whose regions make up a sound map
 pub record AnswersCountry (texts : List ℕ → Texts) (detail : Detail) (x : CountryInputs)

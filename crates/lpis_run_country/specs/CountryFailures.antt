@@ -1,5 +1,5 @@
 -- What stands for a run over a country that gave no answer.
-use Rattle.std.specs.Prelude.{◌≡◌, ◌⊎◌, ◌∷◌, [], true, ℕ, List, Option, Ok, String}
+use Rattle.std.specs.Prelude.{◌≡◌, ◌⊎◌, ◌∷◌, [], true, ℕ, List, Ok, String}
 use Rattle.std.specs.String.{string_bytes}
 use Rattle.std.specs.declared.alloc.Global.{Global}
 use Rattle.lpis_tables.specs.declared.class.Class.{Class}
@@ -10,10 +10,10 @@ use Rattle.lpis_run.specs.declared.detail.Detail.{Detail}
 use Rattle.lpis_run.specs.declared.failure.Failure.{Failure}
 use Rattle.lpis_run.specs.declared.failure.Failure.TheVariants.{Memory, Read, ReadOf}
 use Rattle.lpis_run.specs.declared.failure.Name.{Name}
-use Rattle.lpis_run.specs.declared.failure.Name.TheVariants.{Cert, Classes, Country, Covers}
+use Rattle.lpis_run.specs.declared.failure.Name.TheVariants.{Cert, Classes, Covers}
 use Rattle.lpis_run.specs.declared.failure.Name.TheVariants.{Parcels}
-use Rattle.lpis_run.specs.Failures.{IsUnchecked}
-use Rattle.lpis_run.specs.Streams.{IsWithin}
+use Rattle.lpis_run.specs.Failures.{AreUnread}
+use Rattle.lpis_run.specs.Folders.{folder_named}
 use Rattle.lpis_country.specs.CountryText.{IsCountryText}
 use Rattle.lpis_country.specs.Tree.{Tree}
 use Rattle.lpis_run_country.specs.CountryAnswer.{IsReachedBy, setting_of}
@@ -30,17 +30,12 @@ IsUnopened t failure = (failure ≡ Memory) ⊎ IsMissing t failure Parcels
 
 -- so it is, or a file was not read, while those before it were
 abbrev pub IsUnreadFolder : Texts → Failure → Type 0
-IsUnreadFolder t failure = IsUnopened t failure ⊎ IsUnchecked t.given failure
+IsUnreadFolder t failure = IsUnopened t failure ⊎ AreUnread (folder_named t.given) failure
 
 -- this file was not read, in the folder of the region of this name
 abbrev pub IsReadOf : Name → List ℕ → Failure → Type 0
 IsReadOf file name f =
     (region : String Global) × (string_bytes region ≡ name) × (f ≡ ReadOf file region)
-
--- a file at the top was not read, the table of classes while the plan was; or memory ran out
-abbrev pub IsUnreadTop : Option (List ℕ) → Failure → Type 0
-IsUnreadTop plan f =
-    (f ≡ Memory) ⊎ (f ≡ Read Country) ⊎ (IsWithin plan × (f ≡ Read Classes))
 
 -- before the next of these folders, if there is one: it was not read, or memory ran out
 abbrev pub IsStoppedBefore : (List ℕ → Texts) → List (List ℕ) → Failure → Type 0

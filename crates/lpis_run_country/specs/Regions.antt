@@ -1,15 +1,15 @@
 -- The regions of a country, and what is known of the files of their folders.
-use Rattle.std.specs.Prelude.{◌≡◌, Bool, ℕ, List, [], ◌∷◌, All, Ok, Option}
+use Rattle.std.specs.Prelude.{◌≡◌, Bool, ℕ, List, [], ◌∷◌, All, Ok}
 use Rattle.lpis_tables.specs.declared.class.Class.{Class}
 use Rattle.lpis_tables.specs.Classes.{classes_table}
 use Rattle.lpis_tables.specs.Faults.{rows_of}
 use Rattle.lpis_release.specs.Release.{Contents}
 use Rattle.lpis_checker.specs.SoundMap.{IsSoundMap}
 use Rattle.lpis_run.specs.CheckAnswer.{AreRead, Inputs, IsProvedOf}
-use Rattle.lpis_run.specs.Folders.{folder_texts}
-use Rattle.lpis_run.specs.Streams.{FolderTexts, IsRead}
+use Rattle.lpis_run.specs.Streams.{IsRead, Known}
 use Rattle.lpis_run.specs.declared.failure.Name.{Name}
 use Rattle.lpis_run.specs.declared.folder.Folder.{Folder}
+use Rattle.lpis_run.specs.declared.folder.Top.{Top}
 use Rattle.lpis_country.specs.Country.{country_of}
 use Rattle.lpis_country.specs.Union.{IsUnion}
 use Rattle.lpis_country.specs.CountryText.{IsCountryText}
@@ -19,30 +19,21 @@ use Rattle.lpis_country.specs.Tree.{Tree, folders}
 -- the files of a folder: whether one may be missing, and their bytes as far as they are known
 pub record Texts : Type 0 where
   pub may_be_missing : Name → Bool
-  pub given : FolderTexts
-
--- the readers of a folder have these texts left
-abbrev pub AreGiven : {R : Type 0} → (R → Option (List ℕ)) → Folder R → Texts → Type 0
-AreGiven remaining f t = folder_texts remaining f ≡ t.given
-
--- the inputs are what the files of a folder told, as far as it is known
-abbrev pub AreOfFolder : Inputs → Texts → Type 0
-AreOfFolder x t = AreRead x t.given
+  pub given : Folder Known
 
 -- they are the tables of this release, which is a sound map, and a certificate that is good for it
 abbrev pub IsRegionOf : Texts → Contents → Type 0
-IsRegionOf t r = (x : Inputs) × AreOfFolder x t × IsProvedOf x r
+IsRegionOf t r = (x : Inputs) × AreRead x t.given × IsProvedOf x r
 
 -- ---- a country
 -- the bytes of the two files at the top of a country's folder
-pub record CountryInputs : Type 0 where
-  pub plan : List ℕ
-  pub classes : List ℕ
+abbrev pub CountryInputs : Type 0
+CountryInputs = Top (List ℕ)
 
 -- these are what two readers reported, as far as it is known
-pub record AreCountryRead (x : CountryInputs) (plan classes : Option (List ℕ)) : Type 0 where
-  pub of_plan : IsRead x.plan plan
-  pub of_classes : IsRead x.classes classes
+pub record AreCountryRead (x : CountryInputs) (given : Top Known) : Type 0 where
+  pub of_plan : IsRead x.plan given.plan
+  pub of_classes : IsRead x.classes given.classes
 
 -- a region of each folder, in this order
 abbrev pub AreRegionsOf : (List ℕ → Texts) → List (List ℕ) → List Contents → Type 0

@@ -4,28 +4,21 @@ ghost use Rattle.std.specs.Prelude.{◌≡◌, IfErr, IfOk, Ok};
 ghost use Rattle.lpis_run.specs.Stops.{IsRefusedAs};
 ghost use Rattle.lpis_tables.specs.Classes.{classes_table};
 ghost use Rattle.lpis_tables.specs.Faults.{rows_of};
-ghost use Rattle.lpis_run_country.specs.Beginning.{IsBegun, IsClassesRefusal, IsPlanRefusal};
-ghost use Rattle.lpis_run_country.specs.Beginning.{IsUnbegun, country_inputs_of};
-ghost use Rattle.lpis_run_country.specs.CountryFailures.{IsUnreadTop};
+ghost use Rattle.lpis_run.specs.Failures.{AreUnread};
+ghost use Rattle.lpis_run.specs.Folders.{top_by, top_named};
+ghost use Rattle.lpis_run.specs.Inputs.{top_of};
+ghost use Rattle.lpis_run_country.specs.Beginning.{IsBegun, IsUnbegun};
 ghost use Rattle.lpis_run_country.specs.Regions.{AreCountryRead};
-ghost use Rattle.lpis_run_country.specs.private.Beginning.{IsPlanIn};
+ghost use Rattle.lpis_run_country.specs.private.Beginning.{IsClassesRefusal, IsPlanIn};
+ghost use Rattle.lpis_run_country.specs.private.Beginning.{IsPlanRefusal};
 
 use crate::refusals::refuse_plan;
 use lpis_country::{Plan, PlanFault, read_plan};
 use lpis_points::Box4;
-use lpis_run::{Answer, Failure, Name, Stop, read_named};
+use lpis_run::{Answer, Failure, Name, Stop, Top, read_named};
 use lpis_tables::{Class, Classes, TableFault, read_classes};
 use std::alloc::Global;
 use std::io::Read;
-
-/// The bytes of the two files at the top.
-#[derive(Drop)]
-pub struct CountryBytes {
-    /// The plan.
-    pub plan: Vec<u8>,
-    /// The table of classes.
-    pub classes: Vec<u8>,
-}
 
 /// The names of the folders, their tiles, and the classes of all regions.
 #[derive(Drop)]
@@ -39,18 +32,14 @@ pub struct Begun {
 }
 
 /// All bytes of the two files, which are read in this order.
-pub fn read_top<P: Read + Drop, K: Read + Drop>(
-    alloc: Global,
-    country: P,
-    classes: K,
-) -> Result<CountryBytes, Failure>
-    ensures bytes { IfOk result (λ b. AreCountryRead (country_inputs_of b) (P.remaining country)
-        (K.remaining classes)) }
-    ensures failure { IfErr result (IsUnreadTop (P.remaining country)) }
+pub fn read_top<R: Read + Drop>(alloc: Global, top: Top<R>) -> Result<Top<Vec<u8>>, Failure>
+    ensures bytes { IfOk result (λ b. AreCountryRead (top_of b) (top_by R.remaining top)) }
+    ensures failure { IfErr result (AreUnread (top_named (top_by R.remaining top))) }
 {
-    let plan = read_named(alloc, country, Name::Country)?;
+    let Top { plan, classes } = top;
+    let plan = read_named(alloc, plan, Name::Country)?;
     let classes = read_named(alloc, classes, Name::Classes)?;
-    Ok(CountryBytes { plan, classes })
+    Ok(Top { plan, classes })
 }
 
 /// The plan of a text, whose bytes are let go, or the line of the text's first fault.
@@ -78,11 +67,11 @@ fn classes_in(alloc: Global, table: Vec<u8>) -> Result<Classes, Stop>
 }
 
 /// The plan and the classes, or the line of the first fault: of the plan, then of the classes.
-pub fn begin(alloc: Global, top: CountryBytes) -> Result<Begun, Stop>
-    ensures begun { IfOk result (IsBegun (country_inputs_of top)) }
-    ensures refusal { IfErr result (IsRefusedAs (IsUnbegun (country_inputs_of top))) }
+pub fn begin(alloc: Global, top: Top<Vec<u8>>) -> Result<Begun, Stop>
+    ensures begun { IfOk result (IsBegun (top_of top)) }
+    ensures refusal { IfErr result (IsRefusedAs (IsUnbegun (top_of top))) }
 {
-    let CountryBytes { plan, classes } = top;
+    let Top { plan, classes } = top;
     let plan = plan_in(alloc, plan)?;
     let classes = classes_in(alloc, classes)?;
     let (names, tiles) = plan.into_parts();

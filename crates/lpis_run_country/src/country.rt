@@ -3,9 +3,10 @@
 ghost use Rattle.std.specs.Prelude.{◌≡◌, IfErr, IfOk, List, length, map, ℕ};
 ghost use Rattle.std.specs.String.{string_bytes};
 ghost use Rattle.lpis_release.specs.Release.{Contents};
+ghost use Rattle.lpis_run.specs.Folders.{top_by};
 ghost use Rattle.lpis_run.specs.declared.detail.Detail.{Detail};
 ghost use Rattle.lpis_run_country.specs.CountryAnswer.{Setting};
-ghost use Rattle.lpis_run_country.specs.CountryRun.{RunsCountry, country_asked};
+ghost use Rattle.lpis_run_country.specs.CountryRun.{RunsCountry};
 ghost use Rattle.lpis_run_country.specs.Regions.{CountryInputs, Texts};
 ghost use Rattle.lpis_run_country.specs.private.Progressing.{RunsBegun, RunsRegions};
 ghost use Rattle.lpis_run_country.specs.Beginning.{IsBegun, IsUnbegun};
@@ -22,7 +23,7 @@ use crate::progress::Progress;
 use crate::totals::Totals;
 use lpis_country_seam::OpenSeam;
 use lpis_country_seam::laws::a_country_of_joined_regions_is_sound;
-use lpis_run::{Answer, Detail, Failure};
+use lpis_run::{Answer, Detail, Failure, Top};
 use std::alloc::Global;
 use std::io::{Read, Write};
 
@@ -105,23 +106,21 @@ fn write_refusal<W: Write>(answer: &Answer, out: &mut W) -> Result<u8, Failure>
 /// Checks a country, region by region, and prints what each region that passes has, and what all of
 /// them have together, with a yes where their union is a sound map; or the line of the first fault.
 ///
-/// `country` is the text of its plan, `classes` the table of classes that all regions have. Faults
-/// come in this order: of the plan, of the classes, of the regions in the order of the plan. A
-/// region is read, checked against its certificate, tested against those before it, and let go
+/// Faults come in this order: of the plan, of the classes, of the regions in the order of the plan.
+/// A region is read, checked against its certificate, tested against those before it, and let go
 /// before the next one is read; what is printed of it is written once it has passed. Ok is the
 /// status: `DONE`, `REFUSED` or `UNREADABLE`.
-pub fn run_country<P: Read + Drop, K: Read + Drop, G: Regions, W: Write>(
+pub fn run_country<R: Read + Drop, G: Regions, W: Write>(
     alloc: Global,
-    country: P,
-    classes: K,
+    top: Top<R>,
     regions: &G,
     detail: Detail,
     out: &mut W,
 ) -> Result<u8, Failure>
-    ensures { RunsCountry (country_asked (G.texts regions.now) detail (P.remaining country)
-        (K.remaining classes)) (W.contents out.old) (W.contents out.new) result }
+    ensures { RunsCountry (G.texts regions.now) detail (top_by R.remaining top)
+        (W.contents out.old) (W.contents out.new) result }
 {
-    let top = read_top(alloc, country, classes)?;
+    let top = read_top(alloc, top)?;
     match begin(alloc, top) {
         Ok(begun) => run_begun(alloc, regions, begun, detail, out),
         Err(stop) => {

@@ -3,14 +3,16 @@
 ghost use Rattle.std.specs.Prelude.{◌≡◌, ◌<◌, ◌∷◌, [], IfErr, IfOk, List, OnOk, get_or, length};
 ghost use Rattle.std.specs.Prelude.{map, ℕ};
 ghost use Rattle.std.specs.String.{string_bytes};
-ghost use Rattle.lpis_run.specs.Failures.{IsUnchecked};
+ghost use Rattle.lpis_run.specs.CheckAnswer.{AreRead};
+ghost use Rattle.lpis_run.specs.Failures.{AreUnread};
+ghost use Rattle.lpis_run.specs.Folders.{folder_by, folder_named};
 ghost use Rattle.lpis_run.specs.Inputs.{inputs_of};
 ghost use Rattle.lpis_run_country.specs.CountryFailures.{IsStoppedBefore, IsUnopened};
 ghost use Rattle.lpis_run_country.specs.CountryFailures.{IsUnreadFolder};
-ghost use Rattle.lpis_run_country.specs.Regions.{AreGiven, AreOfFolder, Texts};
+ghost use Rattle.lpis_run_country.specs.Regions.{Texts};
 ghost use Rattle.lpis_run_country.specs.private.Progressing.{IsFailureOf};
 
-use lpis_run::{Failure, Folder, InputBytes, read_folder};
+use lpis_run::{Failure, Folder, read_folder};
 use std::alloc::Global;
 use std::io::Read;
 
@@ -24,17 +26,15 @@ pub trait Regions {
 
     /// Opens the files of the folder of this name.
     fn open(&self, name: &str) -> Result<Folder<Self::File>, Failure>
-        ensures given { IfOk result (λ f. AreGiven Self.File.remaining f
-            (texts self.now name.now)) }
+        ensures given { IfOk result (λ f. folder_by Self.File.remaining f
+            ≡ (texts self.now name.now).given) }
         ensures failure { IfErr result (IsUnopened (texts self.now name.now)) };
 }
 
 /// All bytes of the files of a folder, whose readers are let go.
-fn read_opened<R: Read + Drop>(alloc: Global, folder: Folder<R>) -> Result<InputBytes, Failure>
-    ensures bytes { (t : Texts) → AreGiven R.remaining folder t
-        → IfOk result (λ i. AreOfFolder (inputs_of i) t) }
-    ensures failure { (t : Texts) → AreGiven R.remaining folder t
-        → IfErr result (IsUnchecked t.given) }
+fn read_opened<R: Read + Drop>(alloc: Global, folder: Folder<R>) -> Result<Folder<Vec<u8>>, Failure>
+    ensures bytes { IfOk result (λ i. AreRead (inputs_of i) (folder_by R.remaining folder)) }
+    ensures failure { IfErr result (AreUnread (folder_named (folder_by R.remaining folder))) }
 {
     let mut folder = folder;
     read_folder(alloc, &mut folder)
@@ -45,8 +45,9 @@ pub(crate) fn read_region_files<G: Regions>(
     alloc: Global,
     regions: &G,
     name: &str,
-) -> Result<InputBytes, Failure>
-    ensures bytes { IfOk result (λ i. AreOfFolder (inputs_of i) (G.texts regions.now name.now)) }
+) -> Result<Folder<Vec<u8>>, Failure>
+    ensures bytes { IfOk result (λ i. AreRead (inputs_of i)
+        (G.texts regions.now name.now).given) }
     ensures failure { IfErr result (IsUnreadFolder (G.texts regions.now name.now)) }
 {
     let folder = regions.open(name)?;
@@ -71,11 +72,11 @@ pub fn read_region<G: Regions>(
     regions: &G,
     names: &mut Vec<String>,
     index: usize,
-) -> Result<InputBytes, Failure>
+) -> Result<Folder<Vec<u8>>, Failure>
     requires { index < length names.old.items }
     ensures names { OnOk result (names.new.items ≡ names.old.items) }
-    ensures bytes { IfOk result (λ i. AreOfFolder (inputs_of i)
-        (G.texts regions.now (get_or (map string_bytes names.old.items) index []))) }
+    ensures bytes { IfOk result (λ i. AreRead (inputs_of i)
+        (G.texts regions.now (get_or (map string_bytes names.old.items) index [])).given) }
     ensures failure { (left : List (List ℕ)) → IfErr result (IsStoppedBefore (G.texts regions.now)
         (get_or (map string_bytes names.old.items) index [] ∷ left)) }
 {

@@ -3,9 +3,9 @@
 ghost use Rattle.std.specs.Prelude.{◌≡◌, IfErr, IfOk, List, map, ℕ};
 ghost use Rattle.std.specs.String.{string_bytes};
 ghost use Rattle.lpis_release.specs.Release.{Contents};
+ghost use Rattle.lpis_run.specs.CheckAnswer.{AreRead};
 ghost use Rattle.lpis_run.specs.Inputs.{inputs_of};
 ghost use Rattle.lpis_run_country.specs.CountryAnswer.{Setting};
-ghost use Rattle.lpis_run_country.specs.Regions.{AreOfFolder};
 ghost use Rattle.lpis_run_country.specs.declared.progress.Progress.{Progress};
 ghost use Rattle.lpis_run_country.specs.private.Progressing.{AreOfRun, AreOfSetting, IsAt, IsReady};
 ghost use Rattle.lpis_run_country.specs.private.Progressing.{IsUnwritten, IsVerdict, IsWritten};
@@ -13,7 +13,7 @@ ghost use Rattle.lpis_run_country.specs.private.Progressing.{gathers};
 
 use crate::folder::{Regions, read_region_files};
 use crate::progress::{Progress, follow};
-use lpis_run::{Detail, Failure, InputBytes, Name, Stop, checked_release, write_text};
+use lpis_run::{Detail, Failure, Folder, Name, Stop, checked_release, write_text};
 use std::alloc::Global;
 use std::io::Write;
 
@@ -25,12 +25,12 @@ fn judge_inputs(
     name: &str,
     detail: Detail,
     progress: &mut Progress,
-    inputs: InputBytes,
+    inputs: Folder<Vec<u8>>,
 ) -> Result<Vec<u8>, Stop>
     requires { IsReady progress.old }
     ensures verdict { (s : Setting) (before : List Contents) → IsAt s before progress.old
         → AreOfSetting s (map string_bytes names.now) detail
-        → AreOfFolder (inputs_of inputs) (s.texts name.now)
+        → AreRead (inputs_of inputs) (s.texts name.now).given
         → IsVerdict s before name.now progress.new result }
     ensures wanted { gathers progress.new.gathered ≡ gathers progress.old.gathered }
 {

@@ -18,7 +18,7 @@ mod progress;
 mod refusals;
 mod totals;
 
-pub use beginning::{Begun, CountryBytes, begin, read_top};
+pub use beginning::{Begun, begin, read_top};
 pub use country::run_country;
 pub use folder::{Regions, read_region};
 pub use joining::{JoinedCountry, Joining, join_regions};

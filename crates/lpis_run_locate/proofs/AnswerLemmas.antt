@@ -13,7 +13,7 @@ second A B a b s t e = (ap (λ (p : A × B). p.0) e, ap (λ (p : A × B). p.1) e
 not_done : (n : ℕ) → n ≡ 2 → n ≡ 0 → ⊥
 not_done n two zero = omega arith
 
-by_points : (x : LocateInputs) (r : Contents) (said : Result (List Given) PointsFault) (text : List ℕ) (status : ℕ) → IsProvedOf x.checked r → points_of x.points ≡ said
+by_points : (x : LocateInputs) (r : Contents) (said : Result (List Given) PointsFault) (text : List ℕ) (status : ℕ) → IsProvedOf x.files r → points_of x.points ≡ said
     → IsPointsAnswer r said (text, status) → status ≡ done → IsLocatedText x text
 by_points x r (Err fault) text status proved table a e = absurd (not_done status (second _ _ _ _ _ _ a).1 e)
 by_points x r (Ok points) text status proved table a e = record {

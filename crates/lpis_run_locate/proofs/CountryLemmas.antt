@@ -9,7 +9,10 @@ use Rattle.lpis_tables.specs.declared.class.Class.{Class}
 use Rattle.lpis_tables.specs.declared.fault.TableFault.{TableFault}
 use Rattle.lpis_release.specs.Release.{Contents}
 use Rattle.lpis_run.proofs.Shared.{runs_stopped, runs_written, table-more}
-use Rattle.lpis_run.specs.Streams.{Begins}
+use Rattle.lpis_run.specs.Failures.{AreUnread}
+use Rattle.lpis_run.specs.Folders.{top_named}
+use Rattle.lpis_run.specs.Streams.{Begins, Known}
+use Rattle.lpis_run.specs.declared.folder.Top.{Top}
 use Rattle.lpis_run.specs.declared.failure.Failure.TheVariants.{Write}
 use Rattle.lpis_run.specs.declared.failure.Name.TheVariants.{Out}
 use Rattle.lpis_run.specs.CheckAnswer.{Answer as TextStatus, IsTableAnswer}
@@ -29,23 +32,24 @@ use Rattle.lpis_run_country.specs.Beginning.{IsBegun, IsUnbegun}
 use Rattle.lpis_run_country.specs.declared.beginning.Begun.{Begun}
 use Rattle.lpis_run.specs.declared.failure.Failure.{Failure}
 use Rattle.lpis_run_country.specs.CountryAnswer.{IsRefusedRegion, Setting, setting_of}
-use Rattle.lpis_run_country.specs.Regions.{IsCountry, Texts}
+use Rattle.lpis_run_country.specs.Regions.{AreCountryRead, IsCountry, Texts}
 use Rattle.lpis_run_country.proofs.Shared.{passed_length, passed_regions, passed_sound, two_is_not_done, unbegun_no}
 use Rattle.lpis_places.specs.declared.fault.PointsFault.{PointsFault}
 use Rattle.lpis_places.specs.Points.{Given, points_of}
-use Rattle.lpis_run_locate.specs.LocateAnswer.{IsPointsAnswer}
+use Rattle.lpis_run_locate.specs.LocateAnswer.{ArePointsRead, IsPointsAnswer, points_named}
+use Rattle.lpis_run_locate.specs.declared.points_in.PointsIn.{PointsIn}
 use Rattle.lpis_run_locate.specs.declared.progress.Progress.{Progress}
-use Rattle.lpis_run_locate.specs.LocateCountryAnswer.{AreLocateCountryRead, IsLocateCountryAnswer, IsLocatedInCountry, IsRegionsPointsAnswer, IsStoppedIn}
-use Rattle.lpis_run_locate.specs.LocateCountryAnswer.{IsUnreadInput, LocateCountryAsked, LocateCountryInputs, OfInputs, RunsLocateCountry}
+use Rattle.lpis_run_locate.specs.LocateCountryAnswer.{IsLocateCountryAnswer, IsLocatedInCountry, IsRegionsPointsAnswer, IsStoppedIn}
+use Rattle.lpis_run_locate.specs.LocateCountryAnswer.{LocateCountryInputs, OfInputs, RunsLocateCountry}
 use Rattle.lpis_run_locate.specs.private.Found.{IsSearched}
 use Rattle.lpis_run_locate.specs.private.Searching.{IsOutcome, IsStart, IsStopped, IsUnanswered}
 
 -- the setting of what was begun
-pub begun_setting : (List ℕ → Texts) → (x : LocateCountryInputs) (b : Begun) → IsBegun x.country b → Setting
+pub begun_setting : (List ℕ → Texts) → (x : LocateCountryInputs) (b : Begun) → IsBegun x.files b → Setting
 begun_setting texts x b begun = setting_of texts Regions begun.plan b.classes.items
 
 -- a search through its regions can start
-pub starts : (texts : List ℕ → Texts) (x : LocateCountryInputs) (b : Begun) (p : Progress) (begun : IsBegun x.country b) → IsSeamOf b.tiles.items b.classes.items [] p.seam
+pub starts : (texts : List ℕ → Texts) (x : LocateCountryInputs) (b : Begun) (p : Progress) (begun : IsBegun x.files b) → IsSeamOf b.tiles.items b.classes.items [] p.seam
     → IsSearched x.points [] p.sought → IsStart (begun_setting texts x b begun) texts x.points (map string_bytes b.names.items) p
 unfolding begun_setting
 starts texts x b p begun seam search = record {
@@ -57,7 +61,7 @@ starts texts x b p begun seam search = record {
 
 -- ---- the answer
 -- the answer to the regions is that to the country
-whole-answer : (texts : List ℕ → Texts) (x : LocateCountryInputs) (b : Begun) (begun : IsBegun x.country b) (a : TextStatus) → IsRegionsPointsAnswer x.points (begun_setting texts x b begun) a
+whole-answer : (texts : List ℕ → Texts) (x : LocateCountryInputs) (b : Begun) (begun : IsBegun x.files b) (a : TextStatus) → IsRegionsPointsAnswer x.points (begun_setting texts x b begun) a
     → IsLocateCountryAnswer texts x a
 unfolding begun_setting
 whole-answer texts x b begun a h = inr (
@@ -67,7 +71,7 @@ whole-answer texts x b begun a h = inr (
 )
 
 -- the answer to a region that is refused is that to the country
-pub refused_answer : (texts : List ℕ → Texts) (x : LocateCountryInputs) (b : Begun) (begun : IsBegun x.country b) (p : Progress) (a : Answer)
+pub refused_answer : (texts : List ℕ → Texts) (x : LocateCountryInputs) (b : Begun) (begun : IsBegun x.files b) (p : Progress) (a : Answer)
     → IsOutcome (begun_setting texts x b begun) x.points p (Some a) → IsLocateCountryAnswer texts x (a.text.items, a.status)
 refused_answer texts x b begun p a (regions, lines, name, left, reached, refusal) =
     whole-answer texts x b begun (a.text.items, a.status) (record { regions = regions; lines = lines; left = name ∷ left; reached = reached; follows = refusal })
@@ -81,13 +85,13 @@ refused_no s before name text status (x, told, inr seam) e = one-is-not-done sta
     one-is-not-done n one zero = omega arith
 
 -- all regions make up their union
-pub all_unite : (texts : List ℕ → Texts) (x : LocateCountryInputs) (b : Begun) (begun : IsBegun x.country b) (p : Progress) → JoinedCountryIsUnion
+pub all_unite : (texts : List ℕ → Texts) (x : LocateCountryInputs) (b : Begun) (begun : IsBegun x.files b) (p : Progress) → JoinedCountryIsUnion
     → (out : IsOutcome (begun_setting texts x b begun) x.points p None) → IsUnion out.0 (country_of b.classes.items out.0)
 unfolding begun_setting
 all_unite texts x b begun p unites (all, passed, at) = unites (rectangles (tiling_of begun.plan) frame) b.classes.items all at.seam.joined
 
 -- the answer to the points in their union is that to the country
-pub points_answer : (texts : List ℕ → Texts) (x : LocateCountryInputs) (b : Begun) (begun : IsBegun x.country b) (p : Progress) (a : TextStatus)
+pub points_answer : (texts : List ℕ → Texts) (x : LocateCountryInputs) (b : Begun) (begun : IsBegun x.files b) (p : Progress) (a : TextStatus)
     → (out : IsOutcome (begun_setting texts x b begun) x.points p None) → IsPointsAnswer (country_of b.classes.items out.0) (points_of x.points) a → IsLocateCountryAnswer texts x a
 unfolding begun_setting
 points_answer texts x b begun p a (all, (lines, passed), at) said =
@@ -101,7 +105,7 @@ points_answer texts x b begun p a (all, (lines, passed), at) said =
 
 -- ---- a yes
 -- points in the country of all regions, which is a sound map
-located-by : (texts : List ℕ → Texts) (x : LocateCountryInputs) (country : IsCountry texts x.country) (said : Result (List Given) PointsFault) (text : List ℕ) (status : ℕ) → points_of x.points ≡ said
+located-by : (texts : List ℕ → Texts) (x : LocateCountryInputs) (country : IsCountry texts x.files) (said : Result (List Given) PointsFault) (text : List ℕ) (status : ℕ) → points_of x.points ≡ said
     → IsPointsAnswer (country_of country.classes country.regions) said (text, status) → status ≡ done → IsLocatedInCountry texts x text
 located-by texts x country (Err fault) text status table a e = absurd (two_is_not_done status (ap (λ (p : TextStatus). p.1) a) e)
 located-by texts x country (Ok points) text status table a e = record {
@@ -114,7 +118,7 @@ located-by texts x country (Ok points) text status table a e = record {
 }
 
 -- where it is a yes, each point has the line of its own place in that country
-pub located : (texts : List ℕ → Texts) (x : LocateCountryInputs) (b : Begun) (begun : IsBegun x.country b) (p : Progress) (text : List ℕ) (status : ℕ) → JoinedCountryIsSound → JoinedCountryIsUnion
+pub located : (texts : List ℕ → Texts) (x : LocateCountryInputs) (b : Begun) (begun : IsBegun x.files b) (p : Progress) (text : List ℕ) (status : ℕ) → JoinedCountryIsSound → JoinedCountryIsUnion
     → (out : IsOutcome (begun_setting texts x b begun) x.points p None) → IsPointsAnswer (country_of b.classes.items out.0) (points_of x.points) (text, status) → status ≡ done
     → IsLocatedInCountry texts x text
 unfolding begun_setting
@@ -136,43 +140,43 @@ located texts x b begun p text status law unites (all, (lines, passed), at) said
 
 -- ---- no answer
 -- a search that is stopped gives no answer to the country
-pub stopped : (texts : List ℕ → Texts) (x : LocateCountryInputs) (b : Begun) (begun : IsBegun x.country b) (f : Failure) → IsStopped (begun_setting texts x b begun) f → IsUnanswered texts x f
+pub stopped : (texts : List ℕ → Texts) (x : LocateCountryInputs) (b : Begun) (begun : IsBegun x.files b) (f : Failure) → IsStopped (begun_setting texts x b begun) f → IsUnanswered texts x f
 unfolding begun_setting
 stopped texts x b begun f (regions, lines, left, reached, stop) =
     inr (lines, left, record { plan = begun.plan; planned = begun.text; classes = b.classes.items; table = begun.table; regions = regions; reached = reached }, stop)
 
 -- ---- before the first region
 -- an answer to inputs that have a fault before the first region is one to the country
-unbegun-answer : (texts : List ℕ → Texts) (x : LocateCountryInputs) (a : TextStatus) → IsUnbegun x.country a → IsLocateCountryAnswer texts x a
+unbegun-answer : (texts : List ℕ → Texts) (x : LocateCountryInputs) (a : TextStatus) → IsUnbegun x.files a → IsLocateCountryAnswer texts x a
 unbegun-answer texts x a (inl refused) = inl refused
 unbegun-answer texts x a (inr (plan, planned, refused)) = inr (
   plan,
   planned,
   table-more (λ (classes : List Class) (b : TextStatus). ⊥) (λ (classes : List Class). IsRegionsPointsAnswer x.points (setting_of texts Regions plan classes))
-      (rows_of classes_table x.country.classes) a (λ classes never. absurd never) refused,
+      (rows_of classes_table x.files.classes) a (λ classes never. absurd never) refused,
 )
 
 -- so it is of a step that stops
-pub unbegun_is_answer : (texts : List ℕ → Texts) (x : LocateCountryInputs) (stop : Stop) (a : Answer) → stop ≡ Refused a → IsRefusedAs (IsUnbegun x.country) stop
+pub unbegun_is_answer : (texts : List ℕ → Texts) (x : LocateCountryInputs) (stop : Stop) (a : Answer) → stop ≡ Refused a → IsRefusedAs (IsUnbegun x.files) stop
     → IsLocateCountryAnswer texts x (a.text.items, a.status)
-unbegun_is_answer texts x stop a is may = unbegun-answer texts x (a.text.items, a.status) (subst (IsRefusedAs (IsUnbegun x.country)) is may)
+unbegun_is_answer texts x stop a is may = unbegun-answer texts x (a.text.items, a.status) (subst (IsRefusedAs (IsUnbegun x.files)) is may)
 
 -- and no yes
-pub unbegun_is_no : (x : LocateCountryInputs) (stop : Stop) (a : Answer) → stop ≡ Refused a → IsRefusedAs (IsUnbegun x.country) stop → a.status ≡ done → ⊥
-unbegun_is_no x stop a is may = unbegun_no x.country (a.text.items, a.status) (subst (IsRefusedAs (IsUnbegun x.country)) is may)
+pub unbegun_is_no : (x : LocateCountryInputs) (stop : Stop) (a : Answer) → stop ≡ Refused a → IsRefusedAs (IsUnbegun x.files) stop → a.status ≡ done → ⊥
+unbegun_is_no x stop a is may = unbegun_no x.files (a.text.items, a.status) (subst (IsRefusedAs (IsUnbegun x.files)) is may)
 
 -- ---- the run
 -- where there is no answer, nothing was written
-pub unanswered_run : (asked : LocateCountryAsked) (x : LocateCountryInputs) (out : Option (List ℕ)) (f : Failure) → AreLocateCountryRead x asked.plan asked.classes asked.points
-    → IsUnanswered asked.texts x f → RunsLocateCountry asked out out (Err f)
-unanswered_run asked x out f told h = runs_stopped _ _ out f (stops h)
+pub unanswered_run : (texts : List ℕ → Texts) (given : PointsIn (Top Known) Known) (x : LocateCountryInputs) (out : Known) (f : Failure) → ArePointsRead AreCountryRead x given
+    → IsUnanswered texts x f → RunsLocateCountry texts given out out (Err f)
+unanswered_run texts given x out f told h = runs_stopped _ _ out f (stops h)
   where
-    stops : IsUnanswered asked.texts x f → IsUnreadInput asked.plan asked.classes f ⊎ OfInputs asked (λ y. IsStoppedIn asked.texts y f)
-    stops (inl memory) = inl (inl (inl memory))
+    stops : IsUnanswered texts x f → AreUnread (points_named top_named given) f ⊎ OfInputs given (λ y. IsStoppedIn texts y f)
+    stops (inl memory) = inl (inl memory)
     stops (inr stopped) = inr (x, told, stopped)
 
 -- an answer is written, or a beginning of it
-pub answered_run : (asked : LocateCountryAsked) (x : LocateCountryInputs) (text : List ℕ) (status : ℕ) (old new : Option (List ℕ)) (r : Result ℕ Failure)
-    → AreLocateCountryRead x asked.plan asked.classes asked.points → IsLocateCountryAnswer asked.texts x (text, status) → (status ≡ done → IsLocatedInCountry asked.texts x text)
-    → IfOk r (λ s. s ≡ status) → OnOk r (Appends old new text) → IfErr r (λ f. (f ≡ Write Out) × Begins old new text) → RunsLocateCountry asked old new r
-answered_run asked x text status old new r told answer located = runs_written _ _ text status old new r (x, told, record { answer = answer; located = located })
+pub answered_run : (texts : List ℕ → Texts) (given : PointsIn (Top Known) Known) (x : LocateCountryInputs) (text : List ℕ) (status : ℕ) (old new : Known) (r : Result ℕ Failure)
+    → ArePointsRead AreCountryRead x given → IsLocateCountryAnswer texts x (text, status) → (status ≡ done → IsLocatedInCountry texts x text)
+    → IfOk r (λ s. s ≡ status) → OnOk r (Appends old new text) → IfErr r (λ f. (f ≡ Write Out) × Begins old new text) → RunsLocateCountry texts given old new r
+answered_run texts given x text status old new r told answer located = runs_written _ _ text status old new r (x, told, record { answer = answer; located = located })

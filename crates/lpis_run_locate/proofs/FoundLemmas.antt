@@ -15,8 +15,8 @@ use Rattle.lpis_places.specs.declared.place.Place.{Place}
 use Rattle.lpis_places.specs.Places.{AreFoundIn, FindsIn, IsFound}
 use Rattle.lpis_places.specs.Points.{Given, points_of}
 use Rattle.lpis_run_locate.specs.LocateAnswer.{IsPointsAnswer}
-use Rattle.lpis_run_locate.specs.LocateLines.{AreFound, points_refusal_text}
-use Rattle.lpis_run_locate.specs.private.Found.{AreFoundAmong, IsFoundAmong}
+use Rattle.lpis_run_locate.specs.LocateLines.{points_refusal_text}
+use Rattle.lpis_run_locate.specs.private.Found.{AreFound, AreFoundAmong, IsFoundAmong}
 
 -- before the first region nothing was found
 pub none_found : (ps : List Given) (found : List (Option Place)) → length found ≡ length ps → All (λ (f : Option Place). f ≡ None) found → AreFoundAmong [] ps found

@@ -7,7 +7,8 @@ use Rattle.lpis_release.specs.Release.{Contents}
 use Rattle.lpis_places.specs.declared.place.Place.{Place}
 use Rattle.lpis_places.specs.Places.{AreFoundIn, FindsIn, IsFound}
 use Rattle.lpis_places.specs.Points.{Given}
-use Rattle.lpis_run_locate.specs.LocateLines.{AreFound, AreLines, point_line}
+use Rattle.lpis_run_locate.specs.LocateLines.{AreLines, point_line}
+use Rattle.lpis_run_locate.specs.private.Found.{AreFound}
 use Rattle.lpis_run_locate.specs.private.Lines.{lines_of}
 
 -- one line more, after as many points as places

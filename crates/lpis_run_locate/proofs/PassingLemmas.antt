@@ -3,18 +3,16 @@ use Rattle.std.proofs.Common.{◌≡◌, ◌<◌, ◌≤◌, ◌∙◌, ◌++◌
 use Rattle.std.proofs.lemmas.List.{drop_more, length-append, length-map, take_all}
 use Rattle.lpis_release.specs.Release.{Contents}
 use Rattle.lpis_run.proofs.Shared.{refused-more}
-use Rattle.lpis_run.specs.CheckAnswer.{Inputs, IsProvedOf}
-use Rattle.lpis_run.specs.Inputs.{inputs_of}
+use Rattle.lpis_run.specs.CheckAnswer.{AreRead, Inputs, IsProvedOf}
 use Rattle.lpis_run.specs.Stops.{IsRefusedAs}
 use Rattle.lpis_run.specs.declared.answer.Answer.{Answer as Printed}
-use Rattle.lpis_run.specs.declared.folder.InputBytes.{InputBytes}
 use Rattle.lpis_run.specs.declared.stop.Stop.{Stop}
 use Rattle.lpis_run.specs.declared.stop.Stop.TheVariants.{Refused}
 use Rattle.lpis_run.specs.declared.failure.Failure.{Failure}
 use Rattle.lpis_run_country.specs.CountryAnswer.{HavePassed, None as NonePassed, IsReachedBy, IsRefusedRegion, Setting}
 use Rattle.lpis_run_country.specs.CountryFailures.{IsStoppedBefore}
 use Rattle.lpis_run_country.specs.CountryLines.{region_report}
-use Rattle.lpis_run_country.specs.Regions.{AreOfFolder, Texts}
+use Rattle.lpis_run_country.specs.Regions.{Texts}
 use Rattle.lpis_run_country.proofs.Shared.{passed_more, reached_by}
 use Rattle.lpis_country.specs.Country.{country_of}
 use Rattle.lpis_run_locate.specs.declared.progress.Progress.{Progress}
@@ -22,12 +20,12 @@ use Rattle.lpis_run_locate.specs.private.Searching.{Follows, HasPassed, IsHere, 
 
 -- ---- the verdict
 -- on a region that is a sound map and fits those before it
-pub judged : (s : Setting) (table : List ℕ) (before : List Contents) (name : List ℕ) (x : Inputs) (region : Contents) (p : Progress) → AreOfFolder x (s.texts name) → IsProvedOf x region
+pub judged : (s : Setting) (table : List ℕ) (before : List Contents) (name : List ℕ) (x : Inputs) (region : Contents) (p : Progress) → AreRead x (s.texts name).given → IsProvedOf x region
     → Follows s table before region p → HasPassed s table before name p
 judged s table before name x region p told said (fits, at) = (region, record { inputs = x; told = told; said = said; fits = fits }, at)
 
 -- on one that does not fit them
-pub seam_refused : (s : Setting) (before : List Contents) (name : List ℕ) (x : Inputs) (region : Contents) (stop : Stop) → AreOfFolder x (s.texts name) → IsProvedOf x region
+pub seam_refused : (s : Setting) (before : List Contents) (name : List ℕ) (x : Inputs) (region : Contents) (stop : Stop) → AreRead x (s.texts name).given → IsProvedOf x region
     → IsRefusedAs (IsSeamRefusal s before name region) stop → IsRefusedAs (IsRefusedRegion s before name) stop
 seam_refused s before name x region stop told said h =
     refused-more (IsSeamRefusal s before name region) (IsRefusedRegion s before name) stop
@@ -105,7 +103,7 @@ all_passed s table p n here past = (
 )
 
 -- what was read of a folder is that of the folder of an equal name, by equal texts
-pub same_folder : (i : InputBytes) (s : Setting) (texts : List ℕ → Texts) (name other : List ℕ) → s.texts ≡ texts → other ≡ name → AreOfFolder (inputs_of i) (texts name)
-    → AreOfFolder (inputs_of i) (s.texts other)
-same_folder i s texts name other same is told =
-    subst (λ (ts : List ℕ → Texts). AreOfFolder (inputs_of i) (ts other)) (sym same) (subst (λ (n : List ℕ). AreOfFolder (inputs_of i) (texts n)) (sym is) told)
+pub same_folder : (x : Inputs) (s : Setting) (texts : List ℕ → Texts) (name other : List ℕ) → s.texts ≡ texts → other ≡ name → AreRead x (texts name).given
+    → AreRead x (s.texts other).given
+same_folder x s texts name other same is told =
+    subst (λ (ts : List ℕ → Texts). AreRead x (ts other).given) (sym same) (subst (λ (n : List ℕ). AreRead x (texts n).given) (sym is) told)

@@ -1,5 +1,5 @@
 -- The lines that are printed of points.
-use Rattle.std.specs.Prelude.{◌≡◌, ◌++◌, ◌∷◌, [], ℕ, List, codes, length, slice_get}
+use Rattle.std.specs.Prelude.{◌≡◌, ◌++◌, ◌∷◌, [], ℕ, List, codes}
 use Rattle.std.specs.Prelude.{Option, Some, None}
 use Rattle.std.specs.Fmt.{decimal}
 use Rattle.lpis_wkt.specs.Codes.{wkt_code_text}
@@ -22,12 +22,6 @@ place_text (Some a) = codes " parcel " ++ a.parcel ++ codes " piece " ++ a.piece
 -- the line of a point of this identifier
 abbrev pub point_line : List ℕ → Option Place → List ℕ
 point_line id found = codes "point " ++ id ++ place_text found
-
--- what was found of points is where they are in the release
-pub record AreFound (r : Contents) (ps : List Given) (found : List (Option Place)) : Type 0 where
-  pub as_many : length found ≡ length ps
-  pub each : (i : ℕ) (g : Given) (f : Option Place) → slice_get ps i ≡ Some g
-      → slice_get found i ≡ Some f → IsFound r g.at f
 
 -- the lines of points: each has the place of its own in the release
 abbrev pub AreLines : Contents → List Given → List ℕ → Type 0

@@ -7,6 +7,7 @@
 
 mod locate;
 mod locate_country;
+mod points_in;
 mod printing;
 mod progress;
 mod search;
@@ -14,4 +15,5 @@ mod searching;
 
 pub use locate::run_locate;
 pub use locate_country::run_locate_country;
-pub use printing::{refuse_points, report_points};
+pub use points_in::PointsIn;
+pub(crate) use printing::{refuse_points, report_points};

@@ -2,32 +2,25 @@
 
 ghost use Rattle.std.specs.Prelude.{◌≡◌, All, IfErr, IfOk, None, Ok, Option, length};
 ghost use Rattle.lpis_checker.specs.SoundMap.{IsSoundMap};
-ghost use Rattle.lpis_run.specs.Inputs.{inputs_of};
+ghost use Rattle.lpis_run.specs.CheckAnswer.{AreRead};
+ghost use Rattle.lpis_run.specs.Failures.{AreUnread, AreUntouched};
+ghost use Rattle.lpis_run.specs.Folders.{folder_by, folder_named};
 ghost use Rattle.lpis_run.specs.Run.{Runs};
 ghost use Rattle.lpis_run.specs.Status.{done};
 ghost use Rattle.lpis_places.specs.Points.{points_of};
 ghost use Rattle.lpis_places.specs.declared.place.Place.{Place};
-ghost use Rattle.lpis_run_locate.specs.LocateAnswer.{AreLocateRead, AreLocateUntouched};
-ghost use Rattle.lpis_run_locate.specs.LocateAnswer.{IsLocateAnswer};
-ghost use Rattle.lpis_run_locate.specs.LocateAnswer.{IsLocatedText, IsPointsAnswer, IsUnlocated};
-ghost use Rattle.lpis_run_locate.specs.LocateAnswer.{Locates, locate_texts};
+ghost use Rattle.lpis_run_locate.specs.LocateAnswer.{ArePointsRead, IsLocateAnswer};
+ghost use Rattle.lpis_run_locate.specs.LocateAnswer.{IsLocatedText, IsPointsAnswer, Locates};
+ghost use Rattle.lpis_run_locate.specs.LocateAnswer.{points_by, points_named};
 ghost use Rattle.lpis_run_locate.specs.private.LocateRuns.{locate_inputs_of};
 
+use crate::points_in::PointsIn;
 use crate::printing::{refuse_points, report_points};
 use lpis_places::{Place, Points, PointsFault, locate_in, no_places, read_points};
 use lpis_release::Release;
-use lpis_run::{
-    Answer, Failure, Folder, InputBytes, Name, checked_release, read_folder, read_lent,
-};
+use lpis_run::{Answer, Failure, Folder, Name, checked_release, read_folder, read_lent};
 use std::alloc::{AllocError, Global};
 use std::io::{Read, Write};
-
-/// The bytes of a release's files, and of a table of points.
-#[derive(Drop)]
-struct LocateBytes {
-    release: InputBytes,
-    points: Vec<u8>,
-}
 
 /// The line of each point in a release that is a sound map, and the yes. Nothing was found of them
 /// yet.
@@ -71,14 +64,17 @@ fn answer_in(alloc: Global, release: &Release, points: &[u8]) -> Result<Answer, 
 }
 
 /// The answer to a release and a table of points.
-fn answer_to(alloc: Global, inputs: LocateBytes) -> Result<Answer, AllocError>
+fn answer_to(
+    alloc: Global,
+    inputs: PointsIn<Folder<Vec<u8>>, Vec<u8>>,
+) -> Result<Answer, AllocError>
     ensures answer { IfOk result (λ a. IsLocateAnswer (locate_inputs_of inputs)
         (a.text.items, a.status)) }
     ensures located { IfOk result (λ a. a.status ≡ done → IsLocatedText (locate_inputs_of inputs)
         a.text.items) }
 {
-    let LocateBytes { release, points } = inputs;
-    match checked_release(alloc, release) {
+    let PointsIn { files, points } = inputs;
+    match checked_release(alloc, files) {
         Ok(release) => answer_in(alloc, &release, points.as_slice()),
         Err(stop) => stop.into_answer(),
     }
@@ -88,19 +84,18 @@ fn answer_to(alloc: Global, inputs: LocateBytes) -> Result<Answer, AllocError>
 /// behind it are as they were.
 fn read_all_inputs<R: Read + Drop>(
     alloc: Global,
-    folder: &mut Folder<R>,
-    points: &mut R,
-) -> Result<LocateBytes, Failure>
-    ensures read { IfOk result (λ i. AreLocateRead (locate_inputs_of i)
-        (locate_texts R.remaining folder.old points.old)) }
-    ensures failure { IfErr result
-        (IsUnlocated (locate_texts R.remaining folder.old points.old)) }
-    ensures untouched { IfErr result
-        (AreLocateUntouched folder.old folder.new points.old points.new) }
+    asked: &mut PointsIn<Folder<R>, R>,
+) -> Result<PointsIn<Folder<Vec<u8>>, Vec<u8>>, Failure>
+    ensures read { IfOk result (λ i. ArePointsRead AreRead (locate_inputs_of i)
+        (points_by (folder_by R.remaining) R.remaining asked.old)) }
+    ensures failure { IfErr result (AreUnread (points_named folder_named
+        (points_by (folder_by R.remaining) R.remaining asked.old))) }
+    ensures untouched { IfErr result (AreUntouched (points_named folder_named asked.old)
+        (points_named folder_named asked.new)) }
 {
-    let release = read_folder(alloc, folder)?;
-    let points = read_lent(alloc, points, Name::Points)?;
-    Ok(LocateBytes { release, points })
+    let files = read_folder(alloc, &mut asked.files)?;
+    let points = read_lent(alloc, &mut asked.points, Name::Points)?;
+    Ok(PointsIn { files, points })
 }
 
 /// Checks the release of three tables against a certificate, and prints for each point of a table
@@ -113,17 +108,17 @@ fn read_all_inputs<R: Read + Drop>(
 /// failed; the readers behind it are as they were.
 pub fn run_locate<R: Read + Drop, W: Write>(
     alloc: Global,
-    folder: &mut Folder<R>,
-    points: &mut R,
+    asked: &mut PointsIn<Folder<R>, R>,
     out: &mut W,
 ) -> Result<u8, Failure>
-    ensures runs { Runs (IsUnlocated (locate_texts R.remaining folder.old points.old))
-        (Locates (locate_texts R.remaining folder.old points.old)) (W.contents out.old)
-        (W.contents out.new) result }
-    ensures untouched { IfErr result
-        (AreLocateUntouched folder.old folder.new points.old points.new) }
+    ensures runs { Runs (AreUnread (points_named folder_named
+        (points_by (folder_by R.remaining) R.remaining asked.old)))
+        (Locates (points_by (folder_by R.remaining) R.remaining asked.old))
+        (W.contents out.old) (W.contents out.new) result }
+    ensures untouched { IfErr result (AreUntouched (points_named folder_named asked.old)
+        (points_named folder_named asked.new)) }
 {
-    let inputs = read_all_inputs(alloc, folder, points)?;
+    let inputs = read_all_inputs(alloc, asked)?;
     let answer = answer_to(alloc, inputs)?;
     answer.write_to(out)
 }

@@ -6,7 +6,8 @@ ghost use Rattle.lpis_release.specs.Release.{Contents};
 ghost use Rattle.lpis_run.specs.Status.{done, unreadable};
 ghost use Rattle.lpis_places.specs.declared.fault.PointsFault.TheVariants.{Number, Table};
 ghost use Rattle.lpis_run_locate.specs.LocateAnswer.{IsPointsAnswer};
-ghost use Rattle.lpis_run_locate.specs.LocateLines.{AreFound, place_text, point_line};
+ghost use Rattle.lpis_run_locate.specs.LocateLines.{place_text, point_line};
+ghost use Rattle.lpis_run_locate.specs.private.Found.{AreFound};
 ghost use Rattle.lpis_run_locate.specs.LocateLines.{points_refusal_text};
 ghost use Rattle.lpis_run_locate.specs.private.Lines.{lines_of};
 

@@ -3,10 +3,10 @@
 ghost use Rattle.std.specs.Prelude.{◌≡◌, IfErr, IfOk, List, map, ℕ};
 ghost use Rattle.std.specs.String.{string_bytes};
 ghost use Rattle.lpis_checker.specs.SoundMap.{IsSoundMap};
+ghost use Rattle.lpis_run.specs.CheckAnswer.{AreRead};
 ghost use Rattle.lpis_run.specs.Inputs.{inputs_of};
 ghost use Rattle.lpis_run.specs.Stops.{IsRefusedAs};
 ghost use Rattle.lpis_run_country.specs.CountryAnswer.{IsRefusedRegion, Setting};
-ghost use Rattle.lpis_run_country.specs.Regions.{AreOfFolder};
 ghost use Rattle.lpis_release.specs.Release.{Contents};
 ghost use Rattle.lpis_run_locate.specs.private.Searching.{Follows, HasPassed, IsAt, IsReady};
 ghost use Rattle.lpis_run_locate.specs.private.Searching.{IsSeamRefusal};
@@ -14,7 +14,7 @@ ghost use Rattle.lpis_run_locate.specs.private.Searching.{IsSeamRefusal};
 use crate::search::{Sought, search_in};
 use lpis_country_seam::OpenSeam;
 use lpis_release::Release;
-use lpis_run::{InputBytes, Stop, checked_release};
+use lpis_run::{Folder, Stop, checked_release};
 use lpis_run_country::refuse_seam;
 use std::alloc::Global;
 
@@ -59,15 +59,15 @@ pub(crate) fn judge_inputs(
     names: &[String],
     name: &str,
     progress: &mut Progress,
-    inputs: InputBytes,
+    inputs: Folder<Vec<u8>>,
 ) -> Result<(), Stop>
     requires { IsReady progress.old }
     ensures passed { (s : Setting) (table : List ℕ) (before : List Contents)
-        → IsAt s table before progress.old → AreOfFolder (inputs_of inputs) (s.texts name.now)
+        → IsAt s table before progress.old → AreRead (inputs_of inputs) (s.texts name.now).given
         → IfOk result (λ _. HasPassed s table before name.now progress.new) }
     ensures refused { (s : Setting) (table : List ℕ) (before : List Contents)
         → IsAt s table before progress.old → s.names ≡ map string_bytes names.now
-        → AreOfFolder (inputs_of inputs) (s.texts name.now)
+        → AreRead (inputs_of inputs) (s.texts name.now).given
         → IfErr result (IsRefusedAs (IsRefusedRegion s before name.now)) }
 {
     match checked_release(alloc, inputs) {

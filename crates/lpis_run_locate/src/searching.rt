@@ -88,14 +88,14 @@ pub(crate) fn search_regions<G: Regions>(
     begun: Begun,
     sought: Sought,
 ) -> Result<Answer, Failure>
-    requires { (x : LocateCountryInputs) × IsBegun x.country begun × IsSearched x.points [] sought }
-    ensures answer { (x : LocateCountryInputs) → IsBegun x.country begun
+    requires { (x : LocateCountryInputs) × IsBegun x.files begun × IsSearched x.points [] sought }
+    ensures answer { (x : LocateCountryInputs) → IsBegun x.files begun
         → IsSearched x.points [] sought → IfOk result (λ a.
         IsLocateCountryAnswer (G.texts regions.now) x (a.text.items, a.status)) }
-    ensures located { (x : LocateCountryInputs) → IsBegun x.country begun
+    ensures located { (x : LocateCountryInputs) → IsBegun x.files begun
         → IsSearched x.points [] sought → IfOk result (λ a. a.status ≡ done
         → IsLocatedInCountry (G.texts regions.now) x a.text.items) }
-    ensures failure { (x : LocateCountryInputs) → IsBegun x.country begun
+    ensures failure { (x : LocateCountryInputs) → IsBegun x.files begun
         → IsSearched x.points [] sought
         → IfErr result (IsUnanswered (G.texts regions.now) x) }
 {

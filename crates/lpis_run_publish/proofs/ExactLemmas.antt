@@ -14,7 +14,7 @@ use Rattle.lpis_run.specs.Outputs.{Outputs}
 use Rattle.lpis_run.specs.Status.{done}
 use Rattle.lpis_run_publish.specs.ExactAnswer.{HasBlocks, IsBlocksAnswer, IsBlocksOutcome, IsExactAnswer, blocks_line, unfilled_line}
 use Rattle.lpis_register.specs.Holdings.{Holdings}
-use Rattle.lpis_run_publish.specs.Submission.{IsSubmitted, Submission, Submitted}
+use Rattle.lpis_run_publish.specs.Submission.{IsSubmitted, SubmissionInputs, Submitted}
 use Rattle.lpis_run_publish.specs.private.ExactRuns.{filled_with, refused_with}
 use Rattle.lpis_run_publish.specs.private.Submitting.{IsFaultAnswer}
 use Rattle.lpis_run_publish.proofs.SubmissionLemmas.{submission-more, submission-said}
@@ -76,9 +76,9 @@ outcome-filled before said made gs xs o asks has e =
     })
 
 -- ---- answers
-pub answered-said : (x : Submission) (said : Submitted) (before : Holdings) (o : Outputs) → IsSubmitted x said → IsBlocksOutcome said before o → IsExactAnswer x before o
+pub answered-said : (x : SubmissionInputs) (said : Submitted) (before : Holdings) (o : Outputs) → IsSubmitted x said → IsBlocksOutcome said before o → IsExactAnswer x before o
 answered-said x said before o submitted is = record { answer = submission-said (λ s. IsBlocksAnswer s before o.cert) x said (o.line, o.status) submitted is.answer; no_text = is.no_text }
 
 -- the line of the first fault, without a certificate, answers a submission that asks for blocks
-pub answered-refused : (x : Submission) (before : Holdings) (o : Outputs) → IsFaultAnswer x (o.line, o.status) → o.cert ≡ None → IsExactAnswer x before o
+pub answered-refused : (x : SubmissionInputs) (before : Holdings) (o : Outputs) → IsFaultAnswer x (o.line, o.status) → o.cert ≡ None → IsExactAnswer x before o
 answered-refused x before o is none = record { answer = submission-more (λ s. IsBlocksAnswer s before o.cert) x (o.line, o.status) is; no_text = λ _. none }

@@ -31,7 +31,7 @@ use Rattle.lpis_run.specs.declared.failure.Failure.TheVariants.{Store, StoreMemo
 use Rattle.lpis_run_publish.specs.Publication.{IsContinued, IsMemoryOrStore, IsPublicationAnswer, IsReleasePublished, PublishLeaves}
 use Rattle.lpis_run_publish.specs.PublishAnswer.{IsSoundSubmission, candidate_of}
 use Rattle.lpis_run_publish.specs.Stored.{IsStoreFailure}
-use Rattle.lpis_run_publish.specs.Submission.{IsSubmitted, Submission, Submitted}
+use Rattle.lpis_run_publish.specs.Submission.{IsSubmitted, SubmissionInputs, Submitted}
 use Rattle.lpis_run.specs.Status.{done}
 use Rattle.lpis_run_publish.specs.private.Marked.{is_marked}
 use Rattle.lpis_run_publish.proofs.MarkedLemmas.{left-exactly}
@@ -153,7 +153,7 @@ fails-said g c d cert old new (Ok x) same sound good fails = tt
 fails-said g c d cert old new (Err e) same sound good fails = λ is. (sound, good, subst (λ c. FailsToStore g c old new (e ≡ Store)) same (fails is))
 
 -- and what was submitted
-pub fails-submitted : {S A : Type 0} (g : Ghosts S) (x : Submission) (year : ℕ) (said : Submitted) (old new : RegisterState S) (answer : Result A Failure) → IsSubmitted x said
+pub fails-submitted : {S A : Type 0} (g : Ghosts S) (x : SubmissionInputs) (year : ℕ) (said : Submitted) (old new : RegisterState S) (answer : Result A Failure) → IsSubmitted x said
     → IfErr answer (λ failure. IsStoreFailure failure → IsSoundMap said.release × IsGood said.release said.cert × FailsToStore g (candidate_of year said) old new (failure ≡ Store))
     → IfErr answer (λ failure. IsStoreFailure failure → (s : Submitted) × IsSoundSubmission x s × FailsToStore g (candidate_of year s) old new (failure ≡ Store))
 fails-submitted g x year said old new (Ok a) is fails = tt

@@ -4,69 +4,61 @@ use Rattle.std.proofs.lemmas.Result.{IfErr-weaker}
 use Rattle.sqlite_trees.specs.declared.store.Store.{Ghosts}
 use Rattle.lpis_register.specs.Failing.{FailsToStore}
 use Rattle.lpis_register.specs.Holdings.{RegisterState}
-use Rattle.lpis_run.specs.Streams.{Begins}
+use Rattle.lpis_run.specs.Failures.{AreUnread}
+use Rattle.lpis_run.specs.Folders.{submission_named}
+use Rattle.lpis_run.specs.Streams.{Begins, Known}
 use Rattle.lpis_run.specs.declared.answer.Answer.{Answer as Answered}
 use Rattle.lpis_run.specs.declared.failure.Failure.{Failure}
-use Rattle.lpis_run.specs.declared.failure.Failure.TheVariants.{Memory, Read, Store, Write}
-use Rattle.lpis_run.specs.declared.failure.Name.{Name}
-use Rattle.lpis_run.specs.declared.failure.Name.TheVariants.{Cert, Classes, Covers, Lineage, Out, Parcels}
-use Rattle.lpis_run.proofs.Shared.{runs_stopped, runs_written}
+use Rattle.lpis_run.specs.declared.failure.Failure.TheVariants.{Store, Write}
+use Rattle.lpis_run.specs.declared.failure.Name.TheVariants.{Out}
+use Rattle.lpis_run.specs.declared.folder.Submission.{Submission}
+use Rattle.lpis_run.proofs.Shared.{runs_stopped, runs_written, some_unread}
 use Rattle.lpis_run_publish.proofs.Common.{Appends}
-use Rattle.lpis_run_publish.specs.Output.{output}
 use Rattle.lpis_run_publish.specs.Publication.{IsMemoryOrStore}
-use Rattle.lpis_run_publish.specs.PublishAnswer.{IsPublishAnswer, IsSoundSubmission, MovesRegister, PublishRequest, RunsPublish, candidate_of}
+use Rattle.lpis_run_publish.specs.PublishAnswer.{IsPublishAnswer, IsSoundSubmission, MovesRegister, RunsPublish, candidate_of}
 use Rattle.lpis_run_publish.specs.Stored.{IsStoreFailure, Stays}
-use Rattle.lpis_run_publish.specs.Submission.{AreAllRead, IsUnreadSubmission, Submission, SubmissionTexts, Submitted}
+use Rattle.lpis_run_publish.specs.Submission.{AreAllRead, SubmissionInputs, Submitted}
 
--- where an input is not read that is the failure, or memory ran out
-unread-is : (given : SubmissionTexts) (failure : Failure) → IsUnreadSubmission given failure → (failure ≡ Memory) ⊎ ((name : Name) × (failure ≡ Read name))
-unread-is given failure (inl (inl (inl e))) = inl e
-unread-is given failure (inl (inl (inr (inl e)))) = inr (Parcels, e)
-unread-is given failure (inl (inl (inr (inr (inl w))))) = inr (Covers, w.1)
-unread-is given failure (inl (inl (inr (inr (inr w))))) = inr (Classes, w.2)
-unread-is given failure (inl (inr w)) = inr (Cert, w.1)
-unread-is given failure (inr w) = inr (Lineage, w.2)
-
--- and none of the database
-unread-no-store : (given : SubmissionTexts) (failure : Failure) → IsUnreadSubmission given failure → IsStoreFailure failure → ⊥
-unread-no-store given failure unread (inl e) = elim (unread-is given failure unread) [ inl m ↦ cc (m, e) | inr r ↦ cc (r.1, e) ]
-unread-no-store given failure unread (inr e) = elim (unread-is given failure unread) [ inl m ↦ cc (m, e) | inr r ↦ cc (r.1, e) ]
+-- an input that is not read is no failure of the database
+unread-no-store : (given : Submission Known) (failure : Failure) → AreUnread (submission_named given) failure → IsStoreFailure failure → ⊥
+unread-no-store given failure unread (inl e) = elim (some_unread (submission_named given) failure unread) [ inl m ↦ cc (m, e) | inr r ↦ cc (r.1, e) ]
+unread-no-store given failure unread (inr e) = elim (some_unread (submission_named given) failure unread) [ inl m ↦ cc (m, e) | inr r ↦ cc (r.1, e) ]
 
 -- nor is an output that failed
 write-no-store : {X : Type 0} (failure : Failure) → failure ≡ Write Out → IsStoreFailure failure → X
 write-no-store failure is (inl e) = absurd (cc (is, e))
 write-no-store failure is (inr e) = absurd (cc (is, e))
 
-no-answer-of : (given : SubmissionTexts) (failure : Failure) → IsMemoryOrStore failure → IsUnreadSubmission given failure ⊎ IsStoreFailure failure
-no-answer-of given failure (inl is) = inl (inl (inl (inl is)))
+no-answer-of : (given : Submission Known) (failure : Failure) → IsMemoryOrStore failure → AreUnread (submission_named given) failure ⊎ IsStoreFailure failure
+no-answer-of given failure (inl is) = inl (inl is)
 no-answer-of given failure (inr of) = inr of
 
 -- ---- how the run ends
-module _ {S : Type 0} (g : Ghosts S) (asked : PublishRequest) where
+module _ {S : Type 0} (g : Ghosts S) (year : ℕ) (given : Submission Known) where
   -- where an input is not read all is as it was
-  pub runs-unread : (old : RegisterState S) (out : Option (List ℕ)) (failure : Failure) → IsUnreadSubmission asked.given failure → RunsPublish g asked old old (output out out) (Err failure)
+  pub runs-unread : (old : RegisterState S) (out : Option (List ℕ)) (failure : Failure) → AreUnread (submission_named given) failure → RunsPublish g year given old old out out (Err failure)
   runs-unread old out failure unread = record {
     runs = runs_stopped _ _ out failure (record { stopped = inl unread; same = refl });
     stored = record { holds = λ clean opened o held. held; served = λ other clean o held. held };
-    cause = λ is. absurd (unread-no-store asked.given failure unread is);
+    cause = λ is. absurd (unread-no-store given failure unread is);
   }
 
   -- where memory ran out or the database failed nothing is written
-  pub runs-failed : (old new : RegisterState S) (out : Option (List ℕ)) (x : Submission) (failure : Failure) → AreAllRead asked.given x
+  pub runs-failed : (old new : RegisterState S) (out : Option (List ℕ)) (x : SubmissionInputs) (failure : Failure) → AreAllRead given x
       → IsMemoryOrStore failure × (new.held ≡ old.held) → Stays {A = Answered} g old new (Err failure)
-      → (IsStoreFailure failure → (said : Submitted) × IsSoundSubmission x said × FailsToStore g (candidate_of asked.year said) old new (failure ≡ Store))
-      → RunsPublish g asked old new (output out out) (Err failure)
+      → (IsStoreFailure failure → (said : Submitted) × IsSoundSubmission x said × FailsToStore g (candidate_of year said) old new (failure ≡ Store))
+      → RunsPublish g year given old new out out (Err failure)
   runs-failed old new out x failure read why stays fails = record {
-    runs = runs_stopped _ _ out failure (record { stopped = no-answer-of asked.given failure why.0; same = why.1 });
+    runs = runs_stopped _ _ out failure (record { stopped = no-answer-of given failure why.0; same = why.1 });
     stored = record { holds = stays.holds; served = stays.served };
     cause = λ is. let failed = fails is in record { submission = x; read = read; said = failed.0; proved = failed.1; fails = failed.2 };
   }
 
   -- where there is an answer it is written, or a beginning of it
-  pub runs-written : (old new : RegisterState S) (before after : Option (List ℕ)) (x : Submission) (text : List ℕ) (status : ℕ) (answered : Answered) (r : Result ℕ Failure)
-      → AreAllRead asked.given x → IsPublishAnswer asked.year x old.held (text, status) → MovesRegister asked.year x old.held new.held status → Stays g old new (Ok answered)
+  pub runs-written : (old new : RegisterState S) (before after : Option (List ℕ)) (x : SubmissionInputs) (text : List ℕ) (status : ℕ) (answered : Answered) (r : Result ℕ Failure)
+      → AreAllRead given x → IsPublishAnswer year x old.held (text, status) → MovesRegister year x old.held new.held status → Stays g old new (Ok answered)
       → IfOk r (λ s. s ≡ status) → OnOk r (Appends before after text) → IfErr r (λ failure. (failure ≡ Write Out) × Begins before after text)
-      → RunsPublish g asked old new (output before after) r
+      → RunsPublish g year given old new before after r
   runs-written old new before after x text status answered r read answer moves stays is written begun = record {
     runs = runs_written _ _ text status before after r (record { submission = x; read = read; answer = answer; moves = moves }) is written begun;
     stored = record { holds = stays.holds; served = λ other. stays.served tt };

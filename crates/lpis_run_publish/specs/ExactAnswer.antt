@@ -19,9 +19,11 @@ use Rattle.lpis_register.specs.declared.fault.PublishFault.TheVariants.{Lineage,
 use Rattle.lpis_run.specs.CheckAnswer.{Answer}
 use Rattle.lpis_run.specs.Outputs.{Outputs}
 use Rattle.lpis_run.specs.Status.{done, refused}
+use Rattle.lpis_run.specs.Streams.{Known}
+use Rattle.lpis_run.specs.declared.folder.Submission.{Submission}
 use Rattle.lpis_run_publish.specs.LineageLines.{publish_refusal_text}
-use Rattle.lpis_run_publish.specs.Submission.{AreAllRead, IsSubmissionAnswer, Submission}
-use Rattle.lpis_run_publish.specs.Submission.{SubmissionTexts, Submitted}
+use Rattle.lpis_run_publish.specs.Submission.{AreAllRead, IsSubmissionAnswer}
+use Rattle.lpis_run_publish.specs.Submission.{SubmissionInputs, Submitted}
 
 -- ---- text and status
 -- the line of a group for which no flats are found, or more than a certificate may have
@@ -80,14 +82,14 @@ module _ (said : Submitted) (before : Holdings) where
 
 -- the answer to what is handed in, where a register holds this: faults of the tables and texts come
 -- first. There is no year, and the certificate is not checked
-pub record IsExactAnswer (x : Submission) (before : Holdings) (a : Outputs) : Type 0 where
+pub record IsExactAnswer (x : SubmissionInputs) (before : Holdings) (a : Outputs) : Type 0 where
   pub answer : IsSubmissionAnswer (λ said. IsBlocksAnswer said before a.cert) x (a.line, a.status)
   -- with every other status there is no text
   pub no_text : a.status ≢ done → a.cert ≡ None
 
 -- a run that fills in blocks: this submission is what five readers gave, as far as it is known, and
 -- this is an answer to it
-pub record Fills (given : SubmissionTexts) (before : Holdings) (a : Outputs) : Type 0 where
-  pub submission : Submission
+pub record Fills (given : Submission Known) (before : Holdings) (a : Outputs) : Type 0 where
+  pub submission : SubmissionInputs
   pub read : AreAllRead given submission
   pub answer : IsExactAnswer submission before a

@@ -1,6 +1,5 @@
 pub mod ExactAnswer
 pub mod LineageLines
-pub mod Output
 pub mod Publication
 pub mod PublishAnswer
 pub mod Stored

@@ -15,19 +15,20 @@ ghost use Rattle.lpis_lineage.specs.Order.{IsAscending};
 ghost use Rattle.lpis_register_rows.specs.Shapes.{AreShapesOf, shape_ids};
 ghost use Rattle.lpis_lineage_exact.specs.Asking.{AsksFor};
 ghost use Rattle.lpis_register.specs.Holdings.{Holdings, holdings};
+ghost use Rattle.lpis_run.specs.Failures.{AreUnread, AreUntouched};
+ghost use Rattle.lpis_run.specs.Folders.{submission_by, submission_named};
 ghost use Rattle.lpis_run.specs.Outputs.{held, outputs_of};
 ghost use Rattle.lpis_run.specs.Run.{RunsBoth};
 ghost use Rattle.lpis_run.specs.Status.{done, refused};
 ghost use Rattle.lpis_run_publish.specs.ExactAnswer.{Fills, IsBlocksOutcome, IsExactAnswer};
 ghost use Rattle.lpis_run_publish.specs.ExactAnswer.{blocks_line, unfilled_line};
 ghost use Rattle.lpis_run_publish.specs.LineageLines.{publish_refusal_text};
-ghost use Rattle.lpis_run_publish.specs.Submission.{IsSubmissionUntouched, IsUnreadSubmission};
-ghost use Rattle.lpis_run_publish.specs.Submission.{submission_texts, submitted};
+ghost use Rattle.lpis_run_publish.specs.Submission.{submitted};
 ghost use Rattle.lpis_run_publish.specs.private.ExactRuns.{filled_with, refused_with};
 ghost use Rattle.lpis_run_publish.specs.private.Submitting.{submission_of, submitted_of};
 
 use crate::blocks::{BlockFault, with_blocks};
-use crate::inputs::{SubmissionBytes, SubmissionReaders, read_submission};
+use crate::inputs::read_submission;
 use crate::lineage_lines::refuse;
 use crate::submission::{ReadSubmission, submission_in};
 use lpis_cert::Cert;
@@ -38,7 +39,7 @@ use lpis_register::{PublishFault, Register, ids_of};
 use lpis_register_rows::shapes_in;
 use lpis_release::{Parcel, Release};
 use lpis_rings::Polygon;
-use lpis_run::{Answer, DONE, Failure, Outcome, PrintFault, REFUSED};
+use lpis_run::{Answer, DONE, Failure, Outcome, PrintFault, REFUSED, Submission};
 use lpis_tables::Id;
 use sqlite::Alter;
 use std::alloc::{AllocError, Global};
@@ -225,7 +226,7 @@ fn answer_to_submission(
 fn answer_to<S: Alter>(
     alloc: Global,
     register: &Register<S>,
-    submission: SubmissionBytes,
+    submission: Submission<Vec<u8>>,
 ) -> Result<Outcome, AllocError>
     ensures { IfOk result (λ o. IsExactAnswer (submission_of submission) register.now.held
         (outputs_of o)) }
@@ -256,15 +257,17 @@ fn answer_to<S: Alter>(
 pub fn run_exact<S: Alter, R: Read + Drop, V: Write, W: Write>(
     alloc: Global,
     register: &Register<S>,
-    submission: &mut SubmissionReaders<R>,
+    submission: &mut Submission<R>,
     cert_out: &mut V,
     out: &mut W,
 ) -> Result<u8, Failure>
-    ensures runs { RunsBoth (IsUnreadSubmission (submission_texts R.remaining submission.old))
-        (Fills (submission_texts R.remaining submission.old) register.now.held)
+    ensures runs { RunsBoth
+        (AreUnread (submission_named (submission_by R.remaining submission.old)))
+        (Fills (submission_by R.remaining submission.old) register.now.held)
         (held (V.contents cert_out.old) (W.contents out.old))
         (held (V.contents cert_out.new) (W.contents out.new)) result }
-    ensures untouched { IfErr result (IsSubmissionUntouched submission.old submission.new) }
+    ensures untouched { IfErr result
+        (AreUntouched (submission_named submission.old) (submission_named submission.new)) }
 {
     let bytes = read_submission(alloc, submission)?;
     let outcome = answer_to(alloc, register, bytes)?;

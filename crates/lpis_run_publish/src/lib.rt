@@ -16,7 +16,6 @@ mod trace;
 mod unopened;
 
 pub use exact::{change_of, fill_change, run_exact};
-pub use inputs::SubmissionReaders;
 pub use lineage_lines::refuse;
 pub use publish::{publish_accepted, run_publish};
 pub use submission::rows_in;

@@ -13,29 +13,29 @@ ghost use Rattle.lpis_register.specs.Failing.{FailsToStore, HasStoreCause};
 ghost use Rattle.lpis_register.specs.Holdings.{Candidate};
 ghost use Rattle.lpis_run.specs.declared.failure.Failure.TheVariants.{Store};
 ghost use Rattle.lpis_run.specs.CheckAnswer.{IsCheckAnswer};
+ghost use Rattle.lpis_run.specs.Failures.{AreUntouched};
+ghost use Rattle.lpis_run.specs.Folders.{submission_by, submission_named};
 ghost use Rattle.lpis_run.specs.Report.{report_text};
 ghost use Rattle.lpis_run.specs.Status.{done};
 ghost use Rattle.lpis_run_publish.specs.LineageLines.{lineage_line, published_line};
-ghost use Rattle.lpis_run_publish.specs.Output.{output};
 ghost use Rattle.lpis_run_publish.specs.Publication.{IsPublicationAnswer, IsReleasePublished};
 ghost use Rattle.lpis_run_publish.specs.Publication.{PublishLeaves};
 ghost use Rattle.lpis_run_publish.specs.PublishAnswer.{IsHistoryAnswer, IsPublishAnswer};
 ghost use Rattle.lpis_run_publish.specs.PublishAnswer.{IsSoundSubmission, MovesRegister};
 ghost use Rattle.lpis_run_publish.specs.PublishAnswer.{RunsPublish, candidate_of};
 ghost use Rattle.lpis_run_publish.specs.Stored.{IsStoreFailure};
-ghost use Rattle.lpis_run_publish.specs.Submission.{IsSubmissionUntouched, Submitted};
-ghost use Rattle.lpis_run_publish.specs.Submission.{submission_texts, submitted};
+ghost use Rattle.lpis_run_publish.specs.Submission.{Submitted, submitted};
 ghost use Rattle.lpis_run_publish.specs.private.Marked.{is_marked};
 ghost use Rattle.lpis_run_publish.specs.private.Submitting.{submission_of, submitted_of};
 
-use crate::inputs::{SubmissionBytes, SubmissionReaders, read_submission};
+use crate::inputs::read_submission;
 use crate::lineage_lines::{marked_ids, print_lineage, print_published, refuse};
 use crate::submission::{ReadSubmission, submission_in};
 use lpis_cert::Cert;
 use lpis_checker::Yes;
 use lpis_lineage::{Change, Row};
 use lpis_register::{Accepted, PublishFault, Register};
-use lpis_run::{Answer, DONE, Failure, PrintFault, REFUSED, say_yes, write_report};
+use lpis_run::{Answer, DONE, Failure, PrintFault, REFUSED, Submission, report_of, say_yes};
 use lpis_tables::Id;
 use sqlite::Alter;
 use std::alloc::{AllocError, Global};
@@ -109,17 +109,6 @@ pub fn publish_accepted<S: Alter>(
     }
 }
 
-/// The report of a release.
-fn report_of(alloc: Global, yes: &Yes<'_>) -> Result<Vec<u8>, AllocError>
-    ensures { IfOk result (λ text. text.items ≡ report_text yes.now) }
-{
-    let mut text = Vec::new(alloc);
-    match write_report(yes, &mut text) {
-        Ok(()) => Ok(text),
-        Err(_) => Err(AllocError),
-    }
-}
-
 /// Publishes a checked release that was accepted, with its report.
 fn publish_reported<S: Alter>(
     alloc: Global,
@@ -138,8 +127,8 @@ fn publish_reported<S: Alter>(
     ensures cause { IfErr result (λ failure. HasStoreCause S.Store accepted register.old
         register.new (failure ≡ Store)) }
 {
-    let report = report_of(alloc, yes)?;
-    publish_accepted(alloc, register, year, report, accepted)
+    let head = report_of(alloc, yes.release())?;
+    publish_accepted(alloc, register, year, head, accepted)
 }
 
 /// Publishes a checked release where the history lets it follow, and its certificate shows what its
@@ -205,7 +194,7 @@ fn answer_to<S: Alter>(
     alloc: Global,
     register: &mut Register<S>,
     year: u16,
-    submission: SubmissionBytes,
+    submission: Submission<Vec<u8>>,
 ) -> Result<Answer, Failure>
     ensures answer { IfOk result (λ a. IsPublishAnswer year (submission_of submission)
         register.old.held (a.text.items, a.status)) }
@@ -239,14 +228,13 @@ pub fn run_publish<S: Alter, R: Read + Drop, W: Write>(
     alloc: Global,
     register: &mut Register<S>,
     year: u16,
-    submission: &mut SubmissionReaders<R>,
+    submission: &mut Submission<R>,
     out: &mut W,
 ) -> Result<u8, Failure>
-    ensures runs { RunsPublish S.Store (record {
-      year = year;
-      given = submission_texts R.remaining submission.old;
-    }) register.old register.new (output (W.contents out.old) (W.contents out.new)) result }
-    ensures untouched { IfErr result (IsSubmissionUntouched submission.old submission.new) }
+    ensures runs { RunsPublish S.Store year (submission_by R.remaining submission.old) register.old
+        register.new (W.contents out.old) (W.contents out.new) result }
+    ensures untouched { IfErr result
+        (AreUntouched (submission_named submission.old) (submission_named submission.new)) }
 {
     let bytes = read_submission(alloc, submission)?;
     let answer = answer_to(alloc, register, year, bytes)?;

@@ -9,11 +9,10 @@ ghost use Rattle.lpis_run_publish.specs.Submission.{IsSubmitted};
 ghost use Rattle.lpis_run_publish.specs.private.Submitting.{IsFaultAnswer, submission_of};
 ghost use Rattle.lpis_run_publish.specs.private.Submitting.{submitted_of};
 
-use crate::inputs::SubmissionBytes;
 use lpis_cert::Cert;
 use lpis_lineage::{Row, read_rows};
 use lpis_release::Release;
-use lpis_run::{Answer, ReadInputs, Stop, understand};
+use lpis_run::{Answer, ReadInputs, Stop, Submission, understand};
 use lpis_tables::TableFault;
 use std::alloc::Global;
 
@@ -42,13 +41,13 @@ pub fn rows_in(alloc: Global, lineage: Vec<u8>) -> Result<Vec<Row>, Stop>
 /// table last.
 pub(crate) fn submission_in(
     alloc: Global,
-    submission: SubmissionBytes,
+    submission: Submission<Vec<u8>>,
 ) -> Result<ReadSubmission, Stop>
     ensures said { IfOk result (λ s. IsSubmitted (submission_of submission) (submitted_of s)) }
     ensures refused { IfErr result (IsRefusedAs (IsFaultAnswer (submission_of submission))) }
 {
-    let SubmissionBytes { checked, lineage } = submission;
-    let read = understand(alloc, checked)?;
+    let Submission { folder, lineage } = submission;
+    let read = understand(alloc, folder)?;
     let rows = rows_in(alloc, lineage)?;
     let ReadInputs { release, cert } = read;
     Ok(ReadSubmission {

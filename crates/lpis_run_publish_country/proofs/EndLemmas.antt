@@ -6,6 +6,7 @@ use Rattle.std.proofs.lemmas.Result.{IfErr-weaker}
 use Rattle.std.specs.Io.KnownBytes.{Appends, Keeps}
 use Rattle.sqlite_trees.specs.declared.store.Store.{Ghosts}
 use Rattle.lpis_release.specs.Release.{Contents}
+use Rattle.lpis_country.specs.Country.{country_of}
 use Rattle.lpis_country.specs.Tree.{folders}
 use Rattle.lpis_register.specs.Failing.{FailsToStore}
 use Rattle.lpis_register.specs.Holdings.{RegisterState}
@@ -19,15 +20,15 @@ use Rattle.lpis_run.specs.declared.failure.Failure.{Failure}
 use Rattle.lpis_run.specs.declared.failure.Failure.TheVariants.{Memory, Read, ReadOf, Store, Write}
 use Rattle.lpis_run.specs.declared.failure.Name.{Name}
 use Rattle.lpis_run.specs.declared.failure.Name.TheVariants.{Out}
-use Rattle.lpis_run_country.specs.CountryAnswer.{HavePassed, IsEnd, IsReachedBy, IsRegionsAnswer, Setting}
+use Rattle.lpis_run_country.specs.CountryAnswer.{HavePassed, IsBehind, IsReachedBy, IsRegionsAnswer, Setting}
+use Rattle.lpis_run_country.specs.CountryLines.{country_lines}
 use Rattle.lpis_run_country.specs.CountryFailures.{IsReadOf, IsStoppedBefore}
 use Rattle.lpis_run_country.specs.Regions.{Texts}
 use Rattle.lpis_run_country.specs.RegionsOutcome.{IsRegionsRefusal, RegionsEnd, RegionsStop, StopsRegions}
 use Rattle.lpis_run_country.proofs.Shared.{all_left}
-use Rattle.lpis_run_publish.specs.Output.{output}
 use Rattle.lpis_run_publish.specs.Publication.{IsMemoryOrStore, PublishLeaves}
 use Rattle.lpis_run_publish.specs.Stored.{IsStoreFailure, Stays}
-use Rattle.lpis_run_publish_country.specs.PublishCountryAnswer.{AreSaid, CountryCandidate, CountryRequest, CountrySaid, IsPublishCountryAnswer, IsPublishEnd, IsUnionAnswer, PublishCountryInputs}
+use Rattle.lpis_run_publish_country.specs.PublishCountryAnswer.{AreSaid, CountryCandidate, CountryRequest, CountrySaid, IsPublishCountryAnswer, IsUnionAnswer, PublishCountryInputs}
 use Rattle.lpis_run_publish_country.specs.PublishCountryAnswer.{country_asked, setting_said, union_of}
 use Rattle.lpis_run_publish_country.specs.PublishCountryRuns.{FailsToPublishCountry, IsPublishPart, PublishesCountry, StopsBehind}
 use Rattle.lpis_run_publish_country.specs.private.Deciding.{DecidesUnion, EndsUnion, RunsPrepared, StopsUnion}
@@ -77,7 +78,7 @@ leaves_same store old a = record { same = λ other. refl; failure = tt; stored =
 module _ {S : Type 0} (store : Ghosts S) (c : CountryCandidate) (regions : List Contents) (old new : RegisterState S) where
   -- memory runs out, or the database fails
   pub union_stopped : (out : Option (List ℕ)) (failure : Failure) → IsMemoryOrStore failure × (new.held ≡ old.held) → Stays {A = Printed} store old new (Err failure)
-      → (IsStoreFailure failure → FailsToStore store (union_of c regions) old new (failure ≡ Store)) → EndsUnion store c regions old new (output out out) (Err failure)
+      → (IsStoreFailure failure → FailsToStore store (union_of c regions) old new (failure ≡ Store)) → EndsUnion store c regions old new out out (Err failure)
   union_stopped out failure why stays cause = record {
     runs = runs_stopped _ _ out failure why;
     stored = record { holds = stays.holds; served = stays.served };
@@ -87,7 +88,7 @@ module _ {S : Type 0} (store : Ghosts S) (c : CountryCandidate) (regions : List 
   -- the answer is written, or a beginning of it
   pub union_written : (before after : Option (List ℕ)) (a : Printed) (r : Result ℕ Failure) → IsUnionAnswer c regions old.held new.held (a.text.items, a.status)
       → PublishLeaves store old new (Ok a) → IfOk r (λ s. s ≡ a.status) → OnOk r (Appends before after a.text.items)
-      → IfErr r (λ failure. (failure ≡ Write Out) × Begins before after a.text.items) → EndsUnion store c regions old new (output before after) r
+      → IfErr r (λ failure. (failure ≡ Write Out) × Begins before after a.text.items) → EndsUnion store c regions old new before after r
   union_written before after a r answer leaves is written begun = record {
     runs = runs_written _ _ a.text.items a.status before after r (answer, leaves.same) is written begun;
     stored = record { holds = leaves.stored.holds; served = λ other. leaves.stored.served tt };
@@ -105,8 +106,8 @@ module _ {S : Type 0} (store : Ghosts S) (asked : CountryRequest) (x : PublishCo
   part : (regions : List Contents) (lines : List ℕ) (left : List (List ℕ)) → IsReachedBy here regions lines left → IsPublishPart asked.given asked.detail x lines left
   part regions lines left reached = record { said = said; are_said = are_said; regions = regions; reached = reached }
 
-  ends-at : (regions : List Contents) (left : List (List ℕ)) (end : Answer) → end.1 ≢ done → IsEnd here regions left end
-      → IsPublishEnd (country_asked asked said) regions left old.held new.held end
+  ends-at : (regions : List Contents) (left : List (List ℕ)) (end : Answer) → end.1 ≢ done → IsBehind here (λ rs a. a ≡ (country_lines (length rs) (country_of here.classes rs), done)) regions left end
+      → IsBehind here (λ rs. IsUnionAnswer (country_asked asked said) rs old.held new.held) regions left end
   ends-at regions [] end not_done is = absurd (not_done (ap (λ (a : Answer). a.1) is))
   ends-at regions (name ∷ left) end not_done is = is
 
@@ -117,7 +118,7 @@ module _ {S : Type 0} (store : Ghosts S) (asked : CountryRequest) (x : PublishCo
     are_said,
     record {
       regions = a.regions;
-      lines = a.text;
+      text = a.text;
       left = a.left;
       reached = a.reached;
       end = a.end;
@@ -141,7 +142,7 @@ module _ {S : Type 0} (store : Ghosts S) (asked : CountryRequest) (x : PublishCo
 
     publishes-union : (a : Answer) → DecidesUnion (country_asked asked said) regions old.held new.held a → PublishesCountry asked x old.held new.held (lines ++ a.0, a.1)
     publishes-union a is = record {
-      answer = inr (said, are_said, record { regions = regions; lines = lines; left = []; reached = reached-all; end = a; follows = is.0; is = refl });
+      answer = inr (said, are_said, record { regions = regions; text = lines; left = []; reached = reached-all; end = a; follows = is.0; is = refl });
       same = is.1;
     }
 
@@ -162,8 +163,8 @@ module _ {S : Type 0} (store : Ghosts S) (asked : CountryRequest) (x : PublishCo
     cause-union f told is = record { said = said; are_said = are_said; regions = regions; lines = lines; have_passed = passed; fails = told is }
 
     -- all of it
-    pub runs_union : (r : Result ℕ Failure) → EndsUnion store (country_asked asked said) regions old new (output now after) r
-        → RunsPrepared store asked x old new (output before after) r
+    pub runs_union : (r : Result ℕ Failure) → EndsUnion store (country_asked asked said) regions old new now after r
+        → RunsPrepared store asked x old new before after r
     runs_union (Ok status) e =
         let (text, answer, written) = e.runs.answer in
         record {
@@ -179,7 +180,7 @@ module _ {S : Type 0} (store : Ghosts S) (asked : CountryRequest) (x : PublishCo
 
   -- where a region is refused the register is as it was
   pub runs_refused : (status : ℕ) → new.held ≡ old.held → Stays {A = ℕ} store old new (Ok status) → RegionsEnd here before after status × (status ≢ done)
-      → RunsPrepared store asked x old new (output before after) (Ok status)
+      → RunsPrepared store asked x old new before after (Ok status)
   runs_refused status same stays ((text, answer, written), not_done) = record {
     runs = record { answer = (text, publishes-none same (text, status) (answer, not_done), written); failure = tt };
     stored = stays;
@@ -188,7 +189,7 @@ module _ {S : Type 0} (store : Ghosts S) (asked : CountryRequest) (x : PublishCo
 
   -- where the run stops before its last region it is too
   pub runs_stopped_in : (f : Failure) → new.held ≡ old.held → Stays {A = ℕ} store old new (Err f) → RegionsStop here before after f
-      → RunsPrepared store asked x old new (output before after) (Err f)
+      → RunsPrepared store asked x old new before after (Err f)
   runs_stopped_in f same stays stop = record {
     runs = record {
       answer = tt;

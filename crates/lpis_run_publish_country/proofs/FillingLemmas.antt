@@ -23,8 +23,12 @@ use Rattle.lpis_register.specs.declared.fault.PublishFault.TheVariants.{Lineage}
 use Rattle.lpis_run.proofs.Shared.{breaks_off_more}
 use Rattle.lpis_run.specs.CheckAnswer.{Answer}
 use Rattle.lpis_run.specs.Outputs.{BreaksOff, Held, Outputs, Writes, held, outputs_of}
+use Rattle.lpis_run.specs.Failures.{AreUnread}
+use Rattle.lpis_run.specs.Folders.{top_named}
+use Rattle.lpis_run.specs.Run.{BreaksOffInBoth, RunsOnBoth}
 use Rattle.lpis_run.specs.Status.{done, refused}
-use Rattle.lpis_run.specs.Streams.{Begins}
+use Rattle.lpis_run.specs.Streams.{Begins, Known}
+use Rattle.lpis_run.specs.declared.folder.Top.{Top}
 use Rattle.lpis_run.specs.declared.answer.Answer.{Answer as Printed}
 use Rattle.lpis_run.specs.declared.detail.Detail.TheVariants.{Regions}
 use Rattle.lpis_run.specs.declared.failure.Failure.{Failure}
@@ -32,15 +36,16 @@ use Rattle.lpis_run.specs.declared.failure.Failure.TheVariants.{Memory, Write}
 use Rattle.lpis_run.specs.declared.failure.Name.TheVariants.{Out}
 use Rattle.lpis_run.specs.declared.outcome.Outcome.{Outcome}
 use Rattle.lpis_run_country.proofs.Shared.{setting_begun}
-use Rattle.lpis_run_country.specs.CountryAnswer.{IsEnd, IsReachedBy, IsRegionsAnswer, Setting}
-use Rattle.lpis_run_country.specs.CountryFailures.{IsStoppedBefore, IsUnreadTop}
+use Rattle.lpis_run_country.specs.CountryAnswer.{IsBehind, IsReachedBy, IsRegionsAnswer, Setting}
+use Rattle.lpis_run_country.specs.CountryFailures.{IsStoppedBefore}
+use Rattle.lpis_run_country.specs.CountryLines.{country_lines}
 use Rattle.lpis_run_country.specs.Regions.{Texts}
 use Rattle.lpis_run_country.specs.RegionsOutcome.{IsSettingOf, JoinsAll, RegionsEnd, RegionsStop, StopsRegions}
 use Rattle.lpis_run_publish.specs.ExactAnswer.{IsBlocksAnswer, IsBlocksOutcome}
 use Rattle.lpis_run_publish.specs.Submission.{submitted}
 use Rattle.lpis_run_publish_country.specs.CountryLineage.{country_refusal_text, rows_in}
-use Rattle.lpis_run_publish_country.specs.ExactCountryAnswer.{BreaksOffInBoth, FillsRegions, HasNoParts, IsFillAnswer, IsFillEnd, IsFillOutcome}
-use Rattle.lpis_run_publish_country.specs.ExactCountryAnswer.{RunsExactCountry, RunsOnBoth, StopsFill, StopsFillBehind}
+use Rattle.lpis_run_publish_country.specs.ExactCountryAnswer.{FillsRegions, HasNoParts, IsFillAnswer, IsFillEnd, IsFillOutcome}
+use Rattle.lpis_run_publish_country.specs.ExactCountryAnswer.{RunsExactCountry, StopsFill, StopsFillBehind}
 use Rattle.lpis_run_publish_country.specs.PublishCountryAnswer.{AreTopRead, CountryFiles, CountrySaid, IsRefusedBefore, PublishCountryInputs, setting_said}
 use Rattle.lpis_run_publish_country.specs.PublishCountryRuns.{IsPublishPart}
 use Rattle.lpis_run_publish_country.specs.declared.inputs.Prepared.{Prepared}
@@ -152,7 +157,8 @@ appends-nothing (Some xs) = sym (append-nil xs)
 -- ---- a region is refused
 module _ (given : CountryFiles) (x : PublishCountryInputs) (p : Prepared) (h : IsPrepared given x p) (before : Holdings) where
   -- its line ends the run
-  refused-end : (g : Setting) (regions : List Contents) (left : List (List ℕ)) (end : Answer) → IsEnd g regions left end → end.1 ≢ done
+  refused-end : (g : Setting) (regions : List Contents) (left : List (List ℕ)) (end : Answer)
+      → IsBehind g (λ rs a. a ≡ (country_lines (length rs) (country_of g.classes rs), done)) regions left end → end.1 ≢ done
       → IsFillEnd g h.tables regions left before (record { cert = None; line = end.0; status = end.1 })
   refused-end g regions [] end is other = absurd (other (ap (λ (a : Answer). a.1) is))
   refused-end g regions (name ∷ left) end is other = (is, refl)
@@ -274,12 +280,12 @@ both-more P Q S T A B old new (Err f) before behind answers runs = record { answ
 
 -- ---- the run
 -- the files of a run that names no certificate
-abbrev pub files_without : (plan classes : Option (List ℕ)) → (List ℕ → Texts) → (List ℕ → Option (List ℕ)) → CountryFiles
-files_without plan classes texts lineages = record { plan = plan; classes = classes; exact = None; texts = texts; lineages = lineages }
+abbrev pub files_without : Top Known → (List ℕ → Texts) → (List ℕ → Known) → CountryFiles
+files_without top texts lineages = record { top = top; exact = None; texts = texts; lineages = lineages }
 
 module _ (given : CountryFiles) (before : Holdings) (file out : Option (List ℕ)) where
   -- a file was not read
-  pub runs_unread : (f : Failure) → IsUnreadTop given.plan f → RunsExactCountry given before (held file out) (held file out) (Err f)
+  pub runs_unread : (f : Failure) → AreUnread (top_named given.top) f → RunsExactCountry given before (held file out) (held file out) (Err f)
   runs_unread f unread = record { answer = tt; failure = inl (inl unread, Keeps-refl file, Keeps-refl out) }
 
   module _ (x : PublishCountryInputs) (read : AreTopRead given x) where

@@ -6,20 +6,21 @@ use Rattle.sqlite_trees.specs.declared.store.Store.{Ghosts}
 use Rattle.lpis_lineage.specs.Lineage.{last_year}
 use Rattle.lpis_register.specs.Holdings.{RegisterState}
 use Rattle.lpis_register.specs.declared.fault.PublishFault.TheVariants.{Year}
-use Rattle.lpis_run.proofs.Shared.{runs_on_more, runs_on_stopped, runs_on_written}
+use Rattle.lpis_run.proofs.Shared.{runs_on_more, runs_on_stopped, runs_on_written, some_unread}
 use Rattle.lpis_run.specs.CheckAnswer.{Answer}
+use Rattle.lpis_run.specs.Failures.{AreUnread}
 use Rattle.lpis_run.specs.Status.{refused}
 use Rattle.lpis_run.specs.Streams.{Begins}
 use Rattle.lpis_run.specs.declared.answer.Answer.{Answer as Printed}
 use Rattle.lpis_run.specs.declared.failure.Failure.{Failure}
-use Rattle.lpis_run.specs.declared.failure.Failure.TheVariants.{Memory, Write}
-use Rattle.lpis_run.specs.declared.failure.Name.TheVariants.{Cert, Classes, Country, Lineage, Out}
+use Rattle.lpis_run.specs.declared.failure.Failure.TheVariants.{Memory, Read, Write}
+use Rattle.lpis_run.specs.declared.failure.Name.{Name}
+use Rattle.lpis_run.specs.declared.failure.Name.TheVariants.{Lineage, Out}
 use Rattle.lpis_run_publish.specs.LineageLines.{publish_refusal_text}
-use Rattle.lpis_run_publish.specs.Output.{output}
 use Rattle.lpis_run_publish.specs.Stored.{IsStoreFailure}
 use Rattle.lpis_run_publish_country.specs.CountryLineage.{IsUnreadTable}
 use Rattle.lpis_run_publish_country.specs.PublishCountryAnswer.{AreTopRead, CountryFiles, CountryRequest, IsRefusedBefore, PublishCountryInputs}
-use Rattle.lpis_run_publish_country.specs.PublishCountryRuns.{EndsPublishCountry, IsUnreadInput, IsUnreadLineage, RefusesEarly, RunsPublishCountry}
+use Rattle.lpis_run_publish_country.specs.PublishCountryRuns.{EndsPublishCountry, IsUnreadLineage, RefusesEarly, RunsPublishCountry, files_named}
 use Rattle.lpis_run_publish_country.specs.private.Deciding.{RunsEarly, RunsPrepared}
 use Rattle.lpis_run_publish_country.proofs.EndLemmas.{none_of_store, read_no_store, stays_same}
 
@@ -34,17 +35,18 @@ lineage-no-store given x f (inr u) = table-no-store u.unread.name u.unread.unrea
     table-no-store name (inr read) = read_no_store Lineage name f read
 
 -- nor where a file that is no region's was not
-input-no-store : (given : CountryFiles) (f : Failure) → IsUnreadInput given f → IsStoreFailure f → ⊥
-input-no-store given f (inl (inl memory)) = none_of_store f (inl memory)
-input-no-store given f (inl (inr (inl read))) = none_of_store f (inr (inl (Country, read)))
-input-no-store given f (inl (inr (inr read))) = none_of_store f (inr (inl (Classes, read.1)))
-input-no-store given f (inr read) = none_of_store f (inr (inl (Cert, read.3)))
+input-no-store : (given : CountryFiles) (f : Failure) → AreUnread (files_named given) f → IsStoreFailure f → ⊥
+input-no-store given f unread = no-store (some_unread (files_named given) f unread)
+  where
+    no-store : (f ≡ Memory) ⊎ ((name : Name) × (f ≡ Read name)) → IsStoreFailure f → ⊥
+    no-store (inl memory) = none_of_store f (inl memory)
+    no-store (inr read) = none_of_store f (inr (inl read))
 
 module _ {S : Type 0} (store : Ghosts S) (asked : CountryRequest) where
   -- ---- before the regions
   module _ (old : RegisterState S) (x : PublishCountryInputs) where
     -- a lineage table is not read, or memory runs out
-    pub runs_unprepared : (out : Option (List ℕ)) (f : Failure) → (f ≡ Memory) ⊎ IsUnreadLineage asked.given x f → RunsPrepared store asked x old old (output out out) (Err f)
+    pub runs_unprepared : (out : Option (List ℕ)) (f : Failure) → (f ≡ Memory) ⊎ IsUnreadLineage asked.given x f → RunsPrepared store asked x old old out out (Err f)
     runs_unprepared out f stopped = record {
       runs = runs_on_stopped _ _ _ out f (record { stopped = stopped; same = refl });
       stored = stays_same store old (Err f);
@@ -54,7 +56,7 @@ module _ {S : Type 0} (store : Ghosts S) (asked : CountryRequest) where
     -- a file has a fault, whose line is written, or a beginning of it
     pub runs_faulty : (before after : Option (List ℕ)) (a : Printed) (r : Result ℕ Failure) → IsRefusedBefore asked.given x (a.text.items, a.status) → IfOk r (λ s. s ≡ a.status)
         → OnOk r (Appends before after a.text.items) → IfErr r (λ failure. (failure ≡ Write Out) × Begins before after a.text.items)
-        → RunsPrepared store asked x old old (output before after) r
+        → RunsPrepared store asked x old old before after r
     runs_faulty before after a r refusal is written begun = record {
       runs = runs_on_written _ _ _ a.text.items a.status before after r (record { answer = inl refusal; same = λ other. refl }) is written begun;
       stored = stays_same store old r;
@@ -83,7 +85,7 @@ module _ {S : Type 0} (store : Ghosts S) (asked : CountryRequest) where
     early-no-store f (inl (memory, keeps)) = none_of_store f (inl memory)
     early-no-store f (inr (write, a, told, begins)) = none_of_store f (inr (inr write))
 
-    pub runs_early : (r : Result ℕ Failure) → RunsEarly last before after r → RunsPublishCountry store asked old old (output before after) r
+    pub runs_early : (r : Result ℕ Failure) → RunsEarly last before after r → RunsPublishCountry store asked old old before after r
     runs_early (Ok status) ran =
         let (text, told, written) = ran.answer in
         record {
@@ -98,8 +100,8 @@ module _ {S : Type 0} (store : Ghosts S) (asked : CountryRequest) where
     }
 
   -- where a file that is no region's is not read
-  pub runs_unread : (old : RegisterState S) (out : Option (List ℕ)) (f : Failure) → last_year old.held.history < asked.year → IsUnreadInput asked.given f
-      → RunsPublishCountry store asked old old (output out out) (Err f)
+  pub runs_unread : (old : RegisterState S) (out : Option (List ℕ)) (f : Failure) → last_year old.held.history < asked.year → AreUnread (files_named asked.given) f
+      → RunsPublishCountry store asked old old out out (Err f)
   runs_unread old out f later unread = record {
     runs = runs_on_stopped _ _ _ out f (inr (inl (record { later = later; unread = unread; same = refl })));
     stored = stays_same store old (Err f);
@@ -108,7 +110,7 @@ module _ {S : Type 0} (store : Ghosts S) (asked : CountryRequest) where
 
   -- what was read is that of the whole run
   pub runs_later : (old new : RegisterState S) (before after : Option (List ℕ)) (x : PublishCountryInputs) (r : Result ℕ Failure) → last_year old.held.history < asked.year
-      → AreTopRead asked.given x → RunsPrepared store asked x old new (output before after) r → RunsPublishCountry store asked old new (output before after) r
+      → AreTopRead asked.given x → RunsPrepared store asked x old new before after r → RunsPublishCountry store asked old new before after r
   runs_later old new before after x r later read ran = record {
     runs = runs_on_more _ _ _ _ _ _ before after r (λ f why. inr (inr (x, (later, read), why))) (λ lines f why. (x, (later, read), why)) (λ a is. inr (x, (later, read), is)) ran.runs;
     stored = ran.stored;

@@ -1,8 +1,6 @@
 -- The answer to a country that is asked for the blocks of its marked rows: the certificate with
 -- them, or the line that says why there is none; and the status.
-use Rattle.std.specs.Prelude.{◌≡◌, ◌≢◌, ◌⊎◌, ◌++◌, ◌∷◌, [], ℕ, List, Option, None, Some, IfErr}
-use Rattle.std.specs.Prelude.{IfOk, Result}
-use Rattle.std.specs.Io.KnownBytes.{Appends, Keeps}
+use Rattle.std.specs.Prelude.{◌≡◌, ◌≢◌, ◌⊎◌, ◌∷◌, [], ℕ, List, Option, None, Some, Result}
 use Rattle.lpis_release.specs.Release.{Contents, parcel_ids}
 use Rattle.lpis_cert.specs.declared.cert.Cert.{Cert}
 use Rattle.lpis_country.specs.Country.{country_of}
@@ -13,13 +11,15 @@ use Rattle.lpis_lineage_exact.specs.Asking.{IsUnkept}
 use Rattle.lpis_register.specs.Holdings.{Holdings}
 use Rattle.lpis_register.specs.declared.fault.PublishFault.TheVariants.{Lineage, NotKept}
 use Rattle.lpis_run.specs.CheckAnswer.{Answer}
-use Rattle.lpis_run.specs.Outputs.{BreaksOff, Held, Outputs, Writes}
-use Rattle.lpis_run.specs.Run.{BreaksOffIn}
+use Rattle.lpis_run.specs.Failures.{AreUnread}
+use Rattle.lpis_run.specs.Folders.{top_named}
+use Rattle.lpis_run.specs.Outputs.{Held, Outputs}
+use Rattle.lpis_run.specs.Run.{RunsOnBoth}
 use Rattle.lpis_run.specs.Status.{done, refused}
 use Rattle.lpis_run.specs.declared.detail.Detail.TheVariants.{Regions}
 use Rattle.lpis_run.specs.declared.failure.Failure.TheVariants.{Memory}
 use Rattle.lpis_run_country.specs.CountryAnswer.{IsReachedBy, IsRefusedRegion, Setting}
-use Rattle.lpis_run_country.specs.CountryFailures.{IsStoppedBefore, IsUnreadTop}
+use Rattle.lpis_run_country.specs.CountryFailures.{IsStoppedBefore}
 use Rattle.lpis_run.specs.declared.failure.Failure.{Failure}
 use Rattle.lpis_run_publish.specs.ExactAnswer.{IsFilled, IsUnfilled}
 use Rattle.lpis_run_publish.specs.LineageLines.{publish_refusal_text}
@@ -68,10 +68,6 @@ module _ (g : Setting) (tables : List (List Row)) (regions : List Contents) wher
       IsRefusedRegion g regions name (a.line, a.status) × (a.cert ≡ None)
 
 -- ---- the answer
--- the outputs with these lines before their own
-abbrev pub behind : List ℕ → Outputs → Outputs
-behind lines a = record a { line = lines ++ a.line }
-
 -- the files before the regions say this; the lines of the regions up to the first that is refused,
 -- and what follows them
 pub record FillsRegions (given : CountryFiles) (x : PublishCountryInputs) (before : Holdings)
@@ -102,37 +98,6 @@ module _ (given : CountryFiles) (x : PublishCountryInputs) where
       × IsStoppedBefore given.texts left f
 
 -- ---- the run
--- behind these lines, which were written, the certificate's file failed; or the output did, behind
--- the certificate where there is one, after a beginning of what follows the lines
-pub record BreaksOffBehind (Answers : List ℕ → Outputs → Type 0) (old new : Held) (f : Failure)
-    : Type 0 where
-  pub lines : List ℕ
-  pub end : Outputs
-  pub answer : Answers lines end
-  pub passed : Option (List ℕ)
-  pub written : Appends old.out passed lines
-  pub broken : BreaksOff end f (record old { out = passed }) new
-
--- how a run that writes lines as it goes on, and then a certificate, breaks off: in its lines, and
--- there is no certificate yet, or behind them
-abbrev pub BreaksOffInBoth : (List ℕ → Failure → Type 0) → (List ℕ → Outputs → Type 0) → Held → Held
-    → Failure → Type 0
-BreaksOffInBoth StopsBehind Answers old new f =
-    (BreaksOffIn StopsBehind (λ a. ⊥) old.out new.out f × Keeps old.cert new.cert)
-    ⊎ BreaksOffBehind Answers old new f
-
--- a run that writes lines as it goes on, and at its end a certificate, if there is one, and the
--- rest of its answer, over what its two outputs hold
-pub record RunsOnBoth (Stops : Failure → Type 0) (StopsBehind : List ℕ → Failure → Type 0)
-    (Answers : List ℕ → Outputs → Type 0) (old new : Held) (result : Result ℕ Failure)
-    : Type 0 where
-  -- it ended with the status of an answer, and wrote all of it
-  pub answer : IfOk result (λ status. (lines : List ℕ) × (end : Outputs) × Answers lines end
-      × Writes (behind lines end) status old new)
-  -- it was stopped, and wrote nothing; or it broke off
-  pub failure : IfErr result (λ f. (Stops f × Keeps old.cert new.cert × Keeps old.out new.out)
-      ⊎ BreaksOffInBoth StopsBehind Answers old new f)
-
 -- the files that are no region's have bytes for which this holds
 abbrev pub OfTop : CountryFiles → (PublishCountryInputs → Type 0) → Type 0
 OfTop given Holds = (x : PublishCountryInputs) × AreTopRead given x × Holds x
@@ -141,6 +106,6 @@ OfTop given Holds = (x : PublishCountryInputs) × AreTopRead given x × Holds x
 -- regions may not be read
 abbrev pub RunsExactCountry : CountryFiles → Holdings → Held → Held → Result ℕ Failure → Type 0
 RunsExactCountry given before = RunsOnBoth
-    (λ f. IsUnreadTop given.plan f ⊎ OfTop given (λ x. StopsFill given x f))
+    (λ f. AreUnread (top_named given.top) f ⊎ OfTop given (λ x. StopsFill given x f))
     (λ lines f. OfTop given (λ x. StopsFillBehind given x lines f))
     (λ lines end. OfTop given (λ x. IsExactCountryAnswer given x before lines end))

@@ -1,6 +1,6 @@
 -- The answer to a country that is to be published: text and status, of the bytes of its files, the
 -- year, and what the register holds before; and what it holds after.
-use Rattle.std.specs.Prelude.{◌≡◌, ◌⊎◌, ◌++◌, ◌∷◌, [], ℕ, List, Option, None, Some, Ok, All, length}
+use Rattle.std.specs.Prelude.{◌≡◌, ◌⊎◌, [], ℕ, List, Option, None, Some, Ok, All, length}
 use Rattle.lpis_tables.specs.declared.class.Class.{Class}
 use Rattle.lpis_tables.specs.Classes.{classes_table}
 use Rattle.lpis_tables.specs.Faults.{rows_of}
@@ -19,12 +19,13 @@ use Rattle.lpis_lineage_exact.specs.Asking.{IsShown}
 use Rattle.lpis_register.specs.Faults.{IsRefused, IsSetAside}
 use Rattle.lpis_register.specs.Holdings.{Candidate, Holdings, candidate}
 use Rattle.lpis_register.specs.declared.fault.PublishFault.{PublishFault}
-use Rattle.lpis_run.specs.CheckAnswer.{Answer, IsCertAnswer, IsTableAnswer}
+use Rattle.lpis_run.specs.CheckAnswer.{Answer, IsCertAnswer}
 use Rattle.lpis_run.specs.Status.{done, refused}
-use Rattle.lpis_run.specs.Streams.{IsRead}
+use Rattle.lpis_run.specs.Streams.{IsRead, Known}
 use Rattle.lpis_run.specs.declared.detail.Detail.{Detail}
-use Rattle.lpis_run_country.specs.CountryAnswer.{IsPlanAnswer, IsReachedBy, IsRefusedRegion}
-use Rattle.lpis_run_country.specs.CountryAnswer.{Setting, setting_of}
+use Rattle.lpis_run.specs.declared.folder.Top.{Top}
+use Rattle.lpis_run_country.specs.CountryAnswer.{AfterRegions, IsTopAnswer, Setting}
+use Rattle.lpis_run_country.specs.CountryAnswer.{setting_of}
 use Rattle.lpis_run_country.specs.CountryLines.{country_lines}
 use Rattle.lpis_run_country.specs.Regions.{AreCountryRead, AreRegionsOf, CountryInputs, Texts}
 use Rattle.lpis_run_publish.specs.Publication.{IsReleasePublished, publication_text}
@@ -32,15 +33,13 @@ use Rattle.lpis_run_publish_country.specs.CountryLineage.{AreTablesOf, AreTables
 use Rattle.lpis_run_publish_country.specs.CountryLineage.{country_refusal_text, rows_in}
 
 -- ---- what is handed in
--- what is known of the files of a country: the bytes of its plan, of its table of classes and of
--- the certificate whose blocks are used, where one is named; of the files in the folder of each
--- region; and of the lineage table there
+-- what is known of the files of a country: of those at its top and of the certificate whose blocks
+-- are used, where one is named; of the files in the folder of each region, and the lineage table
 pub record CountryFiles : Type 0 where
-  pub plan : Option (List ℕ)
-  pub classes : Option (List ℕ)
-  pub exact : Option (Option (List ℕ))
+  pub top : Top Known
+  pub exact : Option Known
   pub texts : List ℕ → Texts
-  pub lineages : List ℕ → Option (List ℕ)
+  pub lineages : List ℕ → Known
 
 -- the bytes of the files that are no region's
 pub record PublishCountryInputs : Type 0 where
@@ -48,7 +47,7 @@ pub record PublishCountryInputs : Type 0 where
   pub exact : Option (List ℕ)
 
 -- the certificate, where one is named, has these bytes
-abbrev pub IsExactRead : Option (List ℕ) → Option (Option (List ℕ)) → Type 0
+abbrev pub IsExactRead : Option (List ℕ) → Option Known → Type 0
 IsExactRead None None = Unit {0}
 IsExactRead (Some bytes) (Some told) = IsRead bytes told
 IsExactRead None (Some told) = ⊥
@@ -56,7 +55,7 @@ IsExactRead (Some bytes) None = ⊥
 
 -- these are the bytes of those files, as far as they are known
 pub record AreTopRead (given : CountryFiles) (x : PublishCountryInputs) : Type 0 where
-  pub of_country : AreCountryRead x.country given.plan given.classes
+  pub of_country : AreCountryRead x.country given.top
   pub of_exact : IsExactRead x.exact given.exact
 
 -- ---- before the regions
@@ -75,11 +74,8 @@ AreBlocksOf (Some text) blocks = (c : Cert) × IsCertText text c × (blocks ≡ 
 -- the answer to the files before the regions: the line of the first fault, of the plan, of the
 -- classes, of the certificate, of the lineage tables in the order of the plan
 abbrev pub IsRefusedBefore : CountryFiles → PublishCountryInputs → Answer → Type 0
-IsRefusedBefore given x =
-    IsPlanAnswer (λ plan. IsTableAnswer (λ classes. IsExactTextAnswer
-    (λ blocks. AreTablesRefused given.lineages (folders plan)) x.exact)
-    (rows_of classes_table x.country.classes))
-    x.country.plan
+IsRefusedBefore given x = IsTopAnswer (λ plan classes. IsExactTextAnswer
+    (λ blocks. AreTablesRefused given.lineages (folders plan)) x.exact) x.country
 
 -- a plan, classes, the blocks of a certificate, and tables of lineage
 pub record CountrySaid : Type 0 where
@@ -147,23 +143,10 @@ IsUnionAnswer c regions before after a =
     ⊎ (IsCountryPublished c regions before after
     × (a ≡ (country_publication_text c regions before, done)))
 
--- what follows the regions that passed: where no folder is left the answer to their union, else the
--- line of the next region, which is refused
-abbrev pub IsPublishEnd : CountryCandidate → List Contents → List (List ℕ) → Holdings → Holdings
-    → Answer → Type 0
-IsPublishEnd c regions [] before after a = IsUnionAnswer c regions before after a
-IsPublishEnd c regions (name ∷ left) before after a = IsRefusedRegion c.setting regions name a
-
--- the lines of the regions up to the first that is refused, and what follows them
-pub record IsRegionsPublishAnswer (c : CountryCandidate) (before after : Holdings) (a : Answer)
-    : Type 0 where
-  pub regions : List Contents
-  pub lines : List ℕ
-  pub left : List (List ℕ)
-  pub reached : IsReachedBy c.setting regions lines left
-  pub end : Answer
-  pub follows : IsPublishEnd c regions left before after end
-  pub is : a ≡ (lines ++ end.0, end.1)
+-- the lines of the regions up to the first that is refused; at the end the answer to their union
+abbrev pub IsRegionsPublishAnswer : CountryCandidate → Holdings → Holdings → Answer → Type 0
+IsRegionsPublishAnswer c before after =
+    AfterRegions c.setting (λ regions. IsUnionAnswer c regions before after)
 
 -- ---- the answer
 -- what is asked for: a year, the files of a country, and what is to be printed of its regions

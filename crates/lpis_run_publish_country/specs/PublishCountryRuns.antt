@@ -1,5 +1,6 @@
 -- The run of `publish-country`: what it ends with, and what it leaves of the register.
-use Rattle.std.specs.Prelude.{◌≡◌, ◌≢◌, ◌<◌, ◌≤◌, ◌⊎◌, [], ℕ, List, Option, None, IfErr, Ok, Result}
+use Rattle.std.specs.Prelude.{◌≡◌, ◌≢◌, ◌<◌, ◌≤◌, ◌⊎◌, ◌++◌, ◌∷◌, [], ℕ, List, Option, None}
+use Rattle.std.specs.Prelude.{Some, IfErr, Ok, Result}
 use Rattle.sqlite_trees.specs.declared.store.Store.{Ghosts}
 use Rattle.lpis_tables.specs.declared.class.Class.{Class}
 use Rattle.lpis_tables.specs.Classes.{classes_table}
@@ -14,16 +15,18 @@ use Rattle.lpis_register.specs.Holdings.{Holdings, RegisterState}
 use Rattle.lpis_register.specs.declared.fault.PublishFault.TheVariants.{Year}
 use Rattle.lpis_run.specs.Run.{RunsOn}
 use Rattle.lpis_run.specs.Status.{done, refused}
-use Rattle.lpis_run.specs.Streams.{IsWithin}
+use Rattle.lpis_run.specs.Failures.{AreUnread}
+use Rattle.lpis_run.specs.Folders.{top_named}
+use Rattle.lpis_run.specs.Streams.{Known}
 use Rattle.lpis_run.specs.CheckAnswer.{Answer}
 use Rattle.lpis_run.specs.declared.detail.Detail.{Detail}
 use Rattle.lpis_run.specs.declared.failure.Failure.{Failure}
-use Rattle.lpis_run.specs.declared.failure.Failure.TheVariants.{Memory, Read, Store}
+use Rattle.lpis_run.specs.declared.failure.Failure.TheVariants.{Memory, Store}
+use Rattle.lpis_run.specs.declared.failure.Name.{Name}
 use Rattle.lpis_run.specs.declared.failure.Name.TheVariants.{Cert}
 use Rattle.lpis_run_country.specs.CountryAnswer.{HavePassed, IsReachedBy}
-use Rattle.lpis_run_country.specs.CountryFailures.{IsStoppedBefore, IsUnreadTop}
+use Rattle.lpis_run_country.specs.CountryFailures.{IsStoppedBefore}
 use Rattle.lpis_run_publish.specs.LineageLines.{publish_refusal_text}
-use Rattle.lpis_run_publish.specs.Output.{Output}
 use Rattle.lpis_run_publish.specs.Stored.{IsStoreFailure, Stays}
 use Rattle.lpis_run_publish_country.specs.CountryLineage.{AreTablesUnread}
 use Rattle.lpis_run_publish_country.specs.PublishCountryAnswer.{AreBlocksOf, AreSaid, AreTopRead}
@@ -33,12 +36,13 @@ use Rattle.lpis_run_publish_country.specs.PublishCountryAnswer.{PublishCountryIn
 use Rattle.lpis_run_publish_country.specs.PublishCountryAnswer.{setting_said, union_of}
 
 -- ---- files that are not read
--- a file that is no region's was not read, the certificate where one is named, while those before
--- it were; or memory ran out
-abbrev pub IsUnreadInput : CountryFiles → Failure → Type 0
-IsUnreadInput given f = IsUnreadTop given.plan f
-    ⊎ (IsWithin given.plan × IsWithin given.classes × (given.exact ≢ None)
-    × (f ≡ Read Cert))
+-- the certificate, where one is named, is read behind the files at the top
+abbrev pub exact_named : Option Known → List (Name × Known)
+exact_named None = []
+exact_named (Some told) = (Cert, told) ∷ []
+
+abbrev pub files_named : CountryFiles → List (Name × Known)
+files_named given = top_named given.top ++ exact_named given.exact
 
 -- a lineage table was not read, while the files before it have no fault; or memory ran out
 pub record IsUnreadLineage (given : CountryFiles) (x : PublishCountryInputs) (f : Failure)
@@ -88,7 +92,7 @@ module _ (asked : CountryRequest) (before after : Holdings) where
   -- the files that are no region's were not read, or memory ran out
   pub record StopsUnread (f : Failure) : Type 0 where
     pub later : last_year before.history < asked.year
-    pub unread : IsUnreadInput asked.given f
+    pub unread : AreUnread (files_named asked.given) f
     pub same : after ≡ before
 
   -- this holds of the bytes of the files that are no region's, in a year above the last one
@@ -117,8 +121,8 @@ module _ (asked : CountryRequest) (x : PublishCountryInputs) (before after : Hol
 
 -- how the run ends: before anything is written memory may run out, or a file before the regions
 -- may not be read
-abbrev pub EndsPublishCountry : CountryRequest → Holdings → Holdings → Option (List ℕ)
-    → Option (List ℕ) → Result ℕ Failure → Type 0
+abbrev pub EndsPublishCountry : CountryRequest → Holdings → Holdings → Known → Known
+    → Result ℕ Failure → Type 0
 EndsPublishCountry asked before after = RunsOn
     (λ f. StopsEarly asked before after f ⊎ StopsUnread asked before after f
     ⊎ OfLater asked before after (λ x. StopsBefore asked x before after f))
@@ -141,9 +145,9 @@ module _ {S : Type 0} (store : Ghosts S) (asked : CountryRequest) where
   -- what a run ends with, and what it leaves in the database. Where the database failed there was a
   -- country to be stored, and a cause, unless it itself ran out of memory or its disk lost what was
   -- written
-  pub record RunsPublishCountry (old new : RegisterState S) (out : Output)
+  pub record RunsPublishCountry (old new : RegisterState S) (before after : Known)
       (result : Result ℕ Failure) : Type 0 where
-    pub runs : EndsPublishCountry asked old.held new.held out.before out.after result
+    pub runs : EndsPublishCountry asked old.held new.held before after result
     pub stored : Stays store old new result
     pub cause : IfErr result (λ f. IsStoreFailure f
         → (x : PublishCountryInputs) × IsLater asked x old.held

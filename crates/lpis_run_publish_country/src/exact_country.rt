@@ -5,6 +5,7 @@ ghost use Rattle.lpis_run_country.specs.CountryAnswer.{Setting};
 ghost use Rattle.lpis_run_country.specs.RegionsOutcome.{IsCountryJoined, JoinsAll};
 ghost use Rattle.lpis_lineage.specs.declared.row.Row.{Row};
 ghost use Rattle.lpis_release.specs.Release.{Contents};
+ghost use Rattle.lpis_run.specs.Folders.{top_by};
 ghost use Rattle.lpis_run.specs.Outputs.{held, outputs_of};
 ghost use Rattle.lpis_run_publish_country.specs.ExactCountryAnswer.{IsFillOutcome};
 ghost use Rattle.lpis_run_publish_country.specs.ExactCountryAnswer.{RunsExactCountry};
@@ -19,7 +20,7 @@ use crate::refusals::refuse_country;
 use crate::unprepared::Unprepared;
 use lpis_lineage::LineageFault;
 use lpis_register::{PublishFault, Register};
-use lpis_run::{Answer, Detail, Failure, Outcome};
+use lpis_run::{Answer, Detail, Failure, Outcome, Top};
 use lpis_run_country::{JoinedCountry, Joining, Regions, join_regions};
 use lpis_run_publish::{change_of, fill_change};
 use sqlite::Alter;
@@ -92,34 +93,24 @@ fn fill_prepared<S: Alter, G: Regions, V: Write, W: Write>(
 /// The flats that are found are what `publish-country` will check. Where there is no certificate,
 /// `file` is not written to at all. Ok is the status: `DONE`, `REFUSED` or `UNREADABLE`. The
 /// register stays as it is.
-pub fn run_exact_country<
-    S: Alter,
-    P: Read + Drop,
-    K: Read + Drop,
-    G: Regions,
-    L: Lineages,
-    V: Write,
-    W: Write,
->(
+pub fn run_exact_country<S: Alter, R: Read + Drop, G: Regions, L: Lineages, V: Write, W: Write>(
     alloc: Global,
     register: &Register<S>,
-    country: P,
-    classes: K,
+    top: Top<R>,
     regions: &G,
     lineages: &L,
     file: &mut V,
     out: &mut W,
 ) -> Result<u8, Failure>
     ensures { RunsExactCountry (record {
-      plan = P.remaining country;
-      classes = K.remaining classes;
+      top = top_by R.remaining top;
       exact = None;
       texts = G.texts regions.now;
       lineages = L.lineages lineages.now;
     }) register.now.held (held (V.contents file.old) (W.contents out.old))
         (held (V.contents file.new) (W.contents out.new)) result }
 {
-    let inputs = read_country(alloc, country, classes)?;
+    let inputs = read_country(alloc, top)?;
     match prepare(alloc, lineages, inputs) {
         Ok(prepared) => fill_prepared(alloc, register, regions, prepared, file, out),
         Err(Unprepared::Failed(failure)) => Err(failure),

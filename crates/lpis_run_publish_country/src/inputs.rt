@@ -1,17 +1,19 @@
 //! The files of a country that come before its regions.
 
-ghost use Rattle.std.specs.Prelude.{◌≡◌, ◌≢◌, ◌⊎◌, IfErr, IfOk, None};
+ghost use Rattle.std.specs.Prelude.{◌≡◌, ◌⊎◌, IfErr, IfOk, None};
 ghost use Rattle.std.specs.Option.{option_map};
+ghost use Rattle.lpis_run.specs.Failures.{AreUnread};
+ghost use Rattle.lpis_run.specs.Folders.{top_by, top_named};
 ghost use Rattle.lpis_run.specs.Stops.{IsRefusedAs};
 ghost use Rattle.lpis_run.specs.declared.failure.Failure.TheVariants.{Memory};
 ghost use Rattle.lpis_run_country.specs.Beginning.{IsBegun};
-ghost use Rattle.lpis_run_country.specs.CountryFailures.{IsUnreadTop};
 ghost use Rattle.lpis_run_publish_country.specs.ExactCountryAnswer.{HasNoParts};
 ghost use Rattle.lpis_run_publish_country.specs.PublishCountryAnswer.{AreBlocksOf, AreTopRead};
 ghost use Rattle.lpis_run_publish_country.specs.PublishCountryAnswer.{CountryFiles};
 ghost use Rattle.lpis_run_publish_country.specs.PublishCountryAnswer.{IsExactTextAnswer};
 ghost use Rattle.lpis_run_publish_country.specs.PublishCountryAnswer.{IsExactRead, IsRefusedBefore};
-ghost use Rattle.lpis_run_publish_country.specs.PublishCountryRuns.{IsUnreadInput, IsUnreadLineage};
+ghost use Rattle.lpis_run_publish_country.specs.PublishCountryRuns.{IsUnreadLineage, exact_named};
+ghost use Rattle.lpis_run_publish_country.specs.PublishCountryRuns.{files_named};
 ghost use Rattle.lpis_run_publish_country.specs.private.Preparing.{IsPrepared, inputs_of};
 ghost use Rattle.lpis_run_publish_country.specs.private.Unprepared.{IsUnprepared};
 
@@ -19,8 +21,8 @@ use crate::lineage::{CountryLineage, Lineages, read_lineage};
 use crate::unprepared::Unprepared;
 use lpis_cert::Cert;
 use lpis_memory::Sequence;
-use lpis_run::{Failure, Name, Stop, certificate_in, read_named};
-use lpis_run_country::{Begun, CountryBytes, begin, read_top};
+use lpis_run::{Failure, Name, Stop, Top, certificate_in, read_named};
+use lpis_run_country::{Begun, begin, read_top};
 use std::alloc::Global;
 use std::io::Read;
 
@@ -28,7 +30,7 @@ use std::io::Read;
 #[derive(Drop)]
 pub(crate) struct PublishCountryBytes {
     /// The plan and the table of classes.
-    pub(crate) country: CountryBytes,
+    pub(crate) country: Top<Vec<u8>>,
     /// The certificate whose blocks are used, where one is named.
     pub(crate) exact: Option<Vec<u8>>,
 }
@@ -45,11 +47,10 @@ pub(crate) struct Prepared {
 }
 
 /// All bytes of the certificate, where one is named.
-fn read_exact<E: Read + Drop>(alloc: Global, exact: Option<E>) -> Result<Option<Vec<u8>>, Failure>
+fn read_exact<R: Read + Drop>(alloc: Global, exact: Option<R>) -> Result<Option<Vec<u8>>, Failure>
     ensures bytes { IfOk result (λ b. IsExactRead (option_map (λ v. v.items) b)
-        (option_map E.remaining exact)) }
-    ensures failure { IfErr result (λ f. (f ≡ Failure.Memory)
-        ⊎ ((option_map E.remaining exact ≢ None) × (f ≡ Failure.Read Name.Cert))) }
+        (option_map R.remaining exact)) }
+    ensures failure { IfErr result (AreUnread (exact_named (option_map R.remaining exact))) }
 {
     match exact {
         Some(file) => Ok(Some(read_named(alloc, file, Name::Cert)?)),
@@ -58,36 +59,33 @@ fn read_exact<E: Read + Drop>(alloc: Global, exact: Option<E>) -> Result<Option<
 }
 
 /// All bytes of the files that are no region's, which are read in this order.
-pub(crate) fn read_inputs<P: Read + Drop, K: Read + Drop, E: Read + Drop>(
+pub(crate) fn read_inputs<R: Read + Drop>(
     alloc: Global,
-    country: P,
-    classes: K,
-    exact: Option<E>,
+    top: Top<R>,
+    exact: Option<R>,
 ) -> Result<PublishCountryBytes, Failure>
-    ensures bytes { (given : CountryFiles) → given.plan ≡ P.remaining country
-        → given.classes ≡ K.remaining classes → given.exact ≡ option_map E.remaining exact
+    ensures bytes { (given : CountryFiles) → given.top ≡ top_by R.remaining top
+        → given.exact ≡ option_map R.remaining exact
         → IfOk result (λ b. AreTopRead given (inputs_of b)) }
-    ensures failure { (given : CountryFiles) → given.plan ≡ P.remaining country
-        → given.classes ≡ K.remaining classes → given.exact ≡ option_map E.remaining exact
-        → IfErr result (IsUnreadInput given) }
+    ensures failure { (given : CountryFiles) → given.top ≡ top_by R.remaining top
+        → given.exact ≡ option_map R.remaining exact
+        → IfErr result (AreUnread (files_named given)) }
 {
-    let country = read_top(alloc, country, classes)?;
+    let country = read_top(alloc, top)?;
     let exact = read_exact(alloc, exact)?;
     Ok(PublishCountryBytes { country, exact })
 }
 
 /// All bytes of the plan and of the table of classes, where no certificate is named.
-pub(crate) fn read_country<P: Read + Drop, K: Read + Drop>(
+pub(crate) fn read_country<R: Read + Drop>(
     alloc: Global,
-    country: P,
-    classes: K,
+    top: Top<R>,
 ) -> Result<PublishCountryBytes, Failure>
-    ensures bytes { (given : CountryFiles) → given.plan ≡ P.remaining country
-        → given.classes ≡ K.remaining classes → given.exact ≡ None
-        → IfOk result (λ b. AreTopRead given (inputs_of b)) }
-    ensures failure { IfErr result (IsUnreadTop (P.remaining country)) }
+    ensures bytes { (given : CountryFiles) → given.top ≡ top_by R.remaining top
+        → given.exact ≡ None → IfOk result (λ b. AreTopRead given (inputs_of b)) }
+    ensures failure { IfErr result (AreUnread (top_named (top_by R.remaining top))) }
 {
-    let country = read_top(alloc, country, classes)?;
+    let country = read_top(alloc, top)?;
     Ok(PublishCountryBytes {
         country,
         exact: None,

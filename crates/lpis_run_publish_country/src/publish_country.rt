@@ -7,9 +7,9 @@ ghost use Rattle.lpis_run_country.specs.RegionsOutcome.{IsCountryJoined, JoinsAl
 ghost use Rattle.lpis_lineage.specs.declared.row.Row.{Row};
 ghost use Rattle.lpis_release.specs.Release.{Contents};
 ghost use Rattle.lpis_register.specs.Failing.{FailsToStore};
+ghost use Rattle.lpis_run.specs.Folders.{top_by};
 ghost use Rattle.lpis_run.specs.declared.failure.Failure.TheVariants.{Store};
 ghost use Rattle.lpis_run_publish.specs.Publication.{PublishLeaves};
-ghost use Rattle.lpis_run_publish.specs.Output.{output};
 ghost use Rattle.lpis_run_publish.specs.Stored.{IsStoreFailure};
 ghost use Rattle.lpis_run_publish_country.specs.PublishCountryAnswer.{CountryFiles, IsUnionAnswer};
 ghost use Rattle.lpis_run_publish_country.specs.PublishCountryAnswer.{PublishCountryInputs};
@@ -26,7 +26,7 @@ use crate::refusals::refuse_country;
 use crate::unprepared::Unprepared;
 use lpis_cert::Cert;
 use lpis_register::{PublishFault, Register};
-use lpis_run::{Answer, Detail, Failure, REFUSED};
+use lpis_run::{Answer, Detail, Failure, REFUSED, Top};
 use lpis_run_country::{JoinedCountry, Joining, Regions, join_regions};
 use lpis_run_publish::{publish_accepted, refuse};
 use sqlite::Alter;
@@ -85,7 +85,7 @@ fn end_union<S: Alter, W: Write>(
         → JoinsAll g regions lines → IsCountryJoined g regions country
         → HasTables lineage.now tables → EndsUnion S.Store
         (country_candidate year g cert.now.exact tables) regions register.old register.new
-        (output (W.contents out.old) (W.contents out.new)) result }
+        (W.contents out.old) (W.contents out.new) result }
 {
     let answer = publish_union(alloc, register, year, country, cert, lineage)?;
     answer.write_to(out)
@@ -105,7 +105,7 @@ fn publish_prepared<S: Alter, G: Regions, W: Write>(
     ensures { (given : CountryFiles) (x : PublishCountryInputs)
         → given.texts ≡ G.texts regions.now → IsPrepared given x prepared
         → RunsPrepared S.Store (record { year = year; given = given; detail = detail }) x
-        register.old register.new (output (W.contents out.old) (W.contents out.new)) result }
+        register.old register.new (W.contents out.old) (W.contents out.new) result }
 {
     let Prepared {
         begun,
@@ -143,7 +143,7 @@ fn publish_inputs<S: Alter, G: Regions, L: Lineages, W: Write>(
         → given.lineages ≡ L.lineages lineages.now
         → RunsPrepared S.Store (record { year = year; given = given; detail = detail })
         (inputs_of inputs) register.old register.new
-        (output (W.contents out.old) (W.contents out.new)) result }
+        (W.contents out.old) (W.contents out.new) result }
 {
     match prepare(alloc, lineages, inputs) {
         Ok(prepared) => publish_prepared(alloc, register, year, regions, prepared, detail, out),
@@ -168,21 +168,12 @@ fn publish_inputs<S: Alter, G: Regions, L: Lineages, W: Write>(
 /// where the union was published and its parcels' shapes are kept, or `REFUSED` or `UNREADABLE`,
 /// where the register is as it was. So it is at each failure but that of the output: then the union
 /// may be published, as `trace` shows.
-pub fn run_publish_country<
-    S: Alter,
-    P: Read + Drop,
-    K: Read + Drop,
-    E: Read + Drop,
-    G: Regions,
-    L: Lineages,
-    W: Write,
->(
+pub fn run_publish_country<S: Alter, R: Read + Drop, G: Regions, L: Lineages, W: Write>(
     alloc: Global,
     register: &mut Register<S>,
     year: u16,
-    country: P,
-    classes: K,
-    exact: Option<E>,
+    top: Top<R>,
+    exact: Option<R>,
     regions: &G,
     lineages: &L,
     detail: Detail,
@@ -191,20 +182,19 @@ pub fn run_publish_country<
     ensures { RunsPublishCountry S.Store (record {
       year = year;
       given = record {
-        plan = P.remaining country;
-        classes = K.remaining classes;
-        exact = option_map E.remaining exact;
+        top = top_by R.remaining top;
+        exact = option_map R.remaining exact;
         texts = G.texts regions.now;
         lineages = L.lineages lineages.now;
       };
       detail = detail;
-    }) register.old register.new (output (W.contents out.old) (W.contents out.new)) result }
+    }) register.old register.new (W.contents out.old) (W.contents out.new) result }
 {
     let last = register.current().last_year();
     if year <= last {
         return refuse_early(alloc, last, out);
     }
-    let inputs = read_inputs(alloc, country, classes, exact)?;
+    let inputs = read_inputs(alloc, top, exact)?;
     publish_inputs(
         alloc, register, year, inputs, regions, lineages, detail, out,
     )

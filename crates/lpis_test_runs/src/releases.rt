@@ -2,8 +2,8 @@
 
 use crate::expecting::expect_answer;
 use crate::halting::Halting;
-use lpis_run::{Failure, Folder, TableReaders};
-use lpis_run_locate::run_locate;
+use lpis_run::{Failure, Folder, Tables};
+use lpis_run_locate::{PointsIn, run_locate};
 use std::test::Fail;
 
 /// The halves of a square of ten metres as two parcels, of one piece each.
@@ -62,16 +62,18 @@ pub fn run(
     failing: Option<(usize, usize)>,
     out: &mut Vec<u8>,
 ) -> Result<u8, Failure> {
-    let mut folder = Folder {
-        tables: TableReaders {
-            parcels: Halting::at(0, texts.parcels, failing),
-            covers: Halting::at(1, texts.pieces, failing),
-            classes: Halting::at(2, CLASSES, failing),
+    let mut asked = PointsIn {
+        files: Folder {
+            tables: Tables {
+                parcels: Halting::at(0, texts.parcels, failing),
+                covers: Halting::at(1, texts.pieces, failing),
+                classes: Halting::at(2, CLASSES, failing),
+            },
+            cert: Halting::at(3, texts.cert, failing),
         },
-        cert: Halting::at(3, texts.cert, failing),
+        points: Halting::at(4, texts.points, failing),
     };
-    let mut points = Halting::at(4, texts.points, failing);
-    run_locate(rt.alloc(), &mut folder, &mut points, out)
+    run_locate(rt.alloc(), &mut asked, out)
 }
 
 /// Fails unless `locate` writes this text and answers this status.

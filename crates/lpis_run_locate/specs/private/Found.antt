@@ -4,11 +4,17 @@ use Rattle.std.specs.Prelude.{Option, None, Some, Ok, Err}
 use Rattle.lpis_points.specs.Plane.{RationalPoint}
 use Rattle.lpis_release.specs.Release.{Contents}
 use Rattle.lpis_checker.specs.SoundMap.{IsNowhere}
-use Rattle.lpis_places.specs.Places.{IsPlace}
+use Rattle.lpis_places.specs.Places.{IsFound, IsPlace}
 use Rattle.lpis_places.specs.Points.{Given, points_of}
 use Rattle.lpis_places.specs.declared.place.Place.{Place}
 use Rattle.lpis_run_locate.specs.declared.search.Sought.{Sought}
 use Rattle.lpis_run_locate.specs.declared.search.Sought.TheVariants as sought
+
+-- what was found of points is where they are in the release
+pub record AreFound (r : Contents) (ps : List Given) (found : List (Option Place)) : Type 0 where
+  pub as_many : length found ≡ length ps
+  pub each : (i : ℕ) (g : Given) (f : Option Place) → slice_get ps i ≡ Some g
+      → slice_get found i ≡ Some f → IsFound r g.at f
 
 -- the place of a point in one of the regions, and none where no parcel of them contains it
 abbrev pub IsFoundAmong : List Contents → RationalPoint → Option Place → Type 0

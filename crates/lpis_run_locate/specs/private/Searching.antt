@@ -8,23 +8,15 @@ use Rattle.lpis_run.specs.Status.{refused}
 use Rattle.lpis_country_seam.specs.declared.fault.SeamFault.{SeamFault}
 use Rattle.lpis_country_seam.specs.Faults.{IsFirstSeamFault, seam_faults}
 use Rattle.lpis_country_seam.specs.Open.{HasNext, IsSeamOf}
-use Rattle.lpis_run_country.specs.Beginning.{country_inputs_of}
 use Rattle.lpis_run_country.specs.CountryAnswer.{HavePassed, IsReachedBy, IsRefusedRegion, Passes}
 use Rattle.lpis_run_country.specs.CountryAnswer.{Setting}
 use Rattle.lpis_run_country.specs.CountryFailures.{IsStoppedBefore}
 use Rattle.lpis_run_country.specs.CountryLines.{seam_refusal_text}
 use Rattle.lpis_run_country.specs.Regions.{Texts}
 use Rattle.lpis_run.specs.declared.failure.Failure.{Failure}
-use Rattle.lpis_run_locate.specs.declared.locate_country.LocateCountryBytes.{LocateCountryBytes}
 use Rattle.lpis_run_locate.specs.declared.progress.Progress.{Progress}
 use Rattle.lpis_run_locate.specs.LocateCountryAnswer.{IsStoppedIn, LocateCountryInputs}
 use Rattle.lpis_run_locate.specs.private.Found.{IsSearched}
-
-abbrev pub locate_country_inputs_of : LocateCountryBytes → LocateCountryInputs
-locate_country_inputs_of b = record {
-  country = country_inputs_of b.country;
-  points = b.points.items;
-}
 
 -- these regions passed, and the points of the table were looked for in them
 pub record IsAt (s : Setting) (table : List ℕ) (before : List Contents) (p : Progress) : Type 0

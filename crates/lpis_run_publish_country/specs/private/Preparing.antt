@@ -10,7 +10,8 @@ use Rattle.lpis_run.specs.Refusals.{line_in_region, refusal_text}
 use Rattle.lpis_run.specs.Status.{unreadable}
 use Rattle.lpis_run.specs.Streams.{IsRead}
 use Rattle.lpis_country.specs.Tree.{Tree}
-use Rattle.lpis_run_country.specs.Beginning.{IsBegun, country_inputs_of}
+use Rattle.lpis_run.specs.Inputs.{top_of}
+use Rattle.lpis_run_country.specs.Beginning.{IsBegun}
 use Rattle.lpis_run_publish_country.specs.CountryLineage.{AreTablesOf, IsTableOf, rows_in}
 use Rattle.lpis_run_publish_country.specs.PublishCountryAnswer.{AreSaid, CountryFiles, CountrySaid}
 use Rattle.lpis_run_publish_country.specs.PublishCountryAnswer.{PublishCountryInputs}
@@ -53,7 +54,7 @@ IsTableAdded told name old new = (rows : List Row) × IsTableOf told name rows
 -- ---- all of them
 abbrev pub inputs_of : PublishCountryBytes → PublishCountryInputs
 inputs_of b = record {
-  country = country_inputs_of b.country;
+  country = top_of b.country;
   exact = option_map (λ v. v.items) b.exact;
 }
 

@@ -7,8 +7,8 @@ use Rattle.lpis_run_check.proofs.check.answer_to.Goals as goal
 
 pub returns-in-Ok-clause-answer : goal.returns-in-Ok-clause-answer
 returns-in-Ok-clause-answer c =
-    IfOk-weaker c.report.result _ _ (λ a said. answer-of-proved (inputs_of c.args.inputs) c.in-Ok.release (a.text.items, a.status)
-    c.in-Ok.ensures.release (ap₂ (λ (t : List ℕ) (s : ℕ). (t, s)) said.0 said.1)) c.report.ensures
+    IfOk-weaker c.say_done.result _ _ (λ a said. answer-of-proved (inputs_of c.args.inputs) c.in-Ok.release (a.text.items, a.status)
+    c.in-Ok.ensures.release (ap₂ (λ (t : List ℕ) (s : ℕ). (t, s)) said.0 said.1)) c.say_done.ensures
 
 pub returns-in-Err-clause-answer : goal.returns-in-Err-clause-answer
 returns-in-Err-clause-answer c =

@@ -1,33 +1,31 @@
 use Rattle.std.proofs.Common.{inl, refl, subst}
 use Rattle.std.proofs.lemmas.Result.{err_from_is_err_and}
+use Rattle.lpis_run.specs.Folders.{top_by}
+use Rattle.lpis_run.specs.Inputs.{top_of}
 use Rattle.lpis_run.specs.Stops.{IsRefusedAs}
-use Rattle.lpis_run_country.specs.Beginning.{IsUnbegun, country_inputs_of}
-use Rattle.lpis_run_country.specs.CountryRun.{country_asked}
+use Rattle.lpis_run_country.specs.Beginning.{IsUnbegun}
 use Rattle.lpis_run_country.proofs.BegunLemmas.{read_run, stopped_before}
 use Rattle.lpis_run_country.proofs.country.run_country.Goals as goal
 
 pub returns-in_err-top : goal.returns-in_err-top
 returns-in_err-top g c =
-    let asked = country_asked (g.G.Regions.texts c.args.regions.now) c.args.detail (g.P.Read.remaining c.args.country) (g.K.Read.remaining c.args.classes) in
     let p = err_from_is_err_and c.from_residual.result c.from_residual.ensures.1 in
-    rw (p.1, p.2) (stopped_before asked (g.W.Write.contents c.args.out.now) _ c.in_err-top.ensures.failure)
+    rw (p.1, p.2) (stopped_before (g.G.Regions.texts c.args.regions.now) c.args.detail (top_by g.R.Read.remaining c.args.top) (g.W.Write.contents c.args.out.now) _ c.in_err-top.ensures.failure)
 
 pub returns-in-Ok : goal.returns-in-Ok
 returns-in-Ok g c =
-    let x = country_inputs_of c.in_ok-top.top in
-    let asked = country_asked (g.G.Regions.texts c.args.regions.now) c.args.detail (g.P.Read.remaining c.args.country) (g.K.Read.remaining c.args.classes) in
-    read_run asked x _ _ c.run_begun.result c.in_ok-top.ensures.bytes (c.run_begun.ensures x c.in-Ok.ensures.begun)
+    let x = top_of c.in_ok-top.top in
+    read_run (g.G.Regions.texts c.args.regions.now) c.args.detail (top_by g.R.Read.remaining c.args.top) x _ _ c.run_begun.result c.in_ok-top.ensures.bytes
+    (c.run_begun.ensures x c.in-Ok.ensures.begun)
 
 pub returns-in_err-answer-in-Err : goal.returns-in_err-answer-in-Err
 returns-in_err-answer-in-Err g c =
-    let asked = country_asked (g.G.Regions.texts c.args.regions.now) c.args.detail (g.P.Read.remaining c.args.country) (g.K.Read.remaining c.args.classes) in
     let p = err_from_is_err_and c.from_residual-in_err-answer-in-Err.result c.from_residual-in_err-answer-in-Err.ensures.1 in
-    rw (p.1, p.2) (stopped_before asked (g.W.Write.contents c.args.out.now) _ (inl refl))
+    rw (p.1, p.2) (stopped_before (g.G.Regions.texts c.args.regions.now) c.args.detail (top_by g.R.Read.remaining c.args.top) (g.W.Write.contents c.args.out.now) _ (inl refl))
 
 pub returns-in_ok-answer-in-Err : goal.returns-in_ok-answer-in-Err
 returns-in_ok-answer-in-Err g c =
-    let x = country_inputs_of c.in_ok-top.top in
+    let x = top_of c.in_ok-top.top in
     let texts = g.G.Regions.texts c.args.regions.now in
-    let asked = country_asked texts c.args.detail (g.P.Read.remaining c.args.country) (g.K.Read.remaining c.args.classes) in
-    read_run asked x _ _ c.write_refusal.result c.in_ok-top.ensures.bytes
+    read_run texts c.args.detail (top_by g.R.Read.remaining c.args.top) x _ _ c.write_refusal.result c.in_ok-top.ensures.bytes
     (c.write_refusal.ensures texts c.args.detail x (subst (IsRefusedAs (IsUnbegun x)) c.in_ok-answer-in-Err.ensures c.in-Err.ensures.refusal))

@@ -2,7 +2,7 @@ use Rattle.std.proofs.Common.{IfOk, List, Ok, subst, sym}
 use Rattle.lpis_places.specs.Points.{Given}
 use Rattle.lpis_run.specs.declared.answer.Answer.{Answer}
 use Rattle.lpis_run_locate.specs.LocateAnswer.{IsPointsAnswer}
-use Rattle.lpis_run_locate.specs.LocateLines.{AreFound}
+use Rattle.lpis_run_locate.specs.private.Found.{AreFound}
 use Rattle.lpis_run_locate.proofs.LineLemmas.{first_found}
 use Rattle.lpis_run_locate.proofs.locate.found_lines.Goals as goal
 

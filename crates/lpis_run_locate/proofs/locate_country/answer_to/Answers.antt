@@ -1,4 +1,4 @@
-use Rattle.lpis_run_locate.specs.private.Searching.{locate_country_inputs_of}
+use Rattle.lpis_run_locate.specs.private.LocateRuns.{locate_country_inputs_of}
 use Rattle.lpis_run_locate.proofs.CountryLemmas.{unbegun_is_answer, unbegun_is_no}
 use Rattle.lpis_run_locate.proofs.locate_country.answer_to.Goals as goal
 

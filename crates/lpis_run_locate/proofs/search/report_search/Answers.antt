@@ -2,7 +2,7 @@ use Rattle.std.proofs.Common.{◌∙◌, ap, subst, sym, IfOk, List, Ok, Result}
 use Rattle.std.proofs.lemmas.Result.{IfOk-weaker}
 use Rattle.lpis_run.specs.declared.answer.Answer.{Answer}
 use Rattle.lpis_run_locate.specs.LocateAnswer.{IsPointsAnswer}
-use Rattle.lpis_run_locate.specs.LocateLines.{AreFound}
+use Rattle.lpis_run_locate.specs.private.Found.{AreFound}
 use Rattle.lpis_places.specs.Points.{Given}
 use Rattle.lpis_places.specs.declared.fault.PointsFault.{PointsFault}
 use Rattle.lpis_run_locate.specs.private.Found.{IsSearched}

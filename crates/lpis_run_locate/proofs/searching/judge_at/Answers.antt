@@ -1,6 +1,7 @@
 use Rattle.std.proofs.Common.{◌<◌, ◌∙◌, ◌∷◌, [], None, Some, ap, get_or, length, map, subst, sym}
 use Rattle.std.proofs.lemmas.List.{get_or-map}
 use Rattle.std.specs.String.{string_bytes}
+use Rattle.lpis_run.specs.Inputs.{inputs_of}
 use Rattle.lpis_run_country.specs.CountryFailures.{IsStoppedBefore}
 use Rattle.lpis_run_country.proofs.Shared.{err_is}
 use Rattle.lpis_run_locate.specs.private.Searching.{IsVerdict}
@@ -19,7 +20,7 @@ returns-in-Ok-clause-verdict g c = λ s table before at same names.
     let inside = subst (λ xs. c.args.index < length xs) (sym there) c.requires.inside in
     let is = c.as_str.ensures.value ∙ ap string_bytes c.index.ensures ∙ sym (get_or-map string_bytes c.read_region.new.names.items c.args.index _ [] inside)
     ∙ ap (λ xs. get_or (map string_bytes xs) c.args.index []) there in
-    let told = same_folder c.in_ok-inputs.inputs s (g.G.Regions.texts c.args.regions.now) (get_or (map string_bytes c.args.names.now.items) c.args.index []) c.as_str.result.now same is
+    let told = same_folder (inputs_of c.in_ok-inputs.inputs) s (g.G.Regions.texts c.args.regions.now) (get_or (map string_bytes c.args.names.now.items) c.args.index []) c.as_str.result.now same is
     c.in_ok-inputs.ensures.bytes in
     subst (λ name. IsVerdict s table before name c.judge_inputs-verdict.new.progress None) is (c.in-Ok.ensures.passed s table before at told)
 
@@ -29,7 +30,7 @@ returns-in_ok-into_answer-in-Err-clause-verdict g c = λ s table before at same 
     let inside = subst (λ xs. c.args.index < length xs) (sym there) c.requires.inside in
     let is = c.as_str.ensures.value ∙ ap string_bytes c.index.ensures ∙ sym (get_or-map string_bytes c.read_region.new.names.items c.args.index _ [] inside)
     ∙ ap (λ xs. get_or (map string_bytes xs) c.args.index []) there in
-    let told = same_folder c.in_ok-inputs.inputs s (g.G.Regions.texts c.args.regions.now) (get_or (map string_bytes c.args.names.now.items) c.args.index []) c.as_str.result.now same is
+    let told = same_folder (inputs_of c.in_ok-inputs.inputs) s (g.G.Regions.texts c.args.regions.now) (get_or (map string_bytes c.args.names.now.items) c.args.index []) c.as_str.result.now same is
     c.in_ok-inputs.ensures.bytes in
     subst (λ name. IsVerdict s table before name c.judge_inputs-verdict.new.progress (Some c.in_ok-into_answer-in-Err.field-0)) is
     (stopped_with s before c.as_str.result.now c.in-Err.stop c.in_ok-into_answer-in-Err.field-0 c.in_ok-into_answer-in-Err.ensures

@@ -10,8 +10,7 @@ use Rattle.lpis_run_publish_country.proofs.publish_country.publish_inputs.Goals 
 pub publish_prepared-requires : goal.publish_prepared-requires
 publish_prepared-requires g c =
     let given : CountryFiles = record {
-      plan = None;
-      classes = None;
+      top = record { plan = None; classes = None };
       exact = None;
       texts = g.G.Regions.texts c.args.regions.now;
       lineages = g.L.Lineages.lineages c.args.lineages.now;

@@ -2,6 +2,7 @@ use Rattle.std.proofs.Common.{◌<◌, ◌∙◌, ap, arith, refl}
 use Rattle.std.proofs.lemmas.Result.{err_from_is_err_and}
 use Rattle.std.specs.Option.{option_map}
 use Rattle.lpis_lineage.specs.Lineage.{last_year}
+use Rattle.lpis_run.specs.Folders.{top_by}
 use Rattle.lpis_run_publish_country.specs.PublishCountryAnswer.{CountryRequest}
 use Rattle.lpis_run_publish_country.specs.private.Preparing.{inputs_of}
 use Rattle.lpis_run_publish_country.proofs.RunLemmas.{runs_early, runs_later, runs_unread}
@@ -17,9 +18,8 @@ returns-in_err-inputs g c =
     let asked : CountryRequest = record {
       year = c.args.year;
       given = record {
-        plan = g.P.Read.remaining c.args.country;
-        classes = g.K.Read.remaining c.args.classes;
-        exact = option_map g.E.Read.remaining c.args.exact;
+        top = top_by g.R.Read.remaining c.args.top;
+        exact = option_map g.R.Read.remaining c.args.exact;
         texts = g.G.Regions.texts c.args.regions.now;
         lineages = g.L.Lineages.lineages c.args.lineages.now;
       };
@@ -28,11 +28,11 @@ returns-in_err-inputs g c =
     let is = c.last_year-last.ensures ∙ ap last_year c.current.ensures in
     let later : last_year c.args.register.now.held.history < c.args.year = omega (arith, is, c.if-year-last.false) in
     let p = err_from_is_err_and c.from_residual.result c.from_residual.ensures.1 in
-    rw (p.1, p.2) (runs_unread g.S.Store asked c.args.register.now (g.W.Write.contents c.args.out.now) _ later (c.in_err-inputs.ensures.failure asked.given refl refl refl))
+    rw (p.1, p.2) (runs_unread g.S.Store asked c.args.register.now (g.W.Write.contents c.args.out.now) _ later (c.in_err-inputs.ensures.failure asked.given refl refl))
 
 pub returns : goal.returns
 returns g c =
     let is = c.last_year-last.ensures ∙ ap last_year c.current.ensures in
     let later : last_year c.args.register.now.held.history < c.args.year = omega (arith, is, c.if-year-last.false) in
     runs_later g.S.Store _ c.args.register.now c.publish_inputs.new.register (g.W.Write.contents c.args.out.now) (g.W.Write.contents c.publish_inputs.new.out)
-    (inputs_of c.in_ok-inputs.inputs) c.publish_inputs.result later (c.in_ok-inputs.ensures.bytes _ refl refl refl) (c.publish_inputs.ensures _ refl refl)
+    (inputs_of c.in_ok-inputs.inputs) c.publish_inputs.result later (c.in_ok-inputs.ensures.bytes _ refl refl) (c.publish_inputs.ensures _ refl refl)

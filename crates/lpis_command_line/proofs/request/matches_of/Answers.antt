@@ -1,8 +1,8 @@
 use Rattle.std.proofs.Common.{◌∙◌, ap, subst, List, ℕ, Bor, map}
 use Rattle.std.proofs.lemmas.Result.{IfOk-weaker}
 use Rattle.clap.specs.Words.{App, is_simple, is_simple_and_free, fault_of, FailsBy, subcommand_of}
-use Rattle.lpis_command_line.proofs.CommandLemmas.{line-free, line-simple}
-use Rattle.lpis_command_line.proofs.command.matches_of.Goals as goal
+use Rattle.lpis_command_line.proofs.RequestLemmas.{line-free, line-simple}
+use Rattle.lpis_command_line.proofs.request.matches_of.Goals as goal
 
 pub returns-clause-matches : goal.returns-clause-matches
 returns-clause-matches c =

@@ -1,0 +1,99 @@
+-- The commands: their arguments, and what the words of a command line ask for.
+use Rattle.std.specs.Prelude.{◌≡◌, ◌∷◌, [], List, Option, Some, None, codes, fold, true}
+use Rattle.clap.specs.Words.{App, Row, Rule, Text, all_of, first_of, new_app, with_rule}
+use Rattle.clap.specs.Words.{with_subcommand}
+use Rattle.lpis_run.specs.declared.failure.Name.TheVariants as named
+use Rattle.lpis_command_line.specs.Arguments.{flag_rule, option_rule, word_rule, words_rule}
+use Rattle.lpis_command_line.specs.Arguments.{year_rule}
+use Rattle.lpis_command_line.specs.Files.{AreTablesIn, IsCountryIn, IsFile}
+use Rattle.lpis_command_line.specs.Words.{HasWord, IsDetail, IsExact, IsRelease, IsSubmission}
+use Rattle.lpis_command_line.specs.Words.{IsYear, texts_of}
+use Rattle.lpis_command_line.specs.declared.commands.Job.{Job}
+use Rattle.lpis_command_line.specs.declared.commands.Job.TheVariants.{Exact, ExactCountry}
+use Rattle.lpis_command_line.specs.declared.commands.Job.TheVariants.{Publish, PublishCountry}
+use Rattle.lpis_command_line.specs.declared.commands.Job.TheVariants.{Trace}
+use Rattle.lpis_command_line.specs.declared.commands.Request.{Request}
+use Rattle.lpis_command_line.specs.declared.commands.Request.TheVariants.{Area, Cut, Check, Country}
+use Rattle.lpis_command_line.specs.declared.commands.Request.TheVariants.{InRegister, Locate}
+use Rattle.lpis_command_line.specs.declared.commands.Request.TheVariants.{LocateCountry}
+
+-- a command by its name and its arguments, in their order
+abbrev pub command : Text → List Rule → App
+command name rules = fold with_rule (new_app name) rules
+
+-- the commands
+abbrev pub commands : List App
+commands =
+    let dir = word_rule (codes "dir") in
+    let cert = word_rule (codes "cert") in
+    let db = word_rule (codes "db") in
+    let year = year_rule (codes "year") in
+    let parcels = flag_rule (codes "parcels") in
+    command (codes "area") (word_rule (codes "file") ∷ [])
+    ∷ command (codes "cut") (dir ∷ cert ∷ [])
+    ∷ command (codes "check") (dir ∷ cert ∷ [])
+    ∷ command (codes "country") (dir ∷ parcels ∷ [])
+    ∷ command (codes "locate") (dir ∷ cert ∷ word_rule (codes "points") ∷ [])
+    ∷ command (codes "locate-country") (dir ∷ word_rule (codes "points") ∷ [])
+    ∷ command (codes "exact") (db ∷ dir ∷ cert ∷ word_rule (codes "out") ∷ [])
+    ∷ command (codes "exact-country") (db ∷ dir ∷ word_rule (codes "file") ∷ [])
+    ∷ command (codes "publish") (db ∷ year ∷ dir ∷ cert ∷ [])
+    ∷ command (codes "publish-country") (db ∷ year ∷ dir ∷ option_rule (codes "exact")
+    ∷ parcels ∷ [])
+    ∷ command (codes "trace") (db ∷ words_rule (codes "id") ∷ []) ∷ []
+
+-- a program with a version, which wants a command
+abbrev pub wanting_command : App → App
+wanting_command a =
+    record a { top = record a.top { subcommand_required = true; has_version = true } }
+
+-- the program before its commands
+abbrev pub program_app : App
+program_app = wanting_command (new_app (codes "lpis"))
+
+-- a program with a command more
+abbrev pub with_command : App → App → App
+with_command whole one = with_subcommand whole one.top
+
+-- the program with its commands
+abbrev pub command_line_app : App
+command_line_app = fold with_command program_app commands
+
+-- the job has this name, and its files and words are those of its arguments
+abbrev pub IsJobNamed : Job → Text → List Row → Type 0
+IsJobNamed (Exact submission out) name rows = (name ≡ codes "exact")
+    × IsSubmission submission rows × (first_of (codes "out") rows ≡ Some out.now)
+IsJobNamed (ExactCountry country file) name rows = (name ≡ codes "exact-country")
+    × HasWord (codes "dir") (λ dir. IsCountryIn dir country) rows
+    × (first_of (codes "file") rows ≡ Some file.now)
+IsJobNamed (Publish year submission) name rows =
+    (name ≡ codes "publish") × IsYear year rows × IsSubmission submission rows
+IsJobNamed (PublishCountry year country exact detail) name rows = (name ≡ codes "publish-country")
+    × IsYear year rows × HasWord (codes "dir") (λ dir. IsCountryIn dir country) rows
+    × IsExact exact rows × IsDetail detail rows
+IsJobNamed (Trace ids) name rows =
+    (name ≡ codes "trace") × (all_of (codes "id") rows ≡ Some (texts_of ids))
+
+-- the command has this name, and its files and words are those of its arguments
+abbrev pub IsRequestNamed : Request → Text → List Row → Type 0
+IsRequestNamed (Area table) name rows =
+    (name ≡ codes "area") × HasWord (codes "file") (λ path. IsFile named.Area path table) rows
+IsRequestNamed (Cut tables cert) name rows = (name ≡ codes "cut")
+    × HasWord (codes "dir") (λ dir. AreTablesIn dir tables) rows
+    × (first_of (codes "cert") rows ≡ Some cert.now)
+IsRequestNamed (Check release) name rows = (name ≡ codes "check") × IsRelease release rows
+IsRequestNamed (Country country detail) name rows = (name ≡ codes "country")
+    × HasWord (codes "dir") (λ dir. IsCountryIn dir country) rows × IsDetail detail rows
+IsRequestNamed (Locate release points) name rows = (name ≡ codes "locate")
+    × IsRelease release rows
+    × HasWord (codes "points") (λ path. IsFile named.Points path points) rows
+IsRequestNamed (LocateCountry country points) name rows = (name ≡ codes "locate-country")
+    × HasWord (codes "dir") (λ dir. IsCountryIn dir country) rows
+    × HasWord (codes "points") (λ path. IsFile named.Points path points) rows
+IsRequestNamed (InRegister db job) name rows =
+    (first_of (codes "db") rows ≡ Some db.now) × IsJobNamed job name rows
+
+-- the request is the command that the words name, with its words
+abbrev pub IsRequest : Request → Option (Text × List Row) → Type 0
+IsRequest r None = ⊥
+IsRequest r (Some p) = IsRequestNamed r p.0 p.1

@@ -1,0 +1,321 @@
+//! The commands: their words, as one table, and what these ask for.
+
+ghost use Rattle.std.specs.Prelude.{IfSome, codes};
+ghost use Rattle.clap.specs.Words.{found_of, rows_of};
+ghost use Rattle.lpis_command_line.specs.Commands.{IsJobNamed, IsRequestNamed};
+
+use crate::arguments::{
+    AREA, BLOCKS_WRITTEN, CERT, CERT_WRITTEN, COUNTRY, EXACT, FLATS_WRITTEN, IDENTIFIERS, Line,
+    PARCELS, POINTS, REGISTER, RELEASE, SUBMISSION, SUBMISSIONS, YEAR,
+};
+use crate::files::{CountryFolder, NamedFile};
+use crate::words::{
+    country_of, detail_of, exact_of, file_of, release_of, submission_of, tables_of, word_of,
+    words_of, year_of,
+};
+use clap::ArgMatches;
+use lpis_run::{Detail, Folder, Name, Submission, Tables};
+
+/// The commands, in the order in which help has them.
+pub(crate) const COMMANDS: [Line; 11] = [
+    Line {
+        name: "area",
+        about: "Prints the area of each polygon of a table, in square metres",
+        arguments: &[AREA],
+    },
+    Line {
+        name: "cut",
+        about: "Cuts a release into triangles, and writes a certificate for it",
+        arguments: &[RELEASE, CERT_WRITTEN],
+    },
+    Line {
+        name: "check",
+        about: "Checks a release against a certificate, and prints its report",
+        arguments: &[RELEASE, CERT],
+    },
+    Line {
+        name: "country",
+        about: "Checks a country that is cut into regions, and prints its sums",
+        arguments: &[COUNTRY, PARCELS],
+    },
+    Line {
+        name: "locate",
+        about: "Checks a release, and prints which parcel and piece each point is in",
+        arguments: &[RELEASE, CERT, POINTS],
+    },
+    Line {
+        name: "locate-country",
+        about: "Checks a country, and prints which parcel and piece each point is in",
+        arguments: &[COUNTRY, POINTS],
+    },
+    Line {
+        name: "exact",
+        about: "Adds to a certificate the blocks of the splits and merges that are marked exact",
+        arguments: &[REGISTER, SUBMISSION, CERT, FLATS_WRITTEN],
+    },
+    Line {
+        name: "exact-country",
+        about: "Writes the blocks of the splits and merges of a country that are marked exact",
+        arguments: &[REGISTER, SUBMISSIONS, BLOCKS_WRITTEN],
+    },
+    Line {
+        name: "publish",
+        about: "Checks a release against a certificate, and adds it to a register",
+        arguments: &[REGISTER, YEAR, SUBMISSION, CERT],
+    },
+    Line {
+        name: "publish-country",
+        about: "Checks a country that is cut into regions, and adds it to a register",
+        arguments: &[REGISTER, YEAR, SUBMISSIONS, EXACT, PARCELS],
+    },
+    Line {
+        name: "trace",
+        about: "Prints the parcels of the last release that came of an earlier one",
+        arguments: &[REGISTER, IDENTIFIERS],
+    },
+];
+
+/// What the words of a command line ask for: a command with its files, in the order in which they
+/// are opened, and its other words.
+#[derive(Drop)]
+pub enum Request<'a> {
+    /// The areas of the polygons of a table.
+    Area {
+        /// The table.
+        table: NamedFile<'a>,
+    },
+    /// The cut of a release into triangles.
+    Cut {
+        /// The tables of the release.
+        tables: Tables<NamedFile<'a>>,
+        /// The path at which the certificate is written.
+        cert: &'a str,
+    },
+    /// The check of a release against a certificate.
+    Check {
+        /// The release, with its certificate.
+        release: Folder<NamedFile<'a>>,
+    },
+    /// The check of a country, region by region.
+    Country {
+        /// The country.
+        country: CountryFolder<'a>,
+        /// What is printed.
+        detail: Detail,
+    },
+    /// The places of points in a release, after its check.
+    Locate {
+        /// The release, with its certificate.
+        release: Folder<NamedFile<'a>>,
+        /// The table of points.
+        points: NamedFile<'a>,
+    },
+    /// The places of points in a country, after its check.
+    LocateCountry {
+        /// The country.
+        country: CountryFolder<'a>,
+        /// The table of points.
+        points: NamedFile<'a>,
+    },
+    /// What is done with a register.
+    InRegister {
+        /// The path of the register, which is opened before the files.
+        db: &'a str,
+        /// What is done with it.
+        job: Job<'a>,
+    },
+}
+
+/// What is done with a register.
+#[derive(Drop)]
+pub enum Job<'a> {
+    /// The blocks of a certificate that the marked rows of a lineage table ask for.
+    Exact {
+        /// What is handed in.
+        submission: Submission<NamedFile<'a>>,
+        /// The path at which the certificate with its blocks is written.
+        out: &'a str,
+    },
+    /// The blocks that the marked rows of a country's lineage tables ask for.
+    ExactCountry {
+        /// The country.
+        country: CountryFolder<'a>,
+        /// The path at which the certificate with these blocks is written.
+        file: &'a str,
+    },
+    /// The check of a release, and its publication.
+    Publish {
+        /// The release's year, from 1 to 9999.
+        year: u16,
+        /// What is handed in.
+        submission: Submission<NamedFile<'a>>,
+    },
+    /// The check of a country, region by region, and its publication.
+    PublishCountry {
+        /// The country's year, from 1 to 9999.
+        year: u16,
+        /// The country.
+        country: CountryFolder<'a>,
+        /// The certificate with the blocks of its exact lineage.
+        exact: Option<NamedFile<'a>>,
+        /// What is printed.
+        detail: Detail,
+    },
+    /// What became of identifiers.
+    Trace {
+        /// The words that are to be identifiers, in their order.
+        ids: &'a [&'a str],
+    },
+}
+
+/// `area` with its words.
+fn area_asked<'a>(matches: &ArgMatches<'a>) -> Option<Request<'a>>
+    ensures { IfSome result (λ r. IsRequestNamed r (codes "area")
+        (rows_of (found_of matches.now))) }
+{
+    let table = file_of(matches, "file", Name::Area)?;
+    Some(Request::Area { table })
+}
+
+/// `cut` with its words.
+fn cut_asked<'a>(matches: &ArgMatches<'a>) -> Option<Request<'a>>
+    ensures { IfSome result (λ r. IsRequestNamed r (codes "cut")
+        (rows_of (found_of matches.now))) }
+{
+    let tables = tables_of(matches)?;
+    let cert = word_of(matches, "cert")?;
+    Some(Request::Cut { tables, cert })
+}
+
+/// `check` with its words.
+fn check_asked<'a>(matches: &ArgMatches<'a>) -> Option<Request<'a>>
+    ensures { IfSome result (λ r. IsRequestNamed r (codes "check")
+        (rows_of (found_of matches.now))) }
+{
+    let release = release_of(matches)?;
+    Some(Request::Check { release })
+}
+
+/// `country` with its words.
+fn country_asked<'a>(matches: &ArgMatches<'a>) -> Option<Request<'a>>
+    ensures { IfSome result (λ r. IsRequestNamed r (codes "country")
+        (rows_of (found_of matches.now))) }
+{
+    let country = country_of(matches)?;
+    let detail = detail_of(matches)?;
+    Some(Request::Country { country, detail })
+}
+
+/// `locate` with its words.
+fn locate_asked<'a>(matches: &ArgMatches<'a>) -> Option<Request<'a>>
+    ensures { IfSome result (λ r. IsRequestNamed r (codes "locate")
+        (rows_of (found_of matches.now))) }
+{
+    let release = release_of(matches)?;
+    let points = file_of(matches, "points", Name::Points)?;
+    Some(Request::Locate { release, points })
+}
+
+/// `locate-country` with its words.
+fn locate_country_asked<'a>(matches: &ArgMatches<'a>) -> Option<Request<'a>>
+    ensures { IfSome result (λ r. IsRequestNamed r (codes "locate-country")
+        (rows_of (found_of matches.now))) }
+{
+    let country = country_of(matches)?;
+    let points = file_of(matches, "points", Name::Points)?;
+    Some(Request::LocateCountry { country, points })
+}
+
+/// `exact` with its words, but for the register.
+fn exact_asked<'a>(matches: &ArgMatches<'a>) -> Option<Job<'a>>
+    ensures { IfSome result (λ j. IsJobNamed j (codes "exact")
+        (rows_of (found_of matches.now))) }
+{
+    let submission = submission_of(matches)?;
+    let out = word_of(matches, "out")?;
+    Some(Job::Exact { submission, out })
+}
+
+/// `exact-country` with its words, but for the register.
+fn exact_country_asked<'a>(matches: &ArgMatches<'a>) -> Option<Job<'a>>
+    ensures { IfSome result (λ j. IsJobNamed j (codes "exact-country")
+        (rows_of (found_of matches.now))) }
+{
+    let country = country_of(matches)?;
+    let file = word_of(matches, "file")?;
+    Some(Job::ExactCountry { country, file })
+}
+
+/// `publish` with its words, but for the register.
+fn publish_asked<'a>(matches: &ArgMatches<'a>) -> Option<Job<'a>>
+    ensures { IfSome result (λ j. IsJobNamed j (codes "publish")
+        (rows_of (found_of matches.now))) }
+{
+    let year = year_of(matches)?;
+    let submission = submission_of(matches)?;
+    Some(Job::Publish { year, submission })
+}
+
+/// `publish-country` with its words, but for the register.
+fn publish_country_asked<'a>(matches: &ArgMatches<'a>) -> Option<Job<'a>>
+    ensures { IfSome result (λ j. IsJobNamed j (codes "publish-country")
+        (rows_of (found_of matches.now))) }
+{
+    let year = year_of(matches)?;
+    let country = country_of(matches)?;
+    let exact = exact_of(matches);
+    let detail = detail_of(matches)?;
+    Some(Job::PublishCountry {
+        year,
+        country,
+        exact,
+        detail,
+    })
+}
+
+/// `trace` with its words, but for the register.
+fn trace_asked<'m, 'a>(matches: &'m ArgMatches<'a>) -> Option<Job<'m>>
+    ensures { IfSome result (λ j. IsJobNamed j (codes "trace")
+        (rows_of (found_of matches.now))) }
+{
+    let ids = words_of(matches, "id")?;
+    Some(Job::Trace { ids })
+}
+
+/// The job of this name, with its words.
+fn job_named<'m, 'a>(name: &str, matches: &'m ArgMatches<'a>) -> Option<Job<'m>>
+    ensures { IfSome result (λ j. IsJobNamed j name.now (rows_of (found_of matches.now))) }
+{
+    match name {
+        "exact" => exact_asked(matches),
+        "exact-country" => exact_country_asked(matches),
+        "publish" => publish_asked(matches),
+        "publish-country" => publish_country_asked(matches),
+        "trace" => trace_asked(matches),
+        _ => None,
+    }
+}
+
+/// The job of this name with its register.
+fn in_register<'m, 'a>(name: &str, matches: &'m ArgMatches<'a>) -> Option<Request<'m>>
+    ensures { IfSome result (λ r. IsRequestNamed r name.now (rows_of (found_of matches.now))) }
+{
+    let db = word_of(matches, "db")?;
+    let job = job_named(name, matches)?;
+    Some(Request::InRegister { db, job })
+}
+
+/// The command of this name, with its words.
+pub(crate) fn request_named<'m, 'a>(name: &str, matches: &'m ArgMatches<'a>) -> Option<Request<'m>>
+    ensures { IfSome result (λ r. IsRequestNamed r name.now (rows_of (found_of matches.now))) }
+{
+    match name {
+        "area" => area_asked(matches),
+        "cut" => cut_asked(matches),
+        "check" => check_asked(matches),
+        "country" => country_asked(matches),
+        "locate" => locate_asked(matches),
+        "locate-country" => locate_country_asked(matches),
+        _ => in_register(name, matches),
+    }
+}
