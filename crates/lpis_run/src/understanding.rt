@@ -16,7 +16,7 @@ use crate::folder::{Folder, Tables};
 use crate::refusal::print_cert_fault;
 use crate::status::UNREADABLE;
 use crate::stop::Stop;
-use lpis_cert::{Cert, CertFault, read_cert};
+use lpis_cert::{Cert, CertFault, read_cert_of};
 use lpis_release::{Release, read_release};
 use lpis_tables::TableFault;
 use std::alloc::{AllocError, Global};
@@ -62,7 +62,7 @@ pub fn release_in(alloc: Global, tables: Tables<Vec<u8>>) -> Result<Release, Sto
 fn cert_in(alloc: Global, text: Vec<u8>) -> Result<Cert, CertFault>
     ensures { IsReadAs text.items result }
 {
-    read_cert(alloc, text.as_slice())
+    read_cert_of(alloc, text)
 }
 
 /// The certificate that a text was read as, or the line of the text's first fault.
