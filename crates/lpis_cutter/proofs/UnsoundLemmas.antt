@@ -13,6 +13,7 @@ use Rattle.lpis_release.specs.declared.parcel.Parcel.{Parcel}
 use Rattle.lpis_tables.specs.Ids.{same_id}
 use Rattle.lpis_release.specs.Release.{Contents, names_parcel, parcel_ids}
 use Rattle.lpis_cert.specs.declared.cert.Cert.{Cert}
+use Rattle.lpis_cutter.specs.declared.parts.ReleaseCut.{ReleaseCut}
 use Rattle.lpis_checker.specs.GoodCertificate.{IsGood}
 use Rattle.lpis_checker.specs.Laws.{GoodMeansSound}
 use Rattle.lpis_checker.specs.SoundMap.{IsInParcel, IsSoundEverywhere}
@@ -94,12 +95,12 @@ unsound r (Refused (Disagreement parcel at)) t h sound = disagrees r parcel (rat
 unsound r _ t h sound = absurd h
 
 -- where a cutter refuses rightly, and with a point, the release is not sound everywhere
-pub told_unsound : (r : Contents) (x : Result Cert CutFault) → IfErr x (RefusesRightly r) → IfErr x (λ e. HasPoint e → IsSoundEverywhere r → ⊥)
+pub told_unsound : (r : Contents) (x : Result ReleaseCut CutFault) → IfErr x (RefusesRightly r) → IfErr x (λ e. HasPoint e → IsSoundEverywhere r → ⊥)
 told_unsound r (Ok c) t = tt
 told_unsound r (Err e) t = unsound r e t
 
 -- so no certificate is good for it
-pub told_no_certificate : (r : Contents) (x : Result Cert CutFault) → GoodMeansSound
+pub told_no_certificate : (r : Contents) (x : Result ReleaseCut CutFault) → GoodMeansSound
     → IsDistinct same_id (parcel_ids r.parcels) → IfErr x (RefusesRightly r) → IfErr x (λ e. HasPoint e → (c : Cert) → IsGood r c
     → ⊥)
 told_no_certificate r (Ok c) law distinct t = tt

@@ -13,16 +13,16 @@ ghost use Rattle.lpis_cutter.specs.private.Cutting.{IsTooMany, ReportsIfAny};
 
 use crate::exact::add_edges;
 use crate::fault::{CutFault, Refusal};
+use crate::near::near_pairs;
 use crate::numbered::Numbered;
-use crate::parts::{Parts, cert_of, no_parts, with_parcel, with_piece};
+use crate::parts::{Parts, ReleaseCut, cut_of_release, no_parts, with_parcel, with_piece};
 use crate::pieces::{Cutter, cut_of};
 use crate::searching::{Budget, find_disagreement};
 use crate::separating::{Separated, early_overlap, separate};
 use crate::telling::unevenness;
-use lpis_cert::{Cert, GREATEST_COUNT, MOST_FLATS, PairLine};
+use lpis_cert::{GREATEST_COUNT, MOST_FLATS, PairLine};
 use lpis_checker::laws::a_good_certificate_shows_a_sound_map;
 use lpis_cutter_residue::Net;
-use lpis_pairs::{MOST_TRIANGLES, PairSource, Sweep};
 use lpis_points::Triangle;
 use lpis_release::{Parcel, Release, pieces_of};
 use lpis_tables::Piece;
@@ -38,7 +38,7 @@ fn add_piece(cutter: &mut Cutter, parts: Parts, piece: &Piece) -> Result<Option<
         (λ more. more.flats ≤ parts.flats + points_of piece.now.polygon)) }
 {
     match cut_of(cutter, &piece.polygon)? {
-        Some(cut) => with_piece(parts, piece.id.copy()?, cut),
+        Some(cut) => with_piece(parts, &cut),
         None => Ok(None),
     }
 }
@@ -132,7 +132,6 @@ fn add_parcel(
     tools: &mut Tools,
     release: &Release,
     index: usize,
-    parcel: &Parcel,
     parts: Parts,
 ) -> Result<Parts, CutFault>
     ensures { IfErr result (RefusesRightly release.now) }
@@ -145,7 +144,7 @@ fn add_parcel(
             None => Vec::new(alloc),
         },
     };
-    Ok(with_parcel(parts, parcel.id.copy()?, own)?)
+    Ok(with_parcel(parts, &own)?)
 }
 
 /// Parts of all pieces and parcels, and a parcel that is refused where no point is found later.
@@ -175,39 +174,52 @@ fn fill_parcels(
         if kept.is_none() && !tools.net.is_flat() {
             kept = refuse_parcel(release, index, &tools.net)?;
         }
-        parts = add_parcel(alloc, tools, release, index, parcel, parts)?;
+        parts = add_parcel(alloc, tools, release, index, parts)?;
     }
     Ok(Filled { parts, kept })
 }
 
-/// The near pairs of triangles, of which there are no more than a certificate has.
-fn near_pairs(alloc: Global, triangles: &[Triangle]) -> Result<Vec<(u32, u32)>, AllocError> {
-    if triangles.len() > MOST_TRIANGLES {
-        return Ok(Vec::new(alloc));
+/// The separators of the near pairs of all triangles, or an overlap that was found.
+fn separators(
+    alloc: Global,
+    budget: Budget,
+    release: &Release,
+    parts: &Parts,
+) -> Result<Separated, AllocError>
+    ensures found { IfOk result (λ s. ReportsIfAny release.now s.found) }
+    ensures kept { IfOk result (λ s. ReportsIfAny release.now s.kept) }
+{
+    let numbered = Numbered::of(alloc, parts)?;
+    let mut budget = budget.renewed();
+    let found = early_overlap(alloc, &mut budget, release, &numbered)?;
+    if found.is_some() {
+        return Ok(Separated {
+            lines: Vec::new(alloc),
+            found,
+            kept: None,
+        });
     }
-    Sweep.pairs(alloc, triangles)
+    let mut budget = budget.renewed();
+    let near = near_pairs(alloc, &parts.list)?;
+    separate(alloc, &mut budget, release, &numbered, &near)
 }
 
-/// The certificate of these parts with the separators of their near pairs.
-fn join(alloc: Global, budget: Budget, release: &Release, filled: Filled) -> Result<Cert, CutFault>
+/// These parts with the separators of their near pairs.
+fn join(
+    alloc: Global,
+    budget: Budget,
+    release: &Release,
+    filled: Filled,
+) -> Result<ReleaseCut, CutFault>
     requires kept { ReportsIfAny release.now filled.kept }
     ensures { IfErr result (RefusesRightly release.now) }
 {
     let Filled { parts, kept } = filled;
-    let numbered = Numbered::of(alloc, &parts)?;
-    let mut budget = budget.renewed();
-    if let Some(refusal) = early_overlap(alloc, &mut budget, release, &numbered)? {
-        return Err(CutFault::Refused(refusal));
-    }
-    let mut budget = budget.renewed();
-    let near = near_pairs(alloc, &numbered.triangles)?;
-    let separated = separate(alloc, &mut budget, release, &numbered, &near)?;
-    drop(near);
     let Separated {
         lines,
         found,
         kept: later,
-    } = separated;
+    } = separators(alloc, budget, release, &parts)?;
     if let Some(refusal) = found {
         return Err(CutFault::Refused(refusal));
     }
@@ -217,18 +229,23 @@ fn join(alloc: Global, budget: Budget, release: &Release, filled: Filled) -> Res
     if let Some(refusal) = later {
         return Err(CutFault::Refused(refusal));
     }
-    Ok(finish(alloc, parts, lines))
+    Ok(finish(alloc, release, parts, lines)?)
 }
 
-/// The certificate of all parts, with as many of the lines as one may have.
-fn finish(alloc: Global, parts: Parts, lines: Vec<PairLine>) -> Cert {
+/// All parts, with as many of the lines as a certificate may have.
+fn finish(
+    alloc: Global,
+    release: &Release,
+    parts: Parts,
+    lines: Vec<PairLine>,
+) -> Result<ReleaseCut, AllocError> {
     let mut lines = lines;
     lines.truncate(GREATEST_COUNT as usize);
-    cert_of(alloc, parts, lines)
+    cut_of_release(alloc, release, parts, lines)
 }
 
-/// The certificate of a release, or what it is refused for.
-fn cut_release(alloc: Global, release: &Release) -> Result<Cert, CutFault>
+/// What a release is cut into, or what it is refused for.
+fn cut_release(alloc: Global, release: &Release) -> Result<ReleaseCut, CutFault>
     ensures { IfErr result (RefusesRightly release.now) }
 {
     let mut tools = Tools {
@@ -244,15 +261,15 @@ fn cut_release(alloc: Global, release: &Release) -> Result<Cert, CutFault>
     join(alloc, budget, release, filled)
 }
 
-/// Cuts a release: a certificate of triangles on the corners that its pieces have, or what it is
-/// refused for. Nothing is promised of the certificate, which is to be checked.
+/// Cuts a release: what makes a certificate of triangles on the corners that its pieces have, or
+/// what it is refused for. Nothing is promised of the certificate, which is to be checked.
 ///
 /// A refusal says of the release what its variant says. Pieces that cannot be cut are refused
 /// first, in order; then the first fault of which a point is found; then what shows no point.
 /// Pieces that are fans, with at most 2,000,000 points together, are all cut, and a parcel is
 /// refused without a point only where its edges have other net counts than those of its pieces. A
 /// release of which a point is reported is not sound, so that no certificate is good for it.
-pub fn cut(alloc: Global, release: &Release) -> Result<Cert, CutFault>
+pub fn cut(alloc: Global, release: &Release) -> Result<ReleaseCut, CutFault>
     ensures tells { IfErr result (RefusesRightly release.now) }
     ensures unsound { IfErr result (λ e. HasPoint e → IsSoundEverywhere release.now → ⊥) }
     ensures no_certificate { IfErr result (λ e. HasPoint e → (c : Cert) → IsGood release.now c

@@ -8,29 +8,26 @@ use std::alloc::{AllocError, Global};
 
 /// The triangles of all pieces, numbered from 0, and the index of the piece of each.
 #[derive(Drop)]
-pub(crate) struct Numbered {
-    pub(crate) triangles: Vec<Triangle>,
+pub(crate) struct Numbered<'a> {
+    pub(crate) triangles: &'a [Triangle],
     pub(crate) owners: Vec<u32>,
     /// The number of the first triangle of each piece.
     pub(crate) firsts: Vec<u32>,
 }
 
-impl Numbered {
-    pub(crate) fn of(alloc: Global, parts: &Parts) -> Result<Numbered, AllocError> {
-        let count = parts.triangles as usize;
-        let mut triangles = Vec::with_capacity(alloc, count)?;
-        let mut owners = Vec::with_capacity(alloc, count)?;
+impl<'a> Numbered<'a> {
+    pub(crate) fn of(alloc: Global, parts: &'a Parts) -> Result<Numbered<'a>, AllocError> {
+        let mut owners = Vec::with_capacity(alloc, parts.list.len())?;
         let mut firsts = Vec::with_capacity(alloc, parts.pieces.len())?;
-        for (index, part) in parts.pieces.iter().enumerate() {
+        for (index, counts) in parts.pieces.iter().enumerate() {
             let owner = u32::try_from(index).unwrap_or(u32::MAX);
-            firsts.push(u32::try_from(triangles.len()).unwrap_or(u32::MAX))?;
-            for triangle in part.triangles.as_slice() {
-                triangles.push(*triangle)?;
+            firsts.push(u32::try_from(owners.len()).unwrap_or(u32::MAX))?;
+            for _ in 0..counts.triangles {
                 owners.push(owner)?;
             }
         }
         Ok(Numbered {
-            triangles,
+            triangles: &parts.list,
             owners,
             firsts,
         })

@@ -1,6 +1,7 @@
 //! The parts of a certificate that is being made.
 
 ghost use Rattle.std.specs.Prelude.{◌≡◌, ◌≤◌, ◌<◌, ◌+◌, ◌⊎◌, IfOk, IfSome, IfNone, length, sum_by};
+ghost use Rattle.std.specs.Prelude.{OnOk};
 ghost use Rattle.lpis_cert.specs.Limits.{most_flats, greatest_count};
 ghost use Rattle.lpis_points.specs.Triangles.{most_triangles};
 
@@ -8,45 +9,33 @@ use lpis_cert::{Cert, MOST_FLATS, MOST_TRIANGLES, PairLine, ParcelPart, PiecePar
 use lpis_cutter_mesh::Cut;
 use lpis_memory::Sequence;
 use lpis_points::Triangle;
+use lpis_release::Release;
 use lpis_tables::Id;
 use std::alloc::{AllocError, Global};
 
-/// Parts, and how many triangles and flats they have: no more than a certificate.
+/// How many triangles and flats a piece or a parcel has.
+#[derive(Clone, Copy, Debug)]
+pub(crate) struct Counts {
+    pub(crate) triangles: usize,
+    pub(crate) flats: usize,
+}
+
+/// The triangles and flats of pieces and parcels, one behind the other, and how many each has: no
+/// more than a certificate. They are in one list as long as near pairs are looked for, which take
+/// most memory.
 #[derive(Drop)]
 pub(crate) struct Parts {
-    pub(crate) pieces: Vec<PiecePart>,
-    pub(crate) parcels: Vec<ParcelPart>,
+    pub(crate) list: Vec<Triangle>,
+    /// Those of pieces before those of parcels.
+    flat_list: Vec<Triangle>,
+    pub(crate) pieces: Vec<Counts>,
+    parcels: Vec<Counts>,
     pub(crate) triangles: u64,
     pub(crate) flats: u64,
-    pub ghost triangles_counted: { triangles ≡ sum_by (λ p. length p.triangles) pieces.items },
-    pub ghost flats_counted: { flats ≡ sum_by (λ p. length p.flats) pieces.items + sum_by
-        (λ p. length p.flats) parcels.items },
+    pub ghost triangles_counted: { triangles ≡ length list.items },
+    pub ghost flats_counted: { flats ≡ length flat_list.items },
     pub ghost triangles_few: { triangles ≤ most_triangles },
     pub ghost flats_few: { flats ≤ most_flats },
-}
-
-/// A piece of these triangles and flats.
-fn piece_part(id: Id, cut: Cut) -> PiecePart
-    ensures triangles { result.triangles ≡ cut.triangles.items }
-    ensures flats { result.flats ≡ cut.flats.items }
-{
-    let _ = id.as_str();
-    PiecePart {
-        id,
-        triangles: Sequence::new(cut.triangles),
-        flats: Sequence::new(cut.flats),
-    }
-}
-
-/// A parcel of these flats.
-fn parcel_part(id: Id, flats: Vec<Triangle>) -> ParcelPart
-    ensures { result.flats ≡ flats.items }
-{
-    let _ = id.as_str();
-    ParcelPart {
-        id,
-        flats: Sequence::new(flats),
-    }
 }
 
 /// No parts yet.
@@ -55,6 +44,8 @@ pub(crate) fn no_parts(alloc: Global) -> Parts
     ensures flats { result.flats ≡ 0 }
 {
     Parts {
+        list: Vec::new(alloc),
+        flat_list: Vec::new(alloc),
         pieces: Vec::new(alloc),
         parcels: Vec::new(alloc),
         triangles: 0,
@@ -63,16 +54,18 @@ pub(crate) fn no_parts(alloc: Global) -> Parts
 }
 
 /// The parts with one piece more; `None` where a limit of a certificate would be passed.
-pub(crate) fn with_piece(parts: Parts, id: Id, cut: Cut) -> Result<Option<Parts>, AllocError>
-    ensures triangles { IfOk result
-        (λ o. IfSome o (λ more. more.triangles ≡ parts.triangles + length cut.triangles.items)) }
+pub(crate) fn with_piece(parts: Parts, cut: &Cut) -> Result<Option<Parts>, AllocError>
+    ensures triangles { IfOk result (λ o. IfSome o
+        (λ more. more.triangles ≡ parts.triangles + length cut.now.triangles.items)) }
     ensures flats { IfOk result
-        (λ o. IfSome o (λ more. more.flats ≡ parts.flats + length cut.flats.items)) }
+        (λ o. IfSome o (λ more. more.flats ≡ parts.flats + length cut.now.flats.items)) }
     ensures none { IfOk result
-        (λ o. IfNone o ((most_triangles < parts.triangles + length cut.triangles.items)
-        ⊎ (most_flats < parts.flats + length cut.flats.items))) }
+        (λ o. IfNone o ((most_triangles < parts.triangles + length cut.now.triangles.items)
+        ⊎ (most_flats < parts.flats + length cut.now.flats.items))) }
 {
     let Parts {
+        mut list,
+        mut flat_list,
         mut pieces,
         parcels,
         triangles,
@@ -83,8 +76,15 @@ pub(crate) fn with_piece(parts: Parts, id: Id, cut: Cut) -> Result<Option<Parts>
     if more_triangles > MOST_TRIANGLES - triangles || more_flats > MOST_FLATS - flats {
         return Ok(None);
     }
-    pieces.push(piece_part(id, cut))?;
+    list.extend_from_slice(&cut.triangles)?;
+    flat_list.extend_from_slice(&cut.flats)?;
+    pieces.push(Counts {
+        triangles: cut.triangles.len(),
+        flats: cut.flats.len(),
+    })?;
     Ok(Some(Parts {
+        list,
+        flat_list,
         pieces,
         parcels,
         triangles: triangles + more_triangles,
@@ -93,18 +93,26 @@ pub(crate) fn with_piece(parts: Parts, id: Id, cut: Cut) -> Result<Option<Parts>
 }
 
 /// The parts with one parcel more.
-pub(crate) fn with_parcel(parts: Parts, id: Id, own: Vec<Triangle>) -> Result<Parts, AllocError>
-    requires { parts.flats + length own.items ≤ most_flats }
+pub(crate) fn with_parcel(parts: Parts, own: &[Triangle]) -> Result<Parts, AllocError>
+    requires { parts.flats + length own.now ≤ most_flats }
 {
     let Parts {
+        list,
+        mut flat_list,
         pieces,
         mut parcels,
         triangles,
         flats,
     } = parts;
     let more = own.len() as u64;
-    parcels.push(parcel_part(id, own))?;
+    flat_list.extend_from_slice(own)?;
+    parcels.push(Counts {
+        triangles: 0,
+        flats: own.len(),
+    })?;
     Ok(Parts {
+        list,
+        flat_list,
         pieces,
         parcels,
         triangles,
@@ -112,21 +120,171 @@ pub(crate) fn with_parcel(parts: Parts, id: Id, own: Vec<Triangle>) -> Result<Pa
     })
 }
 
+/// Takes so many items from the end of a list.
+fn last_of(items: &mut Vec<Triangle>, count: usize) -> Result<Vec<Triangle>, AllocError>
+    ensures { IfOk result (λ own. length own.items + length items.new.items
+        ≡ length items.old.items) }
+{
+    let at = items.len().saturating_sub(count);
+    items.split_off(at)
+}
+
+/// The part of a piece, whose triangles and flats are the last ones.
+fn last_piece(
+    id: Id,
+    counts: Counts,
+    list: &mut Vec<Triangle>,
+    flats: &mut Vec<Triangle>,
+) -> Result<PiecePart, AllocError>
+    ensures triangles { IfOk result (λ p. length p.triangles + length list.new.items
+        ≡ length list.old.items) }
+    ensures flats { IfOk result (λ p. length p.flats + length flats.new.items
+        ≡ length flats.old.items) }
+{
+    let own = last_of(list, counts.triangles)?;
+    let own_flats = last_of(flats, counts.flats)?;
+    let _ = id.as_str();
+    Ok(PiecePart {
+        id,
+        triangles: Sequence::new(own),
+        flats: Sequence::new(own_flats),
+    })
+}
+
+/// The part of a parcel, whose flats are the last ones.
+fn last_parcel(id: Id, counts: Counts, flats: &mut Vec<Triangle>) -> Result<ParcelPart, AllocError>
+    ensures { IfOk result (λ p. length p.flats + length flats.new.items
+        ≡ length flats.old.items) }
+{
+    let own = last_of(flats, counts.flats)?;
+    let _ = id.as_str();
+    Ok(ParcelPart {
+        id,
+        flats: Sequence::new(own),
+    })
+}
+
+/// The parts of pieces, from the last to the first; their triangles leave the list.
+fn piece_parts(
+    alloc: Global,
+    ids: &mut Vec<Id>,
+    counts: &[Counts],
+    list: &mut Vec<Triangle>,
+    flats: &mut Vec<Triangle>,
+) -> Result<Vec<PiecePart>, AllocError>
+    ensures triangles { IfOk result (λ parts. sum_by (λ p. length p.triangles) parts.items
+        ≤ length list.old.items) }
+    ensures flats { IfOk result (λ parts. sum_by (λ p. length p.flats) parts.items
+        ≤ length flats.old.items) }
+{
+    let mut parts = Vec::with_capacity(alloc, counts.len())?;
+    for own in counts.iter().rev() {
+        let Some(id) = ids.pop() else { break };
+        parts.push(last_piece(id, *own, list, flats)?)?;
+        if parts.len() % 1024 == 0 {
+            list.shrink_to_fit();
+        }
+    }
+    parts.reverse();
+    Ok(parts)
+}
+
+/// The same of parcels.
+fn parcel_parts(
+    alloc: Global,
+    ids: &mut Vec<Id>,
+    counts: &[Counts],
+    flats: &mut Vec<Triangle>,
+) -> Result<Vec<ParcelPart>, AllocError>
+    ensures { IfOk result (λ parts. sum_by (λ p. length p.flats) parts.items
+        + length flats.new.items ≤ length flats.old.items) }
+{
+    let mut parts = Vec::with_capacity(alloc, counts.len())?;
+    for own in counts.iter().rev() {
+        let Some(id) = ids.pop() else { break };
+        parts.push(last_parcel(id, *own, flats)?)?;
+    }
+    parts.reverse();
+    Ok(parts)
+}
+
+/// What a release was cut into: all that is in its certificate. It is made before the release is
+/// let go, and the certificate from it afterwards.
+#[derive(Drop)]
+pub struct ReleaseCut {
+    alloc: Global,
+    parts: Parts,
+    piece_ids: Vec<Id>,
+    parcel_ids: Vec<Id>,
+    lines: Vec<PairLine>,
+    pub ghost lines_few: { length lines.items ≤ greatest_count },
+}
+
+/// All parts and pair lines, with the identifiers of a release.
+pub(crate) fn cut_of_release(
+    alloc: Global,
+    release: &Release,
+    parts: Parts,
+    lines: Vec<PairLine>,
+) -> Result<ReleaseCut, AllocError>
+    requires { length lines.items ≤ greatest_count }
+{
+    let mut piece_ids = Vec::with_capacity(alloc, release.pieces().len())?;
+    for piece in release.pieces() {
+        piece_ids.push(piece.id.copy()?)?;
+    }
+    let mut parcel_ids = Vec::with_capacity(alloc, release.parcels().len())?;
+    for parcel in release.parcels() {
+        parcel_ids.push(parcel.id.copy()?)?;
+    }
+    Ok(ReleaseCut {
+        alloc,
+        parts,
+        piece_ids,
+        parcel_ids,
+        lines,
+    })
+}
+
+impl ReleaseCut {
+    /// The certificate, without exact blocks. Nothing is promised of it, which is to be checked.
+    pub fn into_cert(self) -> Result<Cert, AllocError> {
+        let ReleaseCut {
+            alloc,
+            parts,
+            mut piece_ids,
+            mut parcel_ids,
+            lines,
+        } = self;
+        cert_of(alloc, parts, &mut piece_ids, &mut parcel_ids, lines)
+    }
+}
+
 /// The certificate of all parts and pair lines, without exact blocks.
-pub(crate) fn cert_of(alloc: Global, parts: Parts, pairs: Vec<PairLine>) -> Cert
-    requires { length pairs.items ≤ greatest_count }
+fn cert_of(
+    alloc: Global,
+    parts: Parts,
+    piece_ids: &mut Vec<Id>,
+    parcel_ids: &mut Vec<Id>,
+    lines: Vec<PairLine>,
+) -> Result<Cert, AllocError>
+    requires { length lines.items ≤ greatest_count }
 {
     let Parts {
-        pieces,
-        parcels,
+        mut list,
+        mut flat_list,
+        pieces: piece_counts,
+        parcels: parcel_counts,
         triangles: _,
         flats: _,
     } = parts;
+    let parcels = parcel_parts(alloc, parcel_ids, &parcel_counts, &mut flat_list)?;
+    let pieces = piece_parts(alloc, piece_ids, &piece_counts, &mut list, &mut flat_list)?;
     let exact = Vec::new(alloc);
-    Cert {
+    Ok(Cert {
         pieces: Sequence::new(pieces),
         parcels: Sequence::new(parcels),
         exact: Sequence::new(exact),
-        pairs: Sequence::new(pairs),
-    }
+        pairs: Sequence::new(lines),
+    })
 }

@@ -16,12 +16,15 @@ use std::alloc::{AllocError, Global};
 /// How many triangles behind the first of a piece it is compared with before near pairs are listed.
 const NEXT: usize = 8;
 
+/// From how many pieces on not all are looked at early.
+const MANY: usize = 4096;
+
 /// The overlap of two triangles that no edge separates, where a point is found.
 fn overlap_of(
     alloc: Global,
     budget: &mut Budget,
     release: &Release,
-    numbered: &Numbered,
+    numbered: &Numbered<'_>,
     i: u32,
     j: u32,
 ) -> Result<Option<Refusal>, AllocError>
@@ -46,11 +49,23 @@ struct Placed {
     end: i64,
 }
 
-/// The first triangle of each piece, from west to east.
-fn firsts_in_order(alloc: Global, numbered: &Numbered) -> Result<Vec<Placed>, AllocError> {
+/// Whether the first triangle of the piece at an index is looked at early: of many pieces those of
+/// many triangles, and some of the others.
+fn is_looked_at(firsts: &[u32], index: usize) -> bool {
+    let count = match (firsts.get(index), firsts.get(index.wrapping_add(1))) {
+        (Some(first), Some(next)) => next.wrapping_sub(*first),
+        _ => u32::MAX,
+    };
+    firsts.len() < MANY || index & 7 == 0 || count > 64
+}
+
+/// The first triangles of pieces, from west to east.
+fn firsts_in_order(alloc: Global, numbered: &Numbered<'_>) -> Result<Vec<Placed>, AllocError> {
     let mut placed = Vec::new(alloc);
-    for number in &numbered.firsts {
-        if let Some(triangle) = numbered.triangle(*number) {
+    for (index, number) in numbered.firsts.iter().enumerate() {
+        if is_looked_at(&numbered.firsts, index)
+            && let Some(triangle) = numbered.triangle(*number)
+        {
             let sides = box_of(triangle);
             placed.push(Placed {
                 x: sides.x0,
@@ -65,7 +80,7 @@ fn firsts_in_order(alloc: Global, numbered: &Numbered) -> Result<Vec<Placed>, Al
 }
 
 /// Whether two triangles overlap.
-fn do_overlap(numbered: &Numbered, i: u32, j: u32) -> bool {
+fn do_overlap(numbered: &Numbered<'_>, i: u32, j: u32) -> bool {
     match (numbered.triangle(i), numbered.triangle(j)) {
         (Some(s), Some(t)) => !apart(s, t) && separator(s, t).is_none(),
         _ => false,
@@ -77,7 +92,7 @@ fn overlap_with_next(
     alloc: Global,
     budget: &mut Budget,
     release: &Release,
-    numbered: &Numbered,
+    numbered: &Numbered<'_>,
     own: &Placed,
     others: &[Placed],
 ) -> Result<Option<Refusal>, AllocError>
@@ -98,13 +113,13 @@ fn overlap_with_next(
     Ok(None)
 }
 
-/// An overlap among the first triangle of each piece and the next few of these. A release with very
+/// An overlap among the first triangles of pieces and the next few of these. A release with very
 /// many overlaps shows one here, before all near pairs are listed.
 pub(crate) fn early_overlap(
     alloc: Global,
     budget: &mut Budget,
     release: &Release,
-    numbered: &Numbered,
+    numbered: &Numbered<'_>,
 ) -> Result<Option<Refusal>, AllocError>
     ensures { IfOk result (ReportsIfAny release.now) }
 {
@@ -129,7 +144,7 @@ pub(crate) struct Separated {
 }
 
 /// The separator of a near pair.
-fn line_of(numbered: &Numbered, i: u32, j: u32) -> Option<PairLine> {
+fn line_of(numbered: &Numbered<'_>, i: u32, j: u32) -> Option<PairLine> {
     let k = separator(numbered.triangle(i)?, numbered.triangle(j)?)?;
     Some(PairLine { i, j, k })
 }
@@ -138,7 +153,7 @@ fn line_of(numbered: &Numbered, i: u32, j: u32) -> Option<PairLine> {
 fn unseparated(
     alloc: Global,
     release: &Release,
-    numbered: &Numbered,
+    numbered: &Numbered<'_>,
     i: u32,
     j: u32,
 ) -> Result<Option<Refusal>, AllocError>
@@ -155,7 +170,7 @@ fn unseparated(
 fn first_unseparated(
     alloc: Global,
     release: &Release,
-    numbered: &Numbered,
+    numbered: &Numbered<'_>,
     kept: Option<Refusal>,
     i: u32,
     j: u32,
@@ -175,7 +190,7 @@ pub(crate) fn separate(
     alloc: Global,
     budget: &mut Budget,
     release: &Release,
-    numbered: &Numbered,
+    numbered: &Numbered<'_>,
     near: &[(u32, u32)],
 ) -> Result<Separated, AllocError>
     ensures found { IfOk result (λ s. ReportsIfAny release.now s.found) }

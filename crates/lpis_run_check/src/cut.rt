@@ -14,7 +14,7 @@ ghost use Rattle.lpis_run.specs.Status.{done, refused};
 
 use crate::cut_line::{print_counts, print_refusal};
 use lpis_cert::Cert;
-use lpis_cutter::{CutFault, Refusal, cut};
+use lpis_cutter::{CutFault, Refusal, ReleaseCut, cut};
 use lpis_release::Release;
 use lpis_run::{Answer, DONE, Failure, Outcome, REFUSED, Tables, read_tables, release_in};
 use std::alloc::{AllocError, Global};
@@ -47,8 +47,16 @@ fn outcome_of(alloc: Global, cert: &Cert) -> Result<Outcome, AllocError>
     Outcome::with_cert(alloc, cert, printed)
 }
 
-/// Cuts a release and lets it go, so that it does not lie beside the certificate's text.
-fn cut_alone(alloc: Global, release: Release) -> Result<Cert, CutFault>
+/// The outcome of what a release was cut into.
+fn outcome_of_cut(alloc: Global, cut: ReleaseCut) -> Result<Outcome, AllocError>
+    ensures { IfOk result (λ o. CertIsCut (outputs_of o)) }
+{
+    let cert = cut.into_cert()?;
+    outcome_of(alloc, &cert)
+}
+
+/// Cuts a release and lets it go, so that it does not lie beside the certificate and its text.
+fn cut_alone(alloc: Global, release: Release) -> Result<ReleaseCut, CutFault>
     ensures { IfErr result (RefusesRightly release) }
 {
     cut(alloc, &release)
@@ -59,7 +67,7 @@ fn answer_to_release(alloc: Global, release: Release) -> Result<Outcome, AllocEr
     ensures { IfOk result (λ o. IsCutAnswer (Ok release) (outputs_of o)) }
 {
     match cut_alone(alloc, release) {
-        Ok(cert) => outcome_of(alloc, &cert),
+        Ok(cut) => outcome_of_cut(alloc, cut),
         Err(CutFault::Memory) => Err(AllocError),
         Err(CutFault::Refused(refusal)) => {
             let printed = refuse_release(alloc, &refusal)?;
