@@ -2,7 +2,7 @@
 pub use Rattle.lpis_lineage.proofs.AcceptingLemmas.{never-follows}
 pub use Rattle.lpis_lineage.proofs.CleanLemmas.{follows-from-clean, held-some, mono}
 pub use Rattle.lpis_lineage.proofs.ExtensionLemmas.{follows-back, longer, before-at-after}
-pub use Rattle.lpis_lineage.proofs.IdentifierLemmas.{add-by_order, entry-after, entry-before, entry-here, has-by_order, in-history, same-by_order, same-exact, same-refl, same-sym}
+pub use Rattle.lpis_lineage.proofs.IdentifierLemmas.{entry-after, entry-before, entry-here, in-history, same-by_order, same-exact, same-refl, same-sym}
 pub use Rattle.lpis_lineage.proofs.PickingLemmas.{has-filter}
 pub use Rattle.lpis_lineage.proofs.RowCountLemmas.{counted-ended, filter-append, filter-none, filter-some}
 pub use Rattle.lpis_lineage.proofs.SeenLemmas.{any-push, or-cond}

@@ -11,8 +11,8 @@ use crate::reading::read_lent;
 use std::alloc::Global;
 use std::io::Read;
 
-/// The tables of a release, in the order in which they are opened and read: what is kept of each, as
-/// a reader or bytes.
+/// The tables of a release, in the order in which they are opened and read: what is kept of each,
+/// as a reader or bytes.
 #[derive(Debug, Drop)]
 pub struct Tables<T: Drop> {
     /// The parcels table.
