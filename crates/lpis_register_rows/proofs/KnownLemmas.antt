@@ -1,14 +1,13 @@
 -- Rows with their identifiers read, one more.
-use Rattle.std.proofs.Common.{◌≡◌, ◌∙◌, ◌<◌, ◌≤◌, ◌+◌, refl, sym, ap, ap₂, subst, arith, ℕ, ℤ, pos, zero, suc, List, [], ◌∷◌, ◌++◌, Bool, true, false, cond, length, map, take, drop, get_or, ◌||◌}
-use Rattle.std.proofs.Common.{◌&&◌, add-one, drop-cons, not, nat_lt, All, filter, is_eq, nat_cmp}
-use Rattle.lpis_register_rows.proofs.Common.{list_any, slice_cmp, nat_tests, map-append, All-push, and-false, has_id, same_id, Row, same-exact, same-refl, filter-none, take-at, KnownLine}
+use Rattle.std.proofs.Common.{◌≡◌, ◌∙◌, ◌<◌, ◌≤◌, ◌+◌, sym, ap, ap₂, subst, arith, ℕ, ℤ, pos, zero, suc, List, [], ◌∷◌, ◌++◌, Bool, true, false, length, map, take, drop, get_or, ◌||◌}
+use Rattle.std.proofs.Common.{◌&&◌, add-one, drop-cons, nat_lt, All}
+use Rattle.lpis_register_rows.proofs.Common.{list_any, nat_tests, map-append, All-push, and-false, has_id, same_id, Row, take-at, KnownLine}
 use Rattle.lpis_register_rows.proofs.Common.{KnownSpan}
 use Rattle.lpis_register_rows.proofs.Common.{covers, known_from, span_in}
 use Rattle.std.proofs.lemmas.Grind.{common_steps}
-use Rattle.std.proofs.lemmas.List.{take-append-drop, append_assoc}
-use Rattle.std.proofs.lemmas.Bool.{not-false}
+use Rattle.std.proofs.lemmas.List.{append_assoc}
 use Rattle.std.proofs.Math.Bool.{and-true, or-false}
-use Rattle.lpis_lineage.proofs.Shared.{add-by_order, has-by_order, same-sym, filter-append, filter-some, any-push, or-cond}
+use Rattle.lpis_lineage.proofs.Shared.{any-push}
 use Rattle.lpis_register_rows.specs.private.Known.{known_line_at}
 
 -- no test is both true and false
@@ -44,60 +43,6 @@ drop-at {A} xs i x lt is = rw add-one (drop-cons xs i x lt ∙ ap (λ (y : A). y
 pub read-more : {A B : Type 0} (f : A → B) (known : List A) (k : A) (rows : List B) (i : ℕ) (row : B) → map f known ≡ take i rows → i < length rows
     → row ≡ get_or rows i row → f k ≡ row → map f (known ++ k ∷ []) ≡ take (i + 1) rows
 read-more {B = B} f known k rows i row e lt at is = map-append f known (k ∷ []) ∙ ap₂ (λ (a : List B) (b : B). a ++ b ∷ []) e is ∙ take-at rows i row lt at
-
--- the identifiers seen are those of the spans so far, none twice
-abbrev pub AreSeen : List (List ℕ) → List KnownSpan → Type 0
-AreSeen keys spans = (id : List ℕ) → (has_id keys id ≡ list_any (λ s. same_id id s.id) spans) × (length (filter (λ s. same_id id s.id) spans) ≤ 1)
-
--- a test whose negation is true is false
-pub not-true : (b t : Bool) → b ≡ not t → b ≡ true → t ≡ false
-not-true b true e h = let c = sym e ∙ h in cc
-not-true b false e h = refl
-
--- with the next span's identifier, which is new, those seen are the identifiers of one span more, none twice
-pub seen-more : (spans : List KnownSpan) (i : ℕ) (s : KnownSpan) (old new : List (List ℕ)) (id : List ℕ) (added : Bool) → i < length spans → s ≡ get_or spans i s → id ≡ s.id
-    → added ≡ not (list_any (λ k. is_eq (slice_cmp nat_cmp id k)) old) → added ≡ true
-    → ((q : List ℕ) → list_any (λ k. is_eq (slice_cmp nat_cmp q k)) new ≡ cond (is_eq (slice_cmp nat_cmp id q)) true (list_any (λ k. is_eq (slice_cmp nat_cmp q k)) old))
-    → AreSeen old (take i spans) → AreSeen new (take (i + 1) spans)
-seen-more spans i s old new id added lt at is add does updates seen = subst (AreSeen new) (take-at spans i s lt at) more where
-  absent : has_id old s.id ≡ false
-  absent = ap (has_id old) (sym is) ∙ sym (has-by_order old id) ∙ not-true added (list_any (λ k. is_eq (slice_cmp nat_cmp id k)) old) add does
-
-  once : (q : List ℕ) (b : Bool) → b ≡ same_id q s.id → length (filter (λ s. same_id q s.id) (take i spans ++ s ∷ [])) ≤ 1
-  once q true e =
-      let sum = filter-append (λ (t : KnownSpan). same_id q t.id) (take i spans) (s ∷ []) in
-      let none = filter-none (λ (t : KnownSpan). same_id q t.id) (take i spans) (sym (seen q).0 ∙ ap (has_id old) (same-exact q s.id (sym e)) ∙ absent) in
-      let one = ap (λ (b : Bool). length (cond b (s ∷ []) [])) (sym e) in
-      omega (arith, sum, none, one)
-  once q false e =
-      let sum = filter-append (λ (t : KnownSpan). same_id q t.id) (take i spans) (s ∷ []) in
-      let few = (seen q).1 in
-      let zero = ap (λ (b : Bool). length (cond b (s ∷ []) [])) (sym e) in
-      omega (arith, sum, few, zero)
-
-  more : AreSeen new (take i spans ++ s ∷ [])
-  more q = (
-    add-by_order old new id q (updates q) ∙ or-cond (same_id id q) (has_id old q) ∙ ap₂ (λ (a b : Bool). a || b)
-        (seen q).0 (ap (λ (k : List ℕ). same_id k q) is ∙ same-sym s.id q)
-        ∙ sym (any-push (λ (t : KnownSpan). same_id q t.id) (take i spans) s),
-    once q (same_id q s.id) refl,
-  )
-
--- an identifier that was seen has two spans
-pub seen-twice : (spans : List KnownSpan) (i : ℕ) (s : KnownSpan) (old : List (List ℕ)) (id : List ℕ) (added : Bool) → i < length spans → s ≡ get_or spans i s → id ≡ s.id
-    → added ≡ not (list_any (λ k. is_eq (slice_cmp nat_cmp id k)) old) → added ≡ false → AreSeen old (take i spans) → ((q : List ℕ) → length (filter (λ s. same_id q s.id) spans) ≤ 1) → ⊥
-seen-twice spans i s old id added lt at is add isnt seen few =
-    let here : list_any (λ (t : KnownSpan). same_id s.id t.id) (take i spans) ≡ true = sym (seen s.id).0
-    ∙ ap (has_id old) (sym is) ∙ sym (has-by_order old id)
-    ∙ not-false (list_any (λ k. is_eq (slice_cmp nat_cmp id k)) old) (sym add ∙ isnt) in
-    let some = filter-some (λ (t : KnownSpan). same_id s.id t.id) (take i spans) here in
-    let one = ap (λ (b : Bool). length (cond b (s ∷ []) [])) (same-refl s.id) in
-    let first = filter-append (λ (t : KnownSpan). same_id s.id t.id) (take i spans) (s ∷ []) in
-    let read = ap (λ (l : List KnownSpan). length (filter (λ t. same_id s.id t.id) l)) (take-at spans i s lt at) in
-    let whole = filter-append (λ (t : KnownSpan). same_id s.id t.id) (take (i + 1) spans) (drop (i + 1) spans) in
-    let joined = ap (λ (l : List KnownSpan). length (filter (λ t. same_id s.id t.id) l)) (take-append-drop (i + 1) spans) in
-    let f = few s.id in
-    absurd (omega (arith, some, one, first, read, whole, joined, f))
 
 -- the identifiers whose span covers a year, one further
 abbrev pub AreLive : List (List ℕ) → ℕ → List KnownSpan → Type 0

@@ -14,6 +14,7 @@ use Rattle.lpis_register_rows.proofs.FrontLemmas.{span-same}
 use Rattle.lpis_register_rows.proofs.OneHistoryLemmas.{sets-told}
 use Rattle.lpis_register_rows.proofs.PublishingLemmas.{span-in-release}
 use Rattle.lpis_register_rows.proofs.SayingLemmas.{count-map}
+use Rattle.lpis_register_rows.proofs.SpanRowLemmas.{spans-moved}
 use Rattle.lpis_register_rows.proofs.SortingLemmas.{sorted-years}
 use Rattle.lpis_register_rows.proofs.YearLemmas.{all-entries, years-ascend}
 
@@ -48,6 +49,18 @@ told-ids h spans kept t = All-from_recursion (λ s. is_id s.id ≡ true) spans
       some : (o : Option Years) (p : ℤ × ℤ) → shown_span o ≡ Some p → is_some o ≡ true
       some None p e = absurd cc
       some (Some y) p e = refl
+
+-- rows say the same history where their spans are in another order
+pub spans-told : {version : ℕ} {ms : List Mark} (c : Content) (spans : List StoredSpan) (h : List Entry) → IsPermutation c.spans spans → HasHistoryBySpans version ms c h
+    → HasHistoryBySpans version ms (record c { spans = spans }) h
+spans-told c spans h p t = record {
+  kept = t.kept;
+  formats_are = t.formats_are;
+  years_are = t.years_are;
+  spans_are = spans-moved c.spans spans h p t.spans_are;
+  lines_are = t.lines_are;
+  marks_are = t.marks_are;
+}
 
 -- ---- lines
 

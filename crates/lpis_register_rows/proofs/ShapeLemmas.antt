@@ -1,14 +1,14 @@
 -- Shapes in the order of their identifiers, and the texts that keep them.
-use Rattle.std.proofs.Common.{◌≡◌, ◌∙◌, ◌<◌, ◌≤◌, ◌+◌, inl, inr, refl, sym, ap, ap₂, subst, arith, ℕ, zero, suc, List, [], ◌∷◌, ◌++◌, true, false, length, map, take, get_or, Result, Ok, Err}
-use Rattle.std.proofs.Common.{IsPermutation, Ordering, Less, Equal, Greater, is_lt, is_ge, is_eq, nat_cmp, IsSortedByKey}
-use Rattle.lpis_register_rows.proofs.Common.{AllByRecursion, IsPermutation-sym, IsPermutation-trans, before-at-after, has_id, is_id, or_left, or_right, same-refl, same_id, slice_cmp}
+use Rattle.std.proofs.Common.{◌≡◌, ◌∙◌, ◌≤◌, ◌+◌, refl, sym, ap, ap₂, subst, arith, ℕ, List, [], ◌∷◌, ◌++◌, true, length, map, take, Result, Ok, Err}
+use Rattle.std.proofs.Common.{IsPermutation, Less, is_lt, nat_cmp, IsSortedByKey}
+use Rattle.lpis_register_rows.proofs.Common.{AllByRecursion, IsPermutation-sym, IsPermutation-trans, has_id, is_id, or_left, or_right, same-refl, same_id, slice_cmp}
 use Rattle.lpis_lineage.proofs.Shared.{same-sym}
-use Rattle.std.specs.Cmp.Lexicographic.{nat_list_cmp_total, texts_ties}
+use Rattle.std.specs.Cmp.Lexicographic.{nat_list_cmp_total}
 use Rattle.std.specs.List.{AllZip, IsDistinct}
 use Rattle.std.specs.Ordering.{ordering_reverse}
-use Rattle.std.proofs.lemmas.List.{get_or_default, map-id}
+use Rattle.std.proofs.lemmas.List.{map-id}
 use Rattle.std.proofs.lemmas.List.Sorted.{IsPermutation-map, IsPermutation-refl, ranks_by, sorted_far}
-use Rattle.std.proofs.lemmas.Map.Keys.{IsDistinct-IsPermutation, Less-from_sorted, apart_from_distinct, sorted_from_all_adjacent, sorted_head, sorted_tail}
+use Rattle.std.proofs.lemmas.Map.Keys.{IsDistinct-IsPermutation, sorted_from_all_adjacent, sorted_head, sorted_tail}
 use Rattle.lpis_lineage.specs.Order.{IsAscending}
 use Rattle.lpis_release.specs.Release.{parcel_ids}
 use Rattle.lpis_release.specs.declared.parcel.Parcel.{Parcel}
@@ -18,9 +18,11 @@ use Rattle.lpis_wkt.specs.Text.{PolygonText}
 use Rattle.lpis_wkt.specs.declared.fault.WktCode.{WktCode}
 use Rattle.lpis_register_rows.specs.Content.{StoredText}
 use Rattle.lpis_register_rows.specs.Shapes.{AreLive, IsLive, IsTextOfShape, Shape, ShapesAre, shape_ids, parcel_shape}
-use Rattle.lpis_register_rows.proofs.AscendingLemmas.{Ascends, all-both, all-moved, same-ascending}
+use Rattle.lpis_register_rows.proofs.AscendingLemmas.{Ascends, all-both, all-map, all-moved, same-ascending}
 use Rattle.lpis_register_rows.proofs.KnownLemmas.{take-whole}
+use Rattle.lpis_register_rows.specs.private.Known.{HasId}
 use Rattle.lpis_register_rows.proofs.MarkLemmas.{all-unmap}
+use Rattle.lpis_register_rows.proofs.NamedLemmas.{sorted-ascends}
 use Rattle.lpis_register_rows.proofs.SortingLemmas.{Less_by, Rises, ascends-map, rises-far, sorted-same}
 
 -- ---- lists read side by side, one further
@@ -46,55 +48,6 @@ all-push P [] x a p = (p, tt)
 all-push P (y ∷ ys) x a p = (a.0, all-push P ys x a.1 p)
 
 -- ---- order
-
--- a comparison that is neither equal nor greater is less
-pub not-ge : (r : Ordering) → is_ge r ≡ false → r ≡ Less
-not-ge Less e = refl
-not-ge Equal e = cc e
-not-ge Greater e = cc e
-
--- the identifiers before a position ascend
-abbrev pub AscendBefore : List (List ℕ) → ℕ → Type 0
-AscendBefore ids n = (k : ℕ) → k + 1 < n → slice_cmp nat_cmp (get_or ids k []) (get_or ids (k + 1) []) ≡ Less
-
-id-at : (shapes : List Shape) (i : ℕ) (shape : Shape) → i < length shapes → shape ≡ get_or shapes i shape → get_or (shape_ids shapes) i [] ≡ shape.0
-id-at [] i shape lt at = absurd (omega (arith, lt))
-id-at (s ∷ ss) zero shape lt at = ap (λ (x : Shape). x.0) (sym at)
-id-at (s ∷ ss) (suc i) shape lt at = id-at ss i shape (omega (arith, lt)) at
-
-ids-length : (shapes : List Shape) → length (shape_ids shapes) ≡ length shapes
-ids-length [] = refl
-ids-length (s ∷ ss) = ap suc (ids-length ss)
-
--- two neighbours, the first at the position before
-pair-at : (shapes : List Shape) (before n : ℕ) (a b : Shape) → before + 1 ≡ n → n < length shapes → a ≡ get_or shapes before a → b ≡ get_or shapes n b
-    → slice_cmp nat_cmp (get_or (shape_ids shapes) before []) (get_or (shape_ids shapes) n []) ≡ slice_cmp nat_cmp a.0 b.0
-pair-at shapes before n a b e lt at here = ap₂ (λ (x y : List ℕ). slice_cmp nat_cmp x y) (id-at shapes before a (omega (arith, e, lt)) at) (id-at shapes n b lt here)
-
--- identifiers that ascend before a position do so up to it, where its shape is above the one before
-pub ascend-more : (shapes : List Shape) (before n : ℕ) (a b : Shape) → before + 1 ≡ n → n < length shapes → a ≡ get_or shapes before a → b ≡ get_or shapes n b
-    → slice_cmp nat_cmp a.0 b.0 ≡ Less → AscendBefore (shape_ids shapes) n → AscendBefore (shape_ids shapes) (n + 1)
-ascend-more shapes before n a b e lt at here less up k kn = elim (before-at-after (k + 1) n)
-    as (λ _. slice_cmp nat_cmp (get_or (shape_ids shapes) k []) (get_or (shape_ids shapes) (k + 1) []) ≡ Less) [
-      | inl l ↦ up k l
-      | inr r ↦ elim r as (λ _. slice_cmp nat_cmp (get_or (shape_ids shapes) k []) (get_or (shape_ids shapes) (k + 1) []) ≡ Less) [
-        | inl same ↦
-            let k-is : k ≡ before = omega (arith, same, e) in
-            ap₂ (λ (i j : ℕ). slice_cmp nat_cmp (get_or (shape_ids shapes) i []) (get_or (shape_ids shapes) j [])) k-is same
-            ∙ pair-at shapes before n a b e lt at here ∙ less
-        | inr g ↦ absurd (omega (arith, kn, g))
-      ]
-    ]
-
--- identifiers of shapes that ascend before a position at or past the end ascend as a whole
-pub ascend-whole : (shapes : List Shape) (n : ℕ) → length shapes ≤ n → AscendBefore (shape_ids shapes) n → IsAscending (shape_ids shapes)
-ascend-whole shapes n le up = sorted_from_all_adjacent nat_list_cmp_total (shape_ids shapes) [] (λ k lt. up k (let e = ids-length shapes in omega (arith, lt, e, le)))
-
--- of shapes whose identifiers ascend, each is below the next one
-pub ascend-pair : (shapes : List Shape) (before n : ℕ) (a b : Shape) → before + 1 ≡ n → n < length shapes → a ≡ get_or shapes before a → b ≡ get_or shapes n b
-    → IsAscending (shape_ids shapes) → slice_cmp nat_cmp a.0 b.0 ≡ Less
-ascend-pair shapes before n a b e lt at here up = sym (pair-at shapes before n a b e lt at here)
-    ∙ Less-from_sorted (slice_cmp nat_cmp) (shape_ids shapes) before n [] up (omega (arith, e)) (let l = ids-length shapes in omega (arith, l, lt))
 
 -- the one is before the other by its identifier
 abbrev pub Below : Shape → Shape → Type 0
@@ -181,9 +134,9 @@ read-shapes one texts read sorted kept z p up are =
     let same : read ≡ are.order = order-is one texts read z ∙ sym (order-is one texts are.order are.spelled) in
     sorted-shapes sorted kept up are.ascend (IsPermutation-trans sorted read kept (IsPermutation-sym read sorted p) (subst (λ (l : List Shape). IsPermutation l kept) (sym same) are.same))
 
--- the shapes in the order of the texts are live as those that they keep
-pub order-live : (live : List (List ℕ)) (texts : List StoredText) (shapes : List Shape) (are : ShapesAre texts shapes) → AreLive live shapes → AreLive live are.order
-order-live live texts shapes are all = all-moved (IsLive live) shapes are.order (IsPermutation-sym are.order shapes are.same) all
+-- the shapes in the order of the texts have identifiers, as those that they keep
+pub order-ids : (live : List (List ℕ)) (texts : List StoredText) (shapes : List Shape) (are : ShapesAre texts shapes) → AreLive live shapes → AllByRecursion HasId are.order
+order-ids live texts shapes are all = all-moved HasId shapes are.order (IsPermutation-sym are.order shapes are.same) (all-map (IsLive live) HasId shapes (λ s it. it.0) all)
 
 -- ---- the shapes of parcels
 
@@ -191,35 +144,11 @@ parcel-shape-ids : (parcels : List Parcel) → shape_ids (map parcel_shape parce
 parcel-shape-ids [] = refl
 parcel-shape-ids (p ∷ ps) = ap (λ (l : List (List ℕ)). p.id ∷ l) (parcel-shape-ids ps)
 
-less-apart : (r : Ordering) → is_lt (ordering_reverse r) ≡ false → is_eq r ≡ false → r ≡ Less
-less-apart Less a b = refl
-less-apart Equal a b = cc b
-less-apart Greater a b = cc a
-
 -- what is sorted, with no identifier twice, ascends
-pub sorted-ascends : (parcels : List Parcel) (sorted : List Shape) → IsDistinct same_id (parcel_ids parcels) → IsPermutation (map parcel_shape parcels) sorted
+pub parcels-ascend : (parcels : List Parcel) (sorted : List Shape) → IsDistinct same_id (parcel_ids parcels) → IsPermutation (map parcel_shape parcels) sorted
     → IsSortedByKey (λ (s : Shape). s.0) (slice_cmp nat_cmp) sorted → IsAscending (shape_ids sorted)
-sorted-ascends parcels sorted apart p up = sorted_from_all_adjacent nat_list_cmp_total ids [] less where
-  ids : List (List ℕ)
-  ids = shape_ids sorted
-
-  distinct : IsDistinct same_id ids
-  distinct = IsDistinct-IsPermutation same_id same-sym (parcel_ids parcels) ids
-      (subst (λ (l : List (List ℕ)). IsPermutation l ids) (parcel-shape-ids parcels) (IsPermutation-map (λ (s : Shape). s.0) (map parcel_shape parcels) sorted p)) apart
-
-  at : (i : ℕ) (d : Shape) → i < length sorted → get_or ids i [] ≡ (get_or sorted i d).0
-  at i d lt = id-at sorted i (get_or sorted i d) lt (get_or_default sorted i d (get_or sorted i d) lt)
-
-  less : (k : ℕ) → k + 1 < length ids → slice_cmp nat_cmp (get_or ids k []) (get_or ids (k + 1) []) ≡ Less
-  less k lt =
-      let d : Shape = ([], []) in
-      let n = ids-length sorted in
-      let a = get_or ids k [] in
-      let b = get_or ids (k + 1) [] in
-      let not-below : is_lt (slice_cmp nat_cmp b a) ≡ false =
-      ap₂ (λ (x y : List ℕ). is_lt (slice_cmp nat_cmp x y)) (at (k + 1) d (omega (arith, n, lt))) (at k d (omega (arith, n, lt))) ∙ up k d (omega arith) (omega (arith, n, lt)) in
-      less-apart (slice_cmp nat_cmp a b) (ap is_lt (sym (nat_list_cmp_total.antisymm b a)) ∙ not-below)
-      (sym (texts_ties a b) ∙ apart_from_distinct same_id ids k (k + 1) [] distinct (omega arith) lt)
+parcels-ascend parcels sorted apart p up = sorted-ascends (λ (s : Shape). s.0) sorted (IsDistinct-IsPermutation same_id same-sym (parcel_ids parcels) (shape_ids sorted)
+    (subst (λ (l : List (List ℕ)). IsPermutation l (shape_ids sorted)) (parcel-shape-ids parcels) (IsPermutation-map (λ (s : Shape). s.0) (map parcel_shape parcels) sorted p)) apart) up
 
 -- copies are of live parcels
 pub copied-live : (parcels : List Parcel) (i : ℕ) (copies : List Shape) → length parcels ≤ i → copies ≡ map parcel_shape (take i parcels) → AllByRecursion (λ (s : Shape). is_id s.0 ≡ true) copies

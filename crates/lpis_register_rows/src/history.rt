@@ -7,9 +7,10 @@ ghost use Rattle.lpis_register_rows.specs.Histories.{TablesHave, HasHistoryBySpa
 
 use crate::building::build;
 use crate::fault::RowsFault;
-use crate::known::{none_twice, read_spans, sorted_years};
+use crate::known::{read_spans, sorted_years};
 use crate::live::live_history_of;
 use crate::marks::marked_lines;
+use crate::named::ascend;
 use crate::opening::{are_told, has_version};
 use crate::rows::{MarkRow, Rows};
 use crate::version::Version;
@@ -34,8 +35,7 @@ fn spans_history_of(
     let years = sorted_years(alloc, rows.years())?;
     let spans = read_spans(alloc, rows.spans())?;
     let lines = marked_lines(alloc, rows.lines(), marks)?;
-    let once = none_twice(alloc, spans.as_slice())?;
-    if !once {
+    if !ascend(spans.as_slice()) {
         return Err(RowsFault::Unlawful);
     }
     let history = build(alloc, years.as_slice(), spans.as_slice(), lines.as_slice())?;

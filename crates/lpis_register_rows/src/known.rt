@@ -1,14 +1,16 @@
 //! Rows with their identifiers read.
 
-ghost use Rattle.std.specs.Prelude.{◌≡◌, ◌↔◌, ◌⊎◌, ◌≤◌, ◌<◌, true, false, pos, ℕ, List, [], length};
+ghost use Rattle.std.specs.Prelude.{◌≡◌, ◌↔◌, ◌⊎◌, ◌≤◌, ◌<◌, true, false, pos, []};
 ghost use Rattle.std.specs.Prelude.{map, Some, IfErr, IfNone, IfOk, IfSome, IsPermutation};
 ghost use Rattle.std.specs.Prelude.{IsSorted, IsTrue};
-ghost use Rattle.std.specs.List.{All, filter};
+ghost use Rattle.std.specs.Cmp.Lexicographic.{slice_cmp};
+ghost use Rattle.std.specs.List.{All};
 ghost use Rattle.std.specs.List.Sorted.{IsSortedByKey};
 ghost use Rattle.std.specs.Ordering.{nat_cmp};
-ghost use Rattle.lpis_tables.specs.Ids.{is_id, same_id};
+ghost use Rattle.lpis_tables.specs.Ids.{is_id};
 ghost use Rattle.lpis_register_rows.specs.declared.fault.RowsFault.TheVariants.{Unlawful};
 ghost use Rattle.lpis_register_rows.specs.Content.{successor_text};
+ghost use Rattle.lpis_register_rows.specs.declared.known.KnownSpan.{KnownSpan};
 ghost use Rattle.lpis_register_rows.specs.Histories.{last_of_years};
 ghost use Rattle.lpis_register_rows.specs.private.Covering.{covers};
 ghost use Rattle.lpis_register_rows.specs.private.Known.{HasText, IsReadable, IsReleaseYear};
@@ -16,11 +18,11 @@ ghost use Rattle.lpis_register_rows.specs.private.Known.{line_cmp, line_in};
 ghost use Rattle.lpis_register_rows.specs.private.Known.{span_in};
 
 use crate::fault::RowsFault;
+use crate::named::{Named, sort};
 use crate::rows::{LineRow, SpanRow};
 use lpis_lineage::Row;
 use lpis_tables::Id;
 use std::alloc::{AllocError, Global};
-use std::collections::BTreeSet;
 
 /// A row of `lpis_span` with its identifier.
 #[derive(Drop)]
@@ -28,6 +30,16 @@ pub(crate) struct KnownSpan {
     pub(crate) id: Id,
     pub(crate) since: i64,
     pub(crate) until: i64,
+}
+
+impl Named for KnownSpan {
+    ghost use Rattle.lpis_register_rows.specs.declared.known.KnownSpan.{KnownSpan};
+
+    ghost id_of = { λ (s : KnownSpan). s.id };
+
+    fn id(&self) -> &Id {
+        &self.id
+    }
 }
 
 impl KnownSpan {
@@ -64,8 +76,21 @@ fn read_span(alloc: Global, row: &SpanRow) -> Result<KnownSpan, RowsFault>
     Ok(KnownSpan { id, since, until })
 }
 
-/// The spans with their identifiers, in their order.
+/// The spans with their identifiers, ascending by them.
 pub(crate) fn read_spans(alloc: Global, rows: &[SpanRow]) -> Result<Vec<KnownSpan>, RowsFault>
+    ensures same { IfOk result (λ v. IsPermutation rows.now (map span_in v.items)) }
+    ensures sorted { IfOk result (λ v. IsSortedByKey (λ (s : KnownSpan). s.id) (slice_cmp nat_cmp)
+        v.items) }
+    ensures ids { IfOk result (λ v. All (λ s. is_id s.id ≡ true) v.items) }
+    ensures refused { IfErr result (λ e. e ≡ Unlawful → All (λ s. is_id s.id ≡ true) rows.now → ⊥) }
+{
+    let mut spans = known_spans(alloc, rows)?;
+    sort(&mut spans);
+    Ok(spans)
+}
+
+/// The spans with their identifiers, in their order.
+fn known_spans(alloc: Global, rows: &[SpanRow]) -> Result<Vec<KnownSpan>, RowsFault>
     ensures same { IfOk result (λ v. map span_in v.items ≡ rows.now) }
     ensures ids { IfOk result (λ v. All (λ s. is_id s.id ≡ true) v.items) }
     ensures refused { IfErr result (λ e. e ≡ Unlawful → All (λ s. is_id s.id ≡ true) rows.now → ⊥) }
@@ -76,24 +101,6 @@ pub(crate) fn read_spans(alloc: Global, rows: &[SpanRow]) -> Result<Vec<KnownSpa
         spans.push(span)?;
     }
     Ok(spans)
-}
-
-/// Whether no identifier has two spans.
-pub(crate) fn none_twice(alloc: Global, spans: &[KnownSpan]) -> Result<bool, AllocError>
-    ensures once { IfOk result (λ b. IsTrue b → (id : List ℕ)
-        → length (filter (λ s. same_id id s.id) spans.now) ≤ 1) }
-    ensures twice { IfOk result (λ b. b ≡ false → ((id : List ℕ)
-        → length (filter (λ s. same_id id s.id) spans.now) ≤ 1) → ⊥) }
-{
-    let mut seen = BTreeSet::new(alloc);
-    for span in spans {
-        let id = span.id.copy()?;
-        let new = seen.insert(id)?;
-        if !new {
-            return Ok(false);
-        }
-    }
-    Ok(true)
 }
 
 /// A row of `lpis_row` with its row of lineage.

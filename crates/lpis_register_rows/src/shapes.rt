@@ -1,10 +1,7 @@
 //! Shapes of parcels.
 
-ghost use Rattle.std.specs.Prelude.{◌≡◌, ◌↔◌, true, List, map, IfErr, IfOk, IsPermutation, IsTrue};
-ghost use Rattle.std.specs.Cmp.Lexicographic.{slice_cmp};
+ghost use Rattle.std.specs.Prelude.{◌≡◌, ◌↔◌, true, List, map, IfErr, IfOk, IsTrue};
 ghost use Rattle.std.specs.List.{AllByRecursion, AllZip, IsDistinct};
-ghost use Rattle.std.specs.List.Sorted.{IsSortedByKey};
-ghost use Rattle.std.specs.Ordering.{nat_cmp};
 ghost use Rattle.lpis_tables.specs.Ids.{is_id, same_id};
 ghost use Rattle.lpis_lineage.specs.Lineage.{last_live};
 ghost use Rattle.lpis_lineage.specs.Order.{IsAscending};
@@ -12,7 +9,8 @@ ghost use Rattle.lpis_release.specs.Release.{parcel_ids};
 ghost use Rattle.lpis_rings.specs.declared.polygon.Member.{Member};
 ghost use Rattle.lpis_wkt.specs.Text.{PolygonText};
 ghost use Rattle.lpis_register_rows.specs.declared.fault.RowsFault.TheVariants.{Unlawful};
-ghost use Rattle.lpis_register_rows.specs.Shapes.{AreLive, AreShapesOf, IsLive, IsSpelled};
+ghost use Rattle.lpis_register_rows.specs.Shapes.{AreLive, AreShapesOf, IsSpelled};
+ghost use Rattle.lpis_register_rows.specs.private.Known.{AreAmong, HasId, passed};
 ghost use Rattle.lpis_register_rows.specs.Shapes.{IsTextOfShape};
 ghost use Rattle.lpis_register_rows.specs.Shapes.{Shape};
 ghost use Rattle.lpis_register_rows.specs.Shapes.{ShapesAre, TextsStand, shape_ids};
@@ -20,9 +18,10 @@ ghost use Rattle.lpis_register_rows.specs.Shapes.{parcel_shape as the_shape_of};
 
 use crate::fault::RowsFault;
 use crate::known::read_id;
+use crate::named::{ascend, sort};
 use crate::rows::TextRow;
 use crate::spelling::has_text;
-use lpis_lineage::History;
+use lpis_lineage::{History, IdSet};
 use lpis_release::Parcel;
 use lpis_rings::Polygon;
 use lpis_tables::Id;
@@ -43,63 +42,65 @@ fn polygon_of(alloc: Global, text: &str) -> Result<Polygon, RowsFault>
     }
 }
 
-/// The shape of a text that may be kept beside a history.
-fn shape_of(alloc: Global, history: &History, text: &TextRow) -> Result<(Id, Polygon), RowsFault>
+/// The shape of a text.
+fn shape_of(alloc: Global, text: &TextRow) -> Result<(Id, Polygon), RowsFault>
     ensures spelled { IfOk result (IsTextOfShape text.now) }
-    ensures live { IfOk result (IsLive (last_live history.now)) }
+    ensures id { IfOk result HasId }
     ensures refused { IfErr result (λ e. e ≡ Unlawful → (shape : Shape)
-        → IsTextOfShape text.now shape
-        → IsLive (last_live history.now) shape → ⊥) }
+        → IsTextOfShape text.now shape → HasId shape → ⊥) }
 {
     let id = read_id(alloc, text.id.as_str())?;
-    if !history.is_live(&id) {
-        return Err(RowsFault::Unlawful);
-    }
     let polygon = polygon_of(alloc, text.wkt.as_str())?;
     Ok((id, polygon))
 }
 
-/// The shapes of texts that may be kept beside a history, in their order. Each text is let go once
-/// it is read.
-fn told_shapes(
-    alloc: Global,
-    history: &History,
-    texts: Vec<TextRow>,
-) -> Result<Vec<(Id, Polygon)>, RowsFault>
+/// The shapes of texts, in their order. Each text is let go once it is read.
+fn told_shapes(alloc: Global, texts: Vec<TextRow>) -> Result<Vec<(Id, Polygon)>, RowsFault>
     ensures spelled { IfOk result (λ v. AllZip IsTextOfShape texts.items v.items) }
-    ensures live { IfOk result (λ v. AreLive (last_live history.now) v.items) }
+    ensures ids { IfOk result (λ v. AllByRecursion HasId v.items) }
     ensures refused { IfErr result (λ e. e ≡ Unlawful → (order : List Shape)
-        → AllZip IsTextOfShape texts.items order → AreLive (last_live history.now) order → ⊥) }
+        → AllZip IsTextOfShape texts.items order → AllByRecursion HasId order → ⊥) }
 {
     let mut shapes = Vec::with_capacity(alloc, texts.len())?;
     for text in texts {
-        let shape = shape_of(alloc, history, &text)?;
+        let shape = shape_of(alloc, &text)?;
         shapes.push(shape)?;
     }
     Ok(shapes)
 }
 
-/// Puts shapes in the order of their identifiers.
-fn sort_shapes(shapes: &mut Vec<(Id, Polygon)>)
-    ensures same { IsPermutation shapes.old.items shapes.new.items }
-    ensures sorted { IsSortedByKey (λ (shape : Shape). shape.0) (slice_cmp nat_cmp)
-        shapes.new.items }
+/// What is left of shapes once the first is passed, where it bears this identifier.
+fn pass<'a>(shapes: &'a [(Id, Polygon)], id: &Id) -> &'a [(Id, Polygon)]
+    ensures { result.now ≡ passed shapes.now id.now }
 {
-    shapes.sort_unstable_by(|first, second| first.0.cmp(&second.0));
+    match shapes.split_first() {
+        Some((first, others)) if first.0 == *id => others,
+        _ => shapes,
+    }
 }
 
-/// Whether shapes ascend by identifier, each once.
-fn ascend(shapes: &[(Id, Polygon)]) -> bool
-    ensures { IsTrue result ↔ IsAscending (shape_ids shapes.now) }
+/// Whether the identifiers of shapes, which ascend, are among those of a set. The two are walked
+/// side by side.
+fn are_among(live: &IdSet, shapes: &[(Id, Polygon)]) -> bool
+    requires ascending { IsAscending (shape_ids shapes.now) }
+    ensures { IsTrue result ↔ AreAmong live.now shapes.now }
 {
-    let mut next = 1;
-    while next < shapes.len() {
-        if shapes[next - 1].0 >= shapes[next].0 {
-            return false;
-        }
-        next += 1;
+    let mut left = shapes;
+    for id in live.iter() {
+        left = pass(left, id);
     }
-    true
+    left.is_empty()
+}
+
+/// Whether the identifiers of shapes, which ascend, are live in the last release.
+fn are_live(history: &History, shapes: &[(Id, Polygon)]) -> bool
+    requires ascending { IsAscending (shape_ids shapes.now) }
+    ensures { IsTrue result ↔ AreAmong (last_live history.now) shapes.now }
+{
+    match history.releases().last() {
+        Some(entry) => are_among(&entry.live, shapes),
+        None => shapes.is_empty(),
+    }
 }
 
 /// The shapes that texts keep beside a history, ascending by identifier; `Unlawful` exactly where
@@ -116,9 +117,12 @@ pub fn shapes_of(
         → TextsStand texts.items (last_live history.now) → ⊥) }
 {
     function_of_text();
-    let mut shapes = told_shapes(alloc, history, texts)?;
-    sort_shapes(&mut shapes);
+    let mut shapes = told_shapes(alloc, texts)?;
+    sort(&mut shapes);
     if !ascend(shapes.as_slice()) {
+        return Err(RowsFault::Unlawful);
+    }
+    if !are_live(history, shapes.as_slice()) {
         return Err(RowsFault::Unlawful);
     }
     Ok(shapes)
@@ -167,6 +171,6 @@ pub fn shapes_in(alloc: Global, parcels: &[Parcel]) -> Result<Vec<(Id, Polygon)>
     ensures spelled { IfOk result (λ v. AllByRecursion IsSpelled v.items) }
 {
     let mut shapes = copied_shapes(alloc, parcels)?;
-    sort_shapes(&mut shapes);
+    sort(&mut shapes);
     Ok(shapes)
 }

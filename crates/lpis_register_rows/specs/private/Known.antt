@@ -2,10 +2,11 @@
 use Rattle.std.specs.Prelude.{◌≡◌, ◌<◌, ◌≤◌, ◌+◌, ◌⊎◌, ◌&&◌, ◌++◌, ◌∷◌, [], true, false, ℕ, zero}
 use Rattle.std.specs.Prelude.{suc}
 use Rattle.std.specs.Prelude.{ℤ, pos, negsuc, List, length, None, Some}
-use Rattle.std.specs.List.{list_any}
+use Rattle.std.specs.Prelude.{if◌then◌else◌}
+use Rattle.std.specs.List.{AllByRecursion, list_any}
 use Rattle.std.specs.Ordering.{int_cmp, ordering_then}
 use Rattle.std.specs.declared.cmp.Ordering.{Ordering}
-use Rattle.lpis_tables.specs.Ids.{is_id, same_id}
+use Rattle.lpis_tables.specs.Ids.{has_id, is_id, same_id}
 use Rattle.lpis_lineage.specs.declared.row.Entry.{Entry}
 use Rattle.lpis_lineage.specs.declared.row.Row.{Row}
 use Rattle.lpis_lineage.specs.Lineage.{entry_at, holds}
@@ -13,6 +14,7 @@ use Rattle.lpis_register_rows.specs.declared.known.KnownSpan.{KnownSpan}
 use Rattle.lpis_register_rows.specs.declared.known.KnownLine.{KnownLine}
 use Rattle.lpis_register_rows.specs.Content.{Line, Live, StoredSpan, successor_text}
 use Rattle.lpis_register_rows.specs.Histories.{last_of_years}
+use Rattle.lpis_register_rows.specs.Shapes.{Shape}
 use Rattle.lpis_register_rows.specs.private.Covering.{covers}
 
 abbrev pub span_in : KnownSpan → StoredSpan
@@ -73,3 +75,17 @@ known_line_at [] i = record {
 }
 known_line_at (l ∷ ls) zero = l
 known_line_at (l ∷ ls) (suc i) = known_line_at ls i
+
+-- ---- shapes
+
+abbrev pub HasId : Shape → Type 0
+HasId shape = is_id shape.0 ≡ true
+
+-- their identifiers are among these
+abbrev pub AreAmong : List (List ℕ) → List Shape → Type 0
+AreAmong ids shapes = AllByRecursion (λ (shape : Shape). has_id ids shape.0 ≡ true) shapes
+
+-- what is left once the first is passed, where it bears this identifier
+abbrev pub passed : List Shape → List ℕ → List Shape
+passed [] id = []
+passed (shape ∷ shapes) id = if same_id shape.0 id then shapes else shape ∷ shapes

@@ -1,9 +1,10 @@
 use Rattle.std.proofs.Common.{◌≡◌, true}
-use Rattle.lpis_register_rows.proofs.Common.{is_id, span_in}
-use Rattle.lpis_register_rows.proofs.KnownLemmas.{rows-more}
+use Rattle.lpis_register_rows.proofs.Common.{All-permutation, KnownSpan, is_id, span_in}
+use Rattle.std.proofs.lemmas.List.Sorted.{IsPermutation-map}
 use Rattle.lpis_register_rows.proofs.known.read_spans.Goals as goal
 
-pub loop-row-preserved : goal.loop-row-preserved
-loop-row-preserved c = rows-more span_in (λ s. is_id s.id ≡ true) c.args.rows.now c.loop-row.row-index c.row-item.result c.loop-row.spans.items
-    c.push.new.self.items c.in_ok-span.span c.loop-row-test.true c.row-item.is c.in_ok-span.ensures.same
-    c.in_ok-span.ensures.id c.in_ok-push.ensures.items c.loop-row.invariant
+pub returns-clause-same : goal.returns-clause-same
+returns-clause-same c = rw c.in_ok-spans.ensures.same at (IsPermutation-map span_in c.in_ok-spans.spans.items c.sort.new.rows.items c.sort.ensures.same)
+
+pub returns-clause-ids : goal.returns-clause-ids
+returns-clause-ids c = All-permutation (λ (s : KnownSpan). is_id s.id ≡ true) c.in_ok-spans.spans.items c.sort.new.rows.items c.sort.ensures.same c.in_ok-spans.ensures.ids
