@@ -17,9 +17,8 @@ INSERT_TEXT = "INSERT INTO lpis_text (id, wkt) VALUES (?1, ?2)"
 UPDATE_TEXT = "UPDATE lpis_text SET wkt = ?1 WHERE id = ?2"
 TWENTIETH = 20
 QUERIES = (
-    "SELECT one, version FROM lpis_format", "SELECT year FROM lpis_release ORDER BY year",
-    "SELECT id, since, until FROM lpis_span ORDER BY id", "SELECT year, pos, old, new FROM lpis_row ORDER BY year, pos",
-    "SELECT year, pos FROM lpis_mark ORDER BY year, pos", "SELECT id, wkt FROM lpis_text ORDER BY id",
+    "SELECT one, version FROM lpis_format", "SELECT year FROM lpis_release", "SELECT id, since, until FROM lpis_span",
+    "SELECT year, pos, old, new FROM lpis_row", "SELECT year, pos FROM lpis_mark", "SELECT id, wkt FROM lpis_text",
 )
 
 

@@ -27,8 +27,9 @@ use Rattle.sqlite.specs.Listing.{IsSourceOf, if_select, reads_listing}
 unfoldable use Rattle.sqlite.specs.Listing.{understood, listing_schema}
 use Rattle.lpis_register_sql.proofs.Common.{Error, HasCleanDisk, state}
 use Rattle.lpis_register_sql.specs.Showing.{AnswersQuery, Shows, ShowsTable}
-use Rattle.lpis_register_sql.specs.Unread.{Formats, Lines, Lives, Marks, Spans, StoredTable, Texts, Years, kinds_of, query_of}
+use Rattle.lpis_register_sql.specs.StoredTables.{StoredTable, kinds_of, query_of}
 use Rattle.lpis_register_sql.specs.private.Telling.{IsPlainWhere}
+use Rattle.lpis_register_sql.proofs.NamedLemmas.{each_table}
 use Rattle.lpis_register_sql.proofs.Common.{read_format, read_line_text, read_live, read_mark, read_release, read_span, read_text}
 
 -- a text that is a SELECT
@@ -72,42 +73,17 @@ plain_select s sql sel p is none c known = elim (cases_Bool (reads_listing s sql
   | inr own ↦ record { unlisted = own; bare = bare_of p (read s sel) c (sym (compiled_select s sql sel p is) ∙ (rw own at known)) }
 ]
 
-read_format_plain : (s : Schema) (c : Compiled) → understood s read_format ≡ Ok c → IsPlainIn s read_format c
-unfolding everything listing_schema
-read_format_plain s = plain_select s read_format _ _ (record { parsed = refl; statement = refl; timeless = refl }) refl
-
-read_release_plain : (s : Schema) (c : Compiled) → understood s read_release ≡ Ok c → IsPlainIn s read_release c
-unfolding everything listing_schema
-read_release_plain s = plain_select s read_release _ _ (record { parsed = refl; statement = refl; timeless = refl }) refl
-
-read_span_plain : (s : Schema) (c : Compiled) → understood s read_span ≡ Ok c → IsPlainIn s read_span c
-unfolding everything listing_schema
-read_span_plain s = plain_select s read_span _ _ (record { parsed = refl; statement = refl; timeless = refl }) refl
-
-read_line_text_plain : (s : Schema) (c : Compiled) → understood s read_line_text ≡ Ok c → IsPlainIn s read_line_text c
-unfolding everything listing_schema
-read_line_text_plain s = plain_select s read_line_text _ _ (record { parsed = refl; statement = refl; timeless = refl }) refl
-
-read_live_plain : (s : Schema) (c : Compiled) → understood s read_live ≡ Ok c → IsPlainIn s read_live c
-unfolding everything listing_schema
-read_live_plain s = plain_select s read_live _ _ (record { parsed = refl; statement = refl; timeless = refl }) refl
-
-read_text_plain : (s : Schema) (c : Compiled) → understood s read_text ≡ Ok c → IsPlainIn s read_text c
-unfolding everything listing_schema
-read_text_plain s = plain_select s read_text _ _ (record { parsed = refl; statement = refl; timeless = refl }) refl
-
-read_mark_plain : (s : Schema) (c : Compiled) → understood s read_mark ≡ Ok c → IsPlainIn s read_mark c
-unfolding everything listing_schema
-read_mark_plain s = plain_select s read_mark _ _ (record { parsed = refl; statement = refl; timeless = refl }) refl
-
 plain_in : (t : StoredTable) (s : Schema) (c : Compiled) → understood s (query_of t) ≡ Ok c → IsPlainIn s (query_of t) c
-plain_in Formats = read_format_plain
-plain_in Years = read_release_plain
-plain_in Spans = read_span_plain
-plain_in Lines = read_line_text_plain
-plain_in Lives = read_live_plain
-plain_in Texts = read_text_plain
-plain_in Marks = read_mark_plain
+unfolding everything listing_schema
+plain_in t s = each_table (λ t. (c : Compiled) → understood s (query_of t) ≡ Ok c → IsPlainIn s (query_of t) c)
+    (plain_select s read_format _ _ (record { parsed = refl; statement = refl; timeless = refl }) refl)
+    (plain_select s read_release _ _ (record { parsed = refl; statement = refl; timeless = refl }) refl)
+    (plain_select s read_span _ _ (record { parsed = refl; statement = refl; timeless = refl }) refl)
+    (plain_select s read_line_text _ _ (record { parsed = refl; statement = refl; timeless = refl }) refl)
+    (plain_select s read_live _ _ (record { parsed = refl; statement = refl; timeless = refl }) refl)
+    (plain_select s read_text _ _ (record { parsed = refl; statement = refl; timeless = refl }) refl)
+    (plain_select s read_mark _ _ (record { parsed = refl; statement = refl; timeless = refl }) refl)
+    t
 
 -- so is the query of each table, whatever tables there are
 pub plain_where : (t : StoredTable) (s : Schema) → IsPlainWhere s (query_of t)
@@ -136,7 +112,8 @@ never_left sql params s db plain h = let none = (plain h.0 h.1.is).0 in absurd (
 
 -- ---- what is shown answers the query, and changes nothing
 
-answered_by : (t : StoredTable) (old new : State) (rows : List Row) → Shown (query_of t) [] old new rows → AnswersQuery old.now (query_of t) rows × IsUnchanged old new
+-- whichever the table
+pub answered_by : (t : StoredTable) (old new : State) (rows : List Row) → Shown (query_of t) [] old new rows → AnswersQuery old.now (query_of t) rows × IsUnchanged old new
 unfolding Shown
 answered_by t old new rows h =
     let c = h.0 in

@@ -55,9 +55,9 @@ module _ (tree : ℕ) (tests project : List Term) (given : Row) where
   hits r = list_all (holds (given ∷ r ∷ [])) tests
 
   abbrev pub out : Row → Row
-  out r = (output (from_all tree tests project []) (given ∷ r ∷ [])).1
+  out r = (output (from_all tree tests project) (given ∷ r ∷ [])).1
 
-  shown_matches : (rows : List Row) → map (λ (o : Output). o.1) (map (output (from_all tree tests project [])) (flat_map (λ r. if hits r then (given ∷ r ∷ []) ∷ [] else []) rows))
+  shown_matches : (rows : List Row) → map (λ (o : Output). o.1) (map (output (from_all tree tests project)) (flat_map (λ r. if hits r then (given ∷ r ∷ []) ∷ [] else []) rows))
       ≡ map out (filter hits rows)
   shown_matches [] = refl
   shown_matches (r ∷ rows) = elim (cases_Bool (hits r)) [
@@ -66,10 +66,10 @@ module _ (tree : ℕ) (tests project : List Term) (given : Row) where
   ]
 
   -- what it finds
-  pub finds : (db : Trees) (found : List Row) → overlay db [] tree ≡ db tree → IsAnswer (from_all tree tests project []) (overlay db []) given found
+  pub finds : (db : Trees) (found : List Row) → overlay db [] tree ≡ db tree → IsAnswer (from_all tree tests project) (overlay db []) given found
       → IsPermutation (map out (filter hits (db tree))) found
   finds db found own a =
-      let q = from_all tree tests project [] in
+      let q = from_all tree tests project in
       let shows : Output → Row = λ o. o.1 in
       let seen : map shows a.kept ≡ map out (filter hits (overlay db [] tree)) = ap (map shows) (a.distinct ∙ ap (map (output q)) a.grouped) ∙ shown_matches (overlay db [] tree) in
       let listed : map shows a.kept ≡ map out (filter hits (db tree)) = seen ∙ ap (λ rs. map out (filter hits rs)) own in
@@ -210,11 +210,11 @@ module _ (o : Origin) (sql : List ℕ) (index : ℕ) (table : Table) (tests proj
     (hit_is : (r : Row) (x : X) (n : ℤ) → drop 1 r ≡ row x → rowid r ≡ Int n → hits table.tree tests project given r ≡ test x)
     (xs : List X) (keeps : KeepsAll row xs (old.now.trees table.tree)) where
   -- DELETE takes out those that the test hits
-  pub deletes_by_key : Says o sql (Delete index (whole (from_all table.tree tests project []))) → Changes o old new table.tree row (filter (λ x. not (test x)) xs)
+  pub deletes_by_key : Says o sql (Delete index (whole (from_all table.tree tests project))) → Changes o old new table.tree row (filter (λ x. not (test x)) xs)
   deletes_by_key says =
       let s = schema_of (Whole o) in
       let db = old.now.trees in
-      let q = from_all table.tree tests project [] in
+      let q = from_all table.tree tests project in
       let w = ran s sql given (Delete index (whole q)) old new count (λ w. w) has says executed in
       let it = deletes old.step_limit (mode_of old) given s db (statement_of sql (understood s sql)) index table (whole q) w.tally new.now at w.does in
       let step = step_of o db new.now.trees _ fits changes it.edited in
@@ -225,14 +225,14 @@ module _ (o : Origin) (sql : List ℕ) (index : ℕ) (table : Table) (tests proj
       }
 
   -- UPDATE turns them
-  pub updates_by_key : Says o sql (Update index (whole (from_all table.tree tests project []))) → (turn : X → X)
+  pub updates_by_key : Says o sql (Update index (whole (from_all table.tree tests project))) → (turn : X → X)
       → ((r : Row) (x : X) (n : ℤ) → drop 1 r ≡ row x → rowid r ≡ Int n → drop 1 (cast_row table (drop 1 (out table.tree tests project given r))) ≡ row (turn x))
       → ((r : Row) (x : X) (n : ℤ) → drop 1 r ≡ row x → rowid r ≡ Int n → rowid (cast_row table (drop 1 (out table.tree tests project given r))) ≡ Int n)
       → Changes o old new table.tree row (map (λ x. if test x then turn x else x) xs)
   updates_by_key says turn rest_is key_is =
       let s = schema_of (Whole o) in
       let db = old.now.trees in
-      let q = from_all table.tree tests project [] in
+      let q = from_all table.tree tests project in
       let w = ran s sql given (Update index (whole q)) old new count (λ w. w) has says executed in
       let it = updates old.step_limit (mode_of old) given s db (statement_of sql (understood s sql)) index table (whole q) w.tally new.now at w.does in
       let step = step_of o db new.now.trees _ fits changes it.edited in

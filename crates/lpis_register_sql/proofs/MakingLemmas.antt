@@ -1,7 +1,9 @@
 -- Calls that make statements in a loop, and the transaction that is theirs.
 use Rattle.std.proofs.Common.{true, ◌≡◌, ◌++◌, ◌+◌, ◌<◌, ◌∷◌, ◌∙◌, [], ℕ, List, Ok, Err, Result, OnOk, IfErr, IsTrue, IsErrAnd, ap, arith, drop, get_or, length, map, refl, subst, sym, take}
+use Rattle.std.specs.List.{flat_map}
 use Rattle.std.proofs.Math.Seq.{take-length}
-use Rattle.std.proofs.lemmas.List.{append_assoc, map-append, map_more, take-append-drop}
+use Rattle.std.proofs.lemmas.Grind.{flat_map-append}
+use Rattle.std.proofs.lemmas.List.{append-nil, append_assoc, map-append, map_more, take-append-drop, take_more}
 use Rattle.sqlite.specs.Held.{Held}
 use Rattle.sqlite.specs.State.{Commits}
 use Rattle.sqlite.specs.Steps.{FailsToCommit}
@@ -11,6 +13,11 @@ use Rattle.lpis_register_sql.specs.private.Inside.{Makes}
 use Rattle.lpis_register_sql.proofs.Common.{Error, HasCleanDisk, Survives, Trees, state}
 use Rattle.lpis_register_sql.proofs.StepLemmas.{IsCommitted}
 use Rattle.lpis_register_sql.proofs.StopLemmas.{failed_commit, fails, stops_still, then}
+
+-- what is made of the first items and of one more
+parts_are : {X : Type 0} (f : X → List BoundStatement) (xs : List X) (i : ℕ) (d x : X) → i < length xs → x ≡ get_or xs i d → flat_map f (take i xs) ++ f x ≡ flat_map f (take (i + 1) xs)
+parts_are f xs i d x low is = ap (λ y. flat_map f (take i xs) ++ f y) is
+    ∙ sym (ap (flat_map f) (take_more xs i d low) ∙ flat_map-append f (take i xs) (get_or xs i d ∷ []) ∙ ap (λ l. flat_map f (take i xs) ++ l) (append-nil (f (get_or xs i d))))
 
 module _ {S : Type 0} {g : store.Ghosts S} where
   -- ---- a loop
@@ -37,6 +44,25 @@ module _ {S : Type 0} {g : store.Ghosts S} where
   -- and its end
   pub makes_all : {X : Type 0} (f : X → BoundStatement) (xs : List X) (i : ℕ) {a b : Held S} {x : Unit {0}} → i ≡ length xs → Makes g (map f (take i xs)) a b (Ok x) → Makes g (map f xs) a b (Ok x)
   makes_all f xs i {a = a} {b = b} {x = x} ends made = subst (λ ys. Makes g (map f ys) a b (Ok x)) (ap (λ n. take n xs) ends ∙ take-length xs) made
+
+  -- ---- the same where an item has more than one statement, or none
+
+  module _ {X : Type 0} (f : X → List BoundStatement) (xs : List X) (i : ℕ) (d x : X) (low : i < length xs) (is : x ≡ get_or xs i d) where
+    -- the statements of one item more
+    pub part_made : {a b c : Held S} {y z : Unit {0}} → Makes g (flat_map f (take i xs)) a b (Ok y) → Makes g (f x) b c (Ok z) → Makes g (flat_map f (take (i + 1) xs)) a c (Ok z)
+    part_made {a = a} {c = c} {z = z} done more = subst (λ l. Makes g l a c (Ok z)) (parts_are f xs i d x low is) (then done more)
+
+    -- which stop
+    pub part_fails : {a b c : Held S} {y : Unit {0}} {e : Error} {r : Result (Unit {0}) Error} → IsErrAnd r (λ y. y ≡ e) → Makes g (flat_map f (take i xs)) a b (Ok y) → Makes g (f x) b c (Err e)
+        → Makes g (flat_map f xs) a c r
+    part_fails same done stop = loop_fails (flat_map f (drop (i + 1) xs)) (flat_map f xs) same
+        (sym (append_assoc (flat_map f (take i xs)) (f x) (flat_map f (drop (i + 1) xs))) ∙ ap (λ l. l ++ flat_map f (drop (i + 1) xs)) (parts_are f xs i d x low is)
+        ∙ sym (flat_map-append f (take (i + 1) xs) (drop (i + 1) xs)) ∙ ap (flat_map f) (take-append-drop (i + 1) xs)) done stop
+
+  -- and their end
+  pub all_made : {X : Type 0} (f : X → List BoundStatement) (xs : List X) (i : ℕ) {a b : Held S} {x : Unit {0}} → i ≡ length xs → Makes g (flat_map f (take i xs)) a b (Ok x)
+      → Makes g (flat_map f xs) a b (Ok x)
+  all_made f xs i {a = a} {b = b} {x = x} ends made = subst (λ ys. Makes g (flat_map f ys) a b (Ok x)) (ap (λ n. take n xs) ends ∙ take-length xs) made
 
 -- ---- a transaction
 

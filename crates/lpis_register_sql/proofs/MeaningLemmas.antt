@@ -14,13 +14,11 @@ use Rattle.sqlite.specs.Term.{lit, col, op2}
 use Rattle.sqlite_sql.specs.declared.ops.BinaryOp.TheVariants.{Compare}
 use Rattle.sqlite_sql.specs.declared.ops.CompareOp.TheVariants.{Eq}
 use Rattle.sqlite_value.specs.declared.keys.Collation.TheVariants.{Binary}
-use Rattle.sqlite_value.specs.declared.keys.Key.{Key}
 use Rattle.sqlite.specs.Query.{Query, inner, end}
 use Rattle.sqlite.specs.Source.TheVariants.{Values}
 use Rattle.sqlite_schema.specs.declared.command.Command.{Command}
 use Rattle.sqlite.specs.Command.TheVariants.{Insert, Select, Delete}
 use Rattle.sqlite.specs.Change.{created}
-use Rattle.sqlite.specs.Listing.{reads_listing}
 use Rattle.sqlite.proofs.Callers.{IsPlain, command_of}
 use Rattle.sqlite_tied.specs.Compute.{everything}
 use Rattle.lpis_register_sql.specs.Statements.{make_format, make_release, make_span, make_row, insert_format, clear_span, insert_whole_span}
@@ -28,20 +26,16 @@ use Rattle.lpis_register_sql.specs.Statements.{insert_release, insert_span, inse
 use Rattle.lpis_register_sql.specs.Statements.{clear_live, set_version, make_text, make_mark, clear_mark, clear_text}
 use Rattle.lpis_register_sql.specs.Statements.{insert_text, replace_text, delete_text, insert_mark}
 
--- a key of an ORDER BY: texts compared as bytes, the least first
-abbrev pub ascending : Key
-ascending = record { collation = Binary; descending = false }
-
--- a query over one table with this filter, these columns and this order: no groups, no DISTINCT, no limit
-abbrev pub from_all : ℕ → List Term → List Term → List (Term × Key) → Query
-from_all tree filter project order = record {
+-- a query over one table with this filter and these columns: no groups, no DISTINCT, no order, no limit
+abbrev pub from_all : ℕ → List Term → List Term → Query
+from_all tree filter project = record {
   from = inner tree end;
   filter = filter;
   group = None;
   project = project;
   distinct = false;
   collations = [];
-  order = order;
+  order = [];
   limit = lit (Int (negsuc 0));
   offset = lit (Int (pos 0));
 }
@@ -76,51 +70,51 @@ pair_terms = lit Null ∷ col 0 0 ∷ col 0 1 ∷ []
 
 -- the rowids of all rows of a table
 abbrev pub ids_query : ℕ → Query
-ids_query tree = from_all tree [] (col 1 0 ∷ []) []
+ids_query tree = from_all tree [] (col 1 0 ∷ [])
 
 -- for each span whose identifier is the second parameter: its rowid, and its row with the first one as last year
 abbrev pub ends_query : ℕ → Query
-ends_query tree = from_all tree (op2 (Compare Eq Binary) (col 1 1) (col 0 1) ∷ []) (col 1 0 ∷ col 1 0 ∷ col 1 1 ∷ col 1 2 ∷ col 0 0 ∷ []) []
+ends_query tree = from_all tree (op2 (Compare Eq Binary) (col 1 1) (col 0 1) ∷ []) (col 1 0 ∷ col 1 0 ∷ col 1 1 ∷ col 1 2 ∷ col 0 0 ∷ [])
 
 -- for each text whose identifier is the second parameter: its rowid, and its row with the first one as text
 abbrev pub replaces_query : ℕ → Query
-replaces_query tree = from_all tree (op2 (Compare Eq Binary) (col 1 1) (col 0 1) ∷ []) (col 1 0 ∷ col 1 0 ∷ col 1 1 ∷ col 0 0 ∷ []) []
+replaces_query tree = from_all tree (op2 (Compare Eq Binary) (col 1 1) (col 0 1) ∷ []) (col 1 0 ∷ col 1 0 ∷ col 1 1 ∷ col 0 0 ∷ [])
 
 -- the rowid of each text whose identifier is the parameter
 abbrev pub deletes_query : ℕ → Query
-deletes_query tree = from_all tree (op2 (Compare Eq Binary) (col 1 1) (col 0 0) ∷ []) (col 1 0 ∷ []) []
+deletes_query tree = from_all tree (op2 (Compare Eq Binary) (col 1 1) (col 0 0) ∷ []) (col 1 0 ∷ [])
 
 -- for each row of `lpis_format`: its rowid, and the row with version 3
 abbrev pub version_query : Query
-version_query = from_all 0 [] (col 1 0 ∷ col 1 0 ∷ lit Null ∷ lit (Int (pos 3)) ∷ []) []
+version_query = from_all 0 [] (col 1 0 ∷ col 1 0 ∷ lit Null ∷ lit (Int (pos 3)) ∷ [])
 
--- the years of `lpis_release`, ascending
+-- the years of `lpis_release`
 abbrev pub release_query : Query
-release_query = from_all 1 [] (col 1 0 ∷ []) ((col 1 0, ascending) ∷ [])
+release_query = from_all 1 [] (col 1 0 ∷ [])
 
--- the three columns of `lpis_span`, which has this tree, by identifier
+-- the three columns of `lpis_span`, which has this tree
 abbrev pub span_query : ℕ → Query
-span_query tree = from_all tree [] (col 1 1 ∷ col 1 2 ∷ col 1 3 ∷ []) ((col 1 1, ascending) ∷ [])
+span_query tree = from_all tree [] (col 1 1 ∷ col 1 2 ∷ col 1 3 ∷ [])
 
--- the four columns of `lpis_row`, by year and position
+-- the four columns of `lpis_row`
 abbrev pub line_query : Query
-line_query = from_all 4 [] (col 1 1 ∷ col 1 2 ∷ col 1 3 ∷ col 1 4 ∷ []) ((col 1 1, ascending) ∷ (col 1 2, ascending) ∷ [])
+line_query = from_all 4 [] (col 1 1 ∷ col 1 2 ∷ col 1 3 ∷ col 1 4 ∷ [])
 
--- the two columns of `lpis_live`, by year and identifier
+-- the two columns of `lpis_live`
 abbrev pub live_query : Query
-live_query = from_all 2 [] (col 1 1 ∷ col 1 2 ∷ []) ((col 1 1, ascending) ∷ (col 1 2, ascending) ∷ [])
+live_query = from_all 2 [] (col 1 1 ∷ col 1 2 ∷ [])
 
--- the two columns of `lpis_text`, which has this tree, by identifier
+-- the two columns of `lpis_text`, which has this tree
 abbrev pub text_query : ℕ → Query
-text_query tree = from_all tree [] (col 1 1 ∷ col 1 2 ∷ []) ((col 1 1, ascending) ∷ [])
+text_query tree = from_all tree [] (col 1 1 ∷ col 1 2 ∷ [])
 
--- the two columns of `lpis_mark`, which has this tree, by year and position
+-- the two columns of `lpis_mark`, which has this tree
 abbrev pub mark_query : ℕ → Query
-mark_query tree = from_all tree [] (col 1 1 ∷ col 1 2 ∷ []) ((col 1 1, ascending) ∷ (col 1 2, ascending) ∷ [])
+mark_query tree = from_all tree [] (col 1 1 ∷ col 1 2 ∷ [])
 
--- the key and the version of each row of `lpis_format`, in no order
+-- the key and the version of each row of `lpis_format`
 abbrev pub format_query : Query
-format_query = from_all 0 [] (col 1 0 ∷ col 1 2 ∷ []) []
+format_query = from_all 0 [] (col 1 0 ∷ col 1 2 ∷ [])
 
 -- what holds of each origin, and of each order of the tables
 pub in_each : (P : Origin → Type 0) → ((x : Beside) → P (New x)) → ((x : Beside) → P (Moved x)) → (o : Origin) → P o
@@ -144,7 +138,7 @@ Says o sql command = (command_of (understood (schema_of (Whole o)) sql) ≡ comm
 
 -- and one that reads
 abbrev pub Asks : Layout → List ℕ → Query → List (List ℕ) → Type 0
-Asks s sql q names = (command_of (understood (schema_of s) sql) ≡ Select (whole q) names) × (reads_listing (schema_of s) sql ≡ false) × IsPlain (understood (schema_of s) sql)
+Asks s sql q names = command_of (understood (schema_of s) sql) ≡ Select (whole q) names
 
 -- the text that inserts the version is an INSERT of its terms into the first table, `lpis_format`
 pub insert_format_means : (o : Origin) → Says o insert_format (Insert 0 (Values format_terms 3))
@@ -224,43 +218,43 @@ clear_live_means x = (refl, (refl, refl))
 -- in each order of the tables, the text that reads `lpis_format` asks its query, with the names of two columns
 pub read_format_means : (s : Layout) → Asks s read_format format_query (codes "one" ∷ codes "version" ∷ [])
 unfolding understood everything
-read_format_means = in_all _ (λ x. (refl, refl, (refl, refl))) (λ x. (refl, refl, (refl, refl))) (λ x. (refl, refl, (refl, refl)))
-    (λ x. (refl, refl, (refl, refl))) (λ x. (refl, refl, (refl, refl))) (λ x. (refl, refl, (refl, refl))) (refl, refl, (refl, refl))
+read_format_means = in_all _ (λ x. refl) (λ x. refl) (λ x. refl)
+    (λ x. refl) (λ x. refl) (λ x. refl) refl
 
 -- in each order of the tables, the text that reads `lpis_release` asks its query, with the name of one column
 pub read_release_means : (s : Layout) → Asks s read_release release_query (codes "year" ∷ [])
 unfolding understood everything
-read_release_means = in_all _ (λ x. (refl, refl, (refl, refl))) (λ x. (refl, refl, (refl, refl))) (λ x. (refl, refl, (refl, refl)))
-    (λ x. (refl, refl, (refl, refl))) (λ x. (refl, refl, (refl, refl))) (λ x. (refl, refl, (refl, refl))) (refl, refl, (refl, refl))
+read_release_means = in_all _ (λ x. refl) (λ x. refl) (λ x. refl)
+    (λ x. refl) (λ x. refl) (λ x. refl) refl
 
 -- where `lpis_span` is there, the text that reads it asks its query, with the names of three columns
 pub read_span_means : (s : Layout) → has_spans s ≡ true → Asks s read_span (span_query (span_tree (origin_of s))) (codes "id" ∷ codes "since" ∷ codes "until" ∷ [])
 unfolding understood everything
-read_span_means = in_all _ (λ x p. (refl, refl, (refl, refl))) (λ x p. (refl, refl, (refl, refl))) (λ x p. (refl, refl, (refl, refl)))
-    (λ x p. (refl, refl, (refl, refl))) (λ x p. (refl, refl, (refl, refl))) (λ x p. (refl, refl, (refl, refl))) (λ p. absurd (true≢false (sym p)))
+read_span_means = in_all _ (λ x p. refl) (λ x p. refl) (λ x p. refl)
+    (λ x p. refl) (λ x p. refl) (λ x p. refl) (λ p. absurd (true≢false (sym p)))
 
 -- in each order of the tables, the text that reads `lpis_row` asks its query, with the names of four columns
 pub read_line_means : (s : Layout) → Asks s read_line_text line_query (codes "year" ∷ codes "pos" ∷ codes "old" ∷ codes "new" ∷ [])
 unfolding understood everything
-read_line_means = in_all _ (λ x. (refl, refl, (refl, refl))) (λ x. (refl, refl, (refl, refl))) (λ x. (refl, refl, (refl, refl)))
-    (λ x. (refl, refl, (refl, refl))) (λ x. (refl, refl, (refl, refl))) (λ x. (refl, refl, (refl, refl))) (refl, refl, (refl, refl))
+read_line_means = in_all _ (λ x. refl) (λ x. refl) (λ x. refl)
+    (λ x. refl) (λ x. refl) (λ x. refl) refl
 
 -- where `lpis_live` is there, the text that reads it asks its query, with the names of two columns
 pub read_live_means : (s : Layout) → has_live s ≡ true → Asks s read_live live_query (codes "year" ∷ codes "id" ∷ [])
 unfolding understood everything
-read_live_means = in_all _ (λ x p. absurd (true≢false (sym p))) (λ x p. (refl, refl, (refl, refl))) (λ x p. absurd (true≢false (sym p)))
-    (λ x p. (refl, refl, (refl, refl))) (λ x p. absurd (true≢false (sym p))) (λ x p. (refl, refl, (refl, refl))) (λ p. (refl, refl, (refl, refl)))
+read_live_means = in_all _ (λ x p. absurd (true≢false (sym p))) (λ x p. refl) (λ x p. absurd (true≢false (sym p)))
+    (λ x p. refl) (λ x p. absurd (true≢false (sym p))) (λ x p. refl) (λ p. refl)
 
 -- where `lpis_text` is there, the text that reads it asks its query, with the names of two columns
 pub read_text_means : (s : Layout) → has_texts s ≡ true → Asks s read_text (text_query (text_tree (origin_of s))) (codes "id" ∷ codes "wkt" ∷ [])
 unfolding understood everything
-read_text_means = in_all _ (λ x p. (refl, refl, (refl, refl))) (λ x p. (refl, refl, (refl, refl))) (λ x p. (refl, refl, (refl, refl)))
-    (λ x p. (refl, refl, (refl, refl))) (λ x p. absurd (true≢false (sym p))) (λ x p. absurd (true≢false (sym p))) (λ p. absurd (true≢false (sym p)))
+read_text_means = in_all _ (λ x p. refl) (λ x p. refl) (λ x p. refl)
+    (λ x p. refl) (λ x p. absurd (true≢false (sym p))) (λ x p. absurd (true≢false (sym p))) (λ p. absurd (true≢false (sym p)))
 
 -- where `lpis_mark` is there, the text that reads it asks its query, with the names of two columns
 pub read_mark_means : (s : Layout) → has_marks s ≡ true → Asks s read_mark (mark_query (mark_tree (origin_of s))) (codes "year" ∷ codes "pos" ∷ [])
 unfolding understood everything
-read_mark_means = in_all _ (λ x p. (refl, refl, (refl, refl))) (λ x p. (refl, refl, (refl, refl))) (λ x p. absurd (true≢false (sym p)))
+read_mark_means = in_all _ (λ x p. refl) (λ x p. refl) (λ x p. absurd (true≢false (sym p)))
     (λ x p. absurd (true≢false (sym p))) (λ x p. absurd (true≢false (sym p))) (λ x p. absurd (true≢false (sym p))) (λ p. absurd (true≢false (sym p)))
 
 -- the text makes this table

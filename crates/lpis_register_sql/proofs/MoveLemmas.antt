@@ -13,6 +13,7 @@ use Rattle.lpis_register_sql.specs.Commits.{IsFoundOf}
 use Rattle.lpis_register_sql.specs.Layouts.{made_whole}
 use Rattle.lpis_register_sql.specs.Making.{lives_emptied, moving_statements, plain_statement, raising_statements, spans_in_place, version_in_place, whole_span_statement}
 use Rattle.lpis_register_sql.specs.Statements.{set_version}
+use Rattle.lpis_register_sql.specs.StoredTables.{Lives}
 use Rattle.lpis_register_sql.specs.declared.found.Found.{Found}
 use Rattle.lpis_register_sql.proofs.MeaningLemmas.{in_each, whole, version_query, set_version_means}
 use Rattle.lpis_register_sql.proofs.ClearLemmas.{lives_cleared, marks_cleared, spans_cleared, texts_cleared}
@@ -102,5 +103,5 @@ module _ {S : Type 0} {g : store.Ghosts S} (found : Found) (base : Database) (c 
 
   -- from version 1 to version 3
   pub moves_all : (spans : List StoredSpan) (s : Layout) → IsFoundOf found 1 s c → Leads g (Holds s base c) (moving_statements found spans) (Holds (made_whole s) base (moved spans c))
-  moves_all spans s such = then (completes found base c s such.0) (then (puts_in (origin_of s) spans such.0.lives)
+  moves_all spans s such = then (completes found base c s such.0) (then (puts_in (origin_of s) spans (such.0.each Lives))
       (raises (origin_of s) (in_spans spans c) 1 (spans_stay spans (without_spans c) ∙ such.1)))

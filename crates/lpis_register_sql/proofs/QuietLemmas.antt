@@ -1,8 +1,11 @@
 -- How calls that only read join.
-use Rattle.std.proofs.Common.{arith, refl, inl, ◌≡◌, Ok, Err, Result}
-use Rattle.lpis_register_sql.proofs.Common.{HasCleanDisk, State, Survives, Content, Layout, IsStored}
+use Rattle.std.proofs.Common.{arith, refl, inl, sym, subst₂, ◌≡◌, ◌∙◌, true, false, [], List, Ok, Err, Result, Vec, Global, IsPermutation}
+use Rattle.lpis_register_sql.proofs.Common.{HasCleanDisk, State, Survives, Content, IsPermutation-refl, Layout, IsStored, Trees}
 use Rattle.sqlite.proofs.StateLemmas.{survives_then}
-use Rattle.lpis_register_sql.specs.Quiet.{ReadsRows}
+use Rattle.lpis_register_sql.specs.Holding.{Means}
+use Rattle.lpis_register_sql.specs.Quiet.{IsFound, ReadsRows}
+use Rattle.lpis_register_sql.specs.StoredTables.{Formats, StoredTable, is_in, is_read}
+use Rattle.lpis_register_sql.specs.declared.found.Found.{Found}
 
 -- what the calls so far have answered
 pub record Told (P : Layout → Type 0) (Says : Content → Type 0) (a b : State) : Type 0 where
@@ -46,4 +49,33 @@ answered told made = record {
   ok = λ clean s p c h. let it = told.says clean s p c h in (made c it.0, it.1);
   same = λ clean up s p c h. (told.says clean s p c h).1;
   survives = told.survives;
+}
+
+-- ---- a table, where it was found
+
+-- it was, and its rows are read
+pub reads_found : {X E : Type 0} {Says : Content → X → Type 0} {a b : State} {r : Result X E} (found : Found) (t : StoredTable) → is_read found t ≡ true
+    → ReadsRows (λ layout. is_in layout t ≡ true) Says a b r → ReadsRows (IsFound found) Says a b r
+reads_found found t is reads = record {
+  ok = λ clean s p c h. reads.ok clean s (sym (p.each t) ∙ is) c h;
+  same = λ clean up s p c h. reads.same clean up s (sym (p.each t) ∙ is) c h;
+  survives = reads.survives;
+}
+
+-- it was not, and there are none
+pub reads_unfound : {X E : Type 0} {rows : Content → List X} {a : State} (found : Found) (t : StoredTable) → is_read found t ≡ false
+    → ((s : Layout) (trees : Trees) (c : Content) → Means s trees c → is_in s t ≡ false → rows c ≡ []) → (all : Vec X Global) → all.items ≡ []
+    → ReadsRows {E = E} (IsFound found) (λ c all. IsPermutation (rows c) all.items) a a (Ok all)
+reads_unfound {rows = rows} found t is none all empty = record {
+  ok = λ clean s p c h. (subst₂ IsPermutation (sym (none s _ c h.holds.means (sym (p.each t) ∙ is))) (sym empty) (IsPermutation-refl []), h);
+  same = λ clean up s p c h. h;
+  survives = (nothing_yet {P = IsFound found}).survives;
+}
+
+-- without `lpis_format` they stand in no order
+pub reads_none : {X E : Type 0} {Says : Content → X → Type 0} {a : State} (found : Found) → found.format ≡ false → (r : Result X E) → ReadsRows (IsFound found) Says a a r
+reads_none found is r = record {
+  ok = λ clean s p c h. absurd (let it = sym is ∙ p.each Formats in cc);
+  same = λ clean up s p c h. h;
+  survives = (nothing_yet {P = IsFound found}).survives;
 }

@@ -5,7 +5,7 @@ use Rattle.sqlite.specs.Order.{Row}
 use Rattle.sqlite.proofs.Callers.{unchanged_then}
 use Rattle.lpis_register_sql.proofs.Common.{HasCleanDisk, State}
 use Rattle.lpis_register_sql.specs.Showing.{Shows, ShowsFound, ShowsTable, StaysSame}
-use Rattle.lpis_register_sql.specs.Unread.{StoredTable}
+use Rattle.lpis_register_sql.specs.StoredTables.{StoredTable}
 use Rattle.lpis_register_sql.proofs.StopLemmas.{unchanged}
 
 -- a state is as it was

@@ -120,8 +120,9 @@ begins base = record {
 -- where there is no table, the statements that make them make a new register
 pub makes_new : {S : Type 0} {g : store.Ghosts S} (base : Database)
     → Leads g (Stage no_schema base) making_statements (Holds (Whole (New nothing)) base no_content)
-makes_new base = then (then (one (makes_table _ _ _ _ format_is refl base)) (then (one (makes_table _ _ _ _ release_is refl base)) (one (makes_table _ _ _ _ span_is refl base))))
-    (then (then (one (makes_table _ _ _ _ row_is refl base)) (then (one (makes_table _ _ _ _ (text_is (New nothing)) refl base)) (one (makes_table _ _ _ _ mark_is refl base)))) (one (begins base)))
+makes_new base = then (one (makes_table _ _ _ _ format_is refl base)) (then (one (makes_table _ _ _ _ release_is refl base)) (then (one (makes_table _ _ _ _ span_is refl base))
+    (then (one (makes_table _ _ _ _ row_is refl base)) (then (one (makes_table _ _ _ _ (text_is (New nothing)) refl base))
+    (then (one (makes_table _ _ _ _ mark_is refl base)) (one (begins base)))))))
 
 -- ---- a table more beside those that hold rows
 

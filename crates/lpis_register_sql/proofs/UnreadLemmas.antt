@@ -15,7 +15,8 @@ use Rattle.sqlite.specs.declared.error.ErrorCode.TheVariants as code
 use Rattle.std.proofs.Common.{◌≤◌, IsErrAnd}
 use Rattle.sqlite.proofs.Callers.{IsPlain, unchanged_then}
 use Rattle.lpis_register_sql.specs.declared.found.Found.{Found}
-use Rattle.lpis_register_sql.specs.Unread.{IsRefusedQuery, HasColumns, IsOfKind, IsUnanswered, IsUnread, ColumnKind, StoredTable, Tells, is_read, kinds_of, query_of}
+use Rattle.lpis_register_sql.specs.StoredTables.{HasColumns, IsOfKind, ColumnKind, StoredTable, is_read, kinds_of, query_of}
+use Rattle.lpis_register_sql.specs.Unread.{IsRefusedQuery, IsUnanswered, IsUnread, Tells}
 use Rattle.lpis_register_sql.specs.private.Telling.{IsPlainWhere, TellsRows}
 use Rattle.lpis_register_rows.specs.Content.{Content}
 use Rattle.lpis_register_sql.specs.Quiet.{IsFound, ReadsRows}

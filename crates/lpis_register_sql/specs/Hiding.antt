@@ -1,12 +1,14 @@
 -- Whether a database hides a table of the register.
-use Rattle.std.specs.Prelude.{ℕ, Bool, [], ◌∷◌, List, codes}
+use Rattle.std.specs.Prelude.{ℕ, Bool, [], ◌∷◌, List, map}
 use Rattle.std.specs.List.{list_any}
 use Rattle.sqlite.specs.Schema.{Schema}
 use Rattle.sqlite_schema.specs.Names.{same_name}
+use Rattle.lpis_register_sql.specs.StoredTables.{Formats, Lines, Lives, Marks, Spans, Texts, Years}
+use Rattle.lpis_register_sql.specs.StoredTables.{name_of}
 
 abbrev pub table_names : List (List ℕ)
-table_names = codes "lpis_format" ∷ codes "lpis_release" ∷ codes "lpis_span" ∷ codes "lpis_live"
-    ∷ codes "lpis_row" ∷ codes "lpis_text" ∷ codes "lpis_mark" ∷ []
+table_names =
+    map name_of (Formats ∷ Years ∷ Spans ∷ Lives ∷ Lines ∷ Texts ∷ Marks ∷ [])
 
 abbrev pub is_table_name : List ℕ → Bool
 is_table_name name = list_any (λ own. same_name name own) table_names

@@ -1,5 +1,6 @@
 -- The statements that make the register's tables, and that move them to version 3.
-use Rattle.std.specs.Prelude.{List, [], ◌∷◌, ◌++◌, ℕ, if◌then◌else◌, map}
+use Rattle.std.specs.Prelude.{Bool, List, [], ◌∷◌, ◌++◌, ℕ, if◌then◌else◌, map}
+use Rattle.std.specs.List.{flat_map}
 use Rattle.lpis_register_rows.specs.Content.{StoredSpan}
 use Rattle.lpis_register_sql.specs.Holding.{span_row}
 use Rattle.lpis_register_sql.specs.Statements.{clear_live, clear_mark, clear_span, clear_text}
@@ -13,54 +14,21 @@ use Rattle.lpis_register_sql.specs.declared.found.Found.{Found}
 abbrev pub plain_statement : List ℕ → BoundStatement
 plain_statement sql = record { sql = sql; values = [] }
 
--- ---- where no table of the register is there
-
-abbrev pub first_tables : List BoundStatement
-first_tables = plain_statement make_format ∷ plain_statement make_release
-    ∷ plain_statement make_span ∷ []
-
-abbrev pub other_tables : List BoundStatement
-other_tables = plain_statement make_row ∷ plain_statement make_text
-    ∷ plain_statement make_mark ∷ []
-
--- the tables of version 3, and the version
+-- where no table of the register is there: the tables of version 3, and the version
 abbrev pub making_statements : List BoundStatement
-making_statements = first_tables ++ (other_tables ++ plain_statement insert_format ∷ [])
+making_statements = map plain_statement (make_format ∷ make_release ∷ make_span ∷ make_row
+    ∷ make_text ∷ make_mark ∷ insert_format ∷ [])
 
--- ---- where one is there
+-- where one is there: a statement, where its table was not found
+abbrev pub unless : Bool → List ℕ → List BoundStatement
+unless found sql = if found then [] else plain_statement sql ∷ []
 
--- a table of version 3, where it was not found
-
-abbrev pub missing_format : Found → List BoundStatement
-missing_format found = if found.format then []
-    else plain_statement make_format ∷ plain_statement insert_format ∷ []
-
-abbrev pub missing_years : Found → List BoundStatement
-missing_years found = if found.years then [] else plain_statement make_release ∷ []
-
-abbrev pub missing_spans : Found → List BoundStatement
-missing_spans found = if found.spans then [] else plain_statement make_span ∷ []
-
-abbrev pub missing_lines : Found → List BoundStatement
-missing_lines found = if found.lines then [] else plain_statement make_row ∷ []
-
-abbrev pub missing_texts : Found → List BoundStatement
-missing_texts found = if found.texts then [] else plain_statement make_text ∷ []
-
-abbrev pub missing_marks : Found → List BoundStatement
-missing_marks found = if found.marks then [] else plain_statement make_mark ∷ []
-
--- those that each version has, and the version, before what refers to them
-abbrev pub missing_first : Found → List BoundStatement
-missing_first found = missing_format found ++ missing_years found
-
-abbrev pub missing_others : Found → List BoundStatement
-missing_others found =
-    missing_spans found ++ (missing_lines found ++ (missing_texts found ++ missing_marks found))
-
--- all that are missing
+-- the tables that are missing, each before those that refer to it, and the version
 abbrev pub completing_statements : Found → List BoundStatement
-completing_statements found = missing_first found ++ missing_others found
+completing_statements found = flat_map (λ (it : Bool × List ℕ). unless it.0 it.1)
+    ((found.format, make_format) ∷ (found.years, make_release) ∷ (found.spans, make_span)
+    ∷ (found.lines, make_row) ∷ (found.texts, make_text) ∷ (found.marks, make_mark)
+    ∷ (found.format, insert_format) ∷ [])
 
 -- a span, when it began and when it ended
 abbrev pub whole_span_statement : StoredSpan → BoundStatement

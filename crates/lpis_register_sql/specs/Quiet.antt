@@ -1,20 +1,15 @@
 -- What reading answers, and what it leaves.
-use Rattle.std.specs.Prelude.{◌≡◌, true, Result, IfOk, IsTrue}
+use Rattle.std.specs.Prelude.{◌≡◌, Result, IfOk, IsTrue}
 use Rattle.sqlite.specs.State.{State, HasCleanDisk, Survives}
 use Rattle.lpis_register_rows.specs.Content.{Content}
 use Rattle.lpis_register_sql.specs.declared.found.Found.{Found}
-use Rattle.lpis_register_sql.specs.Layouts.{Layout, has_spans, has_live, has_texts, has_marks}
+use Rattle.lpis_register_sql.specs.Layouts.{Layout}
 use Rattle.lpis_register_sql.specs.Holding.{IsStored}
+use Rattle.lpis_register_sql.specs.StoredTables.{StoredTable, is_in, is_read}
 
 -- the tables that were found are those of this order, and no others
 pub record IsFound (found : Found) (layout : Layout) : Type 0 where
-  pub format : found.format ≡ true
-  pub years : found.years ≡ true
-  pub lines : found.lines ≡ true
-  pub spans : found.spans ≡ has_spans layout
-  pub lives : found.lives ≡ has_live layout
-  pub texts : found.texts ≡ has_texts layout
-  pub marks : found.marks ≡ has_marks layout
+  pub each : (t : StoredTable) → is_read found t ≡ is_in layout t
 
 -- a call that reads a database that holds rows of the register, its tables in such an order, and
 -- answers what those rows say

@@ -12,8 +12,9 @@ use Rattle.sqlite_resolve.specs.declared.compiled.Compiled.{Compiled}
 use Rattle.lpis_register_rows.specs.Content.{Content, Format, StoredText}
 use Rattle.lpis_register_rows.specs.Histories.{only_format}
 use Rattle.lpis_register_sql.specs.Holding.{line_row, live_row, mark_row, span_row, text_row}
-use Rattle.lpis_register_sql.specs.Unread.{Formats, Lines, Lives, Marks, Spans, StoredTable, Texts}
-use Rattle.lpis_register_sql.specs.Unread.{Years, kinds_of, query_of}
+use Rattle.lpis_register_sql.specs.StoredTables.{Formats, Lines, Lives, Marks, Spans, Texts}
+use Rattle.lpis_register_sql.specs.StoredTables.{StoredTable}
+use Rattle.lpis_register_sql.specs.StoredTables.{Years, kinds_of, query_of}
 use Rattle.lpis_register_sql.specs.declared.found.Found.{Found}
 
 -- the engine understands the text in this database, and these rows are an answer that it gives

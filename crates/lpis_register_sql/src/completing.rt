@@ -1,125 +1,80 @@
-//! The tables that are not there, made beside those that hold rows.
+//! The tables that are not there, made: all of a new register, or those that lack beside the ones
+//! that hold rows.
 
 ghost use Rattle.std.specs.Prelude.{◌≡◌};
-ghost use Rattle.lpis_register_sql.specs.Making.{completing_statements, missing_first};
-ghost use Rattle.lpis_register_sql.specs.Making.{missing_format, missing_lines, missing_marks};
-ghost use Rattle.lpis_register_sql.specs.Making.{missing_others, missing_spans, missing_texts};
-ghost use Rattle.lpis_register_sql.specs.Making.{missing_years};
+ghost use Rattle.std.specs.List.{flat_map};
+ghost use Rattle.lpis_register_sql.specs.Making.{completing_statements, unless};
 ghost use Rattle.lpis_register_sql.specs.private.Inside.{Makes};
 
 use crate::found::Found;
 use crate::statements::run;
-use crate::tables::{
-    MAKE_FORMAT, MAKE_MARK, MAKE_RELEASE, MAKE_ROW, MAKE_SPAN, MAKE_TEXT, begin_format,
-};
 use sqlite::{Alter, Error, Transaction};
 
-/// The table of the version with its row, where it is not there.
-fn complete_format<S: Alter>(tx: &mut Transaction<'_, S>, found: &Found) -> Result<(), Error>
+/// The table of the version.
+const MAKE_FORMAT: &str =
+    "CREATE TABLE IF NOT EXISTS lpis_format (one INTEGER NOT NULL PRIMARY KEY, version INTEGER NOT NULL) STRICT";
+
+/// The table of releases.
+const MAKE_RELEASE: &str =
+    "CREATE TABLE IF NOT EXISTS lpis_release (year INTEGER NOT NULL PRIMARY KEY) STRICT";
+
+/// The table of spans.
+const MAKE_SPAN: &str =
+    "CREATE TABLE IF NOT EXISTS lpis_span (id TEXT NOT NULL PRIMARY KEY, since INTEGER NOT NULL REFERENCES lpis_release (year), until INTEGER NOT NULL) STRICT";
+
+/// The table of rows of lineage.
+const MAKE_ROW: &str =
+    "CREATE TABLE IF NOT EXISTS lpis_row (year INTEGER NOT NULL REFERENCES lpis_release (year), pos INTEGER NOT NULL, old TEXT NOT NULL, new TEXT NOT NULL, PRIMARY KEY (year, pos)) STRICT";
+
+/// The table of the texts of shapes.
+const MAKE_TEXT: &str =
+    "CREATE TABLE IF NOT EXISTS lpis_text (id TEXT NOT NULL PRIMARY KEY, wkt TEXT NOT NULL) STRICT";
+
+/// The table of the rows of lineage that are marked exact.
+const MAKE_MARK: &str =
+    "CREATE TABLE IF NOT EXISTS lpis_mark (year INTEGER NOT NULL, pos INTEGER NOT NULL, PRIMARY KEY (year, pos), FOREIGN KEY (year, pos) REFERENCES lpis_row (year, pos)) STRICT";
+
+/// The row that tells version 3.
+const INSERT_FORMAT: &str = "INSERT INTO lpis_format (one, version) VALUES (1, 3)";
+
+/// Makes a statement where its table was not found.
+fn make_unless<S: Alter>(tx: &mut Transaction<'_, S>, found: bool, text: &str) -> Result<(), Error>
     ensures same_reference { tx.new.conn.ghost_name ≡ tx.old.conn.ghost_name }
-    ensures makes { Makes S.Store (missing_format found.now)
+    ensures makes { Makes S.Store (unless found text.now)
         tx.old.conn.now tx.new.conn.now result }
 {
-    if found.format {
-        return Ok(());
+    if found { Ok(()) } else { run(tx, text, &[]) }
+}
+
+/// Makes those of these statements, in turn, whose tables were not found.
+fn make_missing<S: Alter>(
+    tx: &mut Transaction<'_, S>,
+    statements: &[(bool, &str)],
+) -> Result<(), Error>
+    ensures same_reference { tx.new.conn.ghost_name ≡ tx.old.conn.ghost_name }
+    ensures makes { Makes S.Store (flat_map (λ it. unless it.0 it.1.now) statements.now)
+        tx.old.conn.now tx.new.conn.now result }
+{
+    for statement in statements {
+        make_unless(tx, statement.0, statement.1)?;
     }
-    run(tx, MAKE_FORMAT, &[])?;
-    begin_format(tx)
+    Ok(())
 }
 
-/// The table of releases, where it is not there.
-fn complete_years<S: Alter>(tx: &mut Transaction<'_, S>, found: &Found) -> Result<(), Error>
-    ensures same_reference { tx.new.conn.ghost_name ≡ tx.old.conn.ghost_name }
-    ensures makes { Makes S.Store (missing_years found.now)
-        tx.old.conn.now tx.new.conn.now result }
-{
-    if found.years {
-        Ok(())
-    } else {
-        run(tx, MAKE_RELEASE, &[])
-    }
-}
-
-/// The table of spans, where it is not there.
-fn complete_spans<S: Alter>(tx: &mut Transaction<'_, S>, found: &Found) -> Result<(), Error>
-    ensures same_reference { tx.new.conn.ghost_name ≡ tx.old.conn.ghost_name }
-    ensures makes { Makes S.Store (missing_spans found.now)
-        tx.old.conn.now tx.new.conn.now result }
-{
-    if found.spans {
-        Ok(())
-    } else {
-        run(tx, MAKE_SPAN, &[])
-    }
-}
-
-/// The table of rows of lineage, where it is not there.
-fn complete_lines<S: Alter>(tx: &mut Transaction<'_, S>, found: &Found) -> Result<(), Error>
-    ensures same_reference { tx.new.conn.ghost_name ≡ tx.old.conn.ghost_name }
-    ensures makes { Makes S.Store (missing_lines found.now)
-        tx.old.conn.now tx.new.conn.now result }
-{
-    if found.lines {
-        Ok(())
-    } else {
-        run(tx, MAKE_ROW, &[])
-    }
-}
-
-/// The table of texts, where it is not there.
-fn complete_texts<S: Alter>(tx: &mut Transaction<'_, S>, found: &Found) -> Result<(), Error>
-    ensures same_reference { tx.new.conn.ghost_name ≡ tx.old.conn.ghost_name }
-    ensures makes { Makes S.Store (missing_texts found.now)
-        tx.old.conn.now tx.new.conn.now result }
-{
-    if found.texts {
-        Ok(())
-    } else {
-        run(tx, MAKE_TEXT, &[])
-    }
-}
-
-/// The table of marks, where it is not there.
-fn complete_marks<S: Alter>(tx: &mut Transaction<'_, S>, found: &Found) -> Result<(), Error>
-    ensures same_reference { tx.new.conn.ghost_name ≡ tx.old.conn.ghost_name }
-    ensures makes { Makes S.Store (missing_marks found.now)
-        tx.old.conn.now tx.new.conn.now result }
-{
-    if found.marks {
-        Ok(())
-    } else {
-        run(tx, MAKE_MARK, &[])
-    }
-}
-
-/// The tables of the version and of releases, where they are not there.
-fn complete_first<S: Alter>(tx: &mut Transaction<'_, S>, found: &Found) -> Result<(), Error>
-    ensures same_reference { tx.new.conn.ghost_name ≡ tx.old.conn.ghost_name }
-    ensures makes { Makes S.Store (missing_first found.now)
-        tx.old.conn.now tx.new.conn.now result }
-{
-    complete_format(tx, found)?;
-    complete_years(tx, found)
-}
-
-/// The other tables, where they are not there.
-fn complete_others<S: Alter>(tx: &mut Transaction<'_, S>, found: &Found) -> Result<(), Error>
-    ensures same_reference { tx.new.conn.ghost_name ≡ tx.old.conn.ghost_name }
-    ensures makes { Makes S.Store (missing_others found.now)
-        tx.old.conn.now tx.new.conn.now result }
-{
-    complete_spans(tx, found)?;
-    complete_lines(tx, found)?;
-    complete_texts(tx, found)?;
-    complete_marks(tx, found)
-}
-
-/// The tables that are not there, each empty but for the version.
+/// The tables that are not there, each empty, and the version, where it was not told.
 pub(crate) fn complete<S: Alter>(tx: &mut Transaction<'_, S>, found: &Found) -> Result<(), Error>
     ensures same_reference { tx.new.conn.ghost_name ≡ tx.old.conn.ghost_name }
     ensures makes { Makes S.Store (completing_statements found.now)
         tx.old.conn.now tx.new.conn.now result }
 {
-    complete_first(tx, found)?;
-    complete_others(tx, found)
+    let statements = [
+        (found.format, MAKE_FORMAT),
+        (found.years, MAKE_RELEASE),
+        (found.spans, MAKE_SPAN),
+        (found.lines, MAKE_ROW),
+        (found.texts, MAKE_TEXT),
+        (found.marks, MAKE_MARK),
+        (found.format, INSERT_FORMAT),
+    ];
+    make_missing(tx, &statements)
 }

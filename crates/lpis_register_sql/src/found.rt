@@ -1,10 +1,8 @@
 //! Which of the register's tables a database has.
 
 ghost use Rattle.std.specs.Prelude.{◌≡◌, true, false};
-ghost use Rattle.std.specs.List.{list_any};
-ghost use Rattle.sqlite_schema.specs.Names.{same_name};
 ghost use Rattle.lpis_register_sql.specs.Hiding.{hides_table, is_table_name};
-ghost use Rattle.lpis_register_sql.specs.Presence.{AreThere, is_any};
+ghost use Rattle.lpis_register_sql.specs.Presence.{AreThere, has_table, is_any};
 ghost use Rattle.lpis_register_sql.specs.Quiet.{IsFound};
 ghost use Rattle.lpis_register_sql.specs.Layouts.{has_marks, no_schema, schema_of};
 ghost use Rattle.lpis_register_sql.specs.Standing.{Stands};
@@ -51,7 +49,7 @@ impl Found {
 
 /// Whether a table has this name.
 fn has_table(schema: &Schema, name: &str) -> bool
-    ensures { result ≡ list_any (λ t. same_name t.name name.now) schema.now.tables }
+    ensures { result ≡ has_table schema.now name.now }
 {
     let name = name.as_bytes();
     schema

@@ -1,44 +1,69 @@
 //! The rows of a table, read one at a time, whichever it is: no list of what a query shows is made.
 
-ghost use Rattle.std.specs.Prelude.{◌≡◌, ◌⊎◌, [], List, length, map, take, false, IfOk};
+ghost use Rattle.std.specs.Prelude.{◌≡◌, ◌⊎◌, [], List, length, map, take, false, true, IfOk};
 ghost use Rattle.std.specs.Prelude.{OnErr, OnOk};
 ghost use Rattle.std.specs.Prelude.{IsPermutation};
 ghost use Rattle.sqlite.specs.Held.{state};
 ghost use Rattle.sqlite.specs.State.{CommitsShowing, HasCleanDisk, IsRolledBack, IsUnchanged};
 ghost use Rattle.sqlite.specs.State.{Shown, Survives};
 ghost use Rattle.lpis_register_sql.specs.Quiet.{IsFound, ReadsRows};
-ghost use Rattle.lpis_register_sql.specs.Showing.{Shows, ShowsFound};
-ghost use Rattle.lpis_register_sql.specs.Unread.{Tells, is_read};
+ghost use Rattle.lpis_register_sql.specs.Showing.{Shows, ShowsFound, ShowsTable};
+ghost use Rattle.lpis_register_sql.specs.StoredTables.{is_in, is_read, kinds_of, query_of};
+ghost use Rattle.lpis_register_sql.specs.Unread.{Tells};
 ghost use Rattle.lpis_register_sql.specs.private.Telling.{IsPlainWhere, TellsRows};
 
 use crate::found::Found;
 use sqlite::{Alter, Connection, Error, ErrorCode, Row};
 use std::alloc::Global;
 
-/// What a row that a query shows is read as.
-pub(crate) trait FromRow: Drop {
-    ghost use Rattle.std.specs.Prelude.{◌≡◌, ◌≢◌, IfErr, IfOk, List, length, take};
+/// A row of a table of the register.
+pub(crate) trait Stored: Drop {
+    ghost use Rattle.std.specs.Prelude.{◌≡◌, ◌≢◌, true, false, IfErr, IfOk, IsPermutation, List};
+    ghost use Rattle.std.specs.Prelude.{[], length, map, take};
+    ghost use Rattle.sqlite.specs.Effect.{Database};
     ghost use Rattle.sqlite.specs.Order.{Row};
+    ghost use Rattle.sqlite.specs.Tree.{Trees};
     ghost use Rattle.sqlite.specs.declared.error.Error.TheVariants.{SqliteFailure};
     ghost use Rattle.sqlite.specs.declared.error.ErrorCode.TheVariants.{OutOfMemory};
-    ghost use Rattle.lpis_register_sql.specs.Unread.{HasColumns, ColumnKind};
+    ghost use Rattle.lpis_register_rows.specs.Content.{Content};
+    ghost use Rattle.lpis_register_sql.specs.Holding.{HoldsRows, Means};
+    ghost use Rattle.lpis_register_sql.specs.Layouts.{Layout};
+    ghost use Rattle.lpis_register_sql.specs.Showing.{AnswersQuery};
+    ghost use Rattle.lpis_register_sql.specs.StoredTables.{HasColumns, StoredTable, is_in, is_read};
+    ghost use Rattle.lpis_register_sql.specs.StoredTables.{kinds_of, query_of};
+
+    ghost table: { StoredTable };
+
+    ghost rows: { Content → List Self };
 
     ghost shown: { Row → Self };
 
-    ghost kinds: { List ColumnKind };
-
     ghost columns: { Self → Row };
+
+    /// Whether its table was found.
+    fn was_found(found: &Found) -> bool
+        ensures { result ≡ is_read found.now table };
+
+    /// The query that reads its table, and shows all its rows.
+    fn query() -> &'static str
+        ensures text { result.now ≡ query_of table }
+        ensures shows { (layout : Layout) → is_in layout table ≡ true → (db : Database)
+            (c : Content) (seen : List Row) → HoldsRows layout db c
+            → AnswersQuery db (query_of table) seen → IsPermutation (rows c) (map shown seen) };
 
     /// A row that the query showed.
     fn read(row: &Row) -> Result<Self, Error>
         ensures shown { IfOk result (λ it. shown row.now ≡ it) }
-        ensures columns { IfOk result (λ it. take (length kinds) row.now ≡ columns it) }
+        ensures columns { IfOk result (λ it. take (length (kinds_of table)) row.now ≡ columns it) }
         ensures misfit { IfErr result (λ e. e ≢ SqliteFailure OutOfMemory
-            → ¬ HasColumns kinds row.now) };
+            → ¬ HasColumns (kinds_of table) row.now) };
+
+    ghost without_table: { (layout : Layout) (trees : Trees) (c : Content) → Means layout trees c
+        → is_in layout table ≡ false → rows c ≡ [] };
 }
 
 /// Puts what a query shows into a list, one row after the other.
-fn take_rows<T: FromRow, S: Alter>(
+fn take_rows<T: Stored, S: Alter>(
     conn: &mut Connection<S>,
     sql: &str,
     all: &mut Vec<T>,
@@ -49,12 +74,12 @@ fn take_rows<T: FromRow, S: Alter>(
         → HasCleanDisk (state S.Store conn.new) → OnOk result ((rows : List Row)
         × Shown sql.now [] (state S.Store conn.old) (state S.Store conn.new) rows
         × (all.new.items ≡ map T.shown rows)
-        × (map (take (length T.kinds)) rows ≡ map T.columns all.new.items)) }
+        × (map (take (length (kinds_of T.table))) rows ≡ map T.columns all.new.items)) }
     ensures same { IsPlainWhere conn.old.schema sql.now
         → HasCleanDisk (state S.Store conn.new)
         → OnErr result (IsUnchanged (state S.Store conn.old) (state S.Store conn.new)
         ⊎ IsRolledBack (state S.Store conn.old) (state S.Store conn.new)) }
-    ensures tells { TellsRows sql.now T.kinds (state S.Store conn.old)
+    ensures tells { TellsRows sql.now (kinds_of T.table) (state S.Store conn.old)
         (state S.Store conn.new) result }
     ensures survives { Survives (state S.Store conn.old) (state S.Store conn.new)
         (CommitsShowing sql.now [] (state S.Store conn.old)) }
@@ -72,7 +97,7 @@ fn take_rows<T: FromRow, S: Alter>(
 }
 
 /// What a query shows.
-pub(crate) fn read_rows<T: FromRow, S: Alter>(
+fn read_rows<T: Stored, S: Alter>(
     alloc: Global,
     conn: &mut Connection<S>,
     sql: &str,
@@ -82,12 +107,12 @@ pub(crate) fn read_rows<T: FromRow, S: Alter>(
         → HasCleanDisk (state S.Store conn.new) → IfOk result (λ all. (rows : List Row)
         × Shown sql.now [] (state S.Store conn.old) (state S.Store conn.new) rows
         × (all.items ≡ map T.shown rows)
-        × (map (take (length T.kinds)) rows ≡ map T.columns all.items)) }
+        × (map (take (length (kinds_of T.table))) rows ≡ map T.columns all.items)) }
     ensures same { IsPlainWhere conn.old.schema sql.now
         → HasCleanDisk (state S.Store conn.new)
         → OnErr result (IsUnchanged (state S.Store conn.old) (state S.Store conn.new)
         ⊎ IsRolledBack (state S.Store conn.old) (state S.Store conn.new)) }
-    ensures tells { TellsRows sql.now T.kinds (state S.Store conn.old)
+    ensures tells { TellsRows sql.now (kinds_of T.table) (state S.Store conn.old)
         (state S.Store conn.new) result }
     ensures survives { Survives (state S.Store conn.old) (state S.Store conn.new)
         (CommitsShowing sql.now [] (state S.Store conn.old)) }
@@ -97,44 +122,19 @@ pub(crate) fn read_rows<T: FromRow, S: Alter>(
     Ok(all)
 }
 
-/// A row of a table of the register.
-pub(crate) trait Stored: FromRow {
-    ghost use Rattle.std.specs.Prelude.{◌≡◌, true, false, Bool, List, [], IsPermutation};
-    ghost use Rattle.sqlite.specs.Held.{state};
-    ghost use Rattle.sqlite.specs.Tree.{Trees};
-    ghost use Rattle.lpis_register_rows.specs.Content.{Content};
-    ghost use Rattle.lpis_register_sql.specs.Layouts.{Layout};
-    ghost use Rattle.lpis_register_sql.specs.Holding.{Means};
-    ghost use Rattle.lpis_register_sql.specs.Quiet.{IsFound, ReadsRows};
-    ghost use Rattle.lpis_register_sql.specs.Showing.{Shows, ShowsTable};
-    ghost use Rattle.lpis_register_sql.specs.Unread.{StoredTable, is_read, kinds_of, query_of};
-    ghost use Rattle.lpis_register_sql.specs.private.Telling.{TellsRows};
-
-    ghost table: { StoredTable };
-
-    ghost rows: { Content → List Self };
-
-    ghost has_table: { Layout → Bool };
-
-    /// Whether its table was found.
-    fn was_found(found: &Found) -> bool
-        ensures there { (layout : Layout) → IsFound found.now layout → result ≡ has_table layout }
-        ensures read { result ≡ is_read found.now table };
-
-    /// The rows of its table.
-    fn query<S: Alter>(alloc: Global, conn: &mut Connection<S>) -> Result<Vec<Self>, Error>
-        requires autocommit { conn.old.in_transaction ≡ false }
-        ensures autocommit { conn.new.in_transaction ≡ false }
-        ensures reads { ReadsRows (λ layout. has_table layout ≡ true)
-            (λ c all. IsPermutation (rows c) all.items)
-            (state S.Store conn.old) (state S.Store conn.new) result }
-        ensures tells { TellsRows (query_of table) (kinds_of table) (state S.Store conn.old)
-            (state S.Store conn.new) result }
-        ensures shows { Shows (λ db all. ShowsTable db table Self.columns all.items)
-            (state S.Store conn.old) (state S.Store conn.new) result };
-
-    ghost without_table: { (layout : Layout) (trees : Trees) (c : Content) → Means layout trees c
-        → has_table layout ≡ false → rows c ≡ [] };
+/// The rows of a table.
+fn read_table<T: Stored, S: Alter>(alloc: Global, conn: &mut Connection<S>) -> Result<Vec<T>, Error>
+    requires autocommit { conn.old.in_transaction ≡ false }
+    ensures autocommit { conn.new.in_transaction ≡ false }
+    ensures reads { ReadsRows (λ layout. is_in layout T.table ≡ true)
+        (λ c all. IsPermutation (T.rows c) all.items)
+        (state S.Store conn.old) (state S.Store conn.new) result }
+    ensures tells { TellsRows (query_of T.table) (kinds_of T.table) (state S.Store conn.old)
+        (state S.Store conn.new) result }
+    ensures shows { Shows (λ db all. ShowsTable db T.table T.columns all.items)
+        (state S.Store conn.old) (state S.Store conn.new) result }
+{
+    read_rows(alloc, conn, T::query())
 }
 
 /// The rows of a table, where it was found.
@@ -152,7 +152,7 @@ pub(crate) fn load_rows<T: Stored, S: Alter>(
         all.items) (state S.Store conn.old) (state S.Store conn.new) result }
 {
     if T::was_found(found) {
-        T::query(alloc, conn)
+        read_table(alloc, conn)
     } else {
         Ok(Vec::new(alloc))
     }

@@ -9,7 +9,8 @@ use Rattle.sqlite.specs.declared.error.Error.TheVariants.{SqliteFailure}
 use Rattle.sqlite.specs.declared.error.ErrorCode.TheVariants.{OutOfMemory}
 use Rattle.sqlite_disk.specs.Disk.{MoreFaults}
 use Rattle.sqlite_resolve.specs.declared.compiled.Compiled.{Compiled}
-use Rattle.lpis_register_sql.specs.Unread.{IsUnanswered, ColumnKind}
+use Rattle.lpis_register_sql.specs.StoredTables.{ColumnKind}
+use Rattle.lpis_register_sql.specs.Unread.{IsUnanswered}
 
 -- it answers and changes nothing, or there is a cause
 abbrev pub TellsRows : {X : Type 0} → List ℕ → List ColumnKind → State → State → Result X Error

@@ -3,6 +3,7 @@ use Rattle.sqlite_value.specs.Order.{Row}
 use Rattle.sqlite.specs.State.{CommitsShowing, HasCleanDisk, IsUnchanged, Survives}
 use Rattle.sqlite.specs.Held.{state}
 use Rattle.sqlite.specs.Given.{HasGiven}
+use Rattle.lpis_register_sql.specs.StoredTables.{kinds_of}
 use Rattle.lpis_register_sql.specs.private.Telling.{IsPlainWhere}
 use Rattle.lpis_register_sql.proofs.reading.take_rows.Given as goal
 
@@ -13,6 +14,6 @@ invariant-rows g l =
     (l.rows.conn.ghost_name ≡ l.initial.rows.conn.ghost_name)
     × Survives old now (CommitsShowing l.sql [] old)
     × (l.fn.conn.in_transaction ≡ false → l.rows.conn.now.in_transaction ≡ false)
-    × ((given : List Row) × (l.all.items ≡ map g.T.FromRow.shown given)
-    × (map (take (length g.T.FromRow.kinds)) given ≡ map g.T.FromRow.columns l.all.items)
+    × ((given : List Row) × (l.all.items ≡ map g.T.Stored.shown given)
+    × (map (take (length (kinds_of g.T.Stored.table))) given ≡ map g.T.Stored.columns l.all.items)
     × (IsPlainWhere l.fn.conn.schema l.sql → HasCleanDisk now → HasGiven g.S.Store l.sql [] l.rows.conn.now given × IsUnchanged old now))

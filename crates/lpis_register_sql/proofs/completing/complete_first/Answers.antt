@@ -1,8 +1,0 @@
-use Rattle.lpis_register_sql.proofs.StopLemmas.{fails, then}
-use Rattle.lpis_register_sql.proofs.completing.complete_first.Goals as goal
-
-pub returns-clause-makes : goal.returns-clause-makes
-returns-clause-makes g c = then c.in_ok-complete_format.ensures.makes c.complete_years.ensures.makes
-
-pub returns-in_err-complete_format-clause-makes : goal.returns-in_err-complete_format-clause-makes
-returns-in_err-complete_format-clause-makes g c = fails _ c.from_residual.ensures.1 c.in_err-complete_format.ensures.makes
