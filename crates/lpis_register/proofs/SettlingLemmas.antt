@@ -9,7 +9,7 @@ use Rattle.lpis_register_sql.specs.Quiet.{IsFound}
 use Rattle.lpis_register_sql.specs.Commits.{Rewrites}
 use Rattle.lpis_register_sql.specs.Beside.{nothing}
 use Rattle.lpis_register_sql.specs.Layouts.{Moved, New, has_marks, origin_of}
-use Rattle.lpis_register_sql.proofs.Shared.{mark_there}
+use Rattle.lpis_register_sql.proofs.Shared.{each_table, mark_there}
 use Rattle.sqlite.specs.declared.error.Error.{Error}
 use Rattle.lpis_register.specs.private.Commits.{IsReported, LeavesSettled, Settles}
 use Rattle.lpis_register.proofs.HoldingLemmas.{holds_with, left_with, nothing_done}
@@ -70,5 +70,5 @@ pub whole_laid_out : (found : Found) → IsWhole found → (layout : Layout) × 
 whole_laid_out found w = by found.lives refl
   where
     by : (b : Bool) → found.lives ≡ b → (layout : Layout) × IsFound found layout × (has_marks layout ≡ true)
-    by true is = (Whole (Moved nothing), record { format = w.format; years = w.years; lines = w.lines; spans = w.spans; lives = is; texts = w.texts; marks = w.marks }, refl)
-    by false is = (Whole (New nothing), record { format = w.format; years = w.years; lines = w.lines; spans = w.spans; lives = is; texts = w.texts; marks = w.marks }, refl)
+    by true is = (Whole (Moved nothing), record { each = each_table _ w.format w.years w.spans w.lines is w.texts w.marks }, refl)
+    by false is = (Whole (New nothing), record { each = each_table _ w.format w.years w.spans w.lines is w.texts w.marks }, refl)
