@@ -176,8 +176,9 @@ fn are_as_many<S: PairSource>(
     requires { length triangles.now ≤ most_triangles }
     ensures { IfOk result (λ b. IsTrue b → AreAsMany cert.now (seen triangles.now)) }
 {
-    match source.count(alloc, triangles)? {
-        Some(count) => Ok(count == cert.pairs.as_slice().len()),
+    let lines = cert.pairs.as_slice().len();
+    match source.count(alloc, triangles, lines)? {
+        Some(count) => Ok(count == lines),
         None => Ok(false),
     }
 }

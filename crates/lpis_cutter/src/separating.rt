@@ -16,9 +16,6 @@ use std::alloc::{AllocError, Global};
 /// How many triangles behind the first of a piece it is compared with before near pairs are listed.
 const NEXT: usize = 8;
 
-/// From how many pieces on not all are looked at early.
-const MANY: usize = 4096;
-
 /// The overlap of two triangles that no edge separates, where a point is found.
 fn overlap_of(
     alloc: Global,
@@ -49,23 +46,11 @@ struct Placed {
     end: i64,
 }
 
-/// Whether the first triangle of the piece at an index is looked at early: of many pieces those of
-/// many triangles, and some of the others.
-fn is_looked_at(firsts: &[u32], index: usize) -> bool {
-    let count = match (firsts.get(index), firsts.get(index.wrapping_add(1))) {
-        (Some(first), Some(next)) => next.wrapping_sub(*first),
-        _ => u32::MAX,
-    };
-    firsts.len() < MANY || index & 7 == 0 || count > 64
-}
-
-/// The first triangles of pieces, from west to east.
+/// The first triangle of each piece, from west to east.
 fn firsts_in_order(alloc: Global, numbered: &Numbered<'_>) -> Result<Vec<Placed>, AllocError> {
     let mut placed = Vec::new(alloc);
-    for (index, number) in numbered.firsts.iter().enumerate() {
-        if is_looked_at(&numbered.firsts, index)
-            && let Some(triangle) = numbered.triangle(*number)
-        {
+    for number in &numbered.firsts {
+        if let Some(triangle) = numbered.triangle(*number) {
             let sides = box_of(triangle);
             placed.push(Placed {
                 x: sides.x0,

@@ -20,12 +20,19 @@ pub trait PairSource {
         ensures { IfOk result (λ pairs. IsNearList triangles.now pairs.items) };
 
     /// How many pairs a list has of all of these, and of nothing else, in whatever order and maybe
-    /// one of them more than once, where a number holds it. The only error is out of memory.
-    fn count(&self, alloc: Global, triangles: &[&Triangle]) -> Result<Option<usize>, AllocError>
+    /// one of them more than once. `None` says nothing: a source may give up where they are more
+    /// than `most`. The only error is out of memory.
+    fn count(
+        &self,
+        alloc: Global,
+        triangles: &[&Triangle],
+        most: usize,
+    ) -> Result<Option<usize>, AllocError>
         requires { length triangles.now ≤ most_triangles }
         ensures { IfOk result (λ o. IfSome o (λ n. (ps : List (ℕ × ℕ))
             × HasNearPairs (seen triangles.now) ps × (length ps ≡ n))) }
     {
+        let _ = most;
         let copies = copied(alloc, triangles)?;
         let pairs = self.pairs(alloc, copies.as_slice())?;
         Ok(Some(pairs.len()))

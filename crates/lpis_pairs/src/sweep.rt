@@ -131,9 +131,20 @@ impl PairSource for Sweep {
         Ok(in_order(list.pairs))
     }
 
-    fn count(&self, alloc: Global, triangles: &[&Triangle]) -> Result<Option<usize>, AllocError> {
-        let mut number = PairCount { count: Some(0) };
-        sweep_strips(alloc, triangles, &mut number)?;
-        Ok(number.count)
+    fn count(
+        &self,
+        alloc: Global,
+        triangles: &[&Triangle],
+        most: usize,
+    ) -> Result<Option<usize>, AllocError> {
+        let mut number = PairCount {
+            count: Some(0),
+            most,
+        };
+        match sweep_strips(alloc, triangles, &mut number) {
+            Ok(()) => Ok(number.count),
+            Err(AllocError) if number.count.is_none() => Ok(None),
+            Err(AllocError) => Err(AllocError),
+        }
     }
 }

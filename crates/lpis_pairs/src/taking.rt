@@ -31,20 +31,26 @@ impl Taker for PairList {
     }
 }
 
-/// How many pairs were taken, where a number holds it.
+/// How many pairs were taken, while they are no more than wanted. One more ends the sweep.
 #[derive(Clone, Copy, Debug)]
 pub struct PairCount {
     pub count: Option<usize>,
+    pub most: usize,
 }
 
 impl Taker for PairCount {
     ghost is_of = { λ s ps. IfSome s.count (λ n. length ps ≡ n) };
 
     fn take(&mut self, _i: u32, _j: u32) -> Result<(), AllocError> {
-        self.count = match self.count {
-            Some(count) => count.checked_add(1),
-            None => None,
-        };
-        Ok(())
+        match self.count {
+            Some(count) if count < self.most => {
+                self.count = Some(count + 1);
+                Ok(())
+            }
+            _ => {
+                self.count = None;
+                Err(AllocError)
+            }
+        }
     }
 }

@@ -23,7 +23,7 @@ pub struct Tables<T: Drop> {
     pub classes: T,
 }
 
-/// The files of a release that has a certificate.
+/// The files of a release that has a certificate, in the order in which they are opened and read.
 #[derive(Debug, Drop)]
 pub struct Folder<T: Drop> {
     /// The tables of the release.
@@ -33,7 +33,7 @@ pub struct Folder<T: Drop> {
 }
 
 /// The files of a release that is handed in to be published, or to be given the blocks of its exact
-/// lineage.
+/// lineage, in the order in which they are opened and read.
 #[derive(Debug, Drop)]
 pub struct Submission<T: Drop> {
     /// The tables of the release and its certificate.
@@ -42,7 +42,7 @@ pub struct Submission<T: Drop> {
     pub lineage: T,
 }
 
-/// The two files at the top of a country's folder.
+/// The two files at the top of a country's folder, in the order in which they are opened and read.
 #[derive(Debug, Drop)]
 pub struct Top<T: Drop> {
     /// The text that says how the country is cut into regions.
