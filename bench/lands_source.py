@@ -28,13 +28,18 @@ SHEETS = {"csv": (",", "utf-8", "\n"), "semicolons": (";", "utf-8-sig", "\r\n"),
 def write(land, folder):
     """The path of the source, and the words that tell prepare of its table of classes."""
     path = write_package(land, os.path.join(folder, "land.gpkg")) if land.form in ("package", "gdal", "rows") else write_sheets(land, os.path.join(folder, "land"))
-    if land.form == "gdal" and shutil.which("ogr2ogr"):
+    if land.form == "gdal" and shutil.which("ogr2ogr") and not has_nul(land):
         path = written_by_gdal(path, os.path.join(folder, "gdal.gpkg"))
     if land.classes_given != "file":
         return path, []
     table = os.path.join(folder, "classes.csv")
     write_sheet(table, ["class", "percent"], land.classes, "csv")
     return path, ["--classes", table]
+
+
+def has_nul(land):
+    """Whether a name has the character with which GDAL's texts end: it would be another name."""
+    return any("\0" in str(value) for row in (*land.parcels, *land.covers) for value in row.fields.values())
 
 
 def write_package(land, path):
