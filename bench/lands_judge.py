@@ -90,6 +90,8 @@ class Judge:
             self.told[record["layer"], record["row"]].add(record["kind"])
             if record["kind"] in ("doubled", "nameless"):
                 self.made_names |= set(record["done"].replace(",", " ").split())
+            if record["kind"] == "doubled" and record["done"].endswith("joined"):
+                self.told_names.add(record["identifier"])  # the other of the two is named by its words
         for record in records(self.out, "report.csv"):
             for layer in KEYS:
                 if layer == record["layer"] or record["kind"] in ("outside", "gap", "overlap"):
