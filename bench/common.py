@@ -3,15 +3,14 @@ what is wanted and with which words it is run; constants and a `main` follow. It
 a table, and under it what was wanted and what was got. `bench/all` runs them, and keeps the page of NAME as bench/results/NAME.md.
 
 `CUT=PROGRAM` in the environment names another program that knows `cut DIR CERT`, `LPIS=PROGRAM` another `lpis`; without them it is the one that
-./lpis runs. `BEFORE=PROGRAM` names an `lpis` of before millimetres and
-percentages: bench/area, bench/check and bench/cut then run it in turns with the other on the same tables, and tell what the change costs. Of
-bench/beside_check it is one of the same formats."""
+./lpis runs. `BEFORE=PROGRAM` names an earlier `lpis`, which bench/beside_check runs too."""
 
 import collections
 import contextlib
 import functools
 import json
 import os
+import pathlib
 import resource
 import shutil
 import subprocess
@@ -45,17 +44,33 @@ def temporary(where=None):
     return tempfile.TemporaryDirectory(prefix="lpis-bench-", dir=where)
 
 
+@contextlib.contextmanager
+def copy_of(folder):
+    """A copy of a folder beside it, for a while."""
+    copy = pathlib.Path(tempfile.mkdtemp(dir=folder.parent))
+    try:
+        yield shutil.copytree(folder, copy, dirs_exist_ok=True)
+    finally:
+        shutil.rmtree(copy)
+
+
 def make(maker, *words):
     """Runs one of the scripts that write inputs."""
     subprocess.run([sys.executable, os.path.join(HERE, maker), *map(str, words)], check=True)
 
 
-def country_maker(folder):
-    """The program that writes countries, built."""
+def compiled(folder, name):
+    """A program in C++ of bench/, built."""
     compiler = shutil.which("g++") or sys.exit("no g++ (Debian: g++)")
-    program = os.path.join(folder, "make_country")
-    subprocess.run([compiler, "-std=c++17", "-O2", "-o", program, os.path.join(HERE, "make_country.cpp")], check=True)
+    program = os.path.join(folder, name)
+    subprocess.run([compiler, "-std=c++17", "-O2", "-o", program, os.path.join(HERE, f"{name}.cpp")], check=True)
     return program
+
+
+def straight(size, folder):
+    """A release of so many parcels with T-junctions and holes, and its certificate."""
+    make("make_parcels.py", size, folder, "straight")
+    done([lpis(), "cut", folder, os.path.join(folder, CERT)])
 
 
 def bytes_of(folder, names):
@@ -81,35 +96,6 @@ def cutter():
 def before():
     """The words that begin a command of the earlier program, or none where no such program is named."""
     return [os.path.realpath(os.environ["BEFORE"])] if "BEFORE" in os.environ else []
-
-
-def certificate_of_before(path, older):
-    """Writes a certificate of version 2 whose corners are whole centimetres as one of version 1."""
-    with open(path, encoding="ascii") as lines, open(older, "w", encoding="ascii") as out:
-        if next(lines) != "lpis-cert 2\n":
-            sys.exit(f"{path}: no certificate of version 2")
-        out.write("lpis-cert 1\n")
-        for line in lines:
-            if line[:2] in ("t ", "f "):
-                corners = [divmod(int(word), 10) for word in line[2:].split()]
-                if any(rest for _, rest in corners):
-                    sys.exit(f"{path}: no whole centimetres: {line.strip()}")
-                line = f"{line[0]} {' '.join(str(value) for value, _ in corners)}\n"
-            out.write(line)
-
-
-def text_of_before(text):
-    """A report, or a list of areas, as it is printed with two more digits of an area and four of an eligible area. Shares of a hundred and
-    none alone leave the digits behind at 0."""
-    lines = []
-    for line in text.splitlines():
-        words = line.split(" ")
-        if words[-2:-1] == ["eligible"]:
-            words[-3], words[-1] = words[-3] + "00", words[-1] + "0000"
-        elif len(words) == 1 and "." in line:
-            words[-1] += "00"
-        lines.append(" ".join(words) + "\n")
-    return "".join(lines)
 
 
 def proved(folder, name, source, uses, words=()):

@@ -1,7 +1,7 @@
 """Two years of one map with marked splits and merges, each pair from its number, and what is true of them by whole numbers and from the
 definitions alone: which groups there are and in what order, which of them are exact, and what `publish` says of blocks.
 
-Shapes are heaps of a mesh's triangles, drawn as nasty_shapes.py draws them, in each year anew, or halves of a convex ring along a line.
+Shapes are heaps of a mesh's triangles, drawn as mesh.py draws them, in each year anew, or halves of a convex ring along a line.
 Between the years a corner moves by a millimetre, or land is lost, gained or exchanged; a line has its ends on lattice points of the border
 or beside it, where they are rounded. So a group may be exact or not, whatever was done: the judge says it. Each parcel has one piece, which is its own shape.
 Polygons are as in tables.py, of whole millimetres."""
@@ -9,7 +9,7 @@ Polygons are as in tables.py, of whole millimetres."""
 import random
 
 from exact_map import LIMIT, Truth, edges, shoelace
-from nasty_shapes import Drawing, Mesh
+from mesh import Drawing, Mesh
 from tables import orient
 
 LETTERS = "abcdefghijklmnopqrstuvwxyzABCDEFGHIJKLMNOPQRSTUVWXYZ"

@@ -213,10 +213,10 @@ def marks(base):
         "a mark twice under its key": beside_marks("SELECT * FROM lpis_mark UNION ALL SELECT * FROM lpis_mark WHERE pos = 0"),
         "marks that their key does not have": beside_marks("SELECT * FROM lpis_mark", "another"),
         "a mark of no row, without the key": "DROP TABLE lpis_mark; CREATE TABLE lpis_mark (year INTEGER NOT NULL, pos INTEGER NOT NULL) STRICT;"
-            "INSERT INTO lpis_mark VALUES (2025, 5)",
+        "INSERT INTO lpis_mark VALUES (2025, 5)",
         "marks twice, without the key": "CREATE TABLE other AS SELECT * FROM lpis_mark; DROP TABLE lpis_mark;"
-            "CREATE TABLE lpis_mark (year INTEGER NOT NULL, pos INTEGER NOT NULL) STRICT;"
-            "INSERT INTO lpis_mark SELECT * FROM other; INSERT INTO lpis_mark SELECT * FROM other; DROP TABLE other",
+        "CREATE TABLE lpis_mark (year INTEGER NOT NULL, pos INTEGER NOT NULL) STRICT;"
+        "INSERT INTO lpis_mark SELECT * FROM other; INSERT INTO lpis_mark SELECT * FROM other; DROP TABLE other",
         "marks that may be texts": "DROP TABLE lpis_mark; CREATE TABLE lpis_mark (year, pos); INSERT INTO lpis_mark VALUES ('2025', '0'), (2025.0, x'01')",
         "marks are a view": "DROP TABLE lpis_mark; CREATE VIEW lpis_mark AS SELECT year, pos FROM lpis_row",
         "marks are a view that never ends":

@@ -17,7 +17,7 @@ from dataclasses import dataclass
 from common import TOP
 
 TOOLS = os.path.join(TOP, "tools")
-PRELOADED = ["numpy", "shapely.geometry", "shapely.ops", "shapely.strtree", "shapely.validation", "shapely.prepared", "sqlite3", "csv", "json", "tempfile"]
+PRELOADED = ["numpy", "shapely.geometry", "shapely.ops", "shapely.strtree", "shapely.validation", "shapely.prepared", "pyproj", "sqlite3", "csv", "json", "tempfile"]
 # What a run may take, by the points of its source: seconds of a processor, and megabytes beyond those of a process that has loaded all.
 SECONDS, SECONDS_EACH = 10.0, 0.001
 ROOM, ROOM_EACH = 500_000_000, 4_000

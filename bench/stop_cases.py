@@ -1,6 +1,5 @@
 """The cases of `bench/stops`: commands over a register, what each finds, what it answers, and what it leaves."""
 
-import contextlib
 import pathlib
 import shutil
 import signal
@@ -8,7 +7,7 @@ import subprocess
 import tempfile
 
 import country_example
-from common import CERT, HERE, country_maker, done, lpis
+from common import CERT, HERE, compiled, copy_of, done, lpis
 from country_changes import add_lineage, change
 from registers import NOTHING, VERSION_1, VERSION_2, WITHOUT_MARKS, made, register
 from years import Years
@@ -88,16 +87,6 @@ def ended(process):
     return process.returncode, *texts
 
 
-@contextlib.contextmanager
-def copy_of(folder):
-    """A copy of a folder beside it, for a while."""
-    copy = pathlib.Path(tempfile.mkdtemp(dir=folder.parent))
-    try:
-        yield shutil.copytree(folder, copy, dirs_exist_ok=True)
-    finally:
-        shutil.rmtree(copy)
-
-
 def years_case(folder):
     """The second year of 3,000 parcels, over a register of the first."""
     years, made_in = Years(str(folder), PARCELS), folder / "second"
@@ -155,7 +144,7 @@ def country_case(folder):
 def large_country(folder, count):
     """The second year of a country of so many parcels, of which one of twenty is changed; some are split, which is marked."""
     country, made_in, out = folder / "land", folder / "of_land", folder / "land.txt"
-    done([country_maker(str(folder)), count, count * 2 // 5, country])
+    done([compiled(str(folder), "make_country"), count, count * 2 // 5, country])
     add_lineage(str(country))
     made_in.mkdir()
     done([lpis(), "publish-country", NAME, 2024, country], made_in)

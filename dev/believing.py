@@ -3,7 +3,8 @@
 import re
 import textwrap
 
-from definitions import TOP, Definition, closing, lies_in
+from definitions import TOP, Definition, lies_in
+from modules import closing
 
 WIDTH = 120
 A_MINUTE = 120  # words of definitions that are read in a minute
@@ -266,5 +267,5 @@ class Page:
 
     def text(self, old):
         new = MARK.sub(self.written, old)
-        table = [f"<!-- trust: contents -->", "", *contents_of(new), "", "<!-- trust: end -->"]
+        table = ["<!-- trust: contents -->", "", *contents_of(new), "", "<!-- trust: end -->"]
         return MARK.sub(lambda match: "\n".join(table) if match.group(1) == "contents" else match.group(0), new)

@@ -102,20 +102,21 @@ def added_flat(lines, numbers):
     return lines[:end] + [" ".join(["f", *flat])] + lines[end:]
 
 
-def flat_left_out(lines, numbers):
+def with_flats(lines, numbers, count):
+    """The lines with a flat left out (0), or there twice."""
     place = chosen(numbers, lines, "f ")
     if place is None:
         return None
     head = max(head for head in places(lines, "p") if head < place)
-    return with_count(lines[:place] + lines[place + 1 :], head, -1, -1)
+    return with_count(lines[:place] + lines[place:place + 1] * count + lines[place + 1 :], head, -1, count - 1)
+
+
+def flat_left_out(lines, numbers):
+    return with_flats(lines, numbers, 0)
 
 
 def flat_doubled(lines, numbers):
-    place = chosen(numbers, lines, "f ")
-    if place is None:
-        return None
-    head = max(head for head in places(lines, "p") if head < place)
-    return with_count(lines[:place] + lines[place:place + 1] + lines[place:], head, -1, 1)
+    return with_flats(lines, numbers, 2)
 
 
 def triangle_doubled(lines, numbers):
@@ -163,42 +164,28 @@ def pairs_out_of_order(lines, numbers):
     return with_pairs(lines, change)
 
 
-def other_pair(lines, numbers):
-    """A pair of a triangle with itself, turned round, or with one that is not there."""
-
-    def change(pairs):
+def with_other_pair(lines, numbers, change):
+    """The lines with one pair line changed, word by word."""
+    def changed(pairs):
         if not pairs:
             return None
         at = numbers.randrange(len(pairs))
-        i, j, k = map(int, pairs[at].split(" ")[1:])
-        other = numbers.choice([(i, i, k), (j, i, k), (i, len(places(lines, "t ")), k), (i, 4294967295, k), (i, 4294967296, k)])
-        return pairs[:at] + ["s {} {} {}".format(*other)] + pairs[at + 1 :]
+        return pairs[:at] + [" ".join(change(*pairs[at].split(" ")[1:]))] + pairs[at + 1 :]
 
-    return with_pairs(lines, change)
+    return with_pairs(lines, changed)
+
+
+def other_pair(lines, numbers):
+    """A pair of a triangle with itself, turned round, or with one that is not there."""
+    return with_other_pair(lines, numbers, lambda i, j, k: ["s", *numbers.choice([(i, i, k), (j, i, k), (i, str(len(places(lines, "t "))), k), (i, "4294967295", k), (i, "4294967296", k)])])
 
 
 def other_edge(lines, numbers):
-    def change(pairs):
-        if not pairs:
-            return None
-        at = numbers.randrange(len(pairs))
-        words = pairs[at].split(" ")
-        words[3] = str((int(words[3]) + numbers.randint(1, 5)) % 6)
-        return pairs[:at] + [" ".join(words)] + pairs[at + 1 :]
-
-    return with_pairs(lines, change)
+    return with_other_pair(lines, numbers, lambda i, j, k: ["s", i, j, str((int(k) + numbers.randint(1, 5)) % 6)])
 
 
 def edge_past_five(lines, numbers):
-    def change(pairs):
-        if not pairs:
-            return None
-        at = numbers.randrange(len(pairs))
-        words = pairs[at].split(" ")
-        words[3] = numbers.choice(["6", "7", "05", "-1", "+1", "10", "²", "1.0", ""])
-        return pairs[:at] + [" ".join(words)] + pairs[at + 1 :]
-
-    return with_pairs(lines, change)
+    return with_other_pair(lines, numbers, lambda i, j, _: ["s", i, j, numbers.choice(["6", "7", "05", "-1", "+1", "10", "²", "1.0", ""])])
 
 
 def other_spelling(lines, numbers):

@@ -1,12 +1,11 @@
-"""The built program, and what is counted of its cases."""
+"""What worked cases of the built program share: a call of it, and the tables of a release."""
 
 import subprocess
-import sys
 from pathlib import Path
 
-TOP = Path(__file__).resolve().parent.parent.parent
-sys.path.append(str(TOP / "bench"))
-import common  # noqa: E402
+import common
+
+TOP = Path(common.TOP)
 
 LPIS = common.lpis()
 SECONDS = 120
@@ -15,25 +14,6 @@ SQUARE = "POLYGON((0 0,10 0,10 10,0 10,0 0))"
 LEFT, RIGHT = "POLYGON((0 0,5 0,5 10,0 10,0 0))", "POLYGON((5 0,10 0,10 10,5 10,5 0))"
 # A class that counts whole, and one that does not count.
 CLASSES = "class,eligible\nG,1\nW,0\n"
-
-
-class Cases:
-    """How many cases had their answer, how many had another, and how many groups of them were left out."""
-
-    def __init__(self):
-        self.passed = self.failed = self.left_out = 0
-
-    def expect(self, name, wanted, found):
-        if wanted == found:
-            self.passed += 1
-        else:
-            self.failed += 1
-            print(f"FAILED {name}: wanted {wanted!r}, found {found!r}")
-
-
-    def leave_out(self, words):
-        self.left_out += 1
-        print(f"left out: {words}")
 
 
 def lpis(*words):
@@ -58,3 +38,8 @@ def edited(text, edits):
             raise ValueError(f"{old!r} is not in {text!r}")
         text = text.replace(old, new, 1)
     return text
+
+
+def short(value):
+    """The name of a case."""
+    return ascii(value)[:60]

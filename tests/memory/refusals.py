@@ -8,7 +8,6 @@ over a register makes thousands of requests: SAMPLE of them are refused, from a 
 NAME: the commands whose names contain it. The last line counts the runs that met a refusal: 'N passed, M failed'.
 """
 
-import contextlib
 import multiprocessing
 import os
 import pathlib
@@ -224,16 +223,6 @@ COMMANDS = [
 ]
 
 
-@contextlib.contextmanager
-def copy_of(folder):
-    """A copy of a folder beside it, for a while."""
-    copy = pathlib.Path(tempfile.mkdtemp(dir=folder.parent))
-    try:
-        yield shutil.copytree(folder, copy, dirs_exist_ok=True)
-    finally:
-        shutil.rmtree(copy)
-
-
 class Refusals:
     """A command with its files, its usual answer, what it leaves, and how many requests it makes."""
 
@@ -241,11 +230,11 @@ class Refusals:
         self.command, self.folder, self.library = command, folder, library
         folder.mkdir()
         command.fill(folder)
-        with copy_of(folder) as copy:
+        with common.copy_of(folder) as copy:
             self.before = command.state(copy)
-        with copy_of(folder) as copy:
+        with common.copy_of(folder) as copy:
             self.usual, self.after = lpis(command.words, copy), command.state(copy)
-        with copy_of(folder) as copy:
+        with common.copy_of(folder) as copy:
             *_, told = self.start(0, False, copy)
             self.requests = int(re.fullmatch(r"requests (\d+)\n", told).group(1))
 
@@ -266,7 +255,7 @@ class Refusals:
 
     def ending(self, number, goes_on):
         """How a run ended whose request of this number was refused: `memory`, `store`, `usual`, or what is not right."""
-        with copy_of(self.folder) as copy:
+        with common.copy_of(self.folder) as copy:
             *answer, told = self.start(number, goes_on, copy)
             answer, refused = tuple(answer), re.match(r"refused .*", told)
             if not refused:
@@ -275,7 +264,7 @@ class Refusals:
                 # The database has caches that need not grow, and need not copy its log at the end.
                 as_usual = answer == self.usual and "years.db" in self.command.kept and self.command.state(copy) == self.after
                 return "usual" if as_usual else f"{refused.group(0)}: {answer}"
-            with copy_of(copy) as seen:
+            with common.copy_of(copy) as seen:
                 if self.command.state(seen) != self.before:
                     return f"{refused.group(0)}: {' or '.join(self.command.kept)} is not as before"
             again = lpis(self.command.words, copy)

@@ -1,5 +1,5 @@
 'use strict';
-// The page's own scripts in Node, for tools/tests/test_page: node scripts.js TASK <CASES >ANSWERS, both JSON.
+// The page's own scripts in Node, for tests/page/test_page.py: node scripts.js TASK <CASES >ANSWERS, both JSON.
 //
 //     explain   {words, cases: [{line, folder, cert, area}]}       what the page says of a refusal, in each language
 //     sums      {map, cases: [{folder}]}                           its sums by class, and its map
@@ -15,7 +15,7 @@ const NAMES = 'callOnce, CALLS, OutOfMemory, REPLY, MEMORY_PAGE, lay, refusalOf,
 
 /** The scripts of the worker, and that of the words; `say` and the like are of the languages that `words` has. */
 function load({ words, map = {} } = {}) {
-  const sources = ['module.js', 'tables.js', 'drawing.js', 'refusal.js', 'worker.js', ...(words ? ['words.js'] : [])].map(name => fs.readFileSync(path.join(PAGE, name), 'utf8'));
+  const sources = ['module.js', 'tables.js', 'layers.js', 'refusal.js', 'worker.js', ...(words ? ['words.js'] : [])].map(name => fs.readFileSync(path.join(PAGE, name), 'utf8'));
   const document = { getElementById: () => ({ textContent: JSON.stringify(words) }), documentElement: {}, querySelectorAll: () => [] };
   const context = vm.createContext({ TextDecoder, TextEncoder, WebAssembly, document, navigator: {}, MAP: map });
   const speaking = words ? ', linesOf, setLanguage: name => { language = name; }, LANGUAGES' : '';

@@ -1,16 +1,14 @@
 """What the tests of registers share: a call of the program, what SQLite finds in a register, the tables of version 3, a release that is cut and
-published, and the counts."""
+published."""
 
 import pathlib
 import sqlite3
 import subprocess
-import sys
 
-TOP = pathlib.Path(__file__).resolve().parent.parent.parent
-sys.path += [str(TOP / "bench"), str(TOP / "tools")]
-import common  # noqa: E402
-from registers import LEFT, RIGHT, TABLES, made, said  # noqa: E402
+import common
+from registers import LEFT, RIGHT, TABLES, made, said
 
+TOP = pathlib.Path(common.TOP)
 LPIS = common.lpis()
 YEARS = TOP / "examples" / "years"
 NEW = ["lpis_format", "lpis_release", "lpis_span", "lpis_row", "lpis_text", "lpis_mark"]
@@ -20,16 +18,9 @@ MARKED = [HISTORY[0], (2025, [("B",), ("C",)], [(0, "A", "B", True), (1, "A", "C
 SHAPES = [("B", LEFT), ("C", RIGHT)]
 ELSEWHERE = "POLYGON((20 0,30 0,30 10,20 10,20 0))"
 
-passed = failed = 0
-
 
 def expect(name, found, wanted):
-    global passed, failed
-    if found == wanted:
-        passed += 1
-    else:
-        failed += 1
-        print(f"{name}: {found!r} in place of {wanted!r}")
+    assert found == wanted, name
 
 
 def lpis(*words):

@@ -1,4 +1,5 @@
-"""Boxes that are asked which of them meet another one, without looking at each."""
+"""Boxes that are asked which of them meet another one, without looking at each. By numpy: an STRtree wants shapes, has other calls in each version of
+Shapely, and takes boxes that only touch; SQLite's R-tree rounds to 32 bits. Either is filtered once more."""
 
 import numpy
 

@@ -7,7 +7,7 @@ import os
 import shutil
 import tempfile
 
-from . import engines, files, findings, gathering, jobs, land, last_year, losses, naming, parts, passes, prepared, progress, splitting, store, streams
+from . import engines, files, gathering, jobs, land, last_year, losses, naming, parts, passes, prepared, progress, splitting, store, streams
 
 
 class Run(prepared.Run):

@@ -1,5 +1,5 @@
 """SQLite files of strangers. Nothing that their schema names is trusted, and no statement goes on for ever: a view may have an endless recursion. While a
-statement runs, signals are heard."""
+statement runs, signals are heard. GDAL would end at the first broken row."""
 
 import os
 import sqlite3

@@ -236,7 +236,7 @@ def read_package(path, names, wanted, outlined):
                 key = next((column for column, row in columns.items() if row[5] == 1 and str(row[2]).upper() in ("INTEGER", "INT")), None)
                 layers[name] = layer = Layer(name, key="fid" if key else "row", origin=Origin(path, table, chosen, shape, key))
                 if shape:
-                    layer.system = system_of(connection, shape[1])
+                    layer.system = system_of(connection, layer.origin)
                 if name not in outlined:
                     layer.rows += rows_of(connection, layer.origin)
                 layer.others = [column for column in columns if column not in chosen.values() and column not in (key, shape[0] if shape else "")]
@@ -307,15 +307,16 @@ def of_one_system(row, number, whose):
         row.why, row.found, row.place = f"its own system has the number {own}, and {whose} is {number}", None, row.found.box()[:2]
 
 
-def system_of(connection, srs):
+def system_of(connection, origin):
     """The system of a layer; None where it says that it has none."""
+    srs = origin.shape[1]
     if srs in (-1, 0):
         return None
     found = connection.execute("SELECT organization, organization_coordsys_id, definition FROM gpkg_spatial_ref_sys WHERE srs_id = ?", (srs,)).fetchone()
     if found is None:
-        return systems.System(None, False, 1.0, "", f"its number {srs} stands in no row of gpkg_spatial_ref_sys")
+        return systems.System(why=f"its number {srs} stands in no row of gpkg_spatial_ref_sys")
     organization, number, definition = found
-    return systems.of_definition(number if str(organization).upper() == "EPSG" else None, str(definition or ""))
+    return systems.of_definition(number if str(organization).upper() == "EPSG" else None, str(definition or ""), (row.found.box() for row in rows_of(connection, origin) if row.found))
 
 
 def read_folder(path, names, wanted, spare=None, outlined=()):

@@ -17,7 +17,7 @@ from .accepting import Left
 from .conflicts import ORDER, Loss, Source, find_conflicts, find_names, number_of, parts_of, polygons_by
 from .findings import readable
 
-__all__ = ["Loss", "conflicts_alone", "line_of", "number_of", "parts_of", "polygons_by", "report"]
+__all__ = ["Loss", "conflicts_alone", "first_lines", "number_of", "parts_of", "polygons_by", "report"]
 MOST_TOLD = 20
 MOST_REASONS = 3
 APART = ("between", "kept")  # kinds that have files of their own, where there are any
@@ -104,13 +104,7 @@ def feature_of(loss):
 def told(losses, found, counts):
     """The report as lines for people."""
     lines = [f"parcels {found[0]} of {counts['parcels']} pieces {found[1]} of {counts['covers']}"]
-    shown = Counter()
-    for loss in losses:
-        if loss.stops():
-            shown[loss.kind] += 1
-            if shown[loss.kind] <= MOST_TOLD:
-                lines.append(line_of(loss))
-    lines += [f"  and {count - MOST_TOLD} more of kind {kind}: see report.csv" for kind, count in shown.items() if count > MOST_TOLD]
+    lines += first_lines((loss for loss in losses if loss.stops()), "report.csv")
     narrow = [(loss.area, loss.width) for loss in losses if loss.width is not None and not loss.stops() and loss.kind != "between"]
     if narrow:
         lines.append(f"conflicts narrower than two centimetres: {len(narrow)}, together {sum(area for area, _ in narrow):.3f} m2, the widest {max(width for _, width in narrow) * 1000:.1f} mm")
@@ -119,6 +113,16 @@ def told(losses, found, counts):
     lines += [f"the greatest change of a parcel: {loss.words} ({' '.join(map(readable, loss.names))})" for loss in losses if loss.kind == "changed" and not loss.stops()]
     lines += [line_of(loss) for loss in losses if loss.kind == "column"]
     return lines
+
+
+def first_lines(losses, table):
+    """A line each for the first of each kind, and how many more a table has."""
+    lines, seen = [], Counter()
+    for loss in losses:
+        seen[loss.kind] += 1
+        if seen[loss.kind] <= MOST_TOLD:
+            lines.append(line_of(loss))
+    return lines + [f"  and {count - MOST_TOLD} more of kind {kind}: see {table}" for kind, count in seen.items() if count > MOST_TOLD]
 
 
 def line_of(loss):

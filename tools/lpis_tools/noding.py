@@ -1,5 +1,5 @@
 """Rings, edges and corners in arrays: the edges of shapes, the cells that they lie in, and a network of edges in whole millimetres between numbered
-corners, with who lies beside them. By numpy; no shape is made."""
+corners, with who lies beside them. By numpy; no shape is made: GEOS nodes in floating point, where a crossing is rounded."""
 
 from __future__ import annotations
 
@@ -224,16 +224,23 @@ class Network:
             place = numpy.minimum(numpy.searchsorted(wanted, key), len(wanted) - 1)
             kept = wanted[place] == key
             edge, key = edge[kept], key[kept]
-        order = numpy.argsort(key, kind="stable")
-        edge, key = edge[order], key[order]
-        behind = numpy.searchsorted(key, key, "right") - numpy.arange(len(key)) - 1
-        told = []
-        for low, high in parts_of(behind):
-            entry, step = expanded(behind[low:high])
-            told += meetings_of(ends, edge[low + entry], edge[low + entry + 1 + step], fresh)
+        low, high = numpy.minimum(ends[:, 0], ends[:, 2]), numpy.maximum(ends[:, 0], ends[:, 2])
+        told = [found for i, j in pairs_in_cells(edge, key, low, high) for found in meetings_of(ends, i, j, fresh)]
         edge, x, y = map(numpy.concatenate, zip(*told)) if told else (numpy.zeros(0, int),) * 3
         _, once = numpy.unique(numpy.stack([edge, x, y], axis=1), axis=0, return_index=True)
         return edge[once], x[once], y[once]
+
+
+def pairs_in_cells(edge, key, low, high):
+    """Pairs of edges that lie in one cell and share an x, some at a time: cells are crowded where some edges are far shorter than most, so they are in
+    order of their least x there, and none is held beside all. Of the entries of edges in cells, and the least and the greatest x of each edge."""
+    order = numpy.lexsort((low[edge], key))
+    edge, cell, leasts = edge[order], numpy.unique(key[order], return_inverse=True)[1] << 32, numpy.unique(low)
+    begins = cell | numpy.searchsorted(leasts, low[edge])
+    behind = numpy.searchsorted(begins, cell | numpy.searchsorted(leasts, high[edge], "right")) - numpy.arange(len(edge)) - 1
+    for first, last in parts_of(behind):
+        entry, step = expanded(behind[first:last])
+        yield edge[first + entry], edge[first + entry + 1 + step]
 
 
 def parts_of(counts, most=1 << 19):

@@ -118,8 +118,6 @@ class Preparation(preparing.Preparation):
         self.at(SHAPES)
         for name in store.LAYERS:
             first, count = starts[name]
-            self.findings.place = first - 0.5
-            self.many(name, count)
             self.findings.place = first + count - 0.5
             if not are_metres and self.base.execute("SELECT 1 FROM row WHERE is_cover = ? AND left IS NOT NULL LIMIT 1", (name == "covers",)).fetchone():
                 self.all_degrees(name)

@@ -128,7 +128,7 @@ class Run:
             conflicts = self.conflicts(work, seen)
             if not work.hopeless():
                 self.kept.keep(work.layers, self.made, seen)
-            print(*map(losses.line_of, conflicts), *whole.source_words(work.layers), sep="\n")
+            print(*losses.first_lines(conflicts, "prepared.csv"), *whole.source_words(work.layers), sep="\n")
             work.conflicts(conflicts)
             self.put_findings(work)
         remedy = "" if work.hopeless() else ", or mend and leave out by --accept"

@@ -84,7 +84,7 @@ class Preparation:
 
     def reason(self, name, system):
         first = next((row.found for row in self.layers[name].rows if row.found), None)
-        return system.at(first.box()[1] if first else 0.0)
+        return system.at(first and first.box()[:2])
 
     def transform(self, name, system, transformed):
         """Takes the shapes of a layer as another system has them."""

@@ -50,7 +50,7 @@ class Progress:
     def words(self, now):
         share = f"{self.what}: {self.done} of {self.count} {self.things} ({100 * self.done // max(1, self.count)} %)"
         left = (now - self.start) / self.done * (self.count - self.done) if self.done else 0
-        return share + (f", {time_of(left)} left" if self.done < self.count else f", {time_of(now - self.start)}")
+        return share + (f", {time_of(left)} left" if self.done < self.count else f", took {time_of(now - self.start)}")
 
     def end(self):
         if self.width:

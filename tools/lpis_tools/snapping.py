@@ -67,14 +67,13 @@ class Edges:
         return cls(parts_of_points(metres.reshape(-1, 2)).reshape(-1, 4), owners)
 
     def cells(self):
-        """The side of a cell in millimetres, and pairs of an edge and a cell's key, by the key."""
+        """The side of a cell in millimetres, and pairs of an edge and a cell's key."""
         millimetres = self.ends / WHOLE
         side = noding.size_of_cells(millimetres)
         found = [(start, noding.cells_along(millimetres[start : start + PART], side)) for start in range(0, len(millimetres), PART)]
         edge = numpy.concatenate([numpy.zeros(0, int), *(start + cells[0] for start, cells in found)])
         key = numpy.concatenate([numpy.zeros(0, int), *(key_of(*cells[1:]) for _, cells in found)])
-        order = numpy.argsort(key, kind="stable")
-        return side, edge[order], key[order]
+        return side, edge, key
 
     def kinds(self, *numbers):
         """Parts of a list of edges, or of pairs, each with the kind of number that its products fit: of 64 bits, or of any size."""
@@ -83,17 +82,18 @@ class Edges:
             is_long |= self.is_long[number]
         return [(mask, kind) for mask, kind in ((~is_long, numpy.int64), (is_long, object)) if mask.any()]
 
+    def boxes(self):
+        """The least and the greatest x and y of each edge."""
+        return numpy.minimum(self.ends[:, :2], self.ends[:, 2:]), numpy.maximum(self.ends[:, :2], self.ends[:, 2:])
+
     def pixels(self):
         """The pixels of all ends."""
         return numpy.concatenate([pixel(self.ends.reshape(-1, 2)), self.points])
 
     def crossings(self):
         """The pixels of all proper crossings."""
-        low, high = numpy.minimum(self.ends[:, :2], self.ends[:, 2:]), numpy.maximum(self.ends[:, :2], self.ends[:, 2:])
-        behind, found = numpy.searchsorted(self.key, self.key, "right") - numpy.arange(len(self.key)) - 1, [numpy.zeros((0, 2), numpy.int64)]
-        for first, last in parts_of(behind):
-            entry, step = expanded(behind[first:last])
-            i, j = self.edge[first + entry], self.edge[first + entry + 1 + step]
+        (low, high), found = self.boxes(), [numpy.zeros((0, 2), numpy.int64)]
+        for i, j in noding.pairs_in_cells(self.edge, self.key, low[:, 0], high[:, 0]):
             for axis in (0, 1):  # boxes that touch alone have no proper crossing
                 near = (high[i, axis] > low[j, axis]) & (high[j, axis] > low[i, axis])
                 i, j = i[near], j[near]
@@ -102,18 +102,22 @@ class Edges:
 
     def met(self, hot):
         """The hot pixels that each edge meets, one after the other: pairs of an edge and a corner."""
-        keys = key_of(hot.points[:, 0] // self.side, hot.points[:, 1] // self.side)
-        order = numpy.argsort(keys, kind="stable")
-        least = numpy.searchsorted(keys[order], self.key)
-        many, met = numpy.searchsorted(keys[order], self.key, "right") - least, [numpy.zeros(0, int)]
-        low, high = pixel(numpy.minimum(self.ends[:, :2], self.ends[:, 2:])), pixel(numpy.maximum(self.ends[:, :2], self.ends[:, 2:]))
+        keys, places = key_of(hot.points[:, 0] // self.side, hot.points[:, 1] // self.side), numpy.unique(hot.points[:, 0])
+        order = numpy.lexsort((hot.points[:, 0], keys))
+        cells, cell = numpy.unique(keys[order], return_inverse=True)
+        ordered = (cell << 32) | numpy.searchsorted(places, hot.points[order, 0])
+        low, high = map(pixel, self.boxes())
+        own = numpy.searchsorted(cells, self.key)
+        is_there = (own < len(cells)) & (cells[numpy.minimum(own, len(cells) - 1)] == self.key)
+        edges, own = self.edge[is_there], own[is_there] << 32
+        least = numpy.searchsorted(ordered, own | numpy.searchsorted(places, low[edges, 0]))
+        many = numpy.searchsorted(ordered, own | numpy.searchsorted(places, high[edges, 0], "right")) - least
+        met = [numpy.zeros(0, int)]
         for first, last in parts_of(many):
             entry, step = expanded(many[first:last])
-            corner, edge = order[least[first + entry] + step], self.edge[first + entry]
-            for axis in (0, 1):
-                place = hot.points[corner, axis]
-                near = (place >= low[edge, axis]) & (place <= high[edge, axis])
-                corner, edge = corner[near], edge[near]
+            corner, edge = order[least[first + entry] + step], edges[first + entry]
+            near = (hot.points[corner, 1] >= low[edge, 1]) & (hot.points[corner, 1] <= high[edge, 1])
+            corner, edge = corner[near], edge[near]
             for mask, kind in self.kinds(edge) if len(edge) else ():
                 on = meets(self.ends[edge[mask]], hot.points[corner[mask]], kind)
                 met.append((edge[mask][on] << 32) | corner[mask][on])

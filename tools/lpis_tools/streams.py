@@ -13,7 +13,6 @@ from .tables import COLUMNS, FREE, INSTEAD
 
 csv.field_size_limit(1 << 30)
 MARK = "\xef\xbb\xbf"  # the byte order mark; bytes are letters here, one for one
-BLANKS = str.maketrans("(),", "   ")
 FAR = 20_000_000_000
 
 

@@ -1,6 +1,6 @@
 """Shapes as a GeoPackage has them (well-known binary): Z and M are dropped and arcs made straight, and each such thing is noted. What the grammar of the
 tables would refuse is refused here too, with the place: a ring of fewer than four points, one that does not end where it begins, an empty ring, a
-collection. Python's standard library alone."""
+collection. Python's standard library alone: GDAL parts an arc by an angle, not by how far it lies beside it, and GEOS has no arcs."""
 
 from __future__ import annotations
 
@@ -10,7 +10,6 @@ import struct
 ARC = 0.0005  # metres that a straightened arc may lie beside the arc: no more than rounding does
 MOST_POINTS = 100_000  # of a shape: what arcs would make beyond them is not made
 FAR = 100_000_000.0  # metres: no map has places beyond it, and its arcs stay as they are
-LISTS = {4, 5, 6, 7, 11, 12, 15, 16}
 NAMES = {1: "a point", 2: "a line", 4: "points", 5: "lines", 7: "a collection", 8: "an arc", 9: "a curve", 11: "curves", 15: "a surface of polygons", 16: "a net of triangles", 17: "a triangle"}
 HEAD = struct.Struct("<BII")
 COUNT = struct.Struct("<I")
@@ -62,9 +61,6 @@ class Found:
             xs, ys = values[0::2], values[1::2]
             self.bounds = min(xs), min(ys), max(xs), max(ys)
         return self.bounds
-
-    def is_finite(self):
-        return all(map(math.isfinite, self.numbers()))
 
     def count(self):
         """How many points there are."""

@@ -1,6 +1,6 @@
 """Polygons as text: the grammar of the tables (docs/FORMATS.md) with coordinates of any number of decimals, and SRID, Z, M, ZM, EMPTY and curves as
 words of their own. Whatever else comes is refused with the word and its offset: nothing is passed over and nothing guessed. Python's standard
-library alone."""
+library alone: GEOS and GDAL give no offset, drop what they do not know, and read an exponent and NaN."""
 
 from __future__ import annotations
 

@@ -1,4 +1,5 @@
-"""The words of a tool's command line: --help, --version, and status 64 for words that it does not know."""
+"""The words of a tool's command line: --help, --version, and status 64 for words that it does not know. By argparse: others are
+no part of Python."""
 
 import argparse
 import contextlib

@@ -1,7 +1,6 @@
 """Lineage between two years, publishing, tracing, and what a register keeps."""
 
 import os
-import tempfile
 
 from qgis.core import (
     QgsProcessing, QgsProcessingException, QgsProcessingOutputNumber, QgsProcessingOutputString, QgsProcessingParameterBoolean,

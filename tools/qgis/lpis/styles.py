@@ -31,50 +31,28 @@ def label(layer, field):
     layer.setLabelsEnabled(True)
 
 
-def categories(layer, field, colour_of, words_of):
+def in_one_colour(colour, field):
+    def style(layer):
+        layer.setRenderer(QgsSingleSymbolRenderer(symbol(layer, colour)))
+        label(layer, field)
+
+    return style
+
+
+def by_value(field, colour_of, words_of, name):
     """A colour for each value that the layer has."""
-    found = {}
-    for feature in layer.getFeatures():
-        found.setdefault(feature[field] or "", words_of(feature))
-    return [QgsRendererCategory(value, symbol(layer, colour_of(number, value)), words) for number, (value, words) in enumerate(sorted(found.items()))]
+    def style(layer):
+        found = {}
+        for feature in layer.getFeatures():
+            found.setdefault(feature[field] or "", words_of(feature))
+        shown = [QgsRendererCategory(value, symbol(layer, colour_of(number, value)), words) for number, (value, words) in enumerate(sorted(found.items()))]
+        layer.setRenderer(QgsCategorizedSymbolRenderer(field, shown))
+        label(layer, name)
+
+    return style
 
 
-def one_colour(layer, colour, field):
-    layer.setRenderer(QgsSingleSymbolRenderer(symbol(layer, colour)))
-    label(layer, field)
-
-
-def parcels(layer):
-    one_colour(layer, SOUND, "parcel")
-
-
-def fault(layer):
-    one_colour(layer, FAULT, "name")
-
-
-def report(layer):
-    one_colour(layer, FAULT, "identifiers")
-
-
-def between(layer):
-    one_colour(layer, GAP, "identifiers")
-
-
-def found(layer):
-    one_colour(layer, OTHER, "identifier")
-
-
-def located(layer):
-    one_colour(layer, POINT, "parcel")
-
-
-def faults(layer):
-    shown = categories(layer, "code", lambda number, _: COLOURS[number % len(COLOURS)], lambda feature: f"{feature['code']}: {feature['meaning']}")
-    layer.setRenderer(QgsCategorizedSymbolRenderer("code", shown))
-    label(layer, "names")
-
-
-def lineage(layer):
-    shown = categories(layer, "kind", lambda _, kind: KINDS.get(kind, OTHER), lambda feature: feature["kind"] or "not clear")
-    layer.setRenderer(QgsCategorizedSymbolRenderer("kind", shown))
-    label(layer, "old")
+parcels, fault, report = in_one_colour(SOUND, "parcel"), in_one_colour(FAULT, "name"), in_one_colour(FAULT, "identifiers")
+between, found, located = in_one_colour(GAP, "identifiers"), in_one_colour(OTHER, "identifier"), in_one_colour(POINT, "parcel")
+faults = by_value("code", lambda number, _: COLOURS[number % len(COLOURS)], lambda feature: f"{feature['code']}: {feature['meaning']}", "names")
+lineage = by_value("kind", lambda _, kind: KINDS.get(kind, OTHER), lambda feature: feature["kind"] or "not clear", "old")

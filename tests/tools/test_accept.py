@@ -1,0 +1,114 @@
+"""Tests that accepting is not all or nothing: by kinds, by rows that somebody marked, and that an accepting run takes up what the run before has rounded. Wants
+Shapely."""
+
+import csv
+import os
+
+import dirty
+from preparing_case import Case, rows
+from lpis_tools import accepting
+
+KINDS = ("null", "crossing", "wide", "narrow", "twin")
+TAKEN = "the borders are those that the run before has rounded"
+
+
+class Accepted(Case):
+    def setUp(self):
+        super().setUp()
+        self.source = dirty.make(self.path("land.gpkg"), KINDS)
+
+    def marked(self, table, is_accepted, name="reviewed.csv", header=()):
+        """A copy of a table of the run, with the rows marked that are accepted."""
+        with open(self.path(name), "w", newline="", encoding="utf-8") as file:
+            found = rows(self.out, table)
+            out = csv.DictWriter(file, [*found[0], *(header or ("accepted", "who", "why"))], delimiter=";", extrasaction="ignore")
+            out.writeheader()
+            out.writerows({**row, "accepted": "1" if is_accepted(row) else "", "who": "E. Muster", "why": "looked at in the field"} for row in found)
+        return self.path(name)
+
+    def last_line(self, run):
+        return run.stdout.splitlines()[-1]
+
+    def test_kinds(self):
+        """Kinds that are accepted pass, and the last line names what still stops; --accept alone is all of them, before or behind the others."""
+        every = "shape,invalid,overlap,gap,changed,lost"
+        for words, status, told in (
+            ([], 1, "to look at: 8 (3 overlap, 3 gap, 1 shape, 1 invalid: shape null.2; invalid crossing.2; overlap wide-2.1 wide.2; ..), no table is written"),
+            (["--accept", "shape"], 1, "to look at: 7 of 8, the others are accepted (3 overlap, 3 gap, 1 invalid: invalid crossing.2; "),
+            (["--accept", "shape,invalid"], 1, "to look at: 13 of 14, the others are accepted ("),
+            (["--accept", every.replace(",lost", "")], 1, "to look at: 3 of 14, the others are accepted (lost twin; lost twin.1; lost twin.2)"),
+            (["--accept", every], 0, "to look at: 14, accepted"), (["--accept"], 0, "to look at: 14, accepted"), ([f"--accept={every}"], 0, "to look at: 14, accepted"),
+        ):
+            run = self.run_on(self.source, *words)
+            self.assertEqual((run.returncode, told in self.last_line(run)), (status, True), (words, self.last_line(run), run.stderr))
+            self.assertEqual("no table is written" in self.last_line(run), bool(status))
+        self.assertIn("left out", [row["kind"] for row in rows(self.out, "report.csv")])
+        for given, wanted in ((["--accept", "LAND", "OUT"], ["--accept=all", "LAND", "OUT"]), (["LAND", "--accept", "left-out,gap", "OUT"], ["LAND", "--accept=left-out,gap", "OUT"]),
+                              (["LAND", "OUT", "--accept", "--previous", "gap"], ["LAND", "OUT", "--accept=all", "--previous", "gap"])):
+            self.assertEqual(accepting.arguments_of(given), wanted)
+        for words in (["--accept", "gapp"], ["--accept=gapp"], ["--between", "0"], ["--between", "nan"], ["--between", "wide"]):
+            self.assertEqual(self.run_on(self.source, *words).returncode, 64, words)
+
+    def test_rows(self):
+        """Rows that somebody marked in copies of both tables pass, and those alone."""
+        self.run_on(self.source)
+        first, every = self.marked("prepared.csv", lambda row: "twin" not in row["identifier"]), self.marked("prepared.csv", lambda row: True, "every.csv")
+        run = self.run_on(self.source, "--accept-from", first)
+        self.assertEqual((run.returncode, "to look at: 9 of 14, the others are accepted (4 changed, 3 lost, 2 overlap: " in self.last_line(run)), (1, True), run.stdout + run.stderr)
+        run = self.run_on(self.source, "--accept-from", every)
+        self.assertEqual((run.returncode, "to look at: 7 of 14, the others are accepted (4 changed, 3 lost: " in self.last_line(run)), (1, True), run.stdout + run.stderr)
+        second = self.marked("report.csv", lambda row: row["stops"] == "1" and (row["kind"], row["identifiers"]) != ("lost", "twin"), "second.csv")
+        run = self.run_on(self.source, "--accept-from", every, "--accept-from", second)
+        self.assertEqual((run.returncode, "to look at: 1 of 14, the others are accepted (lost twin): mend the source" in self.last_line(run)), (1, True), self.last_line(run))
+        run = self.run_on(self.source, "--accept-from", every, "--accept-from", second, "--accept", "lost")
+        self.assertEqual((run.returncode, self.last_line(run)), (0, "to look at: 14, accepted"), run.stdout + run.stderr)
+
+    def test_another_land(self):
+        """A mark is for the row that was looked at: where its area or its place is another it stops again."""
+        self.run_on(self.source)
+        marked = self.marked("prepared.csv", lambda row: True)
+        base = dirty.sqlite3.connect(self.source)
+        base.execute("UPDATE covers SET geom = (SELECT geom FROM covers WHERE piece = 'wide-2.2') WHERE piece = 'wide-2.1'")
+        base.commit()
+        base.close()
+        run = self.run_on(self.source, "--accept-from", marked)
+        self.assertEqual((run.returncode, "4 lost, 3 changed, 1 overlap, 1 gap: " in self.last_line(run)), (1, True), run.stdout + run.stderr)
+
+    def test_tables_that_are_none(self):
+        self.run_on(self.source)
+        copy = self.marked("prepared.csv", lambda row: True, header=("who",))
+        with open(self.path("yes.csv"), "w", encoding="ascii") as file:
+            file.write("kind,layer,row,identifier,area_m2,x,y,accepted\nshape,covers,10,null.2,,,,yes\n")
+        for path, words in ((copy, "no column accepted: it is no copy of prepared.csv or report.csv"), (self.path("yes.csv"), "accepted is 'yes', and not 1, 0 or empty"), (self.path("none.csv"), "none.csv")):
+            run = self.run_on(self.source, "--accept-from", path)
+            self.assertEqual((run.returncode, words in run.stderr, "Traceback" in run.stderr), (64, True, False), run.stderr)
+
+
+class Again(Case):
+    def test_taken_up(self):
+        """A run that accepts takes up the borders of the run before, and has the tables of one that rounds; where anything is another it rounds."""
+        source = dirty.make(self.path("land.gpkg"), KINDS)
+        self.assertEqual(self.run_on(source, "--accept").returncode, 0)
+        wanted = {name: self.bytes_of(name) for name in ("parcels.csv", "covers.csv", "report.csv", "balance.csv")}
+        self.assertNotIn(".rounded", os.listdir(self.out))
+        for change, words, is_taken in ((lambda: None, [], True), (self.change_source, [], False), (self.change_tables, [], False), (lambda: None, ["--between", "2"], False)):
+            self.assertEqual(self.run_on(source).returncode, 1)
+            change()
+            run = self.run_on(source, "--accept", *words)
+            self.assertEqual((run.returncode, TAKEN in run.stderr), (0, is_taken), run.stderr)
+            self.assertEqual({name: self.bytes_of(name) for name in wanted}, wanted)
+            self.assertNotIn(".rounded", os.listdir(self.out))
+
+    def bytes_of(self, name):
+        with open(os.path.join(self.out, name), "rb") as file:
+            return file.read()
+
+    def change_source(self):
+        base = dirty.sqlite3.connect(self.path("land.gpkg"))
+        base.execute("CREATE TABLE note (text TEXT)")
+        base.commit()
+        base.close()
+
+    def change_tables(self):
+        with open(os.path.join(self.out, ".rounded", "parcels.csv"), "a", encoding="ascii") as file:
+            file.write("X,POLYGON((0 0,1 0,1 1,0 0))\n")

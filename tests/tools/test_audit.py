@@ -1,0 +1,223 @@
+"""Tests what the guide tells to do with a register beside lpis: a backup while another process uses it, and the queries of tools/audit.sql. Wants the
+system's sqlite3. The register is made by SQLite as docs/FORMATS.md has it, and by `lpis` where that is built or named by LPIS."""
+
+import csv
+import hashlib
+import json
+import os
+import re
+import shutil
+import sqlite3
+import subprocess
+import sys
+import tempfile
+import unittest
+
+from places import BUILT, TOOLS, TOP
+import dirty
+from lpis_tools import shapely_there
+
+SECOND = """
+CREATE TABLE lpis_format (one INTEGER NOT NULL PRIMARY KEY, version INTEGER NOT NULL) STRICT;
+CREATE TABLE lpis_release (year INTEGER NOT NULL PRIMARY KEY) STRICT;
+CREATE TABLE lpis_span (id TEXT NOT NULL PRIMARY KEY, since INTEGER NOT NULL REFERENCES lpis_release (year), until INTEGER NOT NULL) STRICT;
+CREATE TABLE lpis_row (year INTEGER NOT NULL REFERENCES lpis_release (year), pos INTEGER NOT NULL, old TEXT NOT NULL, new TEXT NOT NULL, PRIMARY KEY (year, pos)) STRICT;
+INSERT INTO lpis_format VALUES (1, 2);
+INSERT INTO lpis_release VALUES (2024), (2025), (2027);
+INSERT INTO lpis_span VALUES ('A', 2024, 2024), ('B', 2025, 0), ('C', 2025, 2025), ('D', 2024, 2025), ('E', 2027, 0);
+INSERT INTO lpis_row VALUES (2025, 0, 'A', 'B'), (2025, 1, 'A', 'C'), (2027, 0, 'C', 'E'), (2027, 1, 'D', '');
+"""
+THIRD = """
+CREATE TABLE lpis_text (id TEXT NOT NULL PRIMARY KEY, wkt TEXT NOT NULL) STRICT;
+CREATE TABLE lpis_mark (year INTEGER NOT NULL, pos INTEGER NOT NULL, PRIMARY KEY (year, pos), FOREIGN KEY (year, pos) REFERENCES lpis_row (year, pos)) STRICT;
+UPDATE lpis_format SET version = 3;
+INSERT INTO lpis_text VALUES ('B', 'POLYGON((0.000 0.000,1.000 0.000,1.000 1.000,0.000 0.000))');
+INSERT INTO lpis_mark VALUES (2025, 0), (2025, 1);
+"""
+
+
+def made(path, *scripts):
+    base = sqlite3.connect(path)
+    for script in scripts:
+        base.executescript(script)
+    base.commit()
+    base.close()
+    return path
+
+
+def asked(path, queries="audit.sql"):
+    """What the queries print, line by line."""
+    with open(os.path.join(TOOLS, queries), encoding="utf-8") as file:
+        run = subprocess.run(["sqlite3", "-readonly", path], stdin=file, capture_output=True, text=True, check=False)
+    assert run.returncode == 0 and not run.stderr, run.stderr
+    return [line for line in run.stdout.splitlines() if line and not line.endswith(":")]
+
+
+@unittest.skipUnless(shutil.which("sqlite3"), "no sqlite3 (Debian: sqlite3)")
+class Registers(unittest.TestCase):
+    def setUp(self):
+        self.spare = tempfile.TemporaryDirectory()
+        self.addCleanup(self.spare.cleanup)
+        self.path = os.path.join(self.spare.name, "register.db")
+
+    def test_audit(self):
+        for scripts, version in (((SECOND,), "2"), ((SECOND, THIRD), "3")):
+            path = made(self.path, *scripts)
+            self.assertEqual(asked(path), [version, "ok", "2024|2|2|0|0", "2025|3|2|1|2", "2027|2|1|2|2", "2025|0|0|1", "2027|1|1|0", "2025|A|2"])
+            os.remove(path)
+
+    def test_audit_shapes(self):
+        path = made(self.path, SECOND, THIRD)
+        self.assertEqual(asked(path, "audit_shapes.sql"), ["1|2|58", "B|58", "2025|2"])
+        made(path, "INSERT INTO lpis_text VALUES ('A', 'x')")
+        self.assertEqual(asked(path, "audit_shapes.sql"), ["2|2|59", "A", "B|58", "A|1", "2025|2"])
+
+    def test_faults(self):
+        path = made(self.path, SECOND, "DELETE FROM lpis_row WHERE year = 2027; INSERT INTO lpis_row VALUES (2025, 2, 'B', 'X')")
+        self.assertEqual(asked(path)[-5:], ["2025|A|2", "dropped without a row|C|2025", "dropped without a row|D|2025", "no such successor|X|2025", "not dropped|B|2025"])
+
+    def backup(self, path):
+        """The command as the guide has it, on other files."""
+        with open(os.path.join(TOP, "docs", "GUIDE.md"), encoding="utf-8") as file:
+            command = re.search(r"^ +(sqlite3 register\.db .*\.backup.*?)\s*(?:#.*)?$", file.read(), re.MULTILINE)[1]
+        copy = os.path.join(self.spare.name, "copy.db")
+        return subprocess.run(["bash", "-c", command.replace("register.db", path).replace("register-2026.db", copy)], capture_output=True, text=True, check=False), copy
+
+    def test_backup(self):
+        path = made(self.path, SECOND)
+        base = sqlite3.connect(path)
+        base.execute("BEGIN")
+        base.execute("SELECT * FROM lpis_row").fetchall()  # another process reads
+        run, copy = self.backup(path)
+        self.assertEqual((run.returncode, run.stderr), (0, ""))
+        base.rollback()
+        self.assertEqual(asked(copy), asked(path))
+        writer = subprocess.Popen([sys.executable, "-c", "import sqlite3, sys, time; b = sqlite3.connect(sys.argv[1]); b.execute('BEGIN EXCLUSIVE'); "
+                                   "b.execute(\"INSERT INTO lpis_span VALUES ('Z', 2027, 0)\"); print(1, flush=True); time.sleep(2); b.commit()", path], stdout=subprocess.PIPE)
+        writer.stdout.readline()
+        run, copy = self.backup(path)  # another process writes: the backup waits for it
+        writer.wait()
+        writer.stdout.close()
+        self.assertEqual((run.returncode, run.stderr), (0, ""))
+        self.assertEqual(sqlite3.connect(copy).execute("SELECT count(*) FROM lpis_span WHERE id = 'Z'").fetchone(), (1,))
+
+    def lines_of_the_guide(self):
+        """The queries of the guide, line by line, and what it advises for another user's register."""
+        with open(os.path.join(TOP, "docs", "GUIDE.md"), encoding="utf-8") as file:
+            page = file.read()
+        lines = [line.strip() for line in page.split("### Reading the register")[1].split("###")[0].splitlines() if line.startswith("    sqlite3 -readonly")]
+        advice = re.search(r"`attempt to write a readonly database`: (db=\S+)$", page, re.MULTILINE)[1]
+        self.assertGreater(len(lines), 8)
+        return [line.replace("<tools/", f"<{TOOLS}/").replace(">kept.csv", "") for line in lines], advice.replace("register.db", self.path)
+
+    def asked_as(self, line, setting, *before):
+        return subprocess.run([*before, "bash", "-c", f"{setting}; {line}"], capture_output=True, text=True, check=False, cwd="/")
+
+    def test_queries_of_the_guide(self):
+        """As the owner, and as somebody who may not write beside the register."""
+        base = sqlite3.connect(made(self.path, SECOND, THIRD))
+        base.execute("PRAGMA journal_mode = WAL")
+        base.close()
+        os.chmod(self.spare.name, 0o755)
+        before = ["setpriv", "--reuid=65534", "--regid=65534", "--clear-groups"] if os.geteuid() == 0 else []
+        lines, advice = self.lines_of_the_guide()
+        if not before:
+            os.chmod(self.spare.name, 0o555)
+            self.addCleanup(os.chmod, self.spare.name, 0o755)
+        self.assertIn("readonly database", self.asked_as(lines[0], f"db={self.path}", *before).stderr)
+        if not before or os.stat(TOOLS).st_mode & 0o5 == 5:  # as the tools read it
+            wanted = "import sys; sys.path.insert(0, sys.argv[1]); from lpis_tools import registers; print(registers.facts(sys.argv[2])['years'])"
+            run = subprocess.run([*before, sys.executable, "-B", "-c", wanted, TOOLS, self.path], capture_output=True, text=True, check=False, cwd="/")
+            self.assertEqual((run.stdout, run.stderr), ("[2024, 2025, 2027]\n", ""))
+        others = [self.asked_as(line, advice, *before) for line in lines]
+        self.assertEqual([(run.returncode, run.stderr) for run in others], [(0, "")] * len(lines))
+        os.chmod(self.spare.name, 0o755)
+        self.assertEqual([self.asked_as(line, f"db={self.path}").stdout for line in lines], [run.stdout for run in others])
+
+    @unittest.skipUnless(BUILT, "the program is not built")
+    def test_of_the_program(self):
+        for year in ("2024", "2025"):
+            folder, cert = os.path.join(TOP, "examples", "years", year), os.path.join(self.spare.name, "cert.txt")
+            for words in (["cut", folder, cert], ["publish", self.path, year, folder, cert]):
+                subprocess.run([BUILT, *words], check=True, capture_output=True)
+        lines = asked(self.path)
+        self.assertEqual(lines[1:4], ["ok", "2024|5|5|0|0", "2025|4|3|4|5"])
+        self.assertEqual(lines[-1], "2025|valley|2")
+        run, copy = self.backup(self.path)
+        self.assertEqual((run.returncode, run.stderr), (0, ""))
+        self.assertEqual(asked(copy), lines)
+        found = [subprocess.run([BUILT, "trace", path, "north"], capture_output=True, text=True, check=False).stdout for path in (self.path, copy)]
+        self.assertEqual(found, ["north-1\nnorth-2\n"] * 2)
+
+
+@unittest.skipUnless(BUILT and shapely_there.python(), "the program is not built, or Shapely is not there")
+class BeforeTheTables(unittest.TestCase):
+    """A report names and sums what was left out before the tables that have the yes."""
+
+    def setUp(self):
+        spare = tempfile.TemporaryDirectory()
+        self.addCleanup(spare.cleanup)
+        self.folder = spare.name
+        self.out, self.cert = self.path("release"), self.path("cert.txt")
+        land = dirty.make(self.path("land.gpkg"), ["null", "twin", "bare", "blank", "wide"])
+        run = subprocess.run([os.path.join(TOOLS, "prepare"), land, self.out, "--accept"], capture_output=True, text=True, check=False)
+        self.assertEqual(run.returncode, 0, run.stdout + run.stderr)
+        subprocess.run([BUILT, "cut", self.out, self.cert], check=True, capture_output=True)
+
+    def path(self, name):
+        return os.path.join(self.folder, name)
+
+    def report(self):
+        words = [os.path.join(TOOLS, "report"), self.out, self.cert, "--json", self.path("r.json"), "--html", self.path("r.html"), "--lpis", BUILT]
+        run = subprocess.run(words, capture_output=True, text=True, check=False)
+        self.assertEqual(run.returncode, 0, run.stdout + run.stderr)
+        with open(self.path("r.json"), encoding="utf-8") as file:
+            told = json.load(file)
+        with open(self.path("r.html"), encoding="utf-8") as file:
+            return run.stdout, told, file.read()
+
+    def test_beside(self):
+        text, told, html = self.report()
+        with open(os.path.join(self.out, "report.csv"), newline="", encoding="utf-8") as file:
+            gone = [row for row in csv.DictReader(file) if row["kind"] in ("lost", "left out") and row["layer"] == "parcels"]
+        area = sum(float(row["area_m2"]) for row in gone)
+        self.assertEqual((len(gone), area), (2, 200.0))
+        self.assertIn("left out of the source: 2 parcels, 0.0200 ha; 3 pieces, 0.0100 ha", text)
+        self.assertIn("left out of the source: 2 parcels, 0.0200 ha; 3 pieces, 0.0100 ha", html)
+        self.assertEqual(told["origin"]["gone"][0], {"layer": "parcels", "rows": 2, "area": "200.000"})
+        self.assertEqual(told["origin"]["faults"], [])
+        self.assertIn("Balance of land", html)
+        for name in ("prepared.csv", "report.csv", "balance.csv", "identifiers.csv"):
+            with open(os.path.join(self.out, name), "rb") as file:
+                digest = hashlib.sha256(file.read()).hexdigest()
+            self.assertEqual((told["files"][name]["sha256"], digest in html), (digest, True), name)
+
+    def test_said(self):
+        """The script says in one line what was left out, and `tools/year` ends with it; where nothing was, nothing is said."""
+        words = "left out of the source: 2 parcels, 0.0200 ha; 3 pieces, 0.0100 ha"
+        command = ["bash", "-c", f'. {os.path.join(TOOLS, "run.sh")}; run_program "$@"', "_", os.path.dirname(BUILT), "check", self.out, self.cert]
+        run = subprocess.run(command, capture_output=True, text=True, check=False)
+        told = [line for line in run.stderr.splitlines() if "left out" in line]
+        self.assertEqual((run.returncode, len(told), words in told[0], "accepted by --accept" in told[0]), (0, 1, True, True), run.stderr)
+        self.assertNotIn("left out", run.stdout)
+        run = subprocess.run([os.path.join(TOOLS, "year"), self.path("r.db"), "2026", self.out, "--new", "--lpis", BUILT], capture_output=True, text=True, check=False)
+        self.assertEqual((run.returncode, run.stdout.splitlines()[-4:-2]), (0, ["the balance adds up to the square metre", words]), run.stdout + run.stderr)
+        self.assertRegex(run.stdout.splitlines()[-1], "^accepted by --accept: [0-9]+ rows of report.csv$")
+        for name in ("prepared.csv", "report.csv"):
+            with open(os.path.join(self.out, name), "w", encoding="ascii") as file:
+                file.write("kind,layer,stops\nkept,covers,0\n")
+        self.assertNotIn("left out", subprocess.run(command, capture_output=True, text=True, check=False).stderr)
+
+    def test_of_other_tables(self):
+        path = os.path.join(self.out, "balance.csv")
+        with open(path, encoding="utf-8") as file:
+            text = file.read()
+        with open(path, "w", encoding="utf-8") as file:
+            file.write(re.sub(r"covers,GRASS,(.*),([0-9.]+),0.000", r"covers,GRASS,\1,9.000,0.000", text))
+        self.assertIn("balance.csv, report.csv and prepared.csv are of other tables: GRASS has 9.000 m2 there", self.report()[0])
+
+    def test_nothing_beside(self):
+        for name in ("prepared.csv", "report.csv", "report.geojson", "balance.csv", "identifiers.csv"):
+            os.remove(os.path.join(self.out, name))
+        text, told, html = self.report()
+        self.assertEqual((told["origin"], "left out" in text, "nothing is beside the tables" in html), (None, False, True))

@@ -1,0 +1,136 @@
+"""Tests tools/country prepare's cells: lands that are hard to round, cell by cell against the whole, byte for byte, and land that nobody has between parcels. Wants
+Shapely."""
+
+import os
+from unittest import mock
+
+import hard
+from lpis_tools import shapely_there
+
+from cells_case import ByCells, mended, read
+
+if shapely_there.is_there():
+    from lpis_tools import land as land_module, last_year, rounding, snapping, store
+
+
+class Cells(ByCells):
+    def test_as_the_whole(self):
+        for seed, step in enumerate((0.02, 3.0, 30.0)):
+            land = mended(hard.Land(seed, 30, step))
+            whole = self.whole(land)
+            self.assertIn("overlap", [kind for kind, *_ in whole])
+            for most, least in ((200, 4), (60, 9), (1, 25)):
+                with self.subTest(seed=seed, most=most):
+                    made, found = self.by_cells(land, most)
+                    self.assertGreaterEqual(len(os.listdir(self.path("results"))), least)
+                    for name in ("parcels.csv", "covers.csv"):
+                        self.assertEqual(read(made, name), read(self.folder, "whole", name))
+                    self.assertEqual(found, whole)
+
+    def test_between(self):
+        """Land that nobody has, as in one: faces that many cells have a part of, islands in them, and arms between parcels of two cells."""
+        for seed, step, width in ((0, 3.0, 0.1), (1, 0.3, 0.1), (2, 30.0, 60.0)):
+            land = mended(hard.Land(seed, 30, step))
+            gone = {row["parcel"] for row in land.parcels[::5]}
+            land.parcels, land.covers = ([row for row in rows if row["parcel"] not in gone] for rows in (land.parcels, land.covers))
+            whole = self.whole(land, width)
+            self.assertGreater(sum(kind == "between" for kind, *_ in whole), 5)
+            for most in (200, 60, 1):
+                with self.subTest(seed=seed, most=most):
+                    self.assertEqual(self.by_cells(land, most, width=width)[1], whole)
+
+    def test_moat(self):
+        """A narrow face of nobody that has the parcels of many cells around it and an island in it; and at a lesser width the one side of it that is narrow."""
+        land, side, wide = hard.Land(0, 0, 1.0), 10, 0.5
+        land.parcels.clear(), land.covers.clear()
+        for x in range(side + 2):
+            for y in (range(side + 2) if x in (0, side + 1) else (0, side + 1)):
+                land.ring(f"R{x}.{y}", *((x + dx, y + dy) for dx, dy in ((0, 0), (1, 0), (1, 1), (0, 1))))
+        land.ring("island", (1 + wide, 1 + wide), (side + 1 - wide, 1 + wide), (side + 1 - wide, side + 1 - 0.1), (1 + wide, side + 1 - 0.1))
+        for width, count, area in ((0.5, 1, side * side - (side - 1) * (side - 0.6)), (0.2, side, 0.1 * (side - 1))):
+            found = self.whole(land, width)
+            self.assertEqual((len(found), round(sum(loss[5] for loss in found), 6)), (count, round(area, 6)))
+            self.assertEqual(self.by_cells(land, 1, width=width)[1], found)
+
+    def test_last_year(self):
+        """With last year's corners cells give what the whole gives, and where parcels go more of the others stay as they were than without."""
+        for seed, step in enumerate((0.02, 3.0, 30.0)):
+            land = mended(hard.Land(seed, 30, step))
+            self.whole(land)
+            before, last, gone = self.texts(self.path("whole")), last_year.LastYear(self.path("whole")), {row["parcel"] for row in land.parcels[::5]}
+            land.parcels, land.covers = ([row for row in rows if row["parcel"] not in gone] for rows in (land.parcels, land.covers))
+            made = rounding.Map(land.parcels, land.covers, lambda words: None, then=rounding.numpy.concatenate([*last.shapes()]))
+            wanted = {land.covers[number]["piece"]: text for number, text in made.polygons(made.pieces)}
+            for most, large in ((200, 2000.0), (60, 2000.0), (1, 0.0)):
+                with self.subTest(seed=seed, most=most), mock.patch.object(store, "LARGE", large):
+                    folder, _ = self.by_cells(land, most, last=last)
+                    self.assertEqual({row.split(",", 3)[0]: row.split(",", 3)[3].strip('"') for row in read(folder, "covers.csv").splitlines()[1:]}, wanted)
+            stayed, without = (sum(text == before.get(name) for name, text in self.texts(found).items()) for found in (folder, self.by_cells(land, 10**9)[0]))
+            self.assertGreaterEqual(stayed, without, seed)
+            self.assertEqual(last.counts[1], len(read(self.folder, "whole", "parcels.csv").splitlines()) - 1)
+
+    def test_corners_that_moved(self):
+        """A corner of last year's beside an end of this year is none; one in its pixel, or two away, is."""
+        ends = rounding.numpy.array([[0, 0], [10, 10]])
+        points = rounding.numpy.array([[0, 0], [1, 1], [-1, 0], [2, 0], [10, 11], [5, 5], [0, 10]])
+        for by in (0, 10**10, -(10**10)):
+            self.assertEqual(snapping.are_beside(points + by, ends + by).tolist(), [False, True, True, False, True, False, False])
+        far = rounding.numpy.array([[-(2 * 10**10), -(2 * 10**10)], [2 * 10**10, 2 * 10**10]])
+        self.assertEqual(snapping.are_beside(far, far + 1).tolist(), [True, True])
+
+    def test_large(self):
+        """Parcels with large boxes, each a cell of its own with the rows beside its shapes alone: here all of them."""
+        for seed, step in enumerate((3.0, 30.0, 0.3)):
+            land = mended(hard.Land(seed, 30, step))
+            whole = self.whole(land)
+            with self.subTest(seed=seed), mock.patch.object(store, "LARGE", 0.0):
+                made, found = self.by_cells(land, 1)
+                self.assertEqual(len(os.listdir(self.path("results"))), len({row["parcel"] for row in land.covers}))
+                for name in ("parcels.csv", "covers.csv"):
+                    self.assertEqual(read(made, name), read(self.folder, "whole", name))
+                self.assertEqual(found, whole)
+
+    def test_what_is_done_is_taken_over(self):
+        """Of a land with rows before all others, and with one parcel moved, the cells beside these alone are made anew."""
+        land = mended(hard.Land(2, 30, 3.0))
+        self.by_cells(land, 60)
+        before = self.times()
+        self.by_cells(land, 60)
+        self.assertEqual(self.times(), before)
+        last = land.covers[-1]
+        last.found = hard.wkb.Found([[[(x + 0.001, y) for x, y in ring] for ring in member] for member in last.found.members])
+        far = [[[(x + 5000.0, y) for x, y in ((0.0, 0.0), (9.0, 0.0), (9.0, 9.0), (0.0, 0.0))]]]
+        land.parcels.insert(0, hard.Row(10**6, {"parcel": "FAR"}, far))
+        land.covers.insert(0, hard.Row(10**6, {"piece": "FAR.1", "parcel": "FAR", "class": "A"}, far))
+        self.by_cells(land, 60)
+        after = self.times()
+        anew = [name for name, when in after.items() if before.get(name) != when]
+        self.assertTrue(0 < len(anew) < len(after) / 2, (len(before), len(after), len(anew)))
+
+    def times(self):
+        return {name: os.stat(self.path("results", name)).st_mtime_ns for name in os.listdir(self.path("results"))}
+
+    def test_strange_results(self):
+        """What is no result stays, a result that was changed is told, and a link is not followed."""
+        land = mended(hard.Land(2, 9, 3.0))
+        os.mkdir(self.path("results"))
+        for name in ("mine.txt", "a" * 64 + ".jsonl", ".lpis-0123.new"):
+            with open(self.path("results", name), "w", encoding="utf-8"):
+                pass
+        self.by_cells(land, 10**9)
+        (result,) = {"mine.txt"} ^ set(os.listdir(self.path("results")))
+        with open(self.path("results", result), "w", encoding="utf-8") as file:
+            file.write("[1\n")
+        os.symlink(self.path("results"), self.path("link"))
+        for name, words in (("results", "not as it was written"), ("link", "is a link")):
+            with self.assertRaisesRegex(land_module.Trouble, words):
+                self.by_cells(land, 10**9, name)
+        self.assertIn("mine.txt", os.listdir(self.path("results")))
+
+    def test_places(self):
+        """Each place is in one cell, on both sides of naught; places that no cell parts stay together."""
+        places = rounding.numpy.array([[x, y] for x in (-(10**10), -1, 0, 1, 1023, 1024, 10**10) for y in (-5, 0, 2**30)] + [[7, 7]] * 5)
+        cells = [numbers.tolist() for numbers in store.cells_of(places, rounding.numpy.ones(len(places), int), 2)]
+        self.assertEqual(sorted(number for cell in cells for number in cell), list(range(len(places))))
+        self.assertTrue(all(len(cell) <= 2 or (places[cell] >> 10 == places[cell[0]] >> 10).all() for cell in cells))
+        self.assertEqual(list(store.cells_of(places[:0], rounding.numpy.zeros(0, int), 2)), [])

@@ -1,0 +1,200 @@
+"""Tests tools/country prepare: a source with every kind of dirt against tools/prepare, its regions by `lpis country` where the program is built or named
+by LPIS. Wants Shapely."""
+
+import csv
+import os
+import re
+import resource
+import shutil
+import signal
+import subprocess
+import tempfile
+import time
+import unittest
+
+from places import BUILT, TOOLS
+import dirty
+from cells_case import Case, read, write
+from lpis_tools import shapely_there
+
+if shapely_there.is_there():
+    from lpis_tools import land as land_module, rounding
+PARCELS = 110  # of the dirty source
+REPORTS = ("prepared.csv", "identifiers.csv", "report.csv", "report.geojson", "balance.csv", "classes.csv")
+
+
+def run(tool, *words):
+    return subprocess.run([os.path.join(TOOLS, tool), *map(str, words)], capture_output=True, text=True, check=False)
+
+
+def rows_of(folder, table, regions=None):
+    """The rows of a table, or of that of all regions, each once."""
+    names = regions if regions is not None else [""]
+    return sorted({row for name in names for row in read(folder, name, f"{table}.csv").splitlines()[1:]})
+
+
+class Sources(Case):
+    """A source with every kind of dirt, prepared as one release and as a country."""
+
+    @classmethod
+    def setUpClass(cls):
+        cls.spare = tempfile.TemporaryDirectory()
+        cls.land = dirty.make_large(os.path.join(cls.spare.name, "land.gpkg"), PARCELS)
+        cls.whole, cls.country = (os.path.join(cls.spare.name, name) for name in ("whole", "country"))
+        cls.runs = {"refused": (run("prepare", cls.land, cls.whole), run("country", "prepare", cls.land, cls.country))}
+        cls.refused = [sorted(os.listdir(folder)) for folder in (cls.whole, cls.country)]
+        cls.findings = [read(folder, "prepared.csv") for folder in (cls.whole, cls.country)]
+        cls.runs["accepted"] = run("prepare", cls.land, cls.whole, "--accept"), run("country", "prepare", cls.land, cls.country, "--accept", "--parcels", 30, "--tables", f"{cls.country}-tables")
+        cls.regions = re.findall(r"region (\w+)", read(cls.country, "country.txt")) if cls.runs["accepted"][1].returncode == 0 else []
+
+    @classmethod
+    def tearDownClass(cls):
+        cls.spare.cleanup()
+
+    def test_refused(self):
+        """Nothing is written but what was found, and that is what tools/prepare finds."""
+        one, other = self.runs["refused"]
+        self.assertEqual((one.returncode, other.returncode), (1, 1), other.stdout + other.stderr)
+        self.assertEqual(*self.findings)
+        self.assertEqual(*([name for name in found if not name.startswith(".")] for found in self.refused))
+        self.assertIn("mend the source, or mend and leave out by --accept", other.stdout)
+
+    def test_as_one_release(self):
+        one, other = self.runs["accepted"]
+        self.assertEqual((one.returncode, other.returncode), (0, 0), other.stdout + other.stderr)
+        self.assertGreater(len(self.regions), 3)
+        for name in ("parcels", "covers"):
+            self.assertEqual(rows_of(self.country, name, self.regions), rows_of(self.whole, name))
+        for name in REPORTS:
+            self.assertEqual(read(self.country, name), read(self.whole, name), name)
+        for name in ("parcels.csv", "covers.csv", "classes.csv"):
+            self.assertEqual(read(f"{self.country}-tables", name), read(self.whole, name), name)
+
+    def test_tables(self):
+        """A folder of tables goes into the store as it is read, and gives what tools/prepare makes of it."""
+        source, whole, country, tables = map(self.path, ("source", "whole", "country", "tables"))
+        os.mkdir(source)
+        for name, layer in land_module.read(self.land, wanted=("parcels", "covers", "classes")).items():
+            with open(os.path.join(source, f"{name}.csv"), "w", newline="", encoding="utf-8") as file:
+                table = csv.writer(file)
+                table.writerow([*land_module.COLUMNS[name], *(["wkt"] if name != "classes" else [])])
+                for row in layer.rows:
+                    shape = [f"SRID=25832;{rounding.shape_of(row.found).wkt}" if row.found else ""] if name != "classes" else []
+                    table.writerow([*map(row.fields.get, land_module.COLUMNS[name]), *shape])
+        one, other = run("prepare", source, whole, "--accept"), run("country", "prepare", source, country, "--accept", "--tables", tables)
+        self.assertEqual((one.returncode, other.returncode), (0, 0), other.stdout + other.stderr)
+        for name in REPORTS:
+            self.assertEqual(read(country, name), read(whole, name), name)
+        for name in ("parcels.csv", "covers.csv", "classes.csv"):
+            self.assertEqual(read(tables, name), read(whole, name), name)
+
+    @unittest.skipUnless(BUILT, "the program is not built")
+    def test_yes_and_no(self):
+        """The country is a yes; with a corner of a guest a millimetre elsewhere in one region it is refused."""
+        folder = shutil.copytree(self.country, self.path("country"))
+        self.assertEqual(run("country", "cut", folder, "--lpis", BUILT).returncode, 0)
+        checked = run("country", "check", folder, "--lpis", BUILT)
+        self.assertEqual((checked.returncode, checked.stdout.splitlines()[-1]), (0, "yes"), checked.stdout + checked.stderr)
+        places = {}
+        for region in self.regions:
+            for row in read(folder, region, "parcels.csv").splitlines()[1:]:
+                places.setdefault(row.split(",")[0], []).append(region)
+        guest = next(name for name, found in places.items() if len(found) > 1)
+        for name in ("parcels", "covers"):
+            path = os.path.join(folder, places[guest][0], f"{name}.csv")
+            text = "".join(self.moved(line) if guest in line else line for line in read(path).splitlines(keepends=True))
+            with open(path, "w", encoding="utf-8") as file:
+                file.write(text)
+        run("country", "cut", folder, "--lpis", BUILT)
+        self.assertNotEqual(run("country", "check", folder, "--lpis", BUILT).returncode, 0)
+
+    @staticmethod
+    def moved(line):
+        """A row whose eastings are a millimetre greater."""
+        return re.sub(r"([(,])(\d+)\.(\d{3}) ", lambda found: f"{found[1]}{(int(found[2] + found[3]) + 1) // 1000}.{(int(found[2] + found[3]) + 1) % 1000:03} ", line)
+
+    def test_again(self):
+        """A second run changes no file of a region, and rounds nothing."""
+        folder = shutil.copytree(self.country, self.path("country"))
+        cells = {name: os.stat(os.path.join(folder, ".cells", name)).st_mtime_ns for name in os.listdir(os.path.join(folder, ".cells"))}
+        again = run("country", "prepare", self.land, folder, "--accept", "--parcels", 30)
+        self.assertEqual((again.returncode, again.stdout.splitlines()[-1].split()[-1]), (0, "0"), again.stdout + again.stderr)
+        self.assertEqual({name: os.stat(os.path.join(folder, ".cells", name)).st_mtime_ns for name in os.listdir(os.path.join(folder, ".cells"))}, cells)
+
+    def test_killed(self):
+        """After a kill no table is there, and the next run has the same bytes."""
+        folder = self.path("country")
+        with subprocess.Popen([os.path.join(TOOLS, "country"), "prepare", self.land, folder, "--accept", "--parcels", "30"], stdout=subprocess.DEVNULL, stderr=subprocess.PIPE, text=True, start_new_session=True) as started:
+            for line in started.stderr:
+                if "rounding" in line:
+                    os.killpg(started.pid, signal.SIGKILL)
+        self.assertFalse([name for name in os.listdir(folder) if re.fullmatch(r"r\d+|country.txt|report.*", name)])
+        again = run("country", "prepare", self.land, folder, "--accept", "--parcels", 30)
+        self.assertEqual(again.returncode, 0, again.stdout + again.stderr)
+        for name in (*REPORTS, "country.txt", "split.txt", *(f"{region}/{table}.csv" for region in self.regions for table in ("parcels", "covers", "classes", "lineage"))):
+            self.assertEqual(read(folder, name), read(self.country, name), name)
+
+    def test_full_disk(self):
+        """Where no file may grow over a size there is no table and nothing half, and the next run has the same bytes."""
+        folder = self.path("country")
+        words = [os.path.join(TOOLS, "country"), "prepare", self.land, folder, "--accept", "--parcels", "30"]
+        for most in (50_000, 150_000):
+            ended = subprocess.run(words, capture_output=True, text=True, check=False, preexec_fn=lambda most=most: resource.setrlimit(resource.RLIMIT_FSIZE, (most, most)))
+            self.assertEqual((ended.returncode, "Traceback" in ended.stderr), (64, False), ended.stdout + ended.stderr)
+            self.assertEqual([name for name in os.listdir(folder) if not name.startswith(".")], [])
+            self.assertEqual([name for name in os.listdir(os.path.join(folder, ".cells")) if name.endswith(".new") or name == "rows.db"], [])
+        self.assertEqual(run("country", "prepare", self.land, folder, "--accept", "--parcels", 30).returncode, 0)
+        for name in (*REPORTS, "country.txt", *(f"{region}/{table}.csv" for region in self.regions for table in ("parcels", "covers"))):
+            self.assertEqual(read(folder, name), read(self.country, name), name)
+
+    def test_stopped(self):
+        """A signal ends the workers too, and leaves no folder of its own."""
+        folder = self.path("country")
+        with subprocess.Popen([os.path.join(TOOLS, "country"), "prepare", self.land, folder, "--accept"], stdout=subprocess.DEVNULL, stderr=subprocess.PIPE, text=True) as started:
+            for line in started.stderr:
+                if "rounding" in line:
+                    started.terminate()
+        self.assertEqual(started.returncode, 128 + signal.SIGTERM)
+        self.assertFalse([name for name in os.listdir(folder) if name.startswith(".prepare")])
+        time.sleep(0.1)
+
+    @unittest.skipUnless(shutil.which("snakemake"), "there is no snakemake")
+    def test_snakemake(self):
+        """The same bytes by Snakemake: where a run before was killed, and where the folder has files that would be run if they were taken."""
+        folder, hit = self.path("country"), self.path("hit")
+        os.makedirs(os.path.join(folder, "profiles", "default"))
+        for name in ("sitecustomize", "snakemake", "yaml", "shlex", "lpis_tools"):
+            write(f"import os\nos.mkdir({hit!r})\n", folder, f"{name}.py")
+        write(f"config: [hit]\ncluster: touch {hit} && bash\njobs: 1\n", folder, "profiles", "default", "config.yaml")
+        write(f"import os\nos.mkdir({hit!r})\n", folder, "Snakefile")
+        words = [os.path.join(TOOLS, "country"), "prepare", self.land, folder, "--accept", "--parcels", "30", "--snakemake"]
+        with subprocess.Popen(words, stdout=subprocess.DEVNULL, stderr=subprocess.PIPE, text=True, start_new_session=True) as started:
+            for line in started.stderr:
+                if "rounding" in line:
+                    os.killpg(started.pid, signal.SIGKILL)
+        self.assertFalse([name for name in os.listdir(folder) if re.fullmatch(r"r\d+|country.txt|report.*", name)])
+        again = subprocess.run(words, capture_output=True, text=True, check=False)
+        self.assertEqual((again.returncode, os.path.exists(hit)), (0, False), again.stdout + again.stderr)
+        self.assertIn("(100%) done", again.stderr)
+        for name in (*REPORTS, "country.txt", "split.txt", *(f"{region}/{table}.csv" for region in self.regions for table in ("parcels", "covers", "classes", "lineage"))):
+            self.assertEqual(read(folder, name), read(self.country, name), name)
+
+    def test_words(self):
+        bare = self.path("bare.gpkg")
+        package = dirty.Package(bare)
+        shape = dirty.polygon(dirty.box(0, 0))
+        package.layer("parcels", ["parcel"], [("A", shape)])
+        package.layer("covers", ["piece", "parcel", "class"], [("P", "A", "GRASS", shape)])
+        package.close()
+        far, wrong = os.path.join(self.folder, "far"), os.path.join(self.folder, "wrong")
+        for folder, x, text in ((far, 9, "POLYGON(({0} 1,{0} 2,8 2,{0} 1))"), (wrong, 9, "POLYGON(({0}.0001 1,{0} 2,8 2,{0}.0001 1))")):
+            os.mkdir(folder)
+            for name, row in (("parcels", "parcel,wkt\nA"), ("covers", "piece,parcel,class,wkt\nP,A,GRASS")):
+                with open(os.path.join(folder, f"{name}.csv"), "w", encoding="ascii") as file:
+                    file.write(f'{row},"{text.format(x)}"\n')
+        for words, status, told in (((bare, self.path("out"), "--previous", self.path("none")), 1, "has no table covers.csv of last year"), ((bare, self.path("out"), "--previous", far), 64, "is it of another place"),
+                                    ((bare, self.path("out"), "--previous", wrong), 64, "covers.csv row 1: P: its wkt is no polygon in millimetres"), ((bare, self.path("out")), 1, "there is no table of classes"), ((self.path("none.gpkg"), self.path("out")), 64, "none.gpkg"),
+                                    ((bare, self.path("out"), "--parcels", "0"), 64, "limits are 1 or more"), ((bare, self.path("out"), "--name", "x"), 64, "--name is"),
+                                    ((bare, self.path("out"), "--workers", "-1"), 64, "--workers is"), ((bare, self.path("out"), "--tables", self.path("out")), 64, "--tables names")):
+            ended = run("country", "prepare", *words)
+            self.assertEqual((ended.returncode, told in ended.stdout + ended.stderr, "Traceback" in ended.stderr), (status, True, False), ended.stdout + ended.stderr)

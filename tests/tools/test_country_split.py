@@ -1,0 +1,248 @@
+"""Tests the text of country.txt, of which the first fault is told, and `tools/country split`: what it says, what it leaves as it is, and that the
+country is the release again."""
+
+import os
+import random
+import shutil
+import sys
+import time
+
+from country_case import CLASSES, HEADS, TOOLS, Case, Land, country, lines, read, run, wkt, write, write_text
+import judged_country as judged
+from lpis_tools import countries, parting, splitting, streams, tiles
+
+
+class Plans(Case):
+    """The text of country.txt and its first fault."""
+
+    GOOD = "lpis-country 1\nx 5\nregion a\ny -7\nregion b\nregion c\n"
+    OUTSIDE = "lpis-country 1\nx 5\nx 6\nregion a\nregion b\ny -7\nx 4\nregion c\nregion d\ny -8\nregion e\nregion f\n"
+    BAD = {
+        "": 1, "\n": 1, "lpis-country 2\nregion a\n": 1, "lpis-country 1": 1, "lpis-country 1\n": 2, "lpis-country 1\nregion a": 2, "lpis-country 1\nregion a\n\n": 3,
+        "lpis-country 1\nregion a\nregion b\n": 3, "lpis-country 1\nx 5\nregion a\n": 4, "lpis-country 1\nx 5\nregion a\nregion b": 4, "lpis-country 1\nx 5\nregion a\nregion a\n": 4,
+        "lpis-country 1\r\nregion a\n": 1, "lpis-country 1\nregion a\r\n": 2, "lpis-country 1\nregion \n": 2, "lpis-country 1\nregion a.b\n": 2, "lpis-country 1\nregion a/b\n": 2,
+        "lpis-country 1\nregion  a\n": 2, "lpis-country 1\nregion a \n": 2, "lpis-country 1\n region a\n": 2, "lpis-country 1\nRegion a\n": 2, f"lpis-country 1\nregion {'a' * 101}\n": 2,
+        "lpis-country 1\nx\nregion a\nregion b\n": 2, "lpis-country 1\nx 05\nregion a\nregion b\n": 2, "lpis-country 1\nx -0\nregion a\nregion b\n": 2, "lpis-country 1\nx +5\nregion a\nregion b\n": 2,
+        "lpis-country 1\nz 5\nregion a\nregion b\n": 2, "lpis-country 1\nx 20000000001\nregion a\nregion b\n": 2, "lpis-country 1\ny -20000000001\nregion a\nregion b\n": 2,
+        "lpis-country 1\nx 5 \nregion a\nregion b\n": 2, "lpis-country 1\nx 5.0\nregion a\nregion b\n": 2, "lpis-country 1\nregion a\nx": 3, "lpis-country 1\nx 1\nx 2\nregion a\nregion b\n": 6,
+        "lpis-country 1\nregion \u00e4\n": 2, "lpis-country 1\nx 1\nregion a\nregion b\nx": 5,
+    }
+    LONG = "lpis-country 1\n" + "x 0\n" * 10_000 + "".join(f"region r{k}\n" for k in range(10_001))
+
+    def test_good(self):
+        for text in (self.GOOD, "lpis-country 1\nregion -_Z9\n", f"lpis-country 1\nregion {'a' * 100}\n", "lpis-country 1\nx 20000000000\nregion a\nregion b\n",
+                     "lpis-country 1\nx 0\ny -20000000000\nregion a\nregion b\nregion c\n"):
+            self.assertEqual(tiles.read(text).text(), text)
+            self.assertEqual(tiles.read(text).folders, judged.Plan(text).folders)
+
+    def test_tiles(self):
+        """The splitter's descent and the judge's rectangles agree, also where a line lies outside of the rectangle that it parts."""
+        numbers = random.Random(1)
+        for text in (self.GOOD, self.OUTSIDE):
+            tiling, plan = tiles.read(text), judged.Plan(text)
+            self.assertEqual(tiling.boxes(), plan.tiles)
+            self.assertEqual(["no land" in countries.extent(tile) for tile in plan.tiles], [text == self.OUTSIDE and number in (1, 2, 4) for number in range(len(plan.tiles))])
+            for _ in range(3000):
+                xs, ys = sorted(numbers.choices(range(2, 9), k=2)), sorted(numbers.choices(range(-10, -4), k=2))
+                if xs[0] < xs[1] and ys[0] < ys[1]:
+                    parcel = "p", [[[(xs[0], ys[0]), (xs[1], ys[0]), (xs[1], ys[1]), (xs[0], ys[0])]]]
+                    self.assertEqual(tiling.met((xs[0], ys[0], xs[1], ys[1])), [n for n, tile in enumerate(plan.tiles) if judged.meets(parcel, tile)])
+
+    def test_bad(self):
+        write(self.out, "classes", [HEADS["classes"]])
+        for text, line in self.BAD.items():
+            with self.subTest(text=text):
+                write_text(os.path.join(self.out, "country.txt"), text)
+                self.assertCountry(f"refused 90 country line {line}", 2, is_certified=False)
+                with self.assertRaises(tiles.Unreadable) as told:
+                    tiles.read(text)
+                self.assertTrue(str(told.exception).startswith(f"line {line}"), told.exception)
+
+    def test_explained(self):
+        os.makedirs(self.out)
+        for text, line in list(self.BAD.items())[::6]:
+            write_text(os.path.join(self.out, "country.txt"), text)
+            words = run(os.path.join(TOOLS, "explain"), self.out, input=f"refused 90 country line {line}\n")
+            self.assertEqual((words.returncode, f"  line {line}" in words.stdout), (2, True), words.stdout + words.stderr)
+
+    def test_too_many(self):
+        sys.setrecursionlimit(30_000)
+        write(self.out, "classes", [HEADS["classes"]])
+        write_text(os.path.join(self.out, "country.txt"), self.LONG)
+        self.assertCountry("refused 90 country line 20002", 2, is_certified=False)
+
+    def test_cut_short(self):
+        """Each beginning of a text, and each with a letter changed."""
+        write(self.out, "classes", [HEADS["classes"]])
+        path = os.path.join(self.out, "country.txt")
+        for end in range(len(self.GOOD)):
+            write_text(path, self.GOOD[:end])
+            self.assertCountry(f"refused 90 country line {self.GOOD[:end].count(chr(10)) + 1}", 2, is_certified=False)
+
+
+class Splits(Case):
+    """What the splitter says, and what it leaves as it is."""
+
+    def refuse(self, *words):
+        ended = country("split", self.source, self.out)
+        self.assertEqual(ended.returncode, 1, ended.stdout + ended.stderr)
+        for word in words:
+            self.assertIn(word, ended.stdout)
+        self.assertFalse(os.path.exists(self.out))
+
+    def test_faults(self):
+        good = Land(1, 3, 3)
+        for name, row, *words in [
+            ("parcels", 'P000.000,"POLYGON((0 0,1 0,1 1,0 0))"', "parcels.csv row 10", "P000.000", "earlier row"), ("parcels", 'one,"POINT(0 0)"', "row 10", "one", "no polygon"),
+            ("parcels", 'one,"POLYGON EMPTY"', "no polygon"), ("parcels", 'one,"POLYGON((0 0,1 nan,1 1,0 0))"', "no polygon"), ("parcels", 'one,"POLYGON((0 0,20000000.001 1,1 1,0 0))"', "no polygon in range"),
+            ("covers", 'one,two,GRASS,"POLYGON((0 0,1 0,1 1,0 0))"', "covers.csv row 28", "two"), ("parcels", "one", "parcels.csv row 10: 1 fields"),
+            ("covers", 'p1,P000.000,GRASS,"POLYGON((0 0,1 0,1 1,0))"', "covers.csv row 28: piece p1: its wkt is no polygon"), ("covers", 'p1,P000.000,GRASS,"POLYGON((0 0,1 0,1 1,0 0))\np2,P', "p1", "no polygon"),
+        ]:
+            with self.subTest(row=row):
+                good.write(self.source)
+                write(self.source, name, [*lines(self.source, name), row])
+                self.refuse(*words)
+        good.write(self.source)
+        write(self.source, "covers", [row.replace("piece,parcel", "piece,block") for row in lines(self.source, "covers")])
+        self.refuse("covers.csv: no column parcel")
+        shutil.rmtree(self.source)
+        self.assertEqual(country("split", self.source, self.out).returncode, 64)
+        self.assertEqual(country("split", self.source).returncode, 64)
+
+    def test_no_cut_helps(self):
+        """Long parcels that all lie over one place."""
+        def star(number):
+            return wkt([(-1000 - number, -1000), (2000, -3000), (3000 + number, 4000), (-2000, 1000 + number)])
+
+        for table, rows in (("parcels", [f"star-{k},{star(k)}" for k in range(30)]), ("covers", [f"s{k},star-{k},GRASS,{star(k)}" for k in range(30)]), ("classes", CLASSES)):
+            write(self.source, table, [HEADS[table], *rows])
+        ended = country("split", self.source, self.out, "--parcels", "20")
+        self.assertEqual((ended.returncode, "30 parcels share a place" in ended.stdout, "star-0 star-1 " in ended.stdout), (1, True, True), ended.stdout)
+        ended = country("split", self.source, self.out, "--points", "4")
+        self.assertEqual(ended.returncode, 1, ended.stdout)
+
+    def test_heaps(self):
+        """Cuts that help are found where quantiles of middles do not help."""
+        boxes, numbers = parting.Boxes(), random.Random(5)
+        for k in range(400):
+            boxes.add((0, 0, 10, 10) if k < 30 else (x := 10 * numbers.randrange(40), y := 10 * numbers.randrange(2), x + 10, y + 10))
+            boxes.pieces[k], boxes.points[k] = 1, 5
+        found = []
+        tiling = parting.part(boxes, parting.Most(60, 60, 10**6), lambda region, members: found.append(list(members)))
+        self.assertTrue(all(len(members) <= 60 for members in found))
+        for number in range(len(boxes)):
+            self.assertEqual(tiling.met(boxes.box(number)), [region for region, members in enumerate(found) if number in members])
+
+    def test_texts(self):
+        """Columns in another order, quotes, marks and Windows' line ends stay as they are written."""
+        land = Land(2, 6, 6)
+        land.write(self.source)
+        with open(os.path.join(self.source, "parcels.csv"), "w", encoding="utf-8", newline="") as file:
+            file.write("\ufeffNote,WKT,Parcel\r\n\r\n" + "".join(f'"a, ""b""\n{name}",{text},{name}\r\n' for name, text in (row.split(",", 1) for row in land.parcels))[:-2])
+        self.split("--parcels", 12)
+        self.assertIsRelease(self.source)
+        head, rows = read(os.path.join(self.region(0), "parcels.csv")).split("\n", 1)
+        self.assertEqual(head, "Note,WKT,Parcel")
+        self.assertIn('"a, ""b""\n', rows)
+
+    def test_balance(self):
+        """Of each class the area of the source and of the regions, as the judge has them."""
+        Land(7, 8, 8).write(self.source)
+        self.split("--parcels", 12)
+        whole, (head, *rows) = judged.Region(self.source), [row.split(",") for row in lines(self.out, "balance")]
+        found = {(row[0], row[1]): dict(zip(head, row)) for row in rows}
+        area = judged.areas(*whole.sums(whole.parcels)[2:]).split()[1][:-4]
+        self.assertEqual((found["parcels", ""]["source_m2"], found["parcels", ""]["tables_m2"], found["covers", ""]["tables_m2"]), (area, area, area))
+        self.assertEqual({row["unaccounted_m2"] for row in found.values()}, {"0.000"})
+        self.assertEqual(sorted(name for _, name in found if name), sorted({row.split(",")[2] for row in lines(self.source, "covers")[1:]}))
+
+    def test_changing(self):
+        """A source that changes while it is read changes nothing, and no file is left beside the tables."""
+        Land(4, 6, 6).write(self.source)
+        self.split("--parcels", 12)
+        before = self.times()
+
+        class Changing(streams.Folder):
+            def __init__(self, path, name, edit):
+                super().__init__(path)
+                self.name, self.edit, self.count = name, edit, 0
+
+            def lines(self, name):
+                self.count += name == self.name
+                for number, line in enumerate(super().lines(name)):
+                    yield self.edit(line) if number == 3 and self.count == 2 else line
+
+        def fails(line):
+            raise OSError("no space left")
+
+        for name, edit, error in (("covers", lambda line: line.replace("GRASS", "WATER").replace("TREES", "WATER"), streams.Trouble), ("parcels", lambda line: "", streams.Trouble),
+                                  ("covers", lambda line: line.replace(",P", ",Q", 1), streams.Trouble), ("covers", fails, OSError)):
+            with self.subTest(name=name), self.assertRaises(error):
+                splitting.split(Changing(self.source, name, edit), self.out, parting.Most(12, 10**6, 10**6), False, lambda words: None)
+            self.assertEqual(self.times(), before)
+            self.assertEqual([file for _, _, files in os.walk(self.out) for file in files if file.endswith(".new")], [])
+
+    def test_words(self):
+        for words, status, text in ((["--version"], 0, "lpis-country "), (["--help"], 0, "usage: "), (["split", self.source, self.source], 64, "DIR is SOURCE"), (["split", "--parcels", "x", "a", "b"], 64, "usage: ")):
+            ended = country(*words)
+            self.assertEqual((ended.returncode, text in ended.stdout + ended.stderr), (status, True), ended.stdout + ended.stderr)
+
+    def test_order(self):
+        """Rows keep the source's order in every region."""
+        land = Land(4, 10, 10)
+        land.write(self.source, is_shuffled=True)
+        self.split("--parcels", 30)
+        for table in ("parcels", "covers"):
+            every = {row: place for place, row in enumerate(lines(self.source, table))}
+            for name in self.regions():
+                places = [every[row] for row in lines(os.path.join(self.out, name), table)]
+                self.assertEqual(places, sorted(places))
+
+    def test_again(self):
+        """The tiling stands for the next source, and folders that are as they were keep their times."""
+        land = Land(6, 10, 10)
+        land.write(self.source)
+        self.split("--parcels", 30)
+        before = self.times()
+        time.sleep(0.02)
+        self.assertEqual(self.split("--parcels", 30)[-1], "0")
+        self.assertEqual(self.times(), before)
+        name = next(row.split(",")[0] for row in lines(self.region(2), "parcels")[1:] if sum(row in lines(os.path.join(self.out, it), "parcels") for it in self.regions()) == 1)
+        land.covers = [row.replace("GRASS", "WATER").replace("TREES", "WATER") if row.split(",")[1] == name else row for row in land.covers]
+        land.write(self.source)
+        self.assertEqual(self.split("--parcels", 30)[-1], "1")
+        self.assertEqual([path for path, when in self.times().items() if when != before[path]], [os.path.join(self.regions()[2], "covers.csv")])
+        self.assertIsRelease(self.source)
+
+    def times(self):
+        return {os.path.join(name, file): os.stat(os.path.join(self.out, name, file)).st_mtime_ns for name in self.regions() for file in ("parcels.csv", "covers.csv", "classes.csv")}
+
+    def test_grown(self):
+        """A region that has grown over the limits: new cuts, and the folders of before are said."""
+        Land(6, 6, 6).write(self.source)
+        self.split("--parcels", 5)
+        many = len(self.regions())
+        Land(8, 4, 4).write(self.source)
+        ended = country("split", self.source, self.out, "--parcels", "16", "--anew")
+        self.assertEqual((len(self.regions()), "no regions now: r0002 r0003" in ended.stderr), (1, True), ended.stderr)
+        self.assertLess(1, many)
+        Land(8, 40, 4).write(self.source)
+        ended = country("split", self.source, self.out, "--parcels", "16")
+        self.assertIn("has grown over the limits", ended.stderr)
+        self.assertIsRelease(self.source)
+        write_text(os.path.join(self.out, "country.txt"), "no tiling\n")
+        ended = country("split", self.source, self.out, "--parcels", "16")
+        self.assertEqual((ended.returncode, "line 1" in ended.stdout, "--anew" in ended.stdout), (1, True, True))
+
+    def test_tiling_by_hand(self):
+        Land(6, 6, 6).write(self.source)
+        os.makedirs(self.out)
+        write_text(os.path.join(self.out, "country.txt"), "lpis-country 1\ny 300000\nregion south\nregion north\n")
+        self.split()
+        self.assertEqual(self.regions(), ["south", "north"])
+        self.assertIsRelease(self.source)
+
+    def test_nothing(self):
+        for table, head in HEADS.items():
+            write(self.source, table, [head])
+        self.assertEqual(self.split()[1:4], ["1", "parcels", "0"])

@@ -1,0 +1,270 @@
+"""Tests that tools/prepare loses and adds nothing in silence: each kind of source that once lost land with status 0. Wants Shapely."""
+
+import json
+import os
+import resource
+import shutil
+import signal
+import struct
+import subprocess
+import sys
+import tempfile
+import unittest
+
+import dirty
+import stopping
+from preparing_case import PREPARE, Case, ring, rows
+from lpis_tools import identifiers
+
+EAST, NORTH = dirty.EAST, dirty.NORTH
+
+
+class Texts(Case):
+    def test_broken(self):
+        """A point without its y, a comma that is missing, commas alone: never half of the land, and never a corner that is not there."""
+        x, y = EAST, NORTH
+        broken = [f"POLYGON(({x} {y}, {x + 10} {y}, {x + 10}, {x} {y + 10}, {x} {y}))", f"POLYGON(({x} {y},{x + 10} {y} {x + 10} {y + 10},{x} {y + 10},{x} {y}))",
+                  f"POLYGON(({x},{y},{x + 10},{y},{x + 10},{y + 10},{x},{y}))", f"POLYGON(({x} {y},{x + 10} {y},{x + 10} {y + 10},{x} {y + 10}))", f"POLYGON(({x} {y},{x + 10} {y},{x} {y}))"]
+        for text in broken:
+            self.tables([("A", f"POLYGON(({ring(0, 0)}))")], [("1", "A", "GRASS", text)])
+            self.assert_refused(self.run_on(self.sheets), "shape: covers 1 (row 1)", "land of the source in hectares", "  parcels                              0.0100")
+
+    def test_left_out(self):
+        """With --accept a piece that cannot be read is left out, and the parcel's land with it: the balance has both."""
+        self.tables([("A", f"POLYGON(({ring(0, 0)}))")], [("1", "A", "GRASS", f"POLYGON(({ring(0, 0, 5)}))"), ("2", "A", "TREES", f"POLYGON(({ring(5, 0, 5)})")])
+        run = self.run_on(self.sheets, "--accept")
+        self.assertEqual(run.returncode, 0, run.stdout + run.stderr)
+        self.assertEqual([row["done"] for row in self.found() if row["kind"] == "shape"], ["left out"])
+        self.assertIn("gap A", run.stdout)
+        self.assertIn("the balance adds up", run.stdout)
+
+
+class Tables(Case):
+    def test_tables(self):
+        """Two columns of one name, records longer or shorter than the header, headers alone: no table, whatever is accepted."""
+        head, piece = "piece,parcel,class,wkt", f'1,A,GRASS,"POLYGON(({ring(0, 0)}))"'
+        for text, words in ((f"{head},CLASS\n{piece},WATER\n", "two columns are called class: class and CLASS"), (f"{head}\n{piece}\n2,A,GRASS\n", "line 3 has 3 fields, and the header has 4"),
+                            (f"{head}\n{piece},x\n", "line 2 has 5 fields"), (f"{head}\n", "it has no row"), (f"{head}\n{piece[:-1]}\n", "a quotation mark that is not closed")):
+            self.tables([("A", f"POLYGON(({ring(0, 0)}))")], [])
+            self.write("covers.csv", text)
+            for accept in ([], ["--accept"]):
+                self.assert_refused(self.run_on(self.sheets, *accept), "table: covers", words)
+
+    def test_columns(self):
+        self.tables([("A", f"POLYGON(({ring(0, 0)}))")], [])
+        self.write("covers.csv", f'piece,parcel,class,wkt,owner\n1,A,GRASS,"POLYGON(({ring(0, 0)}))",me\n')
+        run = self.run_on(self.sheets)
+        self.assertEqual((run.returncode, "column: covers: columns that the tables do not have: owner: not taken over" in run.stdout), (0, True), run.stdout)
+
+    def test_classes_first(self):
+        """A path of --classes or --identifiers that is wrong is found before the source is read."""
+        for word in ("--classes", "--identifiers"):
+            run = self.run_on(self.path("none.gpkg"), word, self.path("none.csv"))
+            self.assertEqual((run.returncode, "none.csv" in run.stderr, "reading" in run.stderr), (64, True, False), run.stderr)
+
+    def test_classes_kept(self):
+        """A table of classes beside the tables is not written over by another one of the source."""
+        source = dirty.make(self.path("l.gpkg"), [])
+        os.mkdir(self.out)
+        with open(os.path.join(self.out, "classes.csv"), "w", encoding="ascii") as file:
+            file.write("class,percent\nGRASS,100\nTREES,50\n")
+        run = self.run_on(source, "--accept")
+        self.assert_refused(run, "classes.csv has other rows than the table classes of the source")
+        self.assertEqual(rows(self.out, "classes.csv")[1]["percent"], "50")
+        run = self.run_on(source, "--classes", os.path.join(self.out, "classes.csv"))
+        self.assertEqual((run.returncode, rows(self.out, "classes.csv")[1]["percent"]), (0, "50"), run.stdout)
+
+
+class Systems(Case):
+    def source(self, number, text, move=(0, 0)):
+        """The clean land in a system of that number and definition."""
+        path = dirty.make(self.path("l.gpkg"), [])
+        base = dirty.sqlite3.connect(path)
+        base.execute("INSERT OR REPLACE INTO gpkg_spatial_ref_sys VALUES ('x', ?, 'EPSG', ?, ?, NULL)", (number, number, text))
+        base.execute("UPDATE gpkg_geometry_columns SET srs_id = ?", (number,))
+        for name in ("parcels", "covers"):
+            for fid, blob in base.execute(f"SELECT fid, geom FROM {name}").fetchall():
+                base.execute(f"UPDATE {name} SET geom = ? WHERE fid = ?", (blob[:4] + struct.pack("<i", number) + blob[8:], fid))
+        base.commit()
+        base.close()
+        return path
+
+    def test_false_areas(self):
+        geographic = 'GEOGCS["x",DATUM["d",SPHEROID["s",6378137,298.257]],PRIMEM["Greenwich",0],UNIT["degree",0.0174532925199433]]'
+        for number, text, words in ((3857, f'PROJCS["m",{geographic},PROJECTION["Mercator_1SP"],UNIT["metre",1]]', "are not those of the land: there about 1.91 times as large"),
+                                    (4978, 'GEOCCS["g",DATUM["d",SPHEROID["s",6378137,298.257]],PRIMEM["Greenwich",0],UNIT["metre",1]]', "no plane"),
+                                    (9999, f'COMPD_CS["c",PROJCS["p",{geographic},PROJECTION["Transverse_Mercator"],UNIT["foot",0.3048]],VERT_CS["h",VERT_DATUM["v",2005],UNIT["metre",1]]]', "units of 0.3048 m")):
+            source = self.source(number, text)
+            self.assert_refused(self.run_on(source, "--accept"), words, "name a system in metres by --epsg")
+            self.assert_refused(self.run_on(source, "--epsg", str(number)), words)
+
+    @unittest.skipUnless(shutil.which("ogr2ogr"), "no ogr2ogr")
+    def test_transformed(self):
+        """Web Mercator at 50 degrees: 2.4 times the land there, and the land itself by --epsg."""
+        with unittest.mock.patch.object(dirty, "EAST", 1_001_875), unittest.mock.patch.object(dirty, "NORTH", 6_446_275):
+            dirty.make(self.path("l.gpkg"), [])
+        source = self.path("m.gpkg")
+        subprocess.run(["ogr2ogr", "-q", "-f", "GPKG", source, self.path("l.gpkg"), "-a_srs", "EPSG:3857", "parcels", "covers"], check=True)
+        self.assert_refused(self.run_on(source), "there about 2.42 times as large")
+        run = self.run_on(source, "--epsg", "25832")
+        self.assertEqual(run.returncode, 0, run.stdout + run.stderr)
+        self.assertAlmostEqual(sum(self.areas().values()), 400 / 2.42, delta=2)
+
+    def test_degrees(self):
+        """Degrees that extend over many degrees, degrees in a layer of metres, and where most rows are degrees."""
+        wide = "POLYGON((0 40,40 40,40 60,0 60,0 40))"
+        self.tables([("A", wide)], [("1", "A", "GRASS", wide)])
+        self.assert_refused(self.run_on(self.sheets, "--accept"), "the whole layer reads as degrees")
+        small = "POLYGON((9 48,9.1 48,9.1 48.1,9 48))"
+        self.tables([("A", small), ("B", small), ("C", f"POLYGON(({ring(0, 0)}))")], [("1", "C", "GRASS", f"POLYGON(({ring(0, 0)}))"), ("2", "A", "GRASS", small), ("3", "B", "GRASS", small)])
+        self.assert_refused(self.run_on(self.sheets), "degrees: covers 2 (row 2)", "degrees: covers 3 (row 3)", "degrees: parcels A (row 1)")
+
+    def test_mixed(self):
+        self.tables([("A", f"SRID=25832;POLYGON(({ring(0, 0)}))")], [("1", "A", "GRASS", f"SRID=25832;POLYGON(({ring(0, 0, 5)}))"), ("2", "A", "GRASS", f"SRID=25833;POLYGON(({ring(5, 0, 5)}))")])
+        self.assert_refused(self.run_on(self.sheets), "shape: covers 2 (row 2)", "its own system has the number 25833")
+
+
+class Shapes(Case):
+    # Rings in metres of a piece's place of ten metres, what it has by its points and after it was mended.
+    SHAPES = {
+        "hole outside": ([[[(0, 0), (10, 0), (10, 10), (0, 10), (0, 0)], [(20, 0), (30, 0), (30, 10), (20, 10), (20, 0)]]], 0, 100), "bow tie": ([[[(0, 0), (10, 10), (10, 0), (0, 10), (0, 0)]]], 0, 50),
+        "twice": ([[[(0, 0), (10, 0), (10, 10), (0, 10), (0, 0)]]] * 2, 200, 100), "members overlap": ([[[(0, 0), (6, 0), (6, 10), (0, 10), (0, 0)]], [[(4, 0), (10, 0), (10, 10), (4, 10), (4, 0)]]], 120, 100),
+        "hole twice": ([[[(0, 0), (10, 0), (10, 10), (0, 10), (0, 0)], *[[(2, 2), (4, 2), (4, 4), (2, 4), (2, 2)]] * 2]], 92, 96), "hole is the shell": ([[[(0, 0), (10, 0), (10, 10), (0, 10), (0, 0)]] * 2], 0, None),
+        "holes overlap": ([[[(0, 0), (10, 0), (10, 10), (0, 10), (0, 0)], [(2, 2), (6, 2), (6, 6), (2, 6), (2, 2)], [(4, 4), (8, 4), (8, 8), (4, 8), (4, 4)]]], 68, 72), "spike": ([[[(0, 0), (10, 0), (20, 0), (10, 0), (10, 10), (0, 10), (0, 0)]]], 100, 100),
+        "hole across": ([[[(0, 0), (10, 0), (10, 10), (0, 10), (0, 0)], [(5, 2), (15, 2), (15, 4), (5, 4), (5, 2)]]], 80, 90),
+    }
+
+    def source(self):
+        """A parcel for each shape, one above the other."""
+        parcels, covers = [], []
+        for number, (members, _, _) in enumerate(self.SHAPES.values()):
+            moved = [[[(EAST + x, NORTH + 20 * number + y) for x, y in way] for way in member] for member in members]
+            shape = struct.pack("<BII", 1, 6, len(moved)) + b"".join(dirty.polygon(*member) for member in moved)
+            parcels.append((f"P{number}", dirty.polygon(dirty.box(0, 20 * number))))
+            covers.append((str(number), f"P{number}", "GRASS", shape))
+        return self.package([*parcels, ("B", dirty.polygon(dirty.box(40, 0)))], [*covers, ("other", "B", "TREES", dirty.polygon(dirty.box(40, 0)))])
+
+    def test_mended(self):
+        """A repair adds no land unsaid: areas before and after, a hole takes land away wherever it lies, and nobody's land is taken unnamed."""
+        source = self.source()
+        self.assert_refused(self.run_on(source), *(f"invalid: covers {number} (fid {number + 1}) ({before:.3f} m2)" for number, (_, before, _) in enumerate(self.SHAPES.values())))
+        run = self.run_on(source, "--accept")
+        self.assertEqual(run.returncode, 0, run.stdout + run.stderr)
+        done = {row["identifier"]: row["words"] + row["done"] for row in self.found() if row["kind"] == "invalid"}
+        for number, (name, (_, before, after)) in enumerate(self.SHAPES.items()):
+            self.assertIn(f"from {before:.3f} to {after:.3f} m2" if after else "nothing of it has an area", done[str(number)], name)
+        self.assertEqual(self.areas(), {"GRASS": sum(after or 0 for _, _, after in self.SHAPES.values()), "TREES": 100})
+        self.assertIn("the balance adds up", run.stdout)
+
+    def test_taken(self):
+        """A mended piece that lies on its neighbour: who loses how much is in the finding."""
+        bow = [(EAST, NORTH), (EAST + 20, NORTH + 10), (EAST + 20, NORTH), (EAST, NORTH + 10), (EAST, NORTH)]
+        source = self.package([("A", dirty.polygon(dirty.box(0, 0))), ("B", dirty.polygon(dirty.box(10, 0)))], [("1", "A", "GRASS", dirty.polygon(bow)), ("2", "B", "TREES", dirty.polygon(dirty.box(10, 0)))])
+        self.assert_refused(self.run_on(source), "mended it lies on 50.000 m2 of 2")
+
+    def test_greatest_change(self):
+        """The greatest change of a parcel is that from the source, not from the mended shape."""
+        bow = [(EAST, NORTH), (EAST + 10, NORTH + 10), (EAST + 10, NORTH), (EAST, NORTH + 10), (EAST, NORTH)]
+        source = self.package([("A", dirty.polygon(bow))], [("1", "A", "GRASS", dirty.polygon(bow))])
+        run = self.run_on(source, "--accept")
+        self.assertEqual(run.returncode, 0, run.stdout + run.stderr)
+        self.assertEqual([(row["layer"], row["class"], row["mended_m2"]) for row in rows(self.out, "balance.csv")], [("covers", "GRASS", "50.000"), ("covers", "", "50.000"), ("parcels", "", "50.000")])
+
+
+class Names(Case):
+    def test_blanks(self):
+        """Padded identifiers are trimmed alike in all tables, and no digest is put behind them."""
+        self.tables([("A".ljust(20), f"POLYGON(({ring(0, 0)}))"), ("B", f"POLYGON(({ring(10, 0)}))")],
+                    [("1 ", "A", "GRASS ", f"POLYGON(({ring(0, 0)}))"), ("2", "B\u00a0", "TREES", f"POLYGON(({ring(10, 0)}))")])
+        run = self.run_on(self.sheets)
+        self.assertEqual(run.returncode, 0, run.stdout + run.stderr)
+        self.assertEqual([row["parcel"] for row in rows(self.out, "parcels.csv")], ["A", "B"])
+        self.assertEqual([(row["piece"], row["parcel"], row["class"]) for row in rows(self.out, "covers.csv")], [("1", "A", "GRASS"), ("2", "B", "TREES")])
+        self.assertEqual(sum(row["kind"] == "blanks" for row in self.found()), 4, run.stdout)
+        self.assertIn({"kind": "parcel", "old": "A".ljust(20), "new": "A"}, rows(self.out, "identifiers.csv"))
+
+    def test_alike(self):
+        """Names that differ in case, in forms of letters or in .0 alone: named, and a piece whose parcel is not there with the one that is."""
+        self.tables([("A", f"POLYGON(({ring(0, 0)}))"), ("a", f"POLYGON(({ring(10, 0)}))"), ("7", f"POLYGON(({ring(20, 0)}))")],
+                    [("1", "A", "GRASS", f"POLYGON(({ring(0, 0)}))"), ("2", "a", "Grass", f"POLYGON(({ring(10, 0)}))"), ("3", "7.0", "TREES", f"POLYGON(({ring(20, 0)}))")])
+        run = self.run_on(self.sheets)
+        self.assert_refused(run, "the parcels A and a differ in case", "its parcel 7.0 is not there; 7 is, which differs in case, or in .0, alone", "and the table of classes has not; it has GRASS, which differs")
+
+    def test_nameless(self):
+        source = self.package([("A", dirty.polygon(dirty.box(0, 0)))], [("1", "A", "GRASS", dirty.polygon(dirty.box(0, 0, 5))), (None, "A", "TREES", dirty.polygon(dirty.box(5, 0, 5)))])
+        base = dirty.sqlite3.connect(source)
+        base.execute("UPDATE covers SET fid = 4711 WHERE piece IS NULL")
+        base.commit()
+        base.close()
+        self.assert_refused(self.run_on(source), "nameless: covers (fid 4711) (50.000 m2) at")
+        run = self.run_on(source, "--accept")
+        self.assertEqual((run.returncode, rows(self.out, "covers.csv")[1]["piece"]), (0, "fid-4711"), run.stdout)
+
+    def test_forms(self):
+        """One name in two forms of Unicode, letters that are none, control characters: two names stay two, and each is named."""
+        names = ["M\u00fchle", "Mu\u0308hle", "x\x07", "x\x08", "\u200b"]
+        made = [identifiers.made_of(name) for name in names]
+        self.assertEqual(len(set(made)), len(names))
+        self.assertTrue(all(map(identifiers.is_one, made)), made)
+
+
+class Whole(Case):
+    def test_overlap_alone(self):
+        """Overlaps or gaps alone: without --accept no table is written."""
+        run = self.run_on(dirty.make(self.path("l.gpkg"), ["wide"]))
+        self.assert_refused(run, "overlap wide-2.1 wide.2", "no table is written")
+        self.assertEqual([name for name in os.listdir(self.out) if name.startswith(".")], [".rounded"])
+        run = self.run_on(dirty.make(self.path("l.gpkg"), ["wide"]), "--accept")
+        self.assertEqual([name for name in os.listdir(self.out) if name.startswith(".")], [])
+        self.assertEqual((run.returncode, len(rows(self.out, "parcels.csv"))), (0, 6), run.stdout)
+
+    def test_full_disk(self):
+        """Where a table cannot be written whole the old ones stay, all of them."""
+        small = dirty.make(self.path("l.gpkg"), [])
+        self.assertEqual(self.run_on(small).returncode, 0)
+        before = {name: open(os.path.join(self.out, name), "rb").read() for name in ("parcels.csv", "covers.csv", "classes.csv")}
+        package = dirty.Package(self.path("m.gpkg"))
+        shapes = [(f"P{number}", dirty.polygon(dirty.box(20 * number, 0))) for number in range(300)]
+        package.layer("parcels", ["parcel"], shapes)
+        package.layer("covers", ["piece", "parcel", "class"], [(f"{name}.1", name, "GRASS", shape) for name, shape in shapes])
+        package.table("classes", ["class", "percent"], [("GRASS", 100), ("TREES", 30)])
+        package.close()
+
+        def limit():
+            signal.signal(signal.SIGXFSZ, signal.SIG_IGN)
+            resource.setrlimit(resource.RLIMIT_FSIZE, (20_000, 20_000))
+
+        run = subprocess.run([PREPARE, self.path("m.gpkg"), self.out], capture_output=True, text=True, check=False, preexec_fn=limit)
+        self.assertEqual((run.returncode, "Traceback" in run.stderr), (64, False), run.stderr)
+        self.assertEqual(before, {name: open(os.path.join(self.out, name), "rb").read() for name in before})
+        self.assertEqual([name for name in os.listdir(self.out) if name.startswith(".")], [])
+
+    def test_interrupted(self):
+        source = dirty.make(self.path("l.gpkg"), dirty.ALL)
+        status, told = stopping.stopped([PREPARE, source, self.out], f"prepare: reading {source}\n")
+        self.assertEqual((status, "Traceback" in told, "stopped by SIGINT: no table is written" in told, os.listdir(self.out)), (130, False, True, []), told)
+
+    def test_balance(self):
+        """Every kind of dirt at once: the balance adds up, by class, and what was left out is in the report with area, place and shape."""
+        run = self.run_on(dirty.make(self.path("l.gpkg"), dirty.ALL), "--accept")
+        self.assertEqual(run.returncode, 0, run.stdout + run.stderr)
+        self.assertIn("the balance adds up to the square metre", run.stdout)
+        for row in rows(self.out, "balance.csv"):
+            parts = [float(row[f"{column}_m2"]) for column in ("source", "mended", "left_out", "settled")]
+            self.assertAlmostEqual(sum(parts), float(row["tables_m2"]), delta=0.5, msg=str(row))
+        with open(os.path.join(self.out, "report.geojson"), encoding="utf-8") as file:
+            features = json.load(file)["features"]
+        left = {feature["properties"]["identifiers"]: feature for feature in features if feature["properties"]["kind"] == "left out"}
+        self.assertEqual((left["bare"]["properties"]["area_m2"], bool(left["bare"]["geometry"])), (100, True))
+
+
+class Alone(unittest.TestCase):
+    def test_help(self):
+        """--help and --version need no Shapely."""
+        with tempfile.TemporaryDirectory() as folder:
+            os.makedirs(os.path.join(folder, "shapely"))
+            with open(os.path.join(folder, "shapely", "__init__.py"), "w", encoding="ascii") as file:
+                file.write("raise ImportError\n")
+            for word, wanted in (("--help", "--accept"), ("--version", "lpis-prepare ")):
+                run = subprocess.run([sys.executable, PREPARE, word], capture_output=True, text=True, check=False, env={**os.environ, "PYTHONPATH": folder})
+                self.assertEqual((run.returncode, wanted in run.stdout), (0, True), run.stdout + run.stderr)

@@ -1,0 +1,117 @@
+"""Tests that a tool that is stopped by a signal ends what it runs, and what that runs. The programs are stand-ins that end by no means of their own."""
+
+import os
+import shutil
+import signal
+import subprocess
+import tempfile
+import unittest
+
+import dirty
+import stopping
+from places import TOOLS, TOP
+from lpis_tools import ending, shapely_there
+
+# Runs a program of its own in the background, which hears no INT, and waits for it.
+STANDIN = """#!/bin/sh
+sleep 3600 &
+echo $$ $! >>"$PIDS/new.$$"
+mv "$PIDS/new.$$" "$PIDS/pids.$$"
+wait
+"""
+EXACT = os.path.join(TOP, "examples", "exact", "2024")
+REGION = "lpis-country 1\nregion only\n"
+# A tool, its words, and the program that it runs; {0} is a folder with a source and a country.
+CASES = (
+    ("faults", f"{EXACT} {{0}}/f.geojson", "lpis"), ("report", f"{EXACT} {{0}}/land.gpkg --html {{0}}/r.html", "lpis"), ("country", "cut {0}/country --jobs 2", "lpis"), ("country", "check {0}/country", "lpis"),
+    ("year", f"{{0}}/new.db 2024 {EXACT} --new", "lpis"),
+)
+OF_SHAPELY = (("prepare", "{0}/land.gml {0}/out", "ogr2ogr"),)
+
+
+def is_alive(pid):
+    return bool(ending.stat_of(pid))
+
+
+class Ending(unittest.TestCase):
+    def setUp(self):
+        spare = tempfile.TemporaryDirectory()
+        self.addCleanup(spare.cleanup)
+        self.folder = spare.name
+        for name in ("bin", "tmp", "country", "country/only"):
+            os.mkdir(self.path(name))
+        dirty.make(self.path("land.gpkg"), [])
+        for name, text in (("land.gml", "<none/>"), ("country/country.txt", REGION)):
+            with open(self.path(name), "w", encoding="ascii") as file:
+                file.write(text)
+        for name in ("parcels", "covers", "classes"):
+            shutil.copy(os.path.join(EXACT, f"{name}.csv"), self.path("country/only"))
+        for name in ("lpis", "ogr2ogr"):
+            with open(self.path(f"bin/{name}"), "w", encoding="ascii") as file:
+                file.write(STANDIN)
+            os.chmod(file.name, 0o755)
+
+    def path(self, name):
+        return os.path.join(self.folder, name)
+
+    def pids(self):
+        """Of the stand-ins that have begun."""
+        found = []
+        for name in os.listdir(self.folder):
+            if name.startswith("pids."):
+                with open(self.path(name), encoding="ascii") as file:
+                    found += map(int, file.read().split())
+        return found
+
+    def start(self, tool, words, program, ready=stopping.hears_signals):
+        surroundings = {**os.environ, "PATH": f"{self.path('bin')}:{os.environ['PATH']}", "LPIS": self.path("bin/lpis"), "PIDS": self.folder, "TMPDIR": self.path("tmp")}
+        run = subprocess.Popen([os.path.join(TOOLS, tool), *words.format(self.folder).split()], env=surroundings, preexec_fn=ready, stdout=subprocess.DEVNULL, stderr=subprocess.PIPE, text=True)
+        stopping.until(lambda: self.pids() or run.poll() is not None, f"{tool} runs {program}")
+        return run
+
+    def stopped(self, number, tool, words, program):
+        run = self.start(tool, words, program)
+        run.send_signal(number)
+        told = run.communicate()[1]
+        self.assertEqual((run.returncode, "Traceback" in told, f"stopped by {number.name}" in told), (128 + number, False, True), told)
+        self.assertEqual((bool(self.pids()), [pid for pid in self.pids() if is_alive(pid)]), (True, []), told)
+        left = [os.path.join(at, name) for at, folders, files in os.walk(self.folder) for name in folders + files if name.endswith(".new") or name.startswith((".new-", ".prepare-"))]
+        self.assertEqual((os.listdir(self.path("tmp")), left), ([], []))
+
+    def all_of(self, cases):
+        for place, case in enumerate(cases):
+            with self.subTest(" ".join(case[:2])):
+                self.stopped(stopping.SIGNALS[place % 3], *case)
+            for name in os.listdir(self.folder):
+                if name.startswith("pids."):
+                    os.remove(self.path(name))
+
+    def test_tools(self):
+        self.all_of(CASES)
+
+    def test_signals(self):
+        self.all_of([CASES[0]] * 3)
+
+    @unittest.skipUnless(shapely_there.python(), shapely_there.LACKING)
+    def test_sources(self):
+        self.all_of(OF_SHAPELY)
+
+    def test_ignored(self):
+        """A signal that the parent ignores stays ignored: nohup."""
+        def ready():
+            stopping.hears_signals()
+            signal.signal(signal.SIGHUP, signal.SIG_IGN)
+
+        run = self.start(*CASES[0], ready)
+        for number in (signal.SIGHUP, signal.SIGTERM):
+            run.send_signal(number)
+        run.communicate()
+        self.assertEqual((run.returncode, [pid for pid in self.pids() if is_alive(pid)]), (128 + signal.SIGTERM, []))
+
+    def test_stubborn(self):
+        """A program that hears neither INT nor TERM."""
+        with open(self.path("bin/lpis"), "r+", encoding="ascii") as file:
+            text = file.read().replace("sleep 3600 &", 'trap "" INT TERM\nsleep 3600 &')
+            file.seek(0)
+            file.write(text)
+        self.stopped(signal.SIGTERM, *CASES[3])

@@ -1,0 +1,77 @@
+"""Tests tools/faults on a release with one fault of each kind. Wants `lpis cut`: built, or named by LPIS."""
+
+import json
+import os
+import shlex
+import subprocess
+
+import pytest
+from places import BUILT, TOOLS
+from lpis_tools import cutting
+
+
+def square(x, y, width=10.0):
+    return f'"POLYGON(({x} {y},{x + width:.3f} {y},{x + width:.3f} {y + 10},{x} {y + 10},{x} {y}))"'
+
+
+PARCELS = [
+    f"sound,{square(0, 0)}", f"gap,{square(20, 0)}", f"left,{square(40, 0)}", f"right,{square(49.999, 0)}", f"bow,{square(70, 0)}",
+    f"inner,{square(90, 0)}", f"sound,{square(110, 0)}", "text,\"POLYGON((0.0001 0,1 0,1 1,0 0))\"", f"bare,{square(130, 0)}", f"class,{square(150, 0)}",
+]
+COVERS = [
+    f"c1,sound,G,{square(0, 0)}", f"c2,gap,G,{square(20, 0, 9.999)}", f"c3,left,G,{square(40, 0)}", f"c4,right,G,{square(49.999, 0)}",
+    'c5,bow,G,"POLYGON((70 0,80 10,80 0,70 10,70 0))"', f"c6,inner,G,{square(90, 0)}", f"c7,inner,G,{square(95, 0, 5)}",
+    f"c8,text,G,{square(0, 0)}", f"c9,stranger,G,{square(0, 0)}", f"c10,class,none,{square(150, 0)}", f"c 11,sound,G,{square(0, 0)}",
+]
+WANTED = {
+    ("34", "sound"), ("38 14", "text"), ("37", "bare"), ("35", "c9 stranger"), ("36", "c10 class"), ("33", "c 11 sound"),
+    ("43", "gap"), ("41", "left right"), ("40", "c5"),
+}
+
+
+ITEMS = [list(range(first, first + 30)) for first in range(0, 3000, 30)]
+
+
+def ask(batch):
+    """The first item of a batch that is faulty, with its number."""
+    return next(((number, item) for number, item in enumerate(batch) if item % 7 == 0), None)
+
+
+def test_a_search_finds_each_faulty_item_once():
+    assert sorted(cutting.search(ITEMS, ask, 3000, lambda *_: None)) == list(range(0, 3000, 7))
+
+
+def test_a_search_ends_where_enough_are_found():
+    assert len(cutting.search(ITEMS, ask, 3000, lambda *_: None, 50)) == 50
+
+
+def faults(folder, out):
+    return subprocess.run([os.path.join(TOOLS, "faults"), folder, out, "--lpis", shlex.quote(BUILT)], capture_output=True, text=True, check=False)
+
+
+@pytest.fixture
+def release(tmp_path):
+    if BUILT is None:
+        pytest.skip("the program is not built")
+    for name, lines in (("parcels", ["parcel,wkt", *PARCELS]), ("covers", ["piece,parcel,class,wkt", *COVERS]), ("classes", ["class,percent", "G,37"])):
+        (tmp_path / f"{name}.csv").write_text("\n".join(lines) + "\n", encoding="ascii")
+    return tmp_path
+
+
+def test_each_kind_of_fault(release):
+    """Each fault once and no more, of two pieces on one place one of both; the overlap's place is in metres and moved back."""
+    run = faults(release, release / "out.geojson")
+    assert run.returncode == 1, run.stderr
+    features = json.loads((release / "out.geojson").read_text(encoding="utf-8"))["features"]
+    found = {(f["properties"]["code"], f["properties"]["names"]) for f in features}
+    inner = {names for code, names in found if code in ("41", "43") and ("c6" in names or names == "inner")}
+    assert len(inner) == 1, found
+    assert {(code, names) for code, names in found if names not in inner} == WANTED
+    places = {f["properties"]["names"]: f["geometry"] for f in features}
+    assert 49.999 <= places["left right"]["coordinates"][0] <= 50
+
+
+def test_a_header_that_is_refused_is_the_one_fault(release):
+    (release / "parcels.csv").write_text("parcel;wkt\n", encoding="ascii")
+    run = faults(release, release / "out.geojson")
+    assert run.returncode == 1 and run.stdout.startswith("31 "), run.stdout

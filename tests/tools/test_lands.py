@@ -1,0 +1,127 @@
+"""Tests the tools by whole lands: 40 generated ones, damaged sources, and each land that once failed, made small. What has to hold is said in
+bench/lands_trial.py. Wants Shapely."""
+
+import math
+import os
+import tempfile
+import unittest
+import unittest.mock
+
+from lpis_tools import shapely_there
+
+import lands_run
+import lands_shrink
+import lands_trial
+from lands_land import Land
+from lands_shapes import Shape
+
+LANDS, MOST, DAMAGED = 40, 200, 40
+# Damaged sources that once ended in a traceback, or never: arcs without a radius, a table without a name, a number for a shape, a view without
+# an end, curves within curves.
+ONCE = (57, 123, 126, 510, 516, 580, 587, 1211, 1527)
+E, N = 550_000.0, 5_400_000.0
+
+
+def box(x, y, width=10.0, height=10.0):
+    """A rectangle about the corner of the land."""
+    return [(E + x, N + y), (E + x + width, N + y), (E + x + width, N + y + height), (E + x, N + y + height), (E + x, N + y)]
+
+
+def alike(*members, form=None):
+    """A parcel that is one piece, for each shape."""
+    shapes = [Shape(member, form) for member in members]
+    return [(f"P{number}", shape) for number, shape in enumerate(shapes)], [(f"K{number}", f"P{number}", "GRASS", shape) for number, shape in enumerate(shapes)]
+
+
+def circle(x, y, radius, count):
+    """A ring of so many corners."""
+    ring = [(E + x + radius * math.cos(2 * math.pi * k / count), N + y + radius * math.sin(2 * math.pi * k / count)) for k in range(count)]
+    return [*ring, ring[0]]
+
+
+def bent(x, bend):
+    """A rectangle whose sides are arcs."""
+    ring = box(x, 0)[:1]
+    for (ax, ay), (bx, by) in zip(box(x, 0), box(x, 0)[1:]):
+        ring += [((ax + bx) / 2 + (by - ay) * bend, (ay + by) / 2 - (bx - ax) * bend), (bx, by)]
+    return ring
+
+
+def needle(angle):
+    """A ring of 90 km, a decimetre wide at its far end."""
+    x, y = E + 90_000 * math.cos(angle), N + 90_000 * math.sin(angle)
+    return [(E, N), (x, y), (x + 0.1, y + 0.05), (E, N)]
+
+
+# Each once ended in a traceback, lost land in silence, or took a table without a row for a success.
+CASES = {
+    "a parcel that rounds to a line within another": alike([[box(0, 0)]], [[box(4, 4, 1.0, 0.0001)]]),
+    "a parcel that rounds to a line, beside another": alike([[box(0, 0)]], [[box(20, 4, 1.0, 0.0004)]]),
+    "a parcel that rounds to a line, alone": alike([[box(0, 0, 1.0, 0.0001)]]),
+    "a parcel that rounds to a point, within another": alike([[box(0, 0)]], [[box(4.0003, 4, 0.0004, 0.0004)]]),
+    "a parcel beyond the range, in a system without zones before eastings": alike([[box(0, 0)]], [[box(32_000_020, 0)]]),
+    "needles of 90 km beside fine shapes": alike(*([[circle(5 * k, 5, 0.9, 500)]] for k in range(10)), *([[needle(0.3 + 0.2 * k)]] for k in range(5))),
+    "an arc of three equal points, and one that is nearly straight": alike([[[(E, N)] * 3]], [[bent(0, 1e-12)]], [[bent(20, 1e-9)]], [[bent(40, 0.2)]], form="arcs"),
+    "parcels beyond the range alone": alike([[box(19_450_500, 0)]], [[box(19_450_510, 0)]]),
+}
+
+
+@unittest.skipUnless(shapely_there.is_there(), shapely_there.LACKING)
+class Lands(unittest.TestCase):
+    @classmethod
+    def setUpClass(cls):
+        spare = tempfile.TemporaryDirectory()
+        cls.addClassCleanup(spare.cleanup)
+        cls.folder = os.path.join(spare.name, "land")
+        lands_run.preload()
+        cls.runner = lands_run.Runner(spare.name)
+
+    def test_cases(self):
+        for name, rows in CASES.items():
+            for form in ("package", "csv")[: 1 if "90 km" in name else 2]:
+                with self.subTest(name, form=form):
+                    self.assertEqual(lands_trial.of_land(Land.of_rows(*rows, form), self.runner, self.folder), [])
+
+    def test_generated(self):
+        for number in range(LANDS):
+            with self.subTest(f"bench/lands --most {MOST} --one {number} FOLDER"):
+                self.assertEqual(lands_trial.of_land(Land(number, MOST), self.runner, self.folder), [])
+
+    def test_damaged(self):
+        for number in (*range(DAMAGED), *ONCE):
+            with self.subTest(f"bench/lands --damaged --one {number} FOLDER"):
+                self.assertEqual(lands_trial.of_damaged(number, self.runner, self.folder)[0], [])
+
+    def test_shrinking(self):
+        """A land that fails is made as small as it goes: the parcel and its hole that are at fault, and nothing else, in coordinates of few digits."""
+        def fails(land):
+            return any(len(member) > 1 and abs(member[1][0][0] - E) < 100 for row in land.parcels for member in row.shape.members)
+
+        shapes = [[[circle(30 * k, 5.123456, 9.87654321, 12), circle(30 * k, 5, 2.5, 5)]] for k in range(4)]
+        whole = Land.of_rows(*alike(*([[box(200 + 20 * k, 0)]] for k in range(30)), shapes[1], *([[box(200 + 20 * k, 30)]] for k in range(30))))
+        for is_there in (True, False):
+            if is_there and not lands_shrink.hypothesis:
+                continue
+            with unittest.mock.patch.object(lands_shrink, "hypothesis", lands_shrink.hypothesis if is_there else None):
+                small = lands_shrink.Shrinking(whole, fails).run()
+            (row,) = small.rows()
+            self.assertEqual((fails(small), [len(ring) for ring in row.shape.members[0]]), (True, [4, 4]), is_there)
+            self.assertTrue(not is_there or all(value == round(value) for point in row.shape.points() for value in point), row.shape.points())
+        self.assertEqual(len(whole.rows()), 122)
+
+    def test_judge(self):
+        """The judge sees what is wrong: land that is gone, a name that is another's, a balance that does not add up."""
+        land = Land.of_rows(*alike([[box(0, 0)]], [[box(10, 0)]], [[box(20, 0)]]))
+        self.assertEqual(lands_trial.of_land(land, self.runner, self.folder), [])
+        out = os.path.join(self.folder, "accepted")
+        for file, old, new, kind in (("parcels.csv", "550010.000 5400010.000", "550010.000 5400009.000", "balance"), ("covers.csv", "K1,P1", "K7,P1", "silent"),
+                                     ("balance.csv", "parcels,,300.000", "parcels,,299.000", "balance"), ("balance.csv", "0.000,0.000,0.000,300.000", "0.000,1.000,0.000,300.000", "uneven")):
+            path = os.path.join(out, file)
+            with open(path, encoding="utf-8") as source:
+                text = source.read()
+            self.assertIn(old, text)
+            with open(path, "w", encoding="utf-8") as changed:
+                changed.write(text.replace(old, new))
+            self.assertIn(kind, [fault[0] for fault in lands_trial.Judge(land, out).judge()], (file, new))
+            with open(path, "w", encoding="utf-8") as again:
+                again.write(text)

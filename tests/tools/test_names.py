@@ -1,0 +1,156 @@
+"""Tests names over three years: what a run writes into identifiers.csv, the next run takes, and each name keeps its identifier, whatever letters it has. By
+hypothesis where that is there, else by names of a seeded generator."""
+
+import csv
+import os
+import random
+import tempfile
+import unittest
+
+import preparing_case
+from lpis_tools import shapely_there
+
+try:
+    import hypothesis
+    from hypothesis import strategies
+except ImportError:
+    hypothesis = None
+if shapely_there.is_there():
+    from lpis_tools import cells, identifiers, names, naming, preparing
+
+# Beginnings and parts of names that programs treat in ways of their own.
+ODD = ("a", "A", "a  ", " a", "a\u00a0", "7", "7.0", "=1+1", "+1", "-1", "@x", "'=x", "''x", "\tx", "\rx", "x\ry", "x\ny", "x,y", 'x"y', "M\u00fchle", "Mu\u0308hle", "MUEHLE", "\u6c34\u7530", "-A", ";", "|", "\x00b",
+       "a" * 41, "\u202ea", "sep=;", "kind", "\ufeffx", "field 7", "field 7 ", "field_7", "\u00df", "ss", "null", "-", "a\u200b")
+SETTINGS = {"max_examples": 150, "deadline": None, "derandomize": True}
+
+
+class Row(dict):
+    """A row of a layer, as `land.Row`, without a shape."""
+
+    def __init__(self, number, **fields):
+        super().__init__(fields)
+        self.number, self.fields, self.found, self.place, self.why = number, self, None, None, ""
+
+    def __missing__(self, name):
+        return ""
+
+
+def layers_of(parcels, classes, rng):
+    """Layers with these names of parcels and classes. A piece may name its parcel with blanks before and behind."""
+    padded = [f"{' ' * rng.randrange(3)}{name}{' ' * rng.randrange(3)}" for name in parcels]
+    rows = [Row(number, parcel=name) for number, name in enumerate(parcels, 1)]
+    covers = [Row(number, piece=name, parcel=other, **{"class": classes[number % len(classes)]}) for number, (name, other) in enumerate(zip(parcels, padded))]
+    return {name: naming.land.Layer(name, found) for name, found in (("parcels", rows), ("covers", covers))}
+
+
+def one_year(folder, parcels, classes, rng, before):
+    """The identifiers of a year's names, by the table of the year before; and the path of the table that was written."""
+    work = preparing.Preparation(layers_of(parcels, classes, rng), 25832, lambda _: None)
+    found = naming.Names(work, naming.given_identifiers(before))
+    found.run()
+    path = os.path.join(folder, f"identifiers-{rng.randrange(10 ** 9)}.csv")
+    naming.write_identifiers(found.renamed, path)
+    return work, path
+
+
+def judged(folder, parcels, classes, seed):
+    """What is wrong over three years; of the second a part is absent."""
+    rng, wrong = random.Random(seed), []
+    parcels = list({name.strip(): name for name in parcels if name.strip()}.values())
+    classes = [name for name in classes if name.strip()] or ["G"]
+    work, path = one_year(folder, parcels, classes, rng, None)
+    if work.hopeless():
+        return []  # two names of one identifier, which is refused in the first year
+    first = {name.strip(): row["parcel"] for name, row in zip(parcels, work.layers["parcels"].rows)}
+    kinds = {name.strip(): row["class"] for name, row in zip([classes[number % len(classes)] for number in range(len(parcels))], work.layers["covers"].rows)}
+    for share in (0.5, 1.0):
+        here = [name for name in parcels if rng.random() < share] or parcels
+        work, path = one_year(folder, here, classes, rng, path)
+        wrong += [finding.words for finding in work.hopeless()]
+        for name, row in zip(here, work.layers["parcels"].rows):
+            if row["parcel"] != first[name.strip()]:
+                wrong.append(f"{name!r} was {first[name.strip()]}, and is {row['parcel']}")
+        wrong += [f"piece {row['piece']} names {row['parcel']}" for row in work.layers["covers"].rows if row["parcel"] not in first.values() or not identifiers.is_one(row["piece"])]
+        wrong += [f"class {name!r}" for name, row in zip([classes[number % len(classes)] for number in range(len(here))], work.layers["covers"].rows) if kinds.get(name.strip(), row["class"]) != row["class"]]
+        os.replace(path, os.path.join(folder, "identifiers.csv"))
+        path = os.path.join(folder, "identifiers.csv")
+        wrong += [f"of {name!r} explain has {found}" for name in here if (found := names.SourceNames(folder).now(name))[:1] != [first[name.strip()]] and first[name.strip()] not in found]
+    return wrong
+
+
+@unittest.skipUnless(shapely_there.is_there(), shapely_there.LACKING)
+class Years(unittest.TestCase):
+    def setUp(self):
+        spare = tempfile.TemporaryDirectory()
+        self.addCleanup(spare.cleanup)
+        self.folder = spare.name
+
+    def test_odd(self):
+        self.assertEqual(judged(self.folder, ODD, ODD[:5], 1), [])
+
+    def test_generated(self):
+        for seed in range(100):
+            rng = random.Random(seed)
+            letters = "aA1.0 \t\r\n,;\"'=+-@|\u00fc\u00e9\u0308\u00df\u202e\u3000\U0001f33e\x00\\/:_"
+            made = ["".join(rng.choice(letters) for _ in range(rng.randrange(1, 8))) for _ in range(30)]
+            self.assertEqual(judged(self.folder, made + rng.sample(ODD, 5), made[:3], seed), [], (seed, made))
+
+    @unittest.skipUnless(hypothesis, "hypothesis is not there (Debian: python3-hypothesis)")
+    def test_hypothesis(self):
+        text = strategies.one_of(strategies.sampled_from(ODD), strategies.text(strategies.characters(blacklist_categories=("Cs",)), min_size=1, max_size=12))
+
+        @hypothesis.settings(**SETTINGS)
+        @hypothesis.given(strategies.lists(text, min_size=1, max_size=8), strategies.lists(text, min_size=1, max_size=3), strategies.integers(0, 1000))
+        def tried(parcels, classes, seed):
+            self.assertEqual(judged(self.folder, parcels, classes, seed), [])
+
+        tried()
+
+    def test_cells(self):
+        for name in (*ODD, "", "'", "'a", "'''=", "\r", "a\r\nb", '"', "\n"):
+            path = os.path.join(self.folder, "cells.csv")
+            with open(path, "w", newline="", encoding="utf-8") as file:
+                cells.Writer(file).writerow(["x", cells.text(name), 1.5, None])
+            with open(path, newline="", encoding="utf-8") as file:
+                (found,) = csv.reader(file)
+            self.assertEqual((cells.plain(found[1]), found[2:]), (name, ["1.5", ""]))
+            self.assertFalse(found[1].startswith(("=", "+", "-", "@", "\t", "\r")))
+
+    def test_own_tables(self):
+        """A table of one's own may tell names apart that differ in blanks, exchange two names, and name an absent one; what cannot be read is refused."""
+        def found(text, parcels):
+            path = os.path.join(self.folder, "own.csv")
+            with open(path, "w", encoding="utf-8") as file:
+                file.write(text)
+            work = preparing.Preparation(layers_of(parcels, ["G"], random.Random(0)), 25832, lambda _: None)
+            given = naming.Names(work, naming.given_identifiers(path))
+            for other in work.layers["covers"].rows:
+                other["parcel"] = parcels[0]
+            given.run()
+            return [other["parcel"] for other in work.layers["parcels"].rows], given.renamed["parcel"], len(work.hopeless())
+
+        self.assertEqual(found('kind,old,new\nparcel,"a  ",b\n', ["a  ", "a"])[::2], (["b", "a"], 0))
+        self.assertEqual(found("kind,old,new\nparcel,a,b\nparcel,b,a\n", ["a", "b"]), (["b", "a"], {"a": "b", "b": "a"}, 0))
+        self.assertEqual(found("kind,old,new\nparcel,x y,foo\n", ["a"])[1], {"x y": "foo"})
+        self.assertEqual(found("kind,old,new\nparcel,a,b\n", ["a", "b"])[2], 1)
+        with self.assertRaises(naming.land.Trouble):
+            found('kind,old,new\nparcel,"a,b\n', ["a"])
+
+
+class Whole(preparing_case.Case):
+    def test_three_years(self):
+        """Of the tool itself: pieces with blanks behind their parcel's name, and names of every kind."""
+        odd = [name for name in ODD if name.strip() and "\x00" not in name and name.strip() not in ("A", "7.0", "-1")]
+        odd = list({name.strip(): name for name in odd}.values())
+        shapes = [f"POLYGON(({preparing_case.ring(10 * number, 0)}))" for number in range(len(odd))]
+        self.tables(list(zip(odd, shapes)), [(f"{number}", f"{name}  ", "GRASS", shape) for number, (name, shape) in enumerate(zip(odd, shapes))])
+        found, words = [], []
+        for year in range(3):
+            run = self.run_on(self.sheets, *words)
+            self.assertEqual((year, run.returncode), (year, 0), run.stdout + run.stderr)
+            found.append([record["parcel"] for record in preparing_case.rows(self.out, "parcels.csv")])
+            os.replace(os.path.join(self.out, "identifiers.csv"), self.path("names.csv"))
+            words = ["--identifiers", self.path("names.csv")]
+        self.assertEqual((found[1], found[2], len(set(found[0]))), (found[0], found[0], len(odd)))
+        with open(self.path("names.csv"), newline="", encoding="utf-8") as file:
+            self.assertFalse([field for record in csv.reader(file) for field in record if field.startswith(("=", "+", "-", "@"))])

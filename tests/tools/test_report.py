@@ -1,0 +1,376 @@
+"""Tests tools/report and the page of tools/faults, beside a stand-in for lpis, and with lpis itself where it is built or named by LPIS. The page is
+opened by headless Chromium, which looks at the picture: left out where it is not there."""
+
+import html
+import json
+import os
+import re
+import shutil
+import sqlite3
+import subprocess
+import tempfile
+import unittest
+
+from places import BUILT, TOOLS, TOP
+from lpis_tools import page, shapely_there
+
+CHROMIUM = next((path for path in map(shutil.which, ("chromium", "chromium-browser", "google-chrome")) if path), None)
+# Answers `yes` with the areas of the tables, or the line that LINE has; `cut` finds no fault.
+STANDIN = f"""#!/usr/bin/env python3
+import os, sys
+sys.path.insert(0, {TOOLS!r})
+from lpis_tools import areas, polygons, report
+if sys.argv[1] == "--version":
+    print("lpis 9.8.7")
+elif sys.argv[1] == "cut":
+    print("triangles 0 pairs 0")
+elif os.environ.get("LINE"):
+    print(os.environ["LINE"])
+    sys.exit(0 if os.environ["LINE"].endswith("yes") else 1)
+else:
+    land = report.read(sys.argv[2])
+    print("parcels", len(land.parcels), "pieces", len(land.pieces))
+    for name, members in land.parcels.items():
+        share = sum(polygons.doubled(piece[3]) * land.percents[piece[2]] for piece in land.pieces if piece[1] == name)
+        print("parcel", name, "area", areas.decimal(polygons.doubled(members), areas.AREA), "eligible", areas.decimal(share, areas.ELIGIBLE))
+    sums = report.by_class(land)[1]
+    print("total area", sums["area"], "eligible", sums["eligible"])
+    print("yes")
+"""
+
+
+def square(x, y, width=10, height=10):
+    return f'"POLYGON(({x} {y},{x + width} {y},{x + width} {y + height},{x} {y + height},{x} {y}))"'
+
+
+def release(folder, names, move=0, lineage=None, width=10):
+    """A row of squares, each of two pieces."""
+    os.makedirs(folder)
+    tables = {"parcels": ["parcel,wkt"], "covers": ["piece,parcel,class,wkt"], "classes": ["class,percent", "GRASS,100", "TREES,37"]}
+    for number, name in enumerate(names):
+        x = 550000 + 20 * number + move
+        tables["parcels"].append(f"{name},{square(x, 5400000, width)}")
+        tables["covers"] += [f"{name}.1,{name},GRASS,{square(x, 5400000, width, 4)}", f"{name}.2,{name},TREES,{square(x, 5400004, width, 6)}"]
+    if lineage is not None:
+        tables["lineage"] = ["old,new", *lineage]
+    for name, lines in tables.items():
+        with open(os.path.join(folder, name + ".csv"), "w", encoding="ascii") as file:
+            file.write("\n".join(lines) + "\n")
+    return folder
+
+
+def unpacked(text):
+    """The shapes in letters, as `page.js` reads them."""
+    values, x, y = iter(page.LETTERS.index(letter) for letter in text), 0, 0
+
+    def step():
+        total, factor = 0, 1
+        for value in values:
+            total += (value & 31) * factor
+            if value < 32:
+                return -(total + 1) // 2 if total % 2 else total // 2
+            factor *= 32
+        raise StopIteration
+
+    shapes = []
+    while True:
+        try:
+            shapes.append([])
+            for _ in range(step()):
+                ring = []
+                for _ in range(step()):
+                    x, y = x + step(), y + step()
+                    ring.append((x, y))
+                shapes[-1].append(ring)
+        except StopIteration:
+            return shapes[:-1]
+
+
+HELPERS = """
+const results = {}, waited = () => new Promise(done => setTimeout(done, 2000));
+const pixel = (x, y) => { const box = canvas.getBoundingClientRect(); return [box.left + 1 + (x - map.view.x) * map.view.scale, box.top + 1 + (y - map.view.y) * map.view.scale]; };
+const point = (kind, x, y) => { const [clientX, clientY] = pixel(x, y); canvas.dispatchEvent(new PointerEvent(kind, { clientX, clientY, bubbles: true })); };
+const colour = (x, y) => { const ratio = map.ratio, at = [(x - map.view.x) * map.view.scale, (y - map.view.y) * map.view.scale];
+  return '#' + Array.from(canvas.getContext('2d').getImageData(at[0] * ratio, at[1] * ratio, 1, 1).data.slice(0, 3), n => n.toString(16).padStart(2, '0')).join(''); };
+const named = (x, y) => { point('pointermove', x, y); const label = document.getElementById('name'); return label.hidden ? '' : label.textContent; };
+const isInView = () => { const box = canvas.getBoundingClientRect(); return box.top >= 0 && box.bottom <= innerHeight; };
+const first = number => Array.from(document.querySelectorAll('table.sorted')[number].tBodies[0].rows, row => row.cells[0].textContent);
+const head = (number, text) => Array.from(document.querySelectorAll('table.sorted')[number].querySelectorAll('th')).find(one => one.textContent.startsWith(text));
+"""
+
+
+def tried(path, script, size="1200,900"):
+    """What a script has put into `results` in headless Chromium."""
+    with open(path, encoding="utf-8") as file:
+        text = file.read()
+    done = f"<script>{HELPERS}(async () => {{ {script} }})().catch(error => {{ results.error = String(error); }}).then(() => {{ document.title = JSON.stringify(results); }});</script>"
+    with open(path + ".tried.html", "w", encoding="utf-8") as file:
+        file.write(text.replace("</body>", done + "</body>"))
+    try:
+        run = subprocess.run([CHROMIUM, "--headless", "--no-sandbox", "--disable-gpu", "--disable-dev-shm-usage", f"--user-data-dir={path}.profile", "--host-resolver-rules=MAP * ~NOTFOUND",
+                              "--virtual-time-budget=60000", f"--window-size={size}", "--dump-dom", f"file://{path}.tried.html"], capture_output=True, text=True, timeout=400, check=False)
+    except subprocess.TimeoutExpired:
+        raise unittest.SkipTest("Chromium did not answer in seven minutes") from None
+    found = re.search(r"<title>(\{.*?\})</title>", run.stdout, re.DOTALL)
+    assert found, run.stderr[-500:]
+    return json.loads(html.unescape(found[1]))
+
+
+class Reports(unittest.TestCase):
+    def setUp(self):
+        self.spare = tempfile.TemporaryDirectory()
+        self.addCleanup(self.spare.cleanup)
+        self.program = self.path("lpis")
+        with open(self.program, "w", encoding="utf-8") as file:
+            file.write(STANDIN)
+        os.chmod(self.program, 0o755)
+        with open(self.path("facts"), "w", encoding="utf-8") as file:
+            file.write("commit 0123456789ab\nkit rattle-kit-0 logic 1\n")
+        with open(self.path("cert.txt"), "w", encoding="utf-8") as file:
+            file.write("lpis-cert 2\n")
+        self.release = release(self.path("release"), ["A", "B", "C"])
+
+    def path(self, name):
+        return os.path.join(self.spare.name, name)
+
+    def report(self, *words, line="", folder=None, cert=("cert.txt",)):
+        run = subprocess.run([os.path.join(TOOLS, "report"), folder or self.release, *map(self.path, cert), "--json", self.path("r.json"), "--html", self.path("r.html"), "--lpis", self.program, *words],
+                             capture_output=True, text=True, check=False, env={**os.environ, "LINE": line})
+        told = None
+        if os.path.exists(self.path("r.json")):
+            with open(self.path("r.json"), encoding="utf-8") as file:
+                told = json.load(file)
+        return run, told
+
+    def html(self):
+        with open(self.path("r.html"), encoding="utf-8") as file:
+            return file.read()
+
+    def shapes(self):
+        return json.loads(re.search(r'<script id="data" type="application/json">(.*?)</script>', self.html(), re.DOTALL)[1])["map"]
+
+    def test_yes(self):
+        run, told = self.report()
+        self.assertEqual((run.returncode, run.stdout.splitlines()[0]), (0, "yes"), run.stderr)
+        self.assertEqual((told["answer"], told["status"], told["parcels"], told["pieces"], told["area"], told["eligible"]), ("yes", 0, 3, 6, "300.0000000", "186.600000000"))
+        self.assertEqual(told["classes"][1], {"class": "TREES", "percent": 37, "pieces": 3, "area": "180.0000000", "eligible": "66.600000000"})
+        self.assertEqual((told["extent"]["least_x"], told["extent"]["greatest_x"], told["extent"]["height"]), ("550000.000", "550050.000", "10.000"))
+        self.assertEqual((told["program"]["version"], told["program"]["commit"], told["program"]["kit"]), ("lpis 9.8.7", "0123456789ab", "rattle-kit-0 logic 1"))
+        sums = subprocess.run(["sha256sum", os.path.join(self.release, "covers.csv"), self.program], capture_output=True, text=True, check=True).stdout.split()
+        self.assertEqual((told["files"]["covers.csv"]["sha256"], told["program"]["sha256"]), (sums[0], sums[2]))
+        self.assertRegex(told["date"], r"^\d{4}-\d\d-\d\dT\d\d:\d\d:\d\dZ$")
+        text = self.html()
+        shapes = self.shapes()
+        self.assertEqual((shapes["pieces"]["count"], shapes["parcels"]["names"], text.count("<td>A</td>")), (6, ["A", "B", "C"], 1))
+        self.assertNotRegex(text, r"https?:|<link|<img|@import|src=")
+        for words in ("area m\u00b2<small>in all 0.0300 ha", "300.0000000 m\u00b2 (0.0300 ha)", "</i>GRASS</span>", "</i>TREES</span>", "</i>border of a parcel</span>"):
+            self.assertIn(words, text)
+        self.assertNotIn("fault", text.split('class="legend"')[1].split("</p>")[0])
+        self.assertIn(told["files"]["certificate"]["sha256"], text)
+
+    def test_refused(self):
+        run, told = self.report(line="refused 41 parcels A B at 550005000 5400005000 1")
+        self.assertEqual((run.returncode, told["status"], told["refusal"]["code"], told["refusal"]["identifiers"]), (1, 1, "41", ["A", "B"]), run.stderr)
+        self.assertEqual(told["refusal"]["place"], ["550005.000000", "5400005.000000"])
+        self.assertTrue(any("overlap" in words for words in told["refusal"]["words"]))
+        self.assertEqual(len(self.shapes()["marks"]), 1)
+        self.assertIn("</i>faults: 1</span>", self.html())
+
+    def test_difference(self):
+        new = release(self.path("new"), ["A", "B2", "B3"], lineage=["B,B2", "B,B3", "X,"], width=11)
+        run, told = self.report("--diff", self.release, folder=new)
+        self.assertIn("new 2 gone 2 changed 1 kept 0", run.stdout)
+        difference = told["difference"]
+        self.assertEqual([(row["parcel"], row["from"]) for row in difference["new"]], [("B2", ["B"]), ("B3", ["B"])])
+        self.assertEqual([(row["parcel"], row["to"], row["explained"]) for row in difference["gone"]], [("B", ["B2", "B3"], True), ("C", [], False)])
+        self.assertEqual((difference["changed"][0]["before"], difference["changed"][0]["after"], difference["changed"][0]["difference"]), ("100.0000000", "110.0000000", "10.0000000"))
+        for words in ("no row of lineage explains it", "</i>new: 2</span>", "</i>of another area: 1</span>", "</i>gone, as it was: 2</span>"):
+            self.assertIn(words, self.html())
+        self.assertNotIn("</i>moved", self.html())
+        self.assertEqual((self.shapes()["old"]["names"], self.shapes()["parcels"]["kinds"]), (["B", "C"], [[0, "changed"], [1, "new"], [2, "new"]]))
+        moved = release(self.path("moved"), ["A", "B", "C"], move=1)
+        self.assertEqual(self.report("--diff", self.release, folder=moved)[1]["difference"]["other_shape_same_area"], ["A", "B", "C"])
+        self.assertEqual(self.report("--diff", self.path("none"))[0].returncode, 64)
+
+    def test_years_of_a_register(self):
+        base = sqlite3.connect(self.path("r.db"))
+        base.executescript("CREATE TABLE lpis_release (year INTEGER PRIMARY KEY); CREATE TABLE lpis_span (id TEXT PRIMARY KEY, since INTEGER, until INTEGER);"
+                           "INSERT INTO lpis_release VALUES (2025), (2024), (2027); INSERT INTO lpis_span VALUES ('A', 2024, 0), ('B', 2024, 2025)")
+        base.close()
+        run, told = self.report("--register", self.path("r.db"))
+        self.assertEqual((told["register"]["years"], told["register"]["live"]), ([2024, 2025, 2027], 1), run.stderr)
+        self.assertIn("r.db: 3 years (2024 to 2027), 1 live identifiers of 2, 0 shapes", run.stdout)
+        self.assertIn("3 years (2024 to 2027)", self.html())
+        for path in (self.path("none.db"), self.path("cert.txt")):
+            run, _ = self.report("--register", path)
+            self.assertEqual((run.returncode, "is no register" in run.stderr), (64, True), run.stderr)
+
+    def test_stray(self):
+        folder = release(self.path("far"), [f"P{number}" for number in range(20)])
+        self.assertEqual(self.report(folder=folder)[1]["extent"]["stray"], [])
+        for name in ("parcels", "covers"):
+            path = os.path.join(folder, name + ".csv")
+            with open(path, encoding="ascii") as file:
+                text = file.read()
+            with open(path, "w", encoding="ascii") as file:
+                file.write(re.sub(r'(?m)^(P7[.,].*)$', lambda line: line[1].replace("5501", "3501"), text))
+        self.assertEqual(self.report(folder=folder)[1]["extent"]["stray"], ["P7"])
+
+    def test_wrong_sums(self):
+        with open(self.program, encoding="utf-8") as file:
+            text = file.read()
+        with open(self.program, "w", encoding="utf-8") as file:
+            file.write(text.replace('print("total area", sums["area"]', 'print("total area", "299.9999999"'))
+        run, told = self.report()
+        self.assertEqual((run.returncode, told), (64, None))
+        self.assertIn("one of the two is wrong", run.stderr)
+
+    @unittest.skipUnless(shapely_there.python(), "no Shapely (Debian: python3-shapely)")
+    def test_moved(self):
+        """Two that exchanged their names share nothing; one moved by two thirds of its length shares less than half."""
+        new = release(self.path("new"), ["B", "A", "C"])
+        for name in ("parcels", "covers"):
+            path = os.path.join(new, name + ".csv")
+            with open(path, encoding="ascii") as file:
+                text = file.read()
+            with open(path, "w", encoding="ascii") as file:
+                file.write(re.sub("5500([45])([07])", lambda found: f"5500{found[1]}{6 if found[2] == '0' else 7}" if found[0] != "550050" else "550056", text))
+        run, told = self.report("--diff", self.release, folder=new)
+        self.assertEqual([row["parcel"] for row in told["difference"]["moved"]], ["A", "B", "C"], run.stderr)
+        self.assertEqual(["share nothing" in row["words"] for row in told["difference"]["moved"]], [True, True, False])
+        self.assertIn("moved C: its old and its new shape share 40 percent", run.stdout)
+        self.assertIn("</i>moved, with its identifier: 6</span>", self.html())
+        self.assertEqual(self.shapes()["old"]["words"], ["before it moved"] * 3)
+
+    def test_names_are_text(self):
+        shape = [[[(0, 0), (1, 0), (1, 1), (0, 0)]]]
+        chart = page.Map(page.Layer(["<p>"], [shape], ["</script>"]), page.Layer(["<q>"], [shape], classes=["<c>"]), marks=[(0, 0, "<m>")])
+        text = page.page("<t>", "<a>", True, [("<f>", "<&>")], chart, [page.Table("<h>", ["<c>"], [["<d>"]])])
+        self.assertFalse(re.search(r"<(t|a|f|&|q|m|c|h|d)>|<p>(?!<)", text.replace("<p></p>", "")))
+        self.assertEqual(text.count("</script>"), 2)
+
+    def test_packed_shapes(self):
+        for shapes in ([[[[(0, 0), (5, 0), (5, 5), (0, 0)]]]], [[[[(550_000_123, 5_400_000_456), (1, 2), (-20_000_000_000, 20_000_000_000), (550_000_123, 5_400_000_456)], [(3, 3), (4, 3), (4, 4), (3, 3)]]], [[[(7, 7), (8, 7), (8, 8)]], [[(9, 9), (9, 8), (8, 8)]]]]):
+            layer = page.Layer([str(number) for number in range(len(shapes))], shapes)
+            chart = page.Map(layer)
+            found, wanted = unpacked(chart.packed(layer, {})["text"]), [[ring[:-1] if ring[0] == ring[-1] else ring for member in members for ring in member] for members in shapes]
+            self.assertEqual([[len(ring) for ring in rings] for rings in found], [[len(ring) for ring in rings] for rings in wanted])
+            for x, y, (px, py) in ((x, y, point) for rings, others in zip(found, wanted) for ring, other in zip(rings, others) for (x, y), point in zip(ring, other)):
+                self.assertLess(max(abs(chart.left + chart.unit * x - px), abs(chart.top - chart.unit * y - py)), chart.unit)
+
+    def test_colours(self):
+        for count in (1, 12, 13, 40):
+            fills = page.fills_of([f"c{number}" for number in range(count)])
+            self.assertEqual(len(set(fills.values())), count)
+
+    def test_country(self):
+        folder = os.path.join(TOP, "examples", "country")
+        line = ("region west parcels 3 pieces 4 area 96.0000000 eligible 90.960000000\nregion southeast parcels 3 pieces 4 area 56.0000000 eligible 50.960000000\n"
+                "region northeast parcels 2 pieces 2 area 40.0000000 eligible 40.000000000\ncountry regions 3 parcels 4 pieces 5 area 120.0000000 eligible 114.960000000\nyes")
+        run, told = self.report(line=line, folder=folder, cert=())
+        self.assertEqual((run.returncode, told["country"]["parcels"], [row["area"] for row in told["regions"]]), (0, 4, ["96.0000000", "56.0000000", "40.0000000"]), run.stderr)
+        self.assertIn("region west parcels 3 pieces 4 area 96.0000000 (0.0096 ha)", run.stdout)
+        for words in ("in the country 0.0120 ha", "<td>southeast</td>", "</i>border of a region</span>", told["files"]["west/parcels.csv"]["sha256"]):
+            self.assertIn(words, self.html())
+        self.assertEqual((self.shapes()["tiles"]["names"], sum(cell[2] for cell in self.shapes()["cells"]["counts"])), (["west", "southeast", "northeast"], 4))
+        run, told = self.report(line=line.replace("regions 3 parcels 4", "regions 3 parcels 5"), folder=folder, cert=())
+        self.assertEqual((run.returncode, "one of the two is wrong" in run.stderr), (64, True))
+        run, told = self.report(line=line.split("region southeast")[0] + "refused 43 parcel A at 1 1 1 region southeast", folder=folder, cert=())
+        self.assertEqual((run.returncode, [("area" in row) for row in told["regions"]], len(self.shapes()["marks"])), (1, [True, False, False], 1), run.stderr)
+        for words in ([], ["--audit"], ["--diff", self.path("none")]):
+            self.assertEqual(self.report(*words, folder=folder if words else self.release, cert=())[0].returncode, 64)
+
+    def test_country_with_a_register(self):
+        folder = shutil.copytree(os.path.join(TOP, "examples", "country"), self.path("land"))
+        for region in ("west", "southeast", "northeast"):
+            with open(os.path.join(folder, region, "lineage.csv"), "w", encoding="ascii") as file:
+                file.write(f"old,new\n{region},\n")
+        base = sqlite3.connect(self.path("r.db"))
+        base.executescript("CREATE TABLE lpis_release (year INTEGER PRIMARY KEY); CREATE TABLE lpis_span (id TEXT PRIMARY KEY, since INTEGER, until INTEGER);"
+                           "INSERT INTO lpis_release VALUES (2025); INSERT INTO lpis_span VALUES ('A', 2025, 0)")
+        base.close()
+        run, told = self.report("--register", self.path("r.db"), line="refused 90 country line 1", folder=folder, cert=())
+        self.assertEqual((run.returncode, run.stdout.splitlines()[-1], told["register"]["years"]), (1, "register 1 year (2025), 1 live identifiers of 1, 0 shapes", [2025]), run.stderr)
+        self.assertTrue({"classes.csv", "west/lineage.csv", "northeast/lineage.csv"} <= set(told["files"]), sorted(told["files"]))
+        self.assertIn("1 year (2025)", self.html())
+
+    @unittest.skipUnless(CHROMIUM, "no Chromium (Debian: chromium)")
+    def test_in_a_browser(self):
+        """Colours, names, search, rows, heads, wheel and drag, at the size of a desk and of a telephone."""
+        new = release(self.path("wide"), ["B2", "C", "A"], lineage=["B,B2"], width=11)
+        self.report("--diff", self.release, folder=new)
+        script = """
+          results.whole = map.view.scale; results.drawn = canvas.dataset.drawn;
+          results.colours = [colour(5500, 8000), colour(5500, 3000), colour(15000, 3000)];
+          results.names = [named(5500, 8000), named(45500, 3000), named(15000, 3000)];
+          head(2, 'parcel').click(); results.up = first(2); head(2, 'parcel').click(); results.down = first(2);
+          document.body.style.paddingBottom = '3000px';
+          window.scrollTo(0, document.body.scrollHeight); results.away = isInView();
+          document.querySelectorAll('table.sorted')[2].querySelector('tr.row').click();
+          results.back = isInView(); results.near = map.view.scale; results.chosen = map.chosen[0].names[map.chosen[1]];
+          map.fit(data.map.first);
+          const input = document.getElementById('search'); input.value = 'b2'; input.dispatchEvent(new Event('input'));
+          results.found = document.getElementById('found').textContent; input.dispatchEvent(new KeyboardEvent('keydown', { key: 'Enter' }));
+          results.searched = map.chosen[0].names[map.chosen[1]];
+          input.value = 'nobody'; input.dispatchEvent(new Event('input')); results.none = document.getElementById('found').textContent;
+          map.fit(data.map.first); document.querySelector('[data-zoom]').click(); results.button = map.view.scale;
+          map.fit(data.map.first); canvas.dispatchEvent(new WheelEvent('wheel', { deltaY: -1, clientX: 300, clientY: 300 })); results.wheel = map.view.scale;
+          map.fit(data.map.first); const left = map.view.x; point('pointerdown', 0, 0); point('pointermove', 9000, 0); point('pointerup', 9000, 0); results.dragged = map.view.x < left;
+          point('pointerdown', 1000, 8000); point('pointerup', 1000, 8000); results.tapped = document.getElementById('name').textContent;
+          results.wide = document.documentElement.scrollWidth <= innerWidth;
+        """
+        for size in ("1200,900", "390,844"):
+            found = tried(self.path("r.html"), script, size)
+            self.assertEqual(found.get("error"), None)
+            self.assertEqual((found["drawn"], found["colours"]), ("parcels 3 pieces 6", [page.FILLS[0], page.FILLS[1], "#ffffff"]))
+            self.assertEqual([name.split("\n")[:2] for name in found["names"]], [["parcel B2", "piece B2.1 GRASS"], ["parcel A", "piece A.2 TREES"], [""]])
+            self.assertEqual((found["up"], found["down"]), (["A", "B2", "C"], ["C", "B2", "A"]))
+            self.assertEqual((found["away"], found["back"], found["near"] > found["whole"], found["chosen"]), (False, True, True, "C"))
+            self.assertEqual((found["found"], found["searched"], found["none"]), ("B2B2.1B2.2", "B2", "none found"))
+            self.assertEqual((found["button"] > found["whole"], found["wheel"] > found["whole"], found["dragged"], found["wide"]), (True, True, True, True))
+            self.assertIn("parcel", found["tapped"])
+
+    @unittest.skipUnless(CHROMIUM, "no Chromium (Debian: chromium)")
+    def test_many_shapes_in_a_browser(self):
+        """Of 20,001 parcels, one of which lies far away, the pieces are drawn where the map is enlarged, and the rest of a table comes on demand."""
+        parcels, pieces = page.Layer(), page.Layer(classes=[])
+        for number in range(20_001):
+            x, y = (number % 200 * 100_000, number // 200 * 100_000) if number else (900_000_000, 0)
+            for layer, name, left, right in ((parcels, f"P{number}", x, x + 90_000), (pieces, f"P{number}.1", x, x + 40_000), (pieces, f"P{number}.2", x + 40_000, x + 90_000)):
+                layer.add(name, [[[(left, y), (right, y), (right, y + 90_000), (left, y + 90_000), (left, y)]]])
+            pieces.classes += ["G", "W"]
+        chart = page.Map(parcels, pieces, strays=["P0"])
+        rows = page.Table("Parcels", ["parcel", "#area m\u00b2"], [[name, 8100] for name in parcels.names], [("parcels", number) for number in range(20_001)])
+        with open(self.path("m.html"), "w", encoding="utf-8") as file:
+            file.write(page.page("many", "yes", True, [], chart, [rows]))
+        found = tried(self.path("m.html"), """
+          await waited(); results.first = canvas.dataset.drawn; results.rows = first(0).length;
+          document.querySelector('#more0 button').click(); results.more = first(0).length;
+          map.go('parcels', 12345); await waited(); results.near = canvas.dataset.drawn;
+          const [left, top] = map.parcels.boxes.subarray(4 * 12345, 4 * 12345 + 2);
+          results.colours = [colour(left + 20000, top + 45000), colour(left + 60000, top + 45000)]; results.name = named(left + 60000, top + 45000);
+          document.querySelector('[data-show=whole]').click(); await waited(); results.whole = canvas.dataset.drawn;
+        """)
+        self.assertEqual((found.get("error"), found["first"], found["whole"]), (None, "parcels 20000 pieces 40000", "parcels 20001 pieces 40002"))
+        self.assertEqual((found["rows"], found["more"]), (page.FIRST_ROWS, page.FIRST_ROWS + 500))
+        self.assertLess(int(found["near"].split()[1]), 30)
+        self.assertEqual((found["colours"], found["name"]), ([page.FILLS[0], page.FILLS[1]], "parcel P12345\npiece P12345.2 W"))
+
+    @unittest.skipUnless(BUILT, "the program is not built")
+    def test_of_the_program(self):
+        cert = self.path("cert.txt")
+        for folder in ("square", "overlap"):
+            source = os.path.join(TOP, "examples", folder)
+            subprocess.run([BUILT, "cut", source, cert], capture_output=True, check=False)
+            self.program = BUILT
+            run, told = self.report(folder=source)
+            if folder == "square":
+                self.assertEqual((run.returncode, told["answer"], told["area"], told["eligible"]), (0, "yes", "100.0000000", "68.500000000"), run.stderr)
+            else:
+                self.assertEqual((run.returncode, told["status"] in (1, 2), "faults" in told), (told["status"], True, True), run.stderr)
+                self.assertGreater(len(self.shapes()["marks"]), 0)
+        out = self.path("faults.html")
+        run = subprocess.run([os.path.join(TOOLS, "faults"), os.path.join(TOP, "examples", "overlap"), self.path("f.geojson"), "--html", out, "--lpis", BUILT], capture_output=True, text=True, check=False)
+        self.assertEqual(run.returncode, 1, run.stderr)
+        with open(out, encoding="utf-8") as file:
+            self.assertIn("</i>faults: ", file.read())

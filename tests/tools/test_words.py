@@ -1,0 +1,105 @@
+"""Tests what tools have in common: --version, --help, words that are none, and what the texts that are installed name."""
+
+import os
+import re
+import shutil
+import subprocess
+import sys
+import tempfile
+import unittest
+
+from places import TOOLS, TOP
+from lpis_tools import installed
+
+NAMES = ("explain", "faults", "report")
+OF_SHAPELY = ("prepare", "lineage .", "country prepare", "recipes/compare")
+STANDIN = "#!/bin/sh\necho lpis 9.8.7\n"
+
+
+def run(*words):
+    return subprocess.run(words, capture_output=True, text=True, check=False, stdin=subprocess.DEVNULL)
+
+
+class Words(unittest.TestCase):
+    def setUp(self):
+        self.spare = tempfile.TemporaryDirectory()
+        self.addCleanup(self.spare.cleanup)
+
+    def house(self):
+        """The tools as they are installed, beside a stand-in for the program."""
+        lib = os.path.join(self.spare.name, "lib", "lpis")
+        shutil.copytree(os.path.join(TOOLS, "lpis_tools"), os.path.join(lib, "lpis_tools"), ignore=shutil.ignore_patterns("__pycache__"))
+        os.makedirs(os.path.join(lib, "program"))
+        for name in installed.COMMANDS:
+            shutil.copy(os.path.join(TOOLS, name), lib)
+        with open(os.path.join(lib, "program", "lpis"), "w", encoding="ascii") as file:
+            file.write(STANDIN)
+        os.chmod(file.name, 0o755)
+        with open(os.path.join(lib, "program", "facts"), "w", encoding="ascii") as file:
+            file.write("commit 0123456789ab\nkit rattle-kit-0 logic 1\n")
+        return lib
+
+    def test_version(self):
+        lib = self.house()
+        for name in NAMES:
+            done = run(os.path.join(lib, name), "--version")
+            self.assertEqual((done.returncode, done.stdout), (0, f"lpis-{name} 9.8.7\ncommit 0123456789ab\nkit rattle-kit-0 logic 1\n"), done.stderr)
+            self.assertRegex(run(os.path.join(TOOLS, name), "--version").stdout, rf"^lpis-{name} \d+\.\d+\.\d+\n")
+
+    def test_help_and_wrong_words(self):
+        for name in NAMES:
+            done = run(os.path.join(TOOLS, name), "--help")
+            self.assertEqual((done.returncode, "--version" in done.stdout), (0, True), done.stderr)
+            for words in (["--none"], []):
+                done = run(os.path.join(TOOLS, name), *words)
+                self.assertEqual((done.returncode, done.stderr.splitlines()[-1].startswith(f"{name}: ")), (64, True), done.stderr)
+
+    def test_without_shapely(self):
+        """What wants it says so in one sentence, before it reads anything."""
+        for name in OF_SHAPELY:
+            tool, *words = name.split()
+            script = f"import runpy, sys; from lpis_tools import shapely_there; shapely_there.SYSTEM = '/none'; sys.argv[0] = {tool!r}; runpy.run_path({os.path.join(TOOLS, tool)!r}, run_name='__main__')"
+            done = run("env", f"PYTHONPATH={TOOLS}", sys.executable, "-S", "-c", script, *words, self.spare.name, os.path.join(self.spare.name, "out"))
+            self.assertEqual((done.returncode, len(done.stderr.splitlines())), (64, 1), done.stderr)
+            for word in (f"{os.path.basename(tool)}: ", "python3-shapely", "dev/packages"):
+                self.assertIn(word, done.stderr)
+
+    def test_installed_tools_name_what_is_installed(self):
+        lib = self.house()
+        for name in NAMES:
+            text = run(os.path.join(lib, name), "--help").stdout
+            self.assertEqual((f"lpis-{name}" in text, re.findall(r"tools/\w+|\./lpis", text)), (True, []))
+        text = run(os.path.join(lib, "explain"), "3a", "45", "14").stdout
+        self.assertEqual(re.findall(r"(?<!\S)\(?(?:tools|docs)/\w+|lpis-(?:country|explain)\b", text), ["lpis-country", "lpis-explain"])
+        self.assertIn(f"{self.spare.name}/share/doc/lpis/GUIDE.md", text)
+
+    def test_names(self):
+        for text, wanted in (
+            ("run `tools/explain 43`", "run `lpis-explain 43`"), ("./lpis cut a b && ./lpis check a b", "lpis cut a b && lpis check a b"), ("`./lpis`", "`lpis`"),
+            ("tools/recipes/compare x", "/opt/lib/lpis/recipes/compare x"), ("both in `tools/recipes`.", "both in `/opt/lib/lpis/recipes`."), ("<tools/audit_shapes.sql", "</opt/lib/lpis/audit_shapes.sql"),
+            ("see docs/FORMATS.md", "see /opt/share/doc/lpis/FORMATS.md"), ('LPIS="$PWD/lpis"', "LPIS=lpis"), ("docs/DECISIONS.md", "docs/DECISIONS.md"),
+            ("docs/IDEA.md", "/opt/share/doc/lpis/IDEA.md"), ("`audit/`: python3 audit/release.py", "`/opt/lib/lpis/audit/`: python3 /opt/lib/lpis/audit/release.py"), ("tests/audit/run", "tests/audit/run"),
+        ):
+            self.assertEqual(installed.named(text, "/opt"), wanted)
+
+    def test_pages(self):
+        """Of the pages that are installed each command and file is there, or the page says that it is of the sources."""
+        for name in ("GUIDE", "FORMATS", "IDEA", "PROOF"):
+            with open(os.path.join(TOP, "docs", name + ".md"), encoding="utf-8") as file:
+                text = installed.page(file.read(), "/opt")
+            self.assertEqual(re.findall(r"(?<![\w/])tools/(?!dirty|lpis_tools|test|tests)[\w/.]+|(?<!\S)\./lpis\b|(?<![\w/])audit/", text), [], name)
+            self.assertEqual(bool(re.search(r"(?<![\w/])(?:bench|crates|dev|tests)/\w", text)) <= (installed.NOTE in text), True, name)
+
+    def test_names_of_the_source(self):
+        with open(os.path.join(self.spare.name, "identifiers.csv"), "w", encoding="utf-8") as file:
+            file.write("kind,old,new\nparcel,M\u00fchle,Muehle_a48e56\npiece,M\u00fchle,x\nparcel,\u00d6d 1 ,Oed_1_123456\n")
+        for name, wanted in (("M\u00fchle", "Muehle_a48e56"), ("\u00d6d 1", "Oed_1_123456"), ("north", "north"), ("B\u00e4r", "Baer_")):
+            done = run(os.path.join(TOOLS, "explain"), self.spare.name, "--name", name)
+            self.assertEqual((done.returncode, done.stdout.startswith(wanted)), (0, True), done.stdout + done.stderr)
+        self.assertEqual(run(os.path.join(TOOLS, "explain"), os.path.join(self.spare.name, "none"), "--name", "A").returncode, 64)
+        for name, lines in (("parcels", 'parcel,wkt\nMuehle_a48e56,"POLYGON((0 0,1 0,1 1,0 0))"\n'), ("covers", 'piece,parcel,class,wkt\nC,A,G,"POLYGON((0 0,1 0,1 1,0 0))"\n')):
+            with open(os.path.join(self.spare.name, name + ".csv"), "w", encoding="ascii") as file:
+                file.write(lines)
+        for line in ("refused 44 parcel Muehle_a48e56", "refused 37 parcels row 1"):
+            done = subprocess.run([os.path.join(TOOLS, "explain"), self.spare.name], input=line + "\n", capture_output=True, text=True, check=False)
+            self.assertIn("parcel Muehle_a48e56 is 'M\u00fchle' in the source", done.stdout)
