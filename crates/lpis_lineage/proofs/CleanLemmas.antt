@@ -5,7 +5,8 @@ use Rattle.lpis_lineage.proofs.Common.{list_any, option_or, list_any-append, or_
 use Rattle.lpis_lineage.proofs.Common.{is_this, same_row, last_live, IsAnswered, Follows, fault_before, clashes, lineage_row_faults, dropped_faults, used_faults, faults, faults_but_marks, first, kind}
 use Rattle.lpis_lineage.proofs.Common.{last_held, marked_row_faults}
 use Rattle.lpis_lineage.specs.declared.kind.Kind.{Kind}
-use Rattle.lpis_lineage.specs.declared.fault.LineageFault.TheVariants.{MarkedOutside}
+use Rattle.lpis_lineage.specs.declared.fault.LineageCode.TheVariants.{MarkedOutside}
+use Rattle.lpis_lineage.specs.declared.fault.LineageFault.TheVariants.{OfRow}
 use Rattle.lpis_lineage.specs.ExactGroups.{is_outside}
 use Rattle.lpis_lineage.specs.Lineage.{same_new}
 use Rattle.std.proofs.lemmas.List.{append-nil}
@@ -320,7 +321,7 @@ clean-marks kind_of all k [] e = refl
 clean-marks kind_of all k (r ∷ rs) e = by (is_outside kind_of all r) e (clean-marks kind_of all (k + 1) rs)
   where
     by : (b : Bool) → (b || list_any (is_outside kind_of all) rs) ≡ false → (list_any (is_outside kind_of all) rs ≡ false → marked_row_faults kind_of all (k + 1) rs ≡ [])
-        → fault_before b (MarkedOutside k) (marked_row_faults kind_of all (k + 1) rs) ≡ []
+        → fault_before b (OfRow MarkedOutside k) (marked_row_faults kind_of all (k + 1) rs) ≡ []
     by true e rec = cc e
     by false e rec = rec e
 

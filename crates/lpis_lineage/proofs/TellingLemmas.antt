@@ -5,7 +5,8 @@ use Rattle.std.proofs.lemmas.List.{take_more}
 use Rattle.lpis_lineage.proofs.Common.{list_any, Row, Entry, LineageFault, has_id, is_ended, succeeded, is_row_of, last_live, same_row, fault_before, clashes, faults_but_marks, lineage_row_faults}
 use Rattle.lpis_lineage.proofs.Common.{dropped_faults, used_faults}
 use Rattle.lpis_lineage.proofs.Common.{first}
-use Rattle.lpis_lineage.specs.declared.fault.LineageFault.TheVariants.{Memory, OldNotLive, OldStillLive, SuccessorMissing, DoubledRow, EndingBesideSuccessor, NoRow}
+use Rattle.lpis_lineage.specs.declared.fault.LineageCode.TheVariants as code
+use Rattle.lpis_lineage.specs.declared.fault.LineageFault.TheVariants.{Memory, OfRow, NoRow}
 use Rattle.lpis_lineage.specs.Faults.{is_missing, faults_of_row}
 
 -- faults with others behind them: the others alone where there are none, else with the same first fault
@@ -24,10 +25,10 @@ falls-none others = record { when_none = λ e. refl; when_told = λ e t. cc t }
 row-falls : (last live : List (List ℕ)) (before : List Row) (k : ℕ) (r : Row) (others : List LineageFault)
     → Falls (faults_of_row last live before k r others) (faults_of_row last live before k r []) others
 row-falls last live before k r others =
-    (told-falls (not (has_id last r.old)) (OldNotLive k) _ _ _ (told-falls (has_id live r.old) (OldStillLive k) _ _ _
-    (told-falls (is_missing live r.new) (SuccessorMissing k) _ _ _
-    (told-falls (list_any (same_row r) before) (DoubledRow k) _ _ _
-    (told-falls (list_any (clashes r) before) (EndingBesideSuccessor k) _ _ _ (falls-none others))))))
+    (told-falls (not (has_id last r.old)) (OfRow code.OldNotLive k) _ _ _ (told-falls (has_id live r.old) (OfRow code.OldStillLive k) _ _ _
+    (told-falls (is_missing live r.new) (OfRow code.SuccessorMissing k) _ _ _
+    (told-falls (list_any (same_row r) before) (OfRow code.DoubledRow k) _ _ _
+    (told-falls (list_any (clashes r) before) (OfRow code.EndingBesideSuccessor k) _ _ _ (falls-none others))))))
 
 told-same : (b c : Bool) (f : LineageFault) (xs ys : List LineageFault) → b ≡ c → xs ≡ ys → fault_before b f xs ≡ fault_before c f ys
 told-same b c f xs ys e g = ap (λ (t : Bool). fault_before t f xs) e ∙ ap (λ (l : List LineageFault). fault_before c f l) g
@@ -70,11 +71,11 @@ pub rows-live : (last a b : List (List ℕ)) (before : List Row) (k : ℕ) (rows
     → lineage_row_faults last a before k rows ≡ lineage_row_faults last b before k rows
 rows-live last a b before k [] e = refl
 rows-live last a b before k (r ∷ rs) e =
-    (told-same (not (has_id last r.old)) (not (has_id last r.old)) (OldNotLive k) _ _ refl
-    (told-same (has_id a r.old) (has_id b r.old) (OldStillLive k) _ _ (e r.old)
-    (told-same (is_missing a r.new) (is_missing b r.new) (SuccessorMissing k) _ _ (miss a b e r.new)
-    (told-same (list_any (same_row r) before) (list_any (same_row r) before) (DoubledRow k) _ _ refl
-    (told-same (list_any (clashes r) before) (list_any (clashes r) before) (EndingBesideSuccessor k) _ _ refl
+    (told-same (not (has_id last r.old)) (not (has_id last r.old)) (OfRow code.OldNotLive k) _ _ refl
+    (told-same (has_id a r.old) (has_id b r.old) (OfRow code.OldStillLive k) _ _ (e r.old)
+    (told-same (is_missing a r.new) (is_missing b r.new) (OfRow code.SuccessorMissing k) _ _ (miss a b e r.new)
+    (told-same (list_any (same_row r) before) (list_any (same_row r) before) (OfRow code.DoubledRow k) _ _ refl
+    (told-same (list_any (clashes r) before) (list_any (clashes r) before) (OfRow code.EndingBesideSuccessor k) _ _ refl
     (rows-live last a b (before ++ r ∷ []) (k + 1) rs e)))))) where
       miss : (a b : List (List ℕ)) → ((q : List ℕ) → has_id a q ≡ has_id b q) → (o : Option (List ℕ)) → is_missing a o ≡ is_missing b o
       miss a b e None = refl

@@ -4,15 +4,12 @@ use Rattle.std.specs.Prelude.{Result, Ok, Err, Option, None, Some, is_some, ◌+
 use Rattle.std.specs.List.{list_any}
 use Rattle.lpis_lineage.specs.declared.row.Row.{Row}
 use Rattle.lpis_lineage.specs.declared.row.Entry.{Entry}
+use Rattle.lpis_lineage.specs.declared.fault.LineageCode.TheVariants as code
 use Rattle.lpis_lineage.specs.declared.fault.LineageFault.{LineageFault}
-use Rattle.lpis_lineage.specs.declared.fault.LineageFault.TheVariants.{Memory, OldNotLive}
-use Rattle.lpis_lineage.specs.declared.fault.LineageFault.TheVariants.{OldStillLive}
-use Rattle.lpis_lineage.specs.declared.fault.LineageFault.TheVariants.{SuccessorMissing, DoubledRow}
-use Rattle.lpis_lineage.specs.declared.fault.LineageFault.TheVariants.{EndingBesideSuccessor, NoRow}
+use Rattle.lpis_lineage.specs.declared.fault.LineageFault.TheVariants.{Memory, OfRow, NoRow}
 use Rattle.lpis_lineage.specs.declared.fault.LineageFault.TheVariants.{UsedBefore}
 use Rattle.lpis_tables.specs.Ids.{has_id, same_id}
 use Rattle.lpis_lineage.specs.Lineage.{is_row_of, same_row, last_live}
-use Rattle.lpis_lineage.specs.declared.fault.LineageFault.TheVariants.{MarkedOutside}
 use Rattle.lpis_lineage.specs.declared.kind.Kind.{Kind}
 use Rattle.lpis_lineage.specs.ExactGroups.{is_outside}
 use Rattle.lpis_lineage.specs.Kinds.{kind}
@@ -36,11 +33,11 @@ clashes r q = same_id r.old q.old
 abbrev pub faults_of_row : List (List ℕ) → List (List ℕ) → List Row → ℕ → Row → List LineageFault
     → List LineageFault
 faults_of_row last live before k r others =
-    fault_before (not (has_id last r.old)) (OldNotLive k) (
-    fault_before (has_id live r.old) (OldStillLive k) (
-    fault_before (is_missing live r.new) (SuccessorMissing k) (
-    fault_before (list_any (same_row r) before) (DoubledRow k) (
-    fault_before (list_any (clashes r) before) (EndingBesideSuccessor k) others))))
+    fault_before (not (has_id last r.old)) (OfRow code.OldNotLive k) (
+    fault_before (has_id live r.old) (OfRow code.OldStillLive k) (
+    fault_before (is_missing live r.new) (OfRow code.SuccessorMissing k) (
+    fault_before (list_any (same_row r) before) (OfRow code.DoubledRow k) (
+    fault_before (list_any (clashes r) before) (OfRow code.EndingBesideSuccessor k) others))))
 
 -- the faults of the rows, of which the first has this number; the rows `before` stand above them
 abbrev pub lineage_row_faults : List (List ℕ) → List (List ℕ) → List Row → ℕ → List Row
@@ -70,7 +67,7 @@ used_faults h last (id ∷ ids) = used_fault_before (last_held h id) (has_id las
 -- number
 abbrev pub marked_row_faults : (List ℕ → Option Kind) → List Row → ℕ → List Row → List LineageFault
 marked_row_faults kind_of all k [] = []
-marked_row_faults kind_of all k (r ∷ rs) = fault_before (is_outside kind_of all r) (MarkedOutside k)
+marked_row_faults kind_of all k (r ∷ rs) = fault_before (is_outside kind_of all r) (OfRow code.MarkedOutside k)
     (marked_row_faults kind_of all (k + 1) rs)
 
 -- the faults of the rows, then of dropped identifiers, then of used ones

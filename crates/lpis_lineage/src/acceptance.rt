@@ -11,7 +11,7 @@ ghost use Rattle.lpis_lineage.specs.private.Seen.{IsSeen};
 ghost use Rattle.lpis_lineage.specs.Accepts.{Decides};
 ghost use Rattle.lpis_lineage.specs.Steps.{IsStep};
 
-use crate::fault::LineageFault;
+use crate::fault::{LineageCode, LineageFault};
 use crate::history::History;
 use crate::id_set::IdSet;
 use crate::marks::check_marks_of;
@@ -35,16 +35,16 @@ fn check_row(
         → OnOk result (IsSeen seen.new (before ++ row.now ∷ [])) }
 {
     if !last.contains(&row.old) {
-        return Err(LineageFault::OldNotLive { row: number });
+        return Err(LineageFault::OfRow(LineageCode::OldNotLive, number));
     }
     if live.contains(&row.old) {
-        return Err(LineageFault::OldStillLive { row: number });
+        return Err(LineageFault::OfRow(LineageCode::OldStillLive, number));
     }
     match &row.new {
         None => seen.end(row, number),
         Some(successor) => {
             if !live.contains(successor) {
-                return Err(LineageFault::SuccessorMissing { row: number });
+                return Err(LineageFault::OfRow(LineageCode::SuccessorMissing, number));
             }
             seen.continue_in(row, successor, number)
         }
@@ -121,7 +121,7 @@ fn find_used(history: &History, ids: &[Id]) -> Result<(), LineageFault>
 /// all that `History::extend` takes: where the history with it at the end is lawful and its rows
 /// fit, whatever later year it has. With no release before, each row is refused.
 ///
-/// Else the first fault: row by row, in a row in the order of `LineageFault`'s variants; then the
+/// Else the first fault: row by row, in a row in the order of `LineageCode`'s variants; then the
 /// dropped identifiers without a row, ascending; then the identifiers of `live` that were used
 /// before, in its order; then the marked rows that belong to no split or merge of which each row is
 /// marked.

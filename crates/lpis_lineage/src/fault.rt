@@ -1,7 +1,7 @@
 //! Why a release's lineage is refused.
 
 ghost use Rattle.std.specs.Prelude.{◌≡◌};
-ghost use Rattle.lpis_lineage.specs.Codes.{lineage_code_of, lineage_code_text};
+ghost use Rattle.lpis_lineage.specs.Codes.{lineage_code_text};
 ghost use Rattle.lpis_lineage.specs.declared.fault.LineageFault.TheVariants.{Memory};
 
 use lpis_tables::Id;
@@ -47,27 +47,15 @@ impl LineageCode {
     }
 }
 
-/// The first fault of a release's lineage, a variant a code. Rows count from 1.
+/// The first fault of a release's lineage.
 #[derive(Debug, Drop, Error)]
 pub enum LineageFault {
     /// Memory ran out.
     #[error("out of memory")]
     Memory,
-    /// The row's old identifier is not live in the last release.
-    #[error("lineage {} row {row}", LineageCode::OldNotLive.as_str())]
-    OldNotLive { row: usize },
-    /// The row's old identifier is still in the release.
-    #[error("lineage {} row {row}", LineageCode::OldStillLive.as_str())]
-    OldStillLive { row: usize },
-    /// The row's successor is not in the release.
-    #[error("lineage {} row {row}", LineageCode::SuccessorMissing.as_str())]
-    SuccessorMissing { row: usize },
-    /// An equal row stands above.
-    #[error("lineage {} row {row}", LineageCode::DoubledRow.as_str())]
-    DoubledRow { row: usize },
-    /// An ending beside a successor of the same identifier.
-    #[error("lineage {} row {row}", LineageCode::EndingBesideSuccessor.as_str())]
-    EndingBesideSuccessor { row: usize },
+    /// One with this code, of the row of this number. Rows count from 1.
+    #[error("lineage {} row {1}", .0.as_str())]
+    OfRow(LineageCode, usize),
     /// A dropped identifier has no row.
     #[error("lineage {} {}", LineageCode::NoRow.as_str(), .id.as_str())]
     NoRow { id: Id },
@@ -75,28 +63,6 @@ pub enum LineageFault {
     /// this year.
     #[error("lineage {} {} {year}", LineageCode::UsedBefore.as_str(), .id.as_str())]
     UsedBefore { id: Id, year: u16 },
-    /// The row is marked exact, and belongs to no split and no merge all of whose rows are marked.
-    #[error("lineage {} row {row}", LineageCode::MarkedOutside.as_str())]
-    MarkedOutside { row: usize },
-}
-
-impl LineageFault {
-    /// Its code; `None` for out of memory.
-    pub fn code(&self) -> Option<LineageCode>
-        ensures { result ≡ lineage_code_of self.now }
-    {
-        match self {
-            LineageFault::Memory => None,
-            LineageFault::OldNotLive { .. } => Some(LineageCode::OldNotLive),
-            LineageFault::OldStillLive { .. } => Some(LineageCode::OldStillLive),
-            LineageFault::SuccessorMissing { .. } => Some(LineageCode::SuccessorMissing),
-            LineageFault::DoubledRow { .. } => Some(LineageCode::DoubledRow),
-            LineageFault::EndingBesideSuccessor { .. } => Some(LineageCode::EndingBesideSuccessor),
-            LineageFault::NoRow { .. } => Some(LineageCode::NoRow),
-            LineageFault::UsedBefore { .. } => Some(LineageCode::UsedBefore),
-            LineageFault::MarkedOutside { .. } => Some(LineageCode::MarkedOutside),
-        }
-    }
 }
 
 impl From<AllocError> for LineageFault {

@@ -14,7 +14,7 @@ ghost use Rattle.lpis_lineage.specs.Lineage.{is_this, names_successor};
 ghost use Rattle.lpis_lineage.specs.private.Marks.{AreMarks};
 
 use crate::change::Change;
-use crate::fault::LineageFault;
+use crate::fault::{LineageCode, LineageFault};
 use crate::id_set::IdSet;
 use crate::kind::Kind;
 use crate::row::Row;
@@ -151,7 +151,7 @@ pub(crate) fn check_marks(alloc: Global, change: &Change) -> Result<(), LineageF
     let marks = marks_of(alloc, change)?;
     for (i, row) in change.rows().iter().enumerate() {
         if is_outside(change, &marks, row) {
-            return Err(LineageFault::MarkedOutside { row: i + 1 });
+            return Err(LineageFault::OfRow(LineageCode::MarkedOutside, i + 1));
         }
     }
     Ok(())

@@ -5,11 +5,11 @@ ghost use Rattle.std.specs.List.{list_any};
 ghost use Rattle.lpis_lineage.specs.declared.row.Row.{Row};
 ghost use Rattle.lpis_lineage.specs.Lineage.{same_row, is_row_of};
 ghost use Rattle.lpis_lineage.specs.Faults.{fault_before, clashes, ReportsFirstOf};
-ghost use Rattle.lpis_lineage.specs.declared.fault.LineageFault.TheVariants.{DoubledRow};
-ghost use Rattle.lpis_lineage.specs.declared.fault.LineageFault.TheVariants.{EndingBesideSuccessor};
+ghost use Rattle.lpis_lineage.specs.declared.fault.LineageCode.TheVariants as code;
+ghost use Rattle.lpis_lineage.specs.declared.fault.LineageFault.TheVariants.{OfRow};
 ghost use Rattle.lpis_lineage.specs.private.Seen.{IsSeen};
 
-use crate::fault::LineageFault;
+use crate::fault::{LineageCode, LineageFault};
 use crate::id_set::IdSet;
 use crate::row::Row;
 use lpis_tables::Id;
@@ -40,17 +40,18 @@ impl Seen {
     pub(crate) fn end(&mut self, row: &Row, number: usize) -> Result<(), LineageFault>
         requires { row.now.new ≡ None }
         ensures tells { (before : List Row) → IsSeen self.old before
-            → ReportsFirstOf (fault_before (list_any (same_row row.now) before) (DoubledRow number)
-            (fault_before (list_any (clashes row.now) before) (EndingBesideSuccessor number) []))
-            result }
+            → ReportsFirstOf
+            (fault_before (list_any (same_row row.now) before) (OfRow code.DoubledRow number)
+            (fault_before (list_any (clashes row.now) before)
+            (OfRow code.EndingBesideSuccessor number) [])) result }
         ensures seen { (before : List Row) → IsSeen self.old before
             → OnOk result (IsSeen self.new (before ++ row.now ∷ [])) }
     {
         if self.ended.contains(&row.old) {
-            return Err(LineageFault::DoubledRow { row: number });
+            return Err(LineageFault::OfRow(LineageCode::DoubledRow, number));
         }
         if self.continued.contains(&row.old) {
-            return Err(LineageFault::EndingBesideSuccessor { row: number });
+            return Err(LineageFault::OfRow(LineageCode::EndingBesideSuccessor, number));
         }
         let old = row.old.copy()?;
         self.ended.add(old)?;
@@ -66,9 +67,10 @@ impl Seen {
     ) -> Result<(), LineageFault>
         requires { row.now.new ≡ Some successor.now }
         ensures tells { (before : List Row) → IsSeen self.old before
-            → ReportsFirstOf (fault_before (list_any (same_row row.now) before) (DoubledRow number)
-            (fault_before (list_any (clashes row.now) before) (EndingBesideSuccessor number) []))
-            result }
+            → ReportsFirstOf
+            (fault_before (list_any (same_row row.now) before) (OfRow code.DoubledRow number)
+            (fault_before (list_any (clashes row.now) before)
+            (OfRow code.EndingBesideSuccessor number) [])) result }
         ensures seen { (before : List Row) → IsSeen self.old before
             → OnOk result (IsSeen self.new (before ++ row.now ∷ [])) }
     {
@@ -76,10 +78,10 @@ impl Seen {
         let new = successor.copy()?;
         let is_new = self.named_successors.insert((old, new))?;
         if !is_new {
-            return Err(LineageFault::DoubledRow { row: number });
+            return Err(LineageFault::OfRow(LineageCode::DoubledRow, number));
         }
         if self.ended.contains(&row.old) {
-            return Err(LineageFault::EndingBesideSuccessor { row: number });
+            return Err(LineageFault::OfRow(LineageCode::EndingBesideSuccessor, number));
         }
         let old = row.old.copy()?;
         self.continued.add(old)?;

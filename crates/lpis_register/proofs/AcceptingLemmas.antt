@@ -29,14 +29,9 @@ use Rattle.lpis_register.specs.private.Answering.{AreOfSoundMap}
 
 lineage_told : (fault : LineageFault) → (of_lineage fault ≡ Memory) ⊎ (of_lineage fault ≡ Lineage fault)
 lineage_told lineage.Memory = inl refl
-lineage_told (lineage.OldNotLive row) = inr refl
-lineage_told (lineage.OldStillLive row) = inr refl
-lineage_told (lineage.SuccessorMissing row) = inr refl
-lineage_told (lineage.DoubledRow row) = inr refl
-lineage_told (lineage.EndingBesideSuccessor row) = inr refl
+lineage_told (lineage.OfRow code row) = inr refl
 lineage_told (lineage.NoRow id) = inr refl
 lineage_told (lineage.UsedBefore id year) = inr refl
-lineage_told (lineage.MarkedOutside row) = inr refl
 
 -- no fault of a lineage is reported as a failure of the store
 pub no_store_lineage : (fault : LineageFault) → (of_lineage fault ≢ Store) × (of_lineage fault ≢ StoreMemory)

@@ -7,7 +7,7 @@ use Rattle.std.specs.List.{flat_map, list_any}
 use Rattle.lpis_checker.specs.declared.exact.ExactFault.{ExactFault}
 use Rattle.lpis_checker.specs.declared.exact.ExactFault.TheVariants as exact
 use Rattle.lpis_checker.specs.ExactBlocks.{exact_code_text}
-use Rattle.lpis_lineage.specs.declared.fault.LineageCode.{LineageCode}
+use Rattle.lpis_lineage.specs.declared.fault.LineageCode.TheVariants as lineage_code
 use Rattle.lpis_lineage.specs.declared.fault.LineageFault.{LineageFault}
 use Rattle.lpis_lineage.specs.declared.fault.LineageFault.TheVariants as lineage
 use Rattle.lpis_lineage.specs.declared.kind.Kind.{Kind}
@@ -15,7 +15,7 @@ use Rattle.lpis_lineage.specs.declared.kind.Kind.TheVariants.{Kept, Split, Merge
 use Rattle.lpis_lineage.specs.declared.kind.Kind.TheVariants.{Redrawn, Ended}
 use Rattle.lpis_lineage.specs.declared.row.Row.{Row}
 use Rattle.lpis_lineage.specs.Changes.{dropped}
-use Rattle.lpis_lineage.specs.Codes.{lineage_code_of, lineage_code_text}
+use Rattle.lpis_lineage.specs.Codes.{lineage_code_text}
 use Rattle.lpis_lineage.specs.ExactGroups.{is_in_exact}
 use Rattle.lpis_lineage.specs.Kinds.{kind}
 use Rattle.lpis_lineage.specs.Lineage.{is_row_of}
@@ -65,27 +65,17 @@ abbrev pub published_line : ℕ → List ℕ
 published_line year = codes "published " ++ decimal year ++ codes "\n"
 
 -- ---- refusals of the register
--- the row, or the identifier and, where it was used before, the last year in which it was live
-abbrev pub lineage_location_text : LineageFault → List ℕ
-lineage_location_text lineage.Memory = []
-lineage_location_text (lineage.OldNotLive row) = codes "row " ++ decimal row
-lineage_location_text (lineage.OldStillLive row) = codes "row " ++ decimal row
-lineage_location_text (lineage.SuccessorMissing row) = codes "row " ++ decimal row
-lineage_location_text (lineage.DoubledRow row) = codes "row " ++ decimal row
-lineage_location_text (lineage.EndingBesideSuccessor row) = codes "row " ++ decimal row
-lineage_location_text (lineage.NoRow id) = id
-lineage_location_text (lineage.UsedBefore id year) = id ++ codes " " ++ decimal year
-lineage_location_text (lineage.MarkedOutside row) = codes "row " ++ decimal row
-
--- the code of a lineage and its location; out of memory is no fault of a lineage
-abbrev pub located_code_text : Option LineageCode → List ℕ → List ℕ
-located_code_text None location = []
-located_code_text (Some c) location = codes "lineage " ++ lineage_code_text c ++ codes " "
-    ++ location
-
-unfoldable pub lineage_fault_text : LineageFault → List ℕ
-lineage_fault_text fault =
-    located_code_text (lineage_code_of fault) (lineage_location_text fault)
+-- of a lineage: the code, and the row, or the identifier and, where it was used before, the last
+-- year in which it was live; out of memory is no fault of a lineage
+abbrev pub lineage_fault_text : LineageFault → List ℕ
+lineage_fault_text lineage.Memory = []
+lineage_fault_text (lineage.OfRow c row) =
+    codes "lineage " ++ lineage_code_text c ++ codes " row " ++ decimal row
+lineage_fault_text (lineage.NoRow id) =
+    codes "lineage " ++ lineage_code_text lineage_code.NoRow ++ codes " " ++ id
+lineage_fault_text (lineage.UsedBefore id year) =
+    codes "lineage " ++ lineage_code_text lineage_code.UsedBefore ++ codes " " ++ id ++ codes " "
+    ++ decimal year
 
 -- of the blocks of a certificate: the code and the identifier; out of memory is no fault of theirs
 abbrev pub exact_refusal_text : ExactFault → List ℕ

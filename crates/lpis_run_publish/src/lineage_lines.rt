@@ -9,8 +9,7 @@ ghost use Rattle.lpis_lineage.specs.Lineage.{is_row_of};
 ghost use Rattle.lpis_register.specs.declared.fault.PublishFault.TheVariants.{Lineage};
 ghost use Rattle.lpis_run_publish.specs.LineageLines.{exact_refusal_text, exact_suffix, fate_text};
 ghost use Rattle.lpis_run_publish.specs.LineageLines.{kind_text, lineage_fault_text, lineage_line};
-ghost use Rattle.lpis_run_publish.specs.LineageLines.{lineage_location_text, publish_refusal_text};
-ghost use Rattle.lpis_run_publish.specs.LineageLines.{published_line};
+ghost use Rattle.lpis_run_publish.specs.LineageLines.{publish_refusal_text, published_line};
 ghost use Rattle.lpis_run_publish.specs.private.Marked.{is_marked};
 
 use lpis_checker::ExactFault;
@@ -119,36 +118,18 @@ pub(crate) fn print_published<W: Write>(year: u16, out: &mut W) -> Result<(), Pr
     Ok(())
 }
 
-/// Writes the row or the identifier for which a lineage is refused.
-fn print_lineage_location<W: Write>(fault: &LineageFault, out: &mut W) -> Result<(), PrintFault>
-    ensures { OnOk result (Appends (W.contents out.old) (W.contents out.new)
-        (lineage_location_text fault.now)) }
-{
-    match fault {
-        LineageFault::Memory => {}
-        LineageFault::OldNotLive { row }
-        | LineageFault::OldStillLive { row }
-        | LineageFault::SuccessorMissing { row }
-        | LineageFault::DoubledRow { row }
-        | LineageFault::EndingBesideSuccessor { row }
-        | LineageFault::MarkedOutside { row } => write!(out, "row {row}")?,
-        LineageFault::NoRow { id } => write!(out, "{}", id.as_str())?,
-        LineageFault::UsedBefore { id, year } => write!(out, "{} {year}", id.as_str())?,
-    }
-    Ok(())
-}
-
-/// Writes a fault of a lineage.
-#[tactic(auto, unfolding(crate::specs::LineageLines::lineage_fault_text))]
+/// Writes a fault of a lineage. Out of memory is none, and has no text.
 fn print_lineage_fault<W: Write>(fault: &LineageFault, out: &mut W) -> Result<(), PrintFault>
     ensures { OnOk result (Appends (W.contents out.old) (W.contents out.new)
         (lineage_fault_text fault.now)) }
 {
-    let Some(code) = fault.code() else {
-        return Ok(());
-    };
-    write!(out, "lineage {} ", code.as_str())?;
-    print_lineage_location(fault, out)
+    match fault {
+        LineageFault::Memory => {}
+        LineageFault::OfRow(code, row) => write!(out, "lineage {} row {row}", code.as_str())?,
+        LineageFault::NoRow { id } => write!(out, "lineage 75 {}", id.as_str())?,
+        LineageFault::UsedBefore { id, year } => write!(out, "lineage 76 {} {year}", id.as_str())?,
+    }
+    Ok(())
 }
 
 /// Writes the line of a refused lineage.

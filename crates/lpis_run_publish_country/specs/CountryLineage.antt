@@ -1,11 +1,11 @@
 -- The lineage of a country: the tables of its regions, one after the other.
 use Rattle.std.specs.Prelude.{◌≡◌, ◌⊎◌, ◌++◌, ◌∷◌, ◌-◌, [], ℕ, List, Option, None, Some, Ok, Err}
-use Rattle.std.specs.Prelude.{flat_map, length, leb, cond, option_and_then}
+use Rattle.std.specs.Prelude.{flat_map, length, leb, cond}
 use Rattle.std.specs.List.{AllZip}
 use Rattle.lpis_tables.specs.declared.fault.TableFault.{TableFault}
 use Rattle.lpis_tables.specs.Faults.{rows_of}
-use Rattle.lpis_lineage.specs.declared.fault.LineageFault.{LineageFault}
-use Rattle.lpis_lineage.specs.declared.fault.LineageFault.TheVariants as lineage
+use Rattle.lpis_lineage.specs.declared.fault.LineageCode.{LineageCode}
+use Rattle.lpis_lineage.specs.declared.fault.LineageFault.TheVariants.{OfRow}
 use Rattle.lpis_lineage.specs.declared.row.Row.{Row}
 use Rattle.lpis_lineage.specs.LineageTable.{lineage_table}
 use Rattle.lpis_register.specs.declared.fault.PublishFault.{PublishFault}
@@ -75,39 +75,15 @@ row_place (name ∷ names) (rows ∷ tables) n = cond (leb n (length rows)) (Som
     (row_place names tables (n - length rows))
 
 -- ---- refusals
--- the number of the row for which a lineage is refused, where it is for one
-abbrev pub faulty_row : LineageFault → Option ℕ
-faulty_row lineage.Memory = None
-faulty_row (lineage.OldNotLive row) = Some row
-faulty_row (lineage.OldStillLive row) = Some row
-faulty_row (lineage.SuccessorMissing row) = Some row
-faulty_row (lineage.DoubledRow row) = Some row
-faulty_row (lineage.EndingBesideSuccessor row) = Some row
-faulty_row (lineage.NoRow id) = None
-faulty_row (lineage.UsedBefore id year) = None
-faulty_row (lineage.MarkedOutside row) = Some row
-
--- the same fault of the row of another number
-abbrev pub at_row : ℕ → LineageFault → LineageFault
-at_row n lineage.Memory = lineage.Memory
-at_row n (lineage.OldNotLive row) = lineage.OldNotLive n
-at_row n (lineage.OldStillLive row) = lineage.OldStillLive n
-at_row n (lineage.SuccessorMissing row) = lineage.SuccessorMissing n
-at_row n (lineage.DoubledRow row) = lineage.DoubledRow n
-at_row n (lineage.EndingBesideSuccessor row) = lineage.EndingBesideSuccessor n
-at_row n (lineage.NoRow id) = lineage.NoRow id
-at_row n (lineage.UsedBefore id year) = lineage.UsedBefore id year
-at_row n (lineage.MarkedOutside row) = lineage.MarkedOutside n
-
--- the line of a lineage that is refused: with the region in which its row stands, and by its number
--- there, where it is for a row
-abbrev pub placed_refusal_text : LineageFault → Option (List ℕ × ℕ) → List ℕ
-placed_refusal_text fault None = publish_refusal_text (publish.Lineage fault)
-placed_refusal_text fault (Some p) =
-    line_in_region (publish_refusal_text (publish.Lineage (at_row p.1 fault))) p.0
+-- the line of a lineage that is refused for a row, with the region in which the row stands, and by
+-- its number there
+abbrev pub placed_refusal_text : LineageCode → ℕ → Option (List ℕ × ℕ) → List ℕ
+placed_refusal_text code row None = publish_refusal_text (publish.Lineage (OfRow code row))
+placed_refusal_text code row (Some p) =
+    line_in_region (publish_refusal_text (publish.Lineage (OfRow code p.1))) p.0
 
 -- the line of a country that the register refuses, whose folders have these names and tables
 abbrev pub country_refusal_text : List (List ℕ) → List (List Row) → PublishFault → List ℕ
-country_refusal_text names tables (publish.Lineage fault) =
-    placed_refusal_text fault (option_and_then (row_place names tables) (faulty_row fault))
+country_refusal_text names tables (publish.Lineage (OfRow code row)) =
+    placed_refusal_text code row (row_place names tables row)
 country_refusal_text names tables fault = publish_refusal_text fault

@@ -5,45 +5,15 @@ ghost use Rattle.std.specs.Option.{option_map};
 ghost use Rattle.std.specs.String.{string_bytes};
 ghost use Rattle.lpis_lineage.specs.declared.row.Row.{Row};
 ghost use Rattle.lpis_run.specs.Status.{refused};
-ghost use Rattle.lpis_run_publish_country.specs.CountryLineage.{at_row, country_refusal_text};
-ghost use Rattle.lpis_run_publish_country.specs.CountryLineage.{faulty_row, row_place};
+ghost use Rattle.lpis_run_publish_country.specs.CountryLineage.{country_refusal_text, row_place};
+ghost use Rattle.lpis_lineage.specs.declared.fault.LineageFault.TheVariants.{OfRow};
 ghost use Rattle.lpis_register.specs.declared.fault.PublishFault.TheVariants.{Lineage};
 
-use lpis_lineage::LineageFault;
+use lpis_lineage::{LineageCode, LineageFault};
 use lpis_register::PublishFault;
 use lpis_run::{Answer, REFUSED};
 use lpis_run_publish::refuse;
 use std::alloc::{AllocError, Global};
-
-/// The row for which a lineage is refused, where it is for one.
-fn row_of(fault: &LineageFault) -> Option<usize>
-    ensures { result ≡ faulty_row fault.now }
-{
-    match fault {
-        LineageFault::OldNotLive { row }
-        | LineageFault::OldStillLive { row }
-        | LineageFault::SuccessorMissing { row }
-        | LineageFault::DoubledRow { row }
-        | LineageFault::EndingBesideSuccessor { row }
-        | LineageFault::MarkedOutside { row } => Some(*row),
-        LineageFault::Memory | LineageFault::NoRow { .. } | LineageFault::UsedBefore { .. } => None,
-    }
-}
-
-/// The same fault of the row of another number.
-fn with_row(fault: LineageFault, row: usize) -> LineageFault
-    ensures { result ≡ at_row row fault }
-{
-    match fault {
-        LineageFault::OldNotLive { .. } => LineageFault::OldNotLive { row },
-        LineageFault::OldStillLive { .. } => LineageFault::OldStillLive { row },
-        LineageFault::SuccessorMissing { .. } => LineageFault::SuccessorMissing { row },
-        LineageFault::DoubledRow { .. } => LineageFault::DoubledRow { row },
-        LineageFault::EndingBesideSuccessor { .. } => LineageFault::EndingBesideSuccessor { row },
-        LineageFault::MarkedOutside { .. } => LineageFault::MarkedOutside { row },
-        other => other,
-    }
-}
 
 /// The folder of the table in which a row of the country stands, and its number there. The tables
 /// of these folders have so many rows.
@@ -63,29 +33,29 @@ fn place_in<'a>(names: &'a [String], counts: &[usize], row: usize) -> Option<(&'
     None
 }
 
-/// The line of a refused lineage.
-fn refuse_lineage(
+/// The line of a lineage that is refused for a row.
+fn refuse_row(
     alloc: Global,
-    fault: LineageFault,
+    code: LineageCode,
+    row: usize,
     names: &[String],
     counts: &[usize],
 ) -> Result<Answer, AllocError>
     ensures { (tables : List (List Row))
         → counts.now ≡ map (λ (rows : List Row). length rows) tables
         → IfOk result (λ a. (a.text.items
-        ≡ country_refusal_text (map string_bytes names.now) tables (Lineage fault))
+        ≡ country_refusal_text (map string_bytes names.now) tables (Lineage (OfRow code row)))
         × (a.status ≡ refused)) }
 {
-    let place = match row_of(&fault) {
-        Some(row) => place_in(names, counts, row),
-        None => None,
-    };
-    match place {
+    match place_in(names, counts, row) {
         Some((name, row)) => {
-            let fault = PublishFault::Lineage(with_row(fault, row));
+            let fault = PublishFault::Lineage(LineageFault::OfRow(code, row));
             refuse(alloc, &fault, REFUSED)?.in_region(name)
         }
-        None => refuse(alloc, &PublishFault::Lineage(fault), REFUSED),
+        None => {
+            let fault = PublishFault::Lineage(LineageFault::OfRow(code, row));
+            refuse(alloc, &fault, REFUSED)
+        }
     }
 }
 
@@ -104,7 +74,9 @@ pub(crate) fn refuse_country(
         × (a.status ≡ refused)) }
 {
     match fault {
-        PublishFault::Lineage(fault) => refuse_lineage(alloc, fault, names, counts),
+        PublishFault::Lineage(LineageFault::OfRow(code, row)) => {
+            refuse_row(alloc, code, row, names, counts)
+        }
         fault => refuse(alloc, &fault, REFUSED),
     }
 }
