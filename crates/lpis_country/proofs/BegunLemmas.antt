@@ -9,7 +9,7 @@ use Rattle.lpis_points.specs.declared.boxes.Box4.{Box4}
 use Rattle.lpis_points.specs.Range.{IsInRange}
 use Rattle.lpis_country.specs.Tiling.{rectangles, frame}
 use Rattle.lpis_country.specs.Limits.{most_regions}
-use Rattle.lpis_country.specs.Tree.{Tree, folder, by_x, by_y, folders, tiling_of}
+use Rattle.lpis_country.specs.Tree.{Tree, folder, by_x, by_y, folders}
 use Rattle.lpis_country.specs.CountryText.{TreeLine, x_line, y_line, region_line, tree_lines, TreeLineFits, is_region_name}
 use Rattle.lpis_country.specs.Plans.{PlanParts, IsPlanOf}
 use Rattle.lpis_country.specs.private.Begun.{names_listed, tiles_in, IsCompletedBy, IsPlanBegun, west_of, east_of, south_of, north_of}
@@ -33,7 +33,7 @@ begun_first = record { fits = tt; names_are = refl; distinct = tt; few = omega a
   where
     whole : (ts : List Tree) → length ts ≡ 1 → (t : Tree) × IsCompletedBy [] [] (frame ∷ []) ts t
     whole [] e = absurd (omega arith)
-    whole (t ∷ []) e = (t, record { lines_are = sym (append-nil (tree_lines t)); tiles_are = sym (append-nil (rectangles (tiling_of t) frame)) })
+    whole (t ∷ []) e = (t, record { lines_are = sym (append-nil (tree_lines t)); tiles_are = sym (append-nil (rectangles t frame)) })
     whole (t ∷ u ∷ ts) e = absurd (omega arith)
 
 -- a cut: its line, and how it cuts the tree and the rectangle
@@ -41,7 +41,7 @@ record IsCutBy (l : TreeLine) (cut : Tree → Tree → Tree) (b first second : B
   fits : TreeLineFits l
   no_name : names_listed (l ∷ []) ≡ []
   lines : (s t : Tree) → tree_lines (cut s t) ≡ l ∷ (tree_lines s ++ tree_lines t)
-  tiles : (s t : Tree) → rectangles (tiling_of (cut s t)) b ≡ rectangles (tiling_of s) first ++ rectangles (tiling_of t) second
+  tiles : (s t : Tree) → rectangles (cut s t) b ≡ rectangles s first ++ rectangles t second
 
 begun_cut : (said : List TreeLine) (names : List (List ℕ)) (tiles bs : List Box4) (l : TreeLine) (by : Tree → Tree → Tree) (b first second : Box4) → IsCutBy l by b first second
     → IsPlanBegun said names tiles (b ∷ bs) → IsPlanBegun (said ++ l ∷ []) names tiles (first ∷ second ∷ bs)
@@ -63,7 +63,7 @@ begun_cut said names tiles bs l by b first second is h = record {
             lines_are = whole.1.lines_are ∙ ap (λ (ls : List TreeLine). said ++ (ls ++ flat_map tree_lines us)) (is.lines s t)
                 ∙ regrouped said l (tree_lines s) (tree_lines t) (flat_map tree_lines us);
             tiles_are = whole.1.tiles_are ∙ ap (λ (rs : List Box4). tiles ++ (rs ++ tiles_in bs us)) (is.tiles s t)
-                ∙ shared tiles (rectangles (tiling_of s) first) (rectangles (tiling_of t) second) (tiles_in bs us);
+                ∙ shared tiles (rectangles s first) (rectangles t second) (tiles_in bs us);
           },
         )
 

@@ -13,7 +13,8 @@ use Rattle.lpis_release.specs.Release.{Contents, parcel_ids}
 use Rattle.lpis_edge_sums.proofs.Shared.{Found, all_at, found_any}
 use Rattle.lpis_checker.specs.SoundMap.{IsInParcel, IsSoundMap, TurnsTell}
 use Rattle.lpis_country.specs.Polygons.{HasClosedRings, box_of_members}
-use Rattle.lpis_country.specs.Tiling.{Tiling, frame, reaches, rectangles}
+use Rattle.lpis_country.specs.Tiling.{frame, reaches, rectangles}
+use Rattle.lpis_country.specs.Tree.{Tree}
 use Rattle.lpis_country.specs.Country.{IsRegion, country_of, is_new, new_parcels, with_region}
 use Rattle.lpis_country.specs.Union.{IsDouble, IsUnion}
 use Rattle.lpis_country.proofs.ListLemmas.{all_among, among_at, not_both, front_or_last, item_at, place_of_item}
@@ -126,7 +127,7 @@ country_is_union tiles classes rs g c h =
     m.union
 
 -- ---- the theorem
-seam_is_met : (tiling : Tiling) (classes : List Class) (rs : List Contents) → All IsRegion rs → All IsSoundMap rs → IsMade (rectangles tiling frame) classes rs
+seam_is_met : (tiling : Tree) (classes : List Class) (rs : List Contents) → All IsRegion rs → All IsSoundMap rs → IsMade (rectangles tiling frame) classes rs
     → length rs ≡ length (rectangles tiling frame) → SeamIsMet rs (country_of classes rs)
 seam_is_met tiling classes rs g s m e p d a b ha hb x y =
     let t = tile_of tiling frame p (point_wider (box_of_members a.polygon) frame p d (box_framed a.polygon) (box_of a ha x)) in
@@ -150,7 +151,7 @@ seam_is_met tiling classes rs g s m e p d a b ha hb x y =
     stands k h c t r at = All-contains (Stands tiles rs) u.parcels k m.stands h t.index t.item r at t.at (meet_at t.item (box_of_members k.polygon) p d t.has (box_of k h c))
 
 -- sound regions of the same classes, one a tile, of which each fits to those before, make up a sound country
-pub country_is_sound : (tiling : Tiling) (classes : List Class) (rs : List Contents) → All IsRegion rs → All IsSoundMap rs → All (λ (r : Contents). r.classes ≡ classes) rs
+pub country_is_sound : (tiling : Tree) (classes : List Class) (rs : List Contents) → All IsRegion rs → All IsSoundMap rs → All (λ (r : Contents). r.classes ≡ classes) rs
     → EachFits (rectangles tiling frame) classes rs
     → length rs ≡ length (rectangles tiling frame) → IsSoundMap (country_of classes rs)
 country_is_sound tiling classes rs g s c h e =

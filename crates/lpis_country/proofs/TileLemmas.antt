@@ -5,7 +5,8 @@ use Rattle.std.proofs.lemmas.Int.{ints, by_lt_z}
 use Rattle.lpis_points.specs.declared.boxes.Box4.{Box4}
 use Rattle.lpis_points.specs.Plane.{RationalPoint}
 use Rattle.lpis_edge_sums.proofs.Shared.{Found, any_found, found_any}
-use Rattle.lpis_country.specs.Tiling.{Tiling, one_tile, cut_x, cut_y, rectangles, meets}
+use Rattle.lpis_country.specs.Tiling.{rectangles, meets}
+use Rattle.lpis_country.specs.Tree.{Tree, folder, by_x, by_y}
 use Rattle.lpis_country.proofs.ListLemmas.{any_left, any_right}
 use Rattle.lpis_country.proofs.BoxLemmas.{IsPointIn, IsWider}
 use Rattle.lpis_country.proofs.SideLemmas.{times_up}
@@ -32,16 +33,16 @@ second : (P : Box4 → Type 0) (xs ys : List Box4) → Found P ys → Found P (x
 second P xs ys f = any_found P (xs ++ ys) (any_right P xs ys (found_any P ys f))
 
 -- a point of a rectangle is in one of the tiles into which it is cut
-pub tile_of : (t : Tiling) (b : Box4) (p : RationalPoint) → IsPointIn b p → Found (λ (r : Box4). IsPointIn r p) (rectangles t b)
-tile_of one_tile b p h = record { index = 0; item = b; at = refl; has = h }
-tile_of (cut_x c s t) b p h =
+pub tile_of : (t : Tree) (b : Box4) (p : RationalPoint) → IsPointIn b p → Found (λ (r : Box4). IsPointIn r p) (rectangles t b)
+tile_of (folder name) b p h = record { index = 0; item = b; at = refl; has = h }
+tile_of (by_x c s t) b p h =
     let one : Box4 = record { x0 = b.x0; y0 = b.y0; x1 = int_min b.x1 c; y1 = b.y1 } in
     let two : Box4 = record { x0 = int_max b.x0 c; y0 = b.y0; x1 = b.x1; y1 = b.y1 } in
     let P : Box4 → Type 0 = λ r. IsPointIn r p in
     by_lt_z p.x (c *ℤ p.d)
     (λ l. first P (rectangles s one) (rectangles t two) (tile_of s one p (record { left = h.left; low = h.low; right = lesser p.x b.x1 c p.d h.right l; high = h.high })))
     (λ l. second P (rectangles s one) (rectangles t two) (tile_of t two p (record { left = greater p.x b.x0 c p.d h.left l; low = h.low; right = h.right; high = h.high })))
-tile_of (cut_y c s t) b p h =
+tile_of (by_y c s t) b p h =
     let one : Box4 = record { x0 = b.x0; y0 = b.y0; x1 = b.x1; y1 = int_min b.y1 c } in
     let two : Box4 = record { x0 = b.x0; y0 = int_max b.y0 c; x1 = b.x1; y1 = b.y1 } in
     let P : Box4 → Type 0 = λ r. IsPointIn r p in

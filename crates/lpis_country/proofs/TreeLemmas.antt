@@ -2,7 +2,7 @@
 use Rattle.std.proofs.Common.{◌≡◌, ℕ, ◌+◌, List, [], ◌∷◌, ◌++◌, length, refl, sym, ap, ap₂, ◌∙◌, append_assoc, length-append}
 use Rattle.lpis_points.specs.declared.boxes.Box4.{Box4}
 use Rattle.lpis_country.specs.Tiling.{rectangles}
-use Rattle.lpis_country.specs.Tree.{Tree, folder, by_x, by_y, folders, tiling_of}
+use Rattle.lpis_country.specs.Tree.{Tree, folder, by_x, by_y, folders}
 use Rattle.lpis_country.specs.CountryText.{TreeLine, x_line, y_line, region_line, tree_lines}
 use Rattle.lpis_country.specs.private.Begun.{names_listed}
 
@@ -10,10 +10,10 @@ joined : {A B : Type 0} (xs ys : List A) (us vs : List B) → length xs ≡ leng
 joined xs ys us vs e f = length-append xs ys ∙ ap₂ (λ (m n : ℕ). m + n) e f ∙ sym (length-append us vs)
 
 -- a tree has as many folders as tiles
-pub as_many_tiles : (t : Tree) (b : Box4) → length (folders t) ≡ length (rectangles (tiling_of t) b)
+pub as_many_tiles : (t : Tree) (b : Box4) → length (folders t) ≡ length (rectangles t b)
 as_many_tiles (folder name) b = refl
-as_many_tiles (by_x c s t) b = joined (folders s) (folders t) (rectangles (tiling_of s) _) (rectangles (tiling_of t) _) (as_many_tiles s _) (as_many_tiles t _)
-as_many_tiles (by_y c s t) b = joined (folders s) (folders t) (rectangles (tiling_of s) _) (rectangles (tiling_of t) _) (as_many_tiles s _) (as_many_tiles t _)
+as_many_tiles (by_x c s t) b = joined (folders s) (folders t) (rectangles s _) (rectangles t _) (as_many_tiles s _) (as_many_tiles t _)
+as_many_tiles (by_y c s t) b = joined (folders s) (folders t) (rectangles s _) (rectangles t _) (as_many_tiles s _) (as_many_tiles t _)
 
 -- the names that lines and further lines say are those of the first, and then those of the others
 pub names_listed-append : (ls ms : List TreeLine) → names_listed (ls ++ ms) ≡ names_listed ls ++ names_listed ms

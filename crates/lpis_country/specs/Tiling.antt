@@ -1,26 +1,20 @@
 -- The plane, cut by lines into tiles, one for each region.
-use Rattle.std.specs.Prelude.{ℤ, pos, neg_ℤ, ◌+ℤ◌, ◌-ℤ◌, Bool, not, ◌||◌, List, [], ◌∷◌, ◌++◌}
+use Rattle.std.specs.Prelude.{pos, neg_ℤ, ◌+ℤ◌, ◌-ℤ◌, Bool, not, ◌||◌, List, [], ◌∷◌, ◌++◌}
 use Rattle.std.specs.Int.{int_max, int_min}
 use Rattle.lpis_points.specs.declared.boxes.Box4.{Box4}
 use Rattle.lpis_points.specs.Range.{limit}
 use Rattle.lpis_points.specs.Triangles.{ends_before}
 use Rattle.lpis_release.specs.declared.parcel.Parcel.{Parcel}
 use Rattle.lpis_country.specs.Polygons.{box_of_members}
-
--- one tile, or two parts that a line of one x, or of one y, keeps apart: the part left of the line,
--- or below it, and the part from it on
-pub data Tiling : Type 0 where
-  one_tile : Tiling
-  cut_x : ℤ → Tiling → Tiling → Tiling
-  cut_y : ℤ → Tiling → Tiling → Tiling
+use Rattle.lpis_country.specs.Tree.{Tree, folder, by_x, by_y}
 
 -- the tiles of a rectangle that is cut in this way, in the order of their regions
-abbrev pub rectangles : Tiling → Box4 → List Box4
-rectangles one_tile b = b ∷ []
-rectangles (cut_x c s t) b =
+abbrev pub rectangles : Tree → Box4 → List Box4
+rectangles (folder name) b = b ∷ []
+rectangles (by_x c s t) b =
     rectangles s (record { x0 = b.x0; y0 = b.y0; x1 = int_min b.x1 c; y1 = b.y1 })
     ++ rectangles t (record { x0 = int_max b.x0 c; y0 = b.y0; x1 = b.x1; y1 = b.y1 })
-rectangles (cut_y c s t) b =
+rectangles (by_y c s t) b =
     rectangles s (record { x0 = b.x0; y0 = b.y0; x1 = b.x1; y1 = int_min b.y1 c })
     ++ rectangles t (record { x0 = b.x0; y0 = int_max b.y0 c; x1 = b.x1; y1 = b.y1 })
 

@@ -1,6 +1,5 @@
 -- How a country is cut into regions.
 use Rattle.std.specs.Prelude.{ℕ, ℤ, List, [], ◌∷◌, ◌++◌}
-use Rattle.lpis_country.specs.Tiling.{Tiling, one_tile, cut_x, cut_y}
 
 -- the folder of a region, by its name; or two parts that a line of one x, or of one y, keeps apart:
 -- the part left of the line, or below it, and the part from it on
@@ -14,9 +13,3 @@ abbrev pub folders : Tree → List (List ℕ)
 folders (folder name) = name ∷ []
 folders (by_x c s t) = folders s ++ folders t
 folders (by_y c s t) = folders s ++ folders t
-
--- the tiles of the regions
-abbrev pub tiling_of : Tree → Tiling
-tiling_of (folder name) = one_tile
-tiling_of (by_x c s t) = cut_x c (tiling_of s) (tiling_of t)
-tiling_of (by_y c s t) = cut_y c (tiling_of s) (tiling_of t)

@@ -3,7 +3,7 @@
 ghost use Rattle.std.specs.Prelude.{◌≡◌, ℕ, List, length, None};
 ghost use Rattle.lpis_points.specs.declared.boxes.Box4.{Box4};
 ghost use Rattle.lpis_country.specs.Tiling.{rectangles};
-ghost use Rattle.lpis_country.specs.Tree.{Tree, folders, tiling_of};
+ghost use Rattle.lpis_country.specs.Tree.{Tree, folders};
 ghost use Rattle.lpis_country.specs.CountryText.{IsCountryText};
 ghost use Rattle.lpis_country.specs.Faults.{plan_fault};
 
@@ -24,5 +24,5 @@ pub fn plans_without_fault()
 
 /// A tree has as many folders as tiles.
 pub fn as_many_folders_as_tiles()
-    ensures { (t : Tree) (b : Box4) → length (folders t) ≡ length (rectangles (tiling_of t) b) }
+    ensures { (t : Tree) (b : Box4) → length (folders t) ≡ length (rectangles t b) }
 {}

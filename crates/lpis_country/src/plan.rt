@@ -2,7 +2,8 @@
 
 ghost use Rattle.std.specs.Prelude.{◌≡◌, ◌≤◌, ◌<◌, map, length};
 ghost use Rattle.std.specs.String.{string_bytes};
-ghost use Rattle.lpis_country.specs.Tiling.{Tiling, rectangles, frame};
+ghost use Rattle.lpis_country.specs.Tiling.{rectangles, frame};
+ghost use Rattle.lpis_country.specs.Tree.{Tree};
 ghost use Rattle.lpis_country.specs.Limits.{most_regions};
 ghost use Rattle.lpis_country.specs.Plans.{IsPlan};
 
@@ -69,7 +70,7 @@ impl Plan {
         ensures names { map string_bytes result.0.items ≡ self.names }
         ensures tiles { result.1.items ≡ self.tiles }
         ensures same { length result.0.items ≡ length result.1.items }
-        ensures cut { (tiling : Tiling) × (result.1.items ≡ rectangles tiling frame) }
+        ensures cut { (tiling : Tree) × (result.1.items ≡ rectangles tiling frame) }
         ensures plan { IsPlan self }
     {
         (self.names, self.tiles)

@@ -14,7 +14,8 @@ use Rattle.lpis_release.specs.declared.parcel.Parcel.{Parcel}
 use Rattle.lpis_release.specs.Release.{Contents, parcel_ids, parcel_named, pieces_named}
 use Rattle.lpis_checker.specs.SoundMap.{IsSoundMap}
 use Rattle.lpis_country.specs.Country.{country_of, is_new}
-use Rattle.lpis_country.specs.Tiling.{Tiling, rectangles, frame, reaches}
+use Rattle.lpis_country.specs.Tiling.{rectangles, frame, reaches}
+use Rattle.lpis_country.specs.Tree.{Tree}
 use Rattle.lpis_country.specs.Union.{IsDouble, IsUnion}
 use Rattle.lpis_country.proofs.Shared.{FitsCountry, IsLate, IsThere, country_is_sound, country_is_union, has_among}
 use Rattle.lpis_release.specs.Equality.{same_pieces, same_polygon, TestsFindEqualRows}
@@ -167,7 +168,7 @@ fits tell tiles classes done r e = record {
     rows = all_nil (seam_row_faults tiles n u r) r.parcels (first_nil (flat_map (seam_row_faults tiles n u r) r.parcels) _ rest)
 
 -- sound regions without a fault of the seam, one a tile, make up a sound country
-pub joined_is_sound : TestsFindEqualRows → (tiling : Tiling) (classes : List Class) (regions : List Contents) → AreJoined (rectangles tiling frame) classes regions → All IsSoundMap regions
+pub joined_is_sound : TestsFindEqualRows → (tiling : Tree) (classes : List Class) (regions : List Contents) → AreJoined (rectangles tiling frame) classes regions → All IsSoundMap regions
     → length regions ≡ length (rectangles tiling frame) → IsSoundMap (country_of classes regions)
 joined_is_sound tell tiling classes regions j s e =
     country_is_sound tiling classes regions j.regions_are s j.classes_are (λ before r after f. fits tell (rectangles tiling frame) classes before r (j.faultless before r after f)) e

@@ -5,7 +5,8 @@ use Rattle.lpis_release.specs.declared.parcel.Parcel.{Parcel}
 use Rattle.lpis_release.specs.Release.{Contents}
 use Rattle.lpis_checker.specs.SoundMap.{IsSoundMap}
 use Rattle.lpis_country.specs.Country.{country_of}
-use Rattle.lpis_country.specs.Tiling.{Tiling, rectangles, frame}
+use Rattle.lpis_country.specs.Tiling.{rectangles, frame}
+use Rattle.lpis_country.specs.Tree.{Tree}
 use Rattle.lpis_country.specs.Union.{IsUnion}
 use Rattle.lpis_country_seam.specs.declared.seam.OpenSeam.{OpenSeam}
 use Rattle.lpis_country_seam.specs.Open.{IsSeamOf}
@@ -13,7 +14,7 @@ use Rattle.lpis_country_seam.specs.Open.{IsSeamOf}
 -- the seam is that of sound regions, one for each tile of a tiling, and these are the parcels of
 -- their country
 pub record HasEnded (state : OpenSeam) (parcels : List Parcel) : Type 0 where
-  pub tiling : Tiling
+  pub tiling : Tree
   pub classes : List Class
   pub regions : List Contents
   pub seam : IsSeamOf (rectangles tiling frame) classes regions state

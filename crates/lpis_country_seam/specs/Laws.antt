@@ -5,7 +5,8 @@ use Rattle.lpis_tables.specs.declared.class.Class.{Class}
 use Rattle.lpis_release.specs.Release.{Contents}
 use Rattle.lpis_checker.specs.SoundMap.{IsSoundMap}
 use Rattle.lpis_country.specs.Country.{country_of}
-use Rattle.lpis_country.specs.Tiling.{Tiling, rectangles, frame}
+use Rattle.lpis_country.specs.Tiling.{rectangles, frame}
+use Rattle.lpis_country.specs.Tree.{Tree}
 use Rattle.lpis_country.specs.Union.{IsUnion}
 use Rattle.lpis_country_seam.specs.Open.{AreJoined}
 
@@ -13,7 +14,7 @@ use Rattle.lpis_country_seam.specs.Open.{AreJoined}
 -- it, make a country that is a sound map
 abbrev pub JoinedCountryIsSound : Type 0
 JoinedCountryIsSound =
-    (tiling : Tiling) (classes : List Class) (regions : List Contents)
+    (tiling : Tree) (classes : List Class) (regions : List Contents)
     → AreJoined (rectangles tiling frame) classes regions → All IsSoundMap regions
     → length regions ≡ length (rectangles tiling frame)
     → IsSoundMap (country_of classes regions)

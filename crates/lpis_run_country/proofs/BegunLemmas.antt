@@ -19,7 +19,7 @@ use Rattle.std.specs.Io.KnownBytes.{Appends}
 use Rattle.lpis_run.specs.declared.detail.Detail.{Detail}
 use Rattle.lpis_run.specs.Status.{done}
 use Rattle.lpis_country.specs.Tiling.{frame, rectangles}
-use Rattle.lpis_country.specs.Tree.{folders, tiling_of}
+use Rattle.lpis_country.specs.Tree.{folders}
 use Rattle.lpis_country_seam.specs.Laws.{JoinedCountryIsSound, JoinedCountryIsUnion}
 use Rattle.lpis_country_seam.specs.Open.{IsSeamOf}
 use Rattle.lpis_run_country.specs.declared.beginning.Begun.{Begun}
@@ -69,7 +69,7 @@ setting_begun texts detail x b begun = record {
   names_are = begun.names_are;
   tiles_are = begun.tiles_are;
   classes_are = refl;
-  tiling = tiling_of begun.plan;
+  tiling = begun.plan;
   tiles_of = refl;
   as_many = begun.as_many;
   few = begun.few;
@@ -102,7 +102,7 @@ all-country : (texts : List ℕ → Texts) (detail : Detail) (x : CountryInputs)
 unfolding begun_setting
 all-country texts detail x b begun all law unites ((text, passed), joined) =
     let s = setting_of texts detail begun.plan b.classes.items in
-    let tiling = tiling_of begun.plan in
+    let tiling = begun.plan in
     let long = sym (passed_length s (folders begun.plan) all text passed) ∙ ap length (sym begun.names_are) ∙ length-map b.names.items string_bytes ∙ begun.as_many ∙ ap length begun.tiles_are in
     record {
       plan = begun.plan;

@@ -7,7 +7,7 @@ use Rattle.lpis_run.specs.CheckAnswer.{Answer}
 use Rattle.lpis_country.specs.Tiling.{frame, rectangles}
 use Rattle.lpis_country.specs.CountryText.{IsCountryText}
 use Rattle.lpis_country.specs.Limits.{most_regions}
-use Rattle.lpis_country.specs.Tree.{Tree, folders, tiling_of}
+use Rattle.lpis_country.specs.Tree.{Tree, folders}
 use Rattle.lpis_run_country.specs.declared.beginning.Begun.{Begun}
 use Rattle.lpis_run_country.specs.CountryAnswer.{IsTopAnswer}
 use Rattle.lpis_run_country.specs.Regions.{CountryInputs}
@@ -17,7 +17,7 @@ pub record IsBegun (x : CountryInputs) (b : Begun) : Type 0 where
   pub plan : Tree
   pub text : IsCountryText x.plan plan
   pub names_are : map string_bytes b.names.items ≡ folders plan
-  pub tiles_are : b.tiles.items ≡ rectangles (tiling_of plan) frame
+  pub tiles_are : b.tiles.items ≡ rectangles plan frame
   pub table : rows_of classes_table x.classes ≡ Ok b.classes.items
   pub as_many : length b.names.items ≡ length b.tiles.items
   pub few : length (folders plan) ≤ most_regions

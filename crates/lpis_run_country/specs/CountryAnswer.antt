@@ -14,7 +14,7 @@ use Rattle.lpis_country.specs.Country.{country_of}
 use Rattle.lpis_country.specs.Tiling.{frame, rectangles}
 use Rattle.lpis_country.specs.CountryText.{IsCountryText}
 use Rattle.lpis_country.specs.Faults.{plan_fault}
-use Rattle.lpis_country.specs.Tree.{Tree, folders, tiling_of}
+use Rattle.lpis_country.specs.Tree.{Tree, folders}
 use Rattle.lpis_country_seam.specs.declared.fault.SeamFault.{SeamFault}
 use Rattle.lpis_country_seam.specs.Faults.{IsFirstSeamFault, seam_faults}
 use Rattle.lpis_run_country.specs.CountryLines.{country_lines, plan_refusal_text, region_report}
@@ -35,7 +35,7 @@ setting_of texts detail plan classes = record {
   texts = texts;
   detail = detail;
   names = folders plan;
-  tiles = rectangles (tiling_of plan) frame;
+  tiles = rectangles plan frame;
   classes = classes;
 }
 

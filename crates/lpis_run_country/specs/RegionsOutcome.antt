@@ -9,7 +9,8 @@ use Rattle.lpis_run.specs.Status.{done}
 use Rattle.lpis_run.specs.Run.{BreaksOffIn}
 use Rattle.lpis_run.specs.CheckAnswer.{Answer}
 use Rattle.lpis_country.specs.Country.{country_of}
-use Rattle.lpis_country.specs.Tiling.{Tiling, frame, rectangles}
+use Rattle.lpis_country.specs.Tiling.{frame, rectangles}
+use Rattle.lpis_country.specs.Tree.{Tree}
 use Rattle.lpis_country.specs.Union.{IsUnion}
 use Rattle.lpis_country.specs.Limits.{most_regions}
 use Rattle.lpis_country_seam.specs.Open.{AreJoined}
@@ -32,7 +33,7 @@ pub record IsSettingOf (s : Setting) (texts : List ℕ → Texts) (detail : Deta
   pub names_are : map string_bytes b.names.items ≡ s.names
   pub tiles_are : b.tiles.items ≡ s.tiles
   pub classes_are : b.classes.items ≡ s.classes
-  pub tiling : Tiling
+  pub tiling : Tree
   pub tiles_of : s.tiles ≡ rectangles tiling frame
   pub as_many : length b.names.items ≡ length b.tiles.items
   pub few : length s.names ≤ most_regions

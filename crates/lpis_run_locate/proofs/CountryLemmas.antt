@@ -25,7 +25,7 @@ use Rattle.lpis_run.specs.declared.stop.Stop.TheVariants.{Refused}
 use Rattle.lpis_country.specs.Country.{country_of}
 use Rattle.lpis_country.specs.Tiling.{frame, rectangles}
 use Rattle.lpis_country.specs.Union.{IsUnion}
-use Rattle.lpis_country.specs.Tree.{folders, tiling_of}
+use Rattle.lpis_country.specs.Tree.{folders}
 use Rattle.lpis_country_seam.specs.Laws.{JoinedCountryIsSound, JoinedCountryIsUnion}
 use Rattle.lpis_country_seam.specs.Open.{IsSeamOf}
 use Rattle.lpis_run_country.specs.Beginning.{IsBegun, IsUnbegun}
@@ -88,7 +88,7 @@ refused_no s before name text status (x, told, inr seam) e = one-is-not-done sta
 pub all_unite : (texts : List ℕ → Texts) (x : LocateCountryInputs) (b : Begun) (begun : IsBegun x.files b) (p : Progress) → JoinedCountryIsUnion
     → (out : IsOutcome (begun_setting texts x b begun) x.points p None) → IsUnion out.0 (country_of b.classes.items out.0)
 unfolding begun_setting
-all_unite texts x b begun p unites (all, passed, at) = unites (rectangles (tiling_of begun.plan) frame) b.classes.items all at.seam.joined
+all_unite texts x b begun p unites (all, passed, at) = unites (rectangles begun.plan frame) b.classes.items all at.seam.joined
 
 -- the answer to the points in their union is that to the country
 pub points_answer : (texts : List ℕ → Texts) (x : LocateCountryInputs) (b : Begun) (begun : IsBegun x.files b) (p : Progress) (a : TextStatus)
@@ -124,7 +124,7 @@ pub located : (texts : List ℕ → Texts) (x : LocateCountryInputs) (b : Begun)
 unfolding begun_setting
 located texts x b begun p text status law unites (all, (lines, passed), at) said e =
     let s = setting_of texts Regions begun.plan b.classes.items in
-    let tiling = tiling_of begun.plan in
+    let tiling = begun.plan in
     let long = sym (passed_length s (folders begun.plan) all lines passed) ∙ ap length (sym begun.names_are) ∙ length-map b.names.items string_bytes ∙ begun.as_many ∙ ap length begun.tiles_are in
     located-by texts x (record {
       plan = begun.plan;

@@ -6,7 +6,7 @@ use Rattle.std.specs.Str.{bytes_eq}
 use Rattle.lpis_points.specs.declared.boxes.Box4.{Box4}
 use Rattle.lpis_country.specs.Tiling.{rectangles, frame}
 use Rattle.lpis_country.specs.Limits.{most_regions}
-use Rattle.lpis_country.specs.Tree.{Tree, tiling_of}
+use Rattle.lpis_country.specs.Tree.{Tree}
 use Rattle.lpis_country.specs.CountryText.{TreeLine, x_line, y_line, region_line}
 use Rattle.lpis_country.specs.CountryText.{tree_lines, TreeLineFits}
 use Rattle.lpis_country.specs.Faults.{Owing}
@@ -22,14 +22,14 @@ names_listed (region_line name ∷ ls) = name ∷ names_listed ls
 abbrev pub tiles_in : List Box4 → List Tree → List Box4
 tiles_in [] ts = []
 tiles_in (b ∷ bs) [] = []
-tiles_in (b ∷ bs) (t ∷ ts) = rectangles (tiling_of t) b ++ tiles_in bs ts
+tiles_in (b ∷ bs) (t ∷ ts) = rectangles t b ++ tiles_in bs ts
 
 -- a tree whose lines are these and then those of further trees, and whose tiles likewise
 pub record IsCompletedBy (said : List TreeLine) (tiles rooms : List Box4) (ts : List Tree)
     (t : Tree) : Type 0
   where
     pub lines_are : tree_lines t ≡ said ++ flat_map tree_lines ts
-    pub tiles_are : rectangles (tiling_of t) frame ≡ tiles ++ tiles_in rooms ts
+    pub tiles_are : rectangles t frame ≡ tiles ++ tiles_in rooms ts
 
 -- these lines were read: these names and tiles have been given out, and these rectangles are to be
 -- cut by the trees that follow, whichever they are

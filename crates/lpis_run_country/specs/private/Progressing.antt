@@ -18,7 +18,8 @@ use Rattle.lpis_run.specs.Stops.{IsRefusedAs}
 use Rattle.lpis_run.specs.Streams.{Begins}
 use Rattle.lpis_run.specs.declared.stop.Stop.{Stop}
 use Rattle.lpis_country.specs.Country.{country_of}
-use Rattle.lpis_country.specs.Tiling.{Tiling, frame, rectangles}
+use Rattle.lpis_country.specs.Tiling.{frame, rectangles}
+use Rattle.lpis_country.specs.Tree.{Tree}
 use Rattle.lpis_country.specs.Limits.{most_regions}
 use Rattle.lpis_country_seam.specs.declared.fault.SeamFault.{SeamFault}
 use Rattle.lpis_country_seam.specs.Faults.{IsFirstSeamFault, seam_faults}
@@ -190,7 +191,7 @@ pub record IsEnded (s : Setting) (regions : List Contents) (names : List (List �
   pub few : length names ≤ most_regions
   pub as_many : length names ≡ length regions
   pub all : length names ≡ length s.tiles
-  pub tiling : Tiling
+  pub tiling : Tree
   pub tiles_of : s.tiles ≡ rectangles tiling frame
   pub wanted : gathers p.gathered ≡ true
 
