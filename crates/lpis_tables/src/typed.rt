@@ -12,6 +12,7 @@ use crate::keyed::{Identified, Keyed};
 use crate::keys::Keys;
 use crate::reader::{MOST_ROWS, TableReader, fault};
 use std::alloc::Global;
+use std::simd::prelude::*;
 
 /// A row that is read from a table whose first column is its identifier.
 pub trait TableRow: Identified + Drop {
@@ -75,24 +76,23 @@ fn add_row<T: TableRow>(
     Ok(())
 }
 
-/// What comes after the first line feed.
-fn past_line(bytes: &[u8]) -> Option<&[u8]> {
-    let at = bytes.iter().position(|b| *b == b'\n')?;
-    Some(&bytes[at + 1..])
+/// How many line feeds there are.
+fn line_feeds(bytes: &[u8]) -> usize {
+    let (blocks, rest) = bytes.as_chunks::<64>();
+    let mut count = 0usize;
+    for block in blocks {
+        let are_feeds = u8x64::from_array(*block).simd_eq(u8x64::splat(b'\n'));
+        count = count.wrapping_add(are_feeds.to_bitmask().count_ones() as usize);
+    }
+    let left = rest.iter().filter(|byte| **byte == b'\n').count();
+    count.wrapping_add(left)
 }
 
 /// For how many rows room is made: one for each line feed, and no more than a table may have. Room
 /// that is made at once leaves no gaps where a growing list lay before. Where lines end with a
 /// carriage return alone the lists grow.
 fn room_for_rows(bytes: &[u8]) -> usize {
-    let mut rest = bytes;
-    for count in 0..MOST_ROWS {
-        match past_line(rest) {
-            Some(left) => rest = left,
-            None => return count as usize,
-        }
-    }
-    MOST_ROWS as usize
+    line_feeds(bytes).min(MOST_ROWS as usize)
 }
 
 /// Adds the rows of a table whose header alone was read, and their identifiers. A refusal is the
