@@ -54,7 +54,7 @@ pub enum LineageFault {
     #[error("out of memory")]
     Memory,
     /// One with this code, of the row of this number. Rows count from 1.
-    #[error("lineage {} row {1}", .0.as_str())]
+    #[error("lineage {} row {}", .0.as_str(), .1)]
     OfRow(LineageCode, usize),
     /// A dropped identifier has no row.
     #[error("lineage {} {}", LineageCode::NoRow.as_str(), .id.as_str())]
