@@ -6,19 +6,18 @@ from __future__ import annotations
 import csv
 import os
 from bisect import bisect_left, bisect_right
-from functools import cached_property
 
-from shapely.geometry import LineString, MultiLineString, Point
+import numpy
+from shapely.geometry import Point
 from shapely.prepared import prep
 
 from . import land, polygons, progress
-from .boxes import Boxes
+from .along import Along, edges_of
 from .conflicts import LEAST, Loss, Source, by_geos, number_of, parts_of, polygons_by, width_of
 from .snapping import pixel_of
 
 ROUNDED = 0.001  # metres: what a border moves by rounding, at most
 ALONG = 1.5 * ROUNDED  # metres from a border to what lies along it
-RUN = 16  # edges of a border at once
 PIXEL = 0.75  # millimetres from an edge to a corner that it takes
 TINY = 0.000_001  # square metres: of doubles
 NAMESAKE = "the tables have fewer rows of its identifier"
@@ -149,9 +148,11 @@ class Outcome:
             loss.is_grave = True
             self.source.losses.append(loss)
         self.keep_greatest(name, change, loss)
-        border = Border(after)
-        self.source.losses += [Loss("spike", [row[column]], f"{what} of {part.length / 2:.3f} m, narrower than a millimetre, is not in the tables", part, None, part.area, name, [number_of(row)])
-                               for what, found in (("a spike", gone), ("a notch", come)) for part in border.spikes(found)]
+        narrow = [(what, part) for what, found in (("a spike", gone), ("a notch", come)) for part in parts_of(found) if width_of(part) < LEAST and part.length > 4 * ROUNDED]
+        for (what, part), leads_away in zip(narrow, lead_away(after, [part for _, part in narrow])):
+            if leads_away:
+                words = f"{what} of {part.length / 2:.3f} m, narrower than a millimetre, is not in the tables"
+                self.source.losses.append(Loss("spike", [row[column]], words, part, None, part.area, name, [number_of(row)]))
 
     def least(self, name, row, column, before, area):
         """Of a row that was rounded alone the change is no more than its border has room for."""
@@ -181,33 +182,15 @@ class Outcome:
         return "narrower than a millimetre, or other pieces have its whole place"
 
 
-class Border:
-    """The border that a shape has afterwards. What lies along it is asked of the runs of it that are near: a shape may have thousands of rings."""
-
-    def __init__(self, after):
-        self.after = after
-
-    @cached_property
-    def runs(self):
-        rings = [ring.coords for part in parts_of(self.after) for ring in (part.exterior, *part.interiors)]
-        return [LineString(ring[start : start + RUN + 1]) for ring in rings for start in range(0, len(ring) - 1, RUN)]
-
-    @cached_property
-    def boxes(self):
-        return Boxes([wider(run.bounds, ALONG) for run in self.runs])
-
-    def is_along(self, part):
-        near = [self.runs[number] for number in self.boxes.meeting(wider(part.bounds, ALONG))]
-        return prep(MultiLineString(near).buffer(ALONG, resolution=1)).contains(part)
-
-    def spikes(self, change):
-        """The parts of a change that are narrower than a millimetre and lead away from the border."""
-        narrow = [part for part in parts_of(change) if width_of(part) < LEAST and part.length > 4 * ROUNDED]
-        return [part for part in narrow if not self.is_along(part)]
-
-
-def wider(box, width):
-    return box[0] - width, box[1] - width, box[2] + width, box[3] + width
+def lead_away(after, parts):
+    """Which narrow parts of a change lead away from the border that a shape has afterwards: some edge of such a part does not lie along it. What is between the
+    edges of a part is as near as these, but for less than its width."""
+    if not parts:
+        return []
+    edges = [edges_of([part]) for part in parts]
+    is_along = Along(numpy.concatenate(edges), edges_of(parts_of(after)), ALONG).are()
+    owner = numpy.repeat(numpy.arange(len(parts)), [len(some) for some in edges])
+    return (numpy.bincount(owner[~is_along], minlength=len(parts)) > 0).tolist()
 
 
 def read_table(folder, name):
