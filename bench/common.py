@@ -20,6 +20,7 @@ import textwrap
 
 HERE = os.path.dirname(os.path.realpath(__file__))
 TOP = os.path.dirname(HERE)
+sys.path.append(os.path.join(TOP, "tests", "helpers"))  # what tests and benches share: registers, years, shapes
 MEGABYTE = 1_000_000
 RUNS, WIDTH = 3, 120
 TABLES = ["parcels.csv", "covers.csv", "classes.csv"]

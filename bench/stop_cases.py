@@ -6,8 +6,8 @@ import signal
 import subprocess
 import tempfile
 
-import country_example
 from common import CERT, HERE, compiled, copy_of, done, lpis
+import country_example
 from country_changes import add_lineage, change
 from registers import NOTHING, VERSION_1, VERSION_2, WITHOUT_MARKS, made, register
 from years import Years

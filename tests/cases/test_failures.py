@@ -42,13 +42,8 @@ def regions_before(name, whole):
 
 
 @pytest.fixture(scope="module")
-def shim(tmp_path_factory):
-    compiler = shutil.which("cc") or shutil.which("gcc")
-    if not compiler:
-        pytest.skip("there is no C compiler (Debian: gcc)")
-    path = tmp_path_factory.mktemp("shim") / "failing.so"
-    subprocess.run([compiler, "-O2", "-shared", "-fPIC", "-o", path, Path(__file__).with_name("failing.c")], check=True)
-    return path
+def shim(preloaded):
+    return preloaded(Path(__file__).with_name("failing.c"))
 
 
 @pytest.fixture(scope="module")

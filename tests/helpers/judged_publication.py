@@ -366,6 +366,6 @@ def written_faults(text, groups):
 
 
 def said_of(register):
-    """What a register that was read says, by bench/registers.py."""
+    """What a register that was read says, by registers.py."""
     releases = [(year, [name for name, in names], [(old, new, is_marked) for _, old, new, is_marked in rows]) for year, names, rows in register.releases]
     return Said(releases, {name: polygons.read(wkt.encode()) for name, wkt in register.texts})

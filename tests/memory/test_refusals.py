@@ -1,30 +1,26 @@
-"""Runs commands with the Nth request for memory refused, N from 1 to the last that they make: refusals.py REFUSE.SO [--all | --few] [NAME..]
+"""Runs commands with the Nth request for memory refused, N from 1 to the last that they make, by refuse_nth.c.
 
-Each run that met a refusal has to end with status 3, `failed memory` (or `failed store`, where the database met it) and nothing on
-standard output, but for the lines of a country's regions that had passed. A certificate that was there, and the history and the shapes in the register, have to be as before, by SQLite; the same
-command afterwards has to answer as usual. A command over a register may also answer as usual and leave what it leaves as usual: the
-database does without room that only makes it faster. Each N is tried twice: alone, and with every later request refused too. A command
-over a register makes thousands of requests: SAMPLE of them are refused, from a fixed seed (--all: each; --few: at most FEW of any command).
-NAME: the commands whose names contain it. The last line counts the runs that met a refusal: 'N passed, M failed'.
-"""
+Each run that met a refusal has to end with status 3, `failed memory` (or `failed store`, where the database met it) and nothing on standard output, but for
+the lines of a country's regions that had passed. A certificate that was there, and the history and the shapes in the register, have to be as before, by
+SQLite; the same command afterwards has to answer as usual. A command over a register may also answer as usual and leave what it leaves as usual: the
+database does without room that only makes it faster. Each N is tried twice: alone, and with every later request refused too. A command over a register
+makes thousands of requests. REFUSED in the environment says how many are refused: `few` of any command (FEW), which it is where nothing is said; `some`:
+all, or where they are MANY a SAMPLE from a fixed seed; `all`."""
 
-import multiprocessing
 import os
 import pathlib
 import random
 import re
 import shutil
 import subprocess
-import sys
 import tempfile
 
-TOP = pathlib.Path(__file__).resolve().parent.parent.parent
-sys.path.append(str(TOP / "bench"))
-import common  # noqa: E402
-import country_example  # noqa: E402
-from registers import VERSION_1, VERSION_2, VERSION_3, WITHOUT_MARKS, made, said  # noqa: E402
+import common
+import country_example
+import pytest
+from registers import VERSION_1, VERSION_2, VERSION_3, WITHOUT_MARKS, made, said
 
-EXAMPLES = TOP / "examples"
+EXAMPLES = pathlib.Path(common.TOP, "examples")
 LPIS = common.lpis()
 SECONDS, MANY, SAMPLE, FEW, SEED = 60, 1_000, 100, 25, 20_261_123
 # A file system in memory, where there is one: the register is put on its disk by each publish.
@@ -111,7 +107,7 @@ def narrowed(folder):
 
 def expect(status, answer):
     if answer[0] != status:
-        sys.exit(f"a command ended with {answer}")
+        raise RuntimeError(f"a command ended with {answer}")
 
 
 def cut(release):
@@ -238,9 +234,9 @@ class Refusals:
             *_, told = self.start(0, False, copy)
             self.requests = int(re.fullmatch(r"requests (\d+)\n", told).group(1))
 
-    def numbers(self, option):
+    def numbers(self):
         """The requests to refuse: all, or a sample where there are many."""
-        most, sample = {"--all": (self.requests, 0), "--few": (FEW, FEW)}.get(option, (MANY, SAMPLE))
+        most, sample = {"all": (self.requests, 0), "some": (MANY, SAMPLE)}.get(os.environ.get("REFUSED"), (FEW, FEW))
         every = range(1, self.requests + 1)
         return every if self.requests <= most else sorted(random.Random(SEED).sample(every, sample))
 
@@ -279,36 +275,16 @@ class Refusals:
         return FAILURES.get((status, told)) if not text or is_progress else None
 
 
-def ending_of(job):
-    place, number, goes_on = job
-    return REFUSALS[place].ending(number, goes_on)
+@pytest.fixture(scope="module")
+def library(preloaded):
+    return str(preloaded(pathlib.Path(__file__).with_name("refuse_nth.c")))
 
 
-REFUSALS = []  # before the processes begin that share them
-
-
-def main():
-    library, words = sys.argv[1], [word for word in sys.argv[2:] if not word.startswith("--")]
-    option = next((word for word in sys.argv[2:] if word.startswith("--")), None)
-    passed = failed = 0
+@pytest.mark.parametrize("command", COMMANDS, ids=[command.name for command in COMMANDS])
+def test_refused_requests(command, library):
+    """Each run that met a refusal ends as it may; how many did stands in the message."""
     with tempfile.TemporaryDirectory(dir=FAST) as top:
-        for number, command in enumerate(COMMANDS):
-            if not words or any(word in command.name for word in words):
-                REFUSALS.append(Refusals(command, pathlib.Path(top, str(number)), library))
-        jobs = [(place, number, goes_on) for place, refusals in enumerate(REFUSALS) for number in refusals.numbers(option) for goes_on in (False, True)]
-        with multiprocessing.Pool() as pool:
-            endings = pool.map(ending_of, jobs, chunksize=8)
-    for place, refusals in enumerate(REFUSALS):
-        mine = [(job, ending) for job, ending in zip(jobs, endings) if job[0] == place]
-        told = {name: sum(ending == name for _, ending in mine) for name in ("memory", "store", "usual")}
-        for (_, number, goes_on), ending in mine:
-            if ending not in told:
-                print(f"{refusals.command.name}, request {number}{' and all later ones' * goes_on}: {ending}")
-        passed, failed = passed + sum(told.values()), failed + len(mine) - sum(told.values())
-        print(f"{refusals.command.name}: {refusals.requests} requests, {len(mine) // 2} of them refused, alone and with all later ones: "
-              f"{told['memory']} times failed memory, {told['store']} times failed store, {told['usual']} times as usual")
-    print(f"{passed} passed, {failed} failed")
-    return 1 if failed else 0
-
-
-sys.exit(main())
+        refusals = Refusals(command, pathlib.Path(top, "files"), library)
+        endings = {(number, goes_on): refusals.ending(number, goes_on) for number in refusals.numbers() for goes_on in (False, True)}
+    wrong = {request: ending for request, ending in endings.items() if ending not in ("memory", "store", "usual")}
+    assert endings and not wrong, f"{len(wrong)} of {len(endings)} runs, of {refusals.requests} requests"

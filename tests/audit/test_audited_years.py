@@ -1,16 +1,22 @@
-"""Years of generated parcels in registers: audit/lineage.py beside `lpis publish`, and audit/register.py beside what `lpis` opens."""
+"""Years of generated parcels in registers: audit/lineage.py beside `lpis publish`, with the blocks of `lpis exact` and with damaged ones, and audit/register.py
+beside what `lpis` opens, whole and edited."""
 
 import contextlib
 import os
 import random
 import sqlite3
+import tempfile
+from pathlib import Path
 
 import damage
 import lineage
+import pytest
 import register
 import registers
+from asking import dump
 from exact_years import TwoYears
 from tables import write_lines, write_release
+from test_audited_releases import audited, lpis
 
 YEARS, EDITS = 25, 4  # pairs of years; registers that are edited of each
 
@@ -67,13 +73,6 @@ def copied(path, other):
     return other
 
 
-def dump(path):
-    base = sqlite3.connect(path)
-    lines = list(base.iterdump())
-    base.close()
-    return lines
-
-
 def write_years(folder, years):
     for year, parcels in ((2024, years.old), (2025, years.new)):
         pieces = [(f"p.{name}", name, "G", polygon) for name, polygon in parcels.items()]
@@ -117,30 +116,60 @@ def edited(path, years, numbers):
     return statement
 
 
-def expect_register(cases, name, lpis, path, other):
+def expect_register(path, other):
     """The register is lawful where the program opens it, and is read alone. What may be in the program's way is a fault, or is named."""
-    before, (status, said) = dump(path), lpis("trace", copied(path, other), "nobody")
-    cases.codes[f"of registers {said.strip() or 'failed store'}"] += 1
-    is_lawful, text = cases.answer(register.main, path, None)
-    is_named = "made by others" in text
-    cases.expect(f"{name}: lpis {status} {said!r}, audit {is_lawful} {text!r}", is_lawful == (said == "refused 83\n") or status == 3 and is_named)
-    cases.expect(f"{name}: the register is as it was", dump(path) == before)
+    before, (status, said), (its_status, text) = dump(path), lpis("trace", copied(path, other), "nobody"), audited(register.main, path, None)
+    assert (its_status == 0) == (said == "refused 83\n") or status == 3 and "made by others" in text, (status, said, its_status, text)
+    assert dump(path) == before, "the register is as it was"
     return text
 
 
-def compare_versions(cases, lpis, folder):
+@pytest.mark.parametrize("edit", BESIDE, ids=range(len(BESIDE)))
+@pytest.mark.parametrize("script", [registers.VERSION_1, registers.VERSION_2, registers.VERSION_3], ids=["version-1", "version-2", "version-3"])
+def test_versions(script, edit, tmp_path):
     """Two years in registers of each version, edited. A view and a trigger are named."""
-    for version, script in enumerate((registers.VERSION_1, registers.VERSION_2, registers.VERSION_3), 1):
-        for number, edit in enumerate(BESIDE):
-            path = folder / f"version-{version}-{number}.db"
-            base = sqlite3.connect(path)
-            base.executescript(f"PRAGMA foreign_keys = OFF; {script}")
-            with contextlib.suppress(sqlite3.OperationalError, sqlite3.IntegrityError):
-                base.executescript(edit)
-            base.close()
-            text = expect_register(cases, f"version {version}, {edit}", lpis, path, folder / "opened.db")
-            for word, object_name in (("VIEW now", "now"), ("TRIGGER watch", "watch")):
-                cases.expect(f"version {version}, {edit}: named in {text!r}", word not in edit or object_name in text)
+    path = tmp_path / "register.db"
+    base = sqlite3.connect(path)
+    base.executescript(f"PRAGMA foreign_keys = OFF; {script}")
+    with contextlib.suppress(sqlite3.OperationalError, sqlite3.IntegrityError):
+        base.executescript(edit)
+    base.close()
+    text = expect_register(path, tmp_path / "opened.db")
+    for word, object_name in (("VIEW now", "now"), ("TRIGGER watch", "watch")):
+        assert word not in edit or object_name in text
+
+
+def expect_lineage(folder, path):
+    """A publish of 2025 over a copy of the register, and the second checker over the same."""
+    copy = copied(path, folder / "copy.db")
+    status, said = lpis("publish", copy, 2025, folder / "2025", folder / "2025.txt")
+    its_status, text = audited(lineage.main, folder / "2024", folder / "2025", folder / "2025.txt")
+    assert (status == 0) == (its_status == 0), f"lineage: {said} {text[-300:]}"
+    for year in (2024, 2025):
+        its_status, text = audited(register.main, copy, folder / str(year))
+        assert (its_status == 0) == (year == (2025 if status == 0 else 2024)), f"shapes of {year}: {text[-300:]}"
+    return copy
+
+
+@pytest.mark.parametrize("number", range(YEARS))
+def test_years(number, tmp_path):
+    """The two years of a number: published with the blocks that `exact` writes, and with damaged ones; then the register, whole and edited."""
+    numbers, years, path, cert = random.Random(76_000 + number), TwoYears(number), tmp_path / "years.db", tmp_path / "2025.txt"
+    write_years(tmp_path, years)
+    for year in (2024, 2025):
+        lpis("cut", tmp_path / str(year), tmp_path / f"{year}.txt")
+    lpis("publish", path, 2024, tmp_path / "2024", tmp_path / "2024.txt")
+    if lpis("exact", path, tmp_path / "2025", cert, tmp_path / "exact.txt")[0] == 0:
+        (tmp_path / "exact.txt").replace(cert)
+    text = cert.read_text(encoding="ascii")
+    for blocks in [damaged_blocks(text, numbers), text]:
+        cert.write_text(blocks, encoding="ascii")
+        copy = expect_lineage(tmp_path, path)
+    expect_register(copy, tmp_path / "opened.db")
+    for _ in range(EDITS):
+        changed = edited(copied(copy, tmp_path / "edited.db"), years, numbers)
+        print(changed)  # shown where it fails
+        expect_register(tmp_path / "edited.db", tmp_path / "opened.db")
 
 
 @contextlib.contextmanager
@@ -158,72 +187,44 @@ def not_writable(folder):
         folder.chmod(0o755)
 
 
-def expect_read(cases, name, folder, wanted):
+def read(folder):
     """What the second checker says of the register in a folder that may not be written: that it is lawful, or which log it cannot read."""
     with not_writable(folder):
         try:
-            said = register.main(folder / "register.db", None)
+            return register.main(folder / "register.db", None)
         except OSError as fault:
-            said = str(fault)
-    cases.expect(f"{name}, in a folder that is read-only: {said!r}", said.startswith(wanted) and said.count("\n") <= 1)
+            return str(fault)
 
 
-def compare_read_only(cases, folder):
+@pytest.fixture
+def folder():
+    """One that another user may enter: not below that of pytest."""
+    with tempfile.TemporaryDirectory() as top:
+        Path(top).chmod(0o755)
+        (folder := Path(top, "read-only")).mkdir()
+        yield folder
+
+
+def test_read_only(folder):
     """A register in the mode WAL, where no file may be made beside it: alone, with an empty log, and with rows in the log."""
-    folder.mkdir()
-    folder.parent.chmod(0o755)
     path, log, shared = (folder / f"register.db{end}" for end in ("", "-wal", "-shm"))
     base = sqlite3.connect(path)
     base.executescript("PRAGMA journal_mode = WAL;" + registers.VERSION_3)
     base.close()
     lawful = "lawful releases 2 identifiers 3 shapes 2\n"
-    expect_read(cases, "a register", folder, lawful)
+    assert read(folder) == lawful
     log.touch()
-    expect_read(cases, "one with an empty log", folder, lawful)
+    assert read(folder) == lawful, "with an empty log"
     base = sqlite3.connect(path)
     base.execute("INSERT INTO lpis_release VALUES (2026)")
     base.execute("UPDATE lpis_span SET until = 2025 WHERE id = 'C'")
     base.execute("INSERT INTO lpis_row VALUES (2026, 0, 'C', '')")
     base.execute("DELETE FROM lpis_text WHERE id = 'C'")
     base.commit()
-    expect_read(cases, "one with rows in its log", folder, "lawful releases 3 identifiers 3 shapes 1\n")
+    assert read(folder) == "lawful releases 3 identifiers 3 shapes 1\n", "with rows in its log"
     data = log.read_bytes()
     base.close()
     log.write_bytes(data)
     shared.unlink(missing_ok=True)
-    expect_read(cases, "one whose log cannot be read", folder, f"unable to open database file, so what {log} has was not read")
-
-
-def compare_lineage(cases, name, lpis, folder, path):
-    """A publish of 2025 over a copy of the register, and the second checker over the same."""
-    copy = copied(path, folder / "copy.db")
-    status, said = lpis("publish", copy, 2025, folder / "2025", folder / "2025.txt")
-    cases.codes["published" if status == 0 else " ".join(said.split(" ")[1:4:2])] += 1
-    cases.expect_verdict(f"{name}: lineage", status == 0, lineage.main, folder / "2024", folder / "2025", folder / "2025.txt")
-    last = 2025 if status == 0 else 2024
-    for year in (2024, 2025):
-        cases.expect_verdict(f"{name}: shapes of {year}", year == last, register.main, copy, folder / str(year))
-    return copy
-
-
-def compare_years(cases, lpis, folder):
-    """The two years of each number: published with the blocks that `exact` writes, and with damaged ones; then the register, whole and edited."""
-    numbers = random.Random(76)
-    for number in range(YEARS):
-        name, years, path, cert = f"years {number}", TwoYears(number), folder / "years.db", folder / "2025.txt"
-        write_years(folder, years)
-        for year in (2024, 2025):
-            lpis("cut", folder / str(year), folder / f"{year}.txt")
-        for old in folder.glob("years.db*"):
-            old.unlink()
-        lpis("publish", path, 2024, folder / "2024", folder / "2024.txt")
-        if lpis("exact", path, folder / "2025", cert, folder / "exact.txt")[0] == 0:
-            (folder / "exact.txt").replace(cert)
-        text = cert.read_text(encoding="ascii")
-        for blocks in [damaged_blocks(text, numbers), text]:
-            cert.write_text(blocks, encoding="ascii")
-            copy = compare_lineage(cases, name, lpis, folder, path)
-        expect_register(cases, name, lpis, copy, folder / "opened.db")
-        for edit in range(EDITS):
-            changed = edited(copied(copy, folder / "edited.db"), years, numbers)
-            expect_register(cases, f"{name}, {changed}", lpis, folder / "edited.db", folder / "opened.db")
+    said = read(folder)
+    assert said.startswith(f"unable to open database file, so what {log} has was not read") and said.count("\n") <= 1, "a log that cannot be read"

@@ -2,7 +2,7 @@
 
 import pathlib
 
-TOP = pathlib.Path(__file__).resolve().parent.parent
+TOP = pathlib.Path(__file__).resolve().parents[2]
 EXAMPLE = TOP / "examples" / "country-years"
 PLAN = (EXAMPLE / "country.txt").read_text(encoding="ascii")
 # Of each year the parcels of the regions, and the rows of their tables of lineage.

@@ -3,11 +3,12 @@ starve or damage one."""
 
 import collections
 import os
+import pathlib
 import sqlite3
 import sys
 import time
 
-sys.path.insert(0, os.path.join(os.path.dirname(os.path.dirname(os.path.realpath(__file__))), "tools"))
+sys.path.insert(0, str(pathlib.Path(__file__).resolve().parents[2] / "tools"))
 from lpis_tools import polygons  # noqa: E402
 
 LIMIT, MOST_POINTS = 20_000_000_000, 100_000  # of a coordinate in millimetres, and of a polygon

@@ -1,0 +1,125 @@
+"""Tests the second checker of audit/ beside the built program: both decide each case, and have to agree.
+
+Of generated releases of nasty shapes: each sound one with the certificate that was cut, and then with a damaged certificate or table, or made wrong. The
+verdict has to be that of `lpis check`, and each report its report byte for byte. Of a series of releases each condition refuses some. LPIS in the environment
+names the program.
+"""
+
+import random
+import shutil
+import subprocess
+import sys
+from collections import Counter
+from pathlib import Path
+
+import common
+import damage
+import idea_pictures
+import pytest
+import release as audit
+from nasty_shapes import Release
+from tables import write_release
+
+TOP, LPIS = Path(common.TOP), common.lpis()
+SERIES, RELEASES, EACH_CONDITION = 4, 100, 2
+MOST_LINES, COLUMNS = 365, 120  # of audit/
+DAMAGES = ["tables"] * 12 + ["wrong"] * 9 + damage.CONDITIONS * 3 + [damage.pair_added, damage.other_edge] * 2 + damage.TEXTS * 7
+EXACT = TOP / "examples" / "exact"
+
+
+def lpis(*words):
+    run = subprocess.run([LPIS, *map(str, words)], stdin=subprocess.DEVNULL, capture_output=True, timeout=120, check=False)
+    return run.returncode, run.stdout.decode("utf-8", "backslashreplace")
+
+
+def audited(main, *words):
+    """What a part of the second checker answers: status and text."""
+    try:
+        return 0, main(*(word and str(word) for word in words))
+    except audit.No as fault:
+        return 1, f"no {fault}\n"
+
+
+def expect_same(name, folder, cert):
+    """One case: equal verdicts, and equal reports where they are yes; answers the code, or `yes`."""
+    (status, text), (its_status, its_text) = lpis("check", folder, cert), audited(audit.main, folder, cert)
+    assert text == its_text if status == 0 else its_status == 1, f"{name}: lpis {status} {text[-200:]!r}, audit {its_status} {its_text[-200:]!r}"
+    return "yes" if status == 0 else text.split(" ")[1]
+
+
+def write(folder, number, mutated):
+    """A generated release."""
+    release = Release(number, mutated)
+    write_release(folder, release.parcels, release.pieces, release.decimals, release.classes)
+
+
+def damaged_certificate(cert, change, numbers):
+    lines = cert.read_text(encoding="ascii").split("\n")[:-1]
+    end = numbers.choice(["\n"] * 9 + ["", "\n\n", "\r\n", "\n "]) if change in damage.TEXTS else "\n"
+    cert.write_bytes(("\n".join(change(lines, numbers) or lines) + end).encode("utf-8"))
+
+
+@pytest.mark.parametrize("series", range(SERIES))
+def test_releases(series, tmp_path):
+    """Each sound release with its own certificate, and then, in turn: that certificate damaged, or a byte of one of the four files, or the release made wrong."""
+    numbers, codes, sound, wrong, cert = random.Random(75 + series), Counter(), tmp_path / "sound", tmp_path / "wrong", tmp_path / "cert.txt"
+    for number in range(series * RELEASES, (series + 1) * RELEASES):
+        write(sound, number, False)
+        status, text = lpis("cut", sound, cert)
+        assert status == 0, f"release {number} is not cut: {text}"
+        codes[expect_same(f"release {number}", sound, cert)] += 1
+        change, file = DAMAGES[number % len(DAMAGES)], numbers.choice([cert, *(sound / f"{name}.csv" for name in ("parcels", "covers", "classes"))])
+        if change == "tables":
+            file.write_bytes(damage.edited(file.read_bytes(), numbers))
+        elif change == "wrong":
+            write(wrong, number, True)
+        else:
+            damaged_certificate(cert, change, numbers)
+        codes[expect_same(f"release {number}, {getattr(change, '__name__', change)}", wrong if change == "wrong" else sound, cert)] += 1
+    assert min(codes[str(code)] for code in range(60, 70)) >= EACH_CONDITION, f"of {codes.total()} cases: {sorted(codes.items())}"
+
+
+def test_size():
+    """The second checker is read in an hour: at most so many lines that are not blank, and none is long."""
+    files = sorted((TOP / "audit").glob("*.*"))
+    lines = [line for path in files for line in path.read_text(encoding="utf-8").splitlines()]
+    assert [path.name for path in files] == ["lineage.py", "register.py", "release.py"]
+    assert (sum(line != "" for line in lines) <= MOST_LINES, max(map(len, lines)) <= COLUMNS) == (True, True)
+
+
+@pytest.mark.parametrize("header", [
+    "class,percent", "class", "class,eligible", "Class,ELIGIBLE,Percent", "class,percent,percent", "class,percent,eligible,eligible", "x,x,class,percent", "", "\ufeffclass,percent",
+    "\ufeff\ufeffx,class,percent", '"class","percent"', "class,percent\r\n\r\n", "class,percent,wKt,w\u212at",
+], ids=repr)
+def test_empty(header, tmp_path):
+    """Releases without a parcel: the header of the classes alone decides."""
+    texts = {"cert.txt": "lpis-cert 2\npairs 0\nend\n", "parcels.csv": "parcel,wkt\n", "covers.csv": "piece,parcel,class,wkt\n", "classes.csv": header}
+    for name, text in texts.items():
+        (tmp_path / name).write_text(text, encoding="utf-8")
+    expect_same(header, tmp_path, tmp_path / "cert.txt")
+
+
+def test_pictures(tmp_path):
+    """The pictures of docs/IDEA.md are those that dev/pictures draws."""
+    idea_pictures.draw(tmp_path, tmp_path)
+    for name in idea_pictures.DRAWINGS:
+        assert (tmp_path / f"idea-{name}.svg").read_text() == (TOP / "docs" / f"idea-{name}.svg").read_text(), name
+
+
+def expect_agreement(said, tool, *words):
+    run = subprocess.run([sys.executable, TOP / "tools" / tool, "--audit", "--lpis", LPIS, *map(str, words)], capture_output=True, text=True, check=False)
+    assert "two programs agree" in run.stdout and said in run.stdout, run.stdout[-300:] + run.stderr[-300:]
+
+
+@pytest.mark.parametrize("year, said", [("2024", "agree: yes, and"), ("2025", "agree: refused 60")])
+def test_report(year, said, tmp_path):
+    """`--audit` of tools/report: two programs agree, of a yes and of a no."""
+    lpis("cut", EXACT / "2024", tmp_path / "cert.txt")
+    expect_agreement(said, "report", EXACT / year, tmp_path / "cert.txt")
+
+
+def test_year(tmp_path):
+    """`--audit` of tools/year, of two years in a register."""
+    years = shutil.copytree(EXACT, tmp_path / "years")
+    for year, said, more in (("2024", "says of", ["--new"]), ("2025", "agree on the marks of", [])):
+        expect_agreement(said, "year", "--year-anyway", tmp_path / "tools.db", year, years / year, *more)
