@@ -13,7 +13,7 @@ from __future__ import annotations
 import numpy
 
 from . import wkb
-from .noding import PART, expanded, parts_of
+from .noding import PART, Rings, expanded, parts_of
 from .snapping import side_of
 
 TINY = 1e-9  # metres: of doubles
@@ -212,7 +212,9 @@ def length_of(lines):
 
 
 def edges_of(polygons):
-    """The edges of polygons of Shapely, as rows of x, y, x, y."""
-    blob = wkb.HEAD.pack(1, 6, len(polygons)) + b"".join(polygon.wkb for polygon in polygons)
-    rings = [numpy.frombuffer(blob, "<f8", 2 * count, at).reshape(-1, 2) for at, count, _ in wkb.rings_of(blob)]
-    return numpy.concatenate([numpy.zeros((0, 4)), *(numpy.hstack([ring[:-1], ring[1:]]) for ring in rings)])
+    """The edges of polygons of Shapely, as rows of x, y, x, y, and the number of the polygon that each is of."""
+    if not polygons:
+        return numpy.zeros((0, 4)), numpy.zeros(0, int)
+    rings = Rings([wkb.Found.of_blob(wkb.HEAD.pack(1, 6, 1) + polygon.wkb) for polygon in polygons])
+    first, ring = rings.ways()
+    return numpy.hstack([rings.points[first], rings.points[first + 1]]), rings.owners[ring]
