@@ -56,7 +56,7 @@ CASES = {
 
 def webs(draw):
     """Edges and segments, in metres near the origin: of a web, of which some are moved a little, some are parts, and some lie anywhere."""
-    for count, size in ((12, 6), (12, 60), (60, 60), (60, 4000)):
+    for count, size in ((12, 6), (12, 60), (30, 60), (30, 1000)):
         corners = [(draw.randint(0, size), draw.randint(0, size)) for _ in range(count)]
         border = [(*draw.choice(corners), *draw.choice(corners)) for _ in range(count)]
         border = [line for line in border if line[:2] != line[2:]]
@@ -105,7 +105,7 @@ class Edges(unittest.TestCase):
     def test_webs(self):
         """As a buffer of Shapely has it, where a hundredth of the width more or less makes no difference."""
         draw, told = random.Random(1), {True: 0, False: 0, None: 0}
-        for _ in range(3):
+        for _ in range(4):
             for edges, border in webs(draw):
                 found = self.along([[value + (EAST, NORTH)[k % 2] for k, value in enumerate(line)] for line in edges], [[value + (EAST, NORTH)[k % 2] for k, value in enumerate(line)] for line in border])
                 less, more = (MultiLineString([(line[:2], line[2:]) for line in border]).buffer(WIDTH * part, 16) for part in (0.99, 1.01))

@@ -13,12 +13,13 @@ from __future__ import annotations
 import numpy
 
 from . import wkb
-from .noding import PART, expanded, parts_of
+from .noding import PART, Rings, expanded, parts_of
 from .snapping import side_of
 
 TINY = 1e-9  # metres: of doubles
 CROWDED = 8  # times as many pairs as lines: such a cell is parted
 GAIN = 1.25  # times as many pairs as before: where parting would leave more, it does not help
+QUARTERS = (0, 0), (1, 0), (0, 1), (1, 1)
 HELD = 1 << 18  # intervals that wait to be joined, at least
 
 
@@ -78,9 +79,9 @@ class Along:
         """Pairs of an edge and a segment that may be near, some at a time."""
         if not len(self.edges) or not len(self.segments):
             return
-        ends = self.edges.reshape(-1, 2)
-        cells = Cells((self.edges, self.segments), ends.min(axis=0)[None], float(numpy.ptp(ends, axis=0).max()), self.width)
-        cells.take([(numpy.zeros(len(lines), int), numpy.arange(len(lines))) for lines in cells.lines])
+        ends, lines = self.edges.reshape(-1, 2), (self.edges, self.segments)
+        all_of_them = [(numpy.zeros(len(some), int), numpy.arange(len(some))) for some in lines]
+        cells = Cells(lines, ends.min(axis=0)[None], float(numpy.ptp(ends, axis=0).max()), self.width, all_of_them)
         while len(cells.corners):
             self.looked += sum(len(line) for _, line in cells.entries)
             whole, cells = cells.parted()
@@ -92,23 +93,30 @@ class Cells:
     """Square cells of one size, by their lower left corners, and for each of two lists of lines the pairs of a cell and a line: one of the first that meets
     it, or one of the second that comes within a width of it."""
 
-    def __init__(self, lines, corners, side, width, entries=()):
-        self.lines, self.corners, self.side, self.width, self.entries = lines, corners, side, width, list(entries)
+    def __init__(self, lines, corners, side, width, entries):
+        self.lines, self.corners, self.side, self.width, self.entries = lines, corners, side, width, entries
 
-    def take(self, entries):
-        """Of pairs of a cell and a line those that are near."""
-        for lines, width, (cell, line) in zip(self.lines, (TINY, self.width + TINY), entries):
-            near = self.near(lines, width, cell, line)
-            self.entries.append((cell[near], line[near]))
+    def quartered(self):
+        """The quarters of all cells."""
+        half = self.side / 2
+        corners = (self.corners[:, None] + numpy.array(QUARTERS) * half).reshape(-1, 2)
+        entries = [self.in_quarters(lines, half / 2 + width, *entry) for lines, width, entry in zip(self.lines, (TINY, self.width + TINY), self.entries)]
+        return Cells(self.lines, corners, half, self.width, entries)
 
-    def near(self, lines, width, cell, line):
-        half, near = self.side / 2 + width, numpy.zeros(len(cell), bool)
+    def in_quarters(self, lines, reach, cell, line):
+        """The pairs of a quarter and a line that comes within a reach of its middle in x and in y."""
+        found = [(numpy.zeros(0, int), numpy.zeros(0, int))]
         for start in range(0, len(cell), PART):
-            ends = lines[line[start : start + PART]]
-            way, a = ends[:, 2:] - ends[:, :2], ends[:, :2] - self.corners[cell[start : start + PART]] - self.side / 2
-            inside = numpy.abs(side_of(way, a)) <= half * numpy.abs(way).sum(axis=1)
-            near[start : start + PART] = inside & ((numpy.minimum(a, a + way) <= half) & (numpy.maximum(a, a + way) >= -half)).all(axis=1)
-        return near
+            cells, numbers = cell[start : start + PART], line[start : start + PART]
+            ends, corners = lines[numbers], self.corners[cells]
+            dx, dy = ((ends[:, k + 2] - ends[:, k]) / 2 for k in (0, 1))
+            x, y = ((ends[:, k] + ends[:, k + 2]) / 2 - corners[:, k] - self.side / 4 for k in (0, 1))  # from the middle of the first quarter
+            wide, high = numpy.abs(dx), numpy.abs(dy)
+            for quarter, (right, up) in enumerate(QUARTERS):
+                u, v = x - right * self.side / 2, y - up * self.side / 2
+                near = (numpy.abs(u) <= wide + reach) & (numpy.abs(v) <= high + reach) & (numpy.abs(dx * v - dy * u) <= reach * (wide + high))
+                found.append((4 * cells[near] + quarter, numbers[near]))
+        return tuple(map(numpy.concatenate, zip(*found)))
 
     def counts(self):
         """How many pairs of lines each cell has, and how many lines."""
@@ -124,10 +132,7 @@ class Cells:
         """The cells that stay whole, and the quarters of the others. Those without a pair go."""
         pairs, lines = self.counts()
         crowded = (pairs > CROWDED * lines) & (self.side > self.width)
-        from_cells, half = self.only(crowded), self.side / 2
-        steps = numpy.array([(0.0, 0.0), (half, 0.0), (0.0, half), (half, half)])
-        quarters = Cells(self.lines, (from_cells.corners[:, None] + steps).reshape(-1, 2), half, self.width)
-        quarters.take([((4 * cell[:, None] + numpy.arange(4)).ravel(), numpy.repeat(line, 4)) for cell, line in from_cells.entries])
+        quarters = self.only(crowded).quartered()
         helps = quarters.counts()[0].reshape(-1, 4).sum(axis=1) <= GAIN * pairs[crowded]
         whole = pairs > 0
         whole[numpy.nonzero(crowded)[0][helps]] = False
@@ -156,7 +161,8 @@ class Cells:
         """Of one of the lists the least and the greatest that each line has in the direction of its cell, and the line, in order. Keys are complex numbers, whose
         order is that of cells and then of places."""
         cell, line = self.entries[number]
-        places = [((self.lines[number][line, k : k + 2] - self.corners[cell]) * across[cell]).sum(axis=1) for k in (0, 2)]
+        ends, corners, way = self.lines[number][line], self.corners[cell], across[cell]
+        places = [dot(ends[:, k : k + 2] - corners, way) for k in (0, 2)]
         room = self.width / 2 + TINY
         begin, end = numpy.empty(len(cell), complex), numpy.empty(len(cell), complex)
         begin.real, begin.imag, end.real, end.imag = cell, numpy.minimum(*places) - room, cell, numpy.maximum(*places) + room
@@ -177,13 +183,13 @@ def within(edges, segments, width):
     """From which to which share of each edge's line it is within a width of its segment; where it is nowhere, the first is greater."""
     way, line, begin = edges[:, 2:] - edges[:, :2], segments[:, 2:] - segments[:, :2], edges[:, :2] - segments[:, :2]
     length, size = numpy.hypot(*way.T), numpy.hypot(*line.T)
-    low, high = shares((begin * line).sum(axis=1) / size, (way * line).sum(axis=1) / size, 0.0, size)  # of the rectangle
+    low, high = shares(dot(begin, line) / size, dot(way, line) / size, 0.0, size)  # of the rectangle
     least, most = shares(side_of(line, begin) / size, side_of(line, way) / size, -width, width)
     low, high = numpy.maximum(low, least), numpy.minimum(high, most)
     low, high = numpy.where(low > high, numpy.inf, low), numpy.where(low > high, -numpy.inf, high)
     for k in (0, 2):  # of the discs
         to = segments[:, k : k + 2] - edges[:, :2]
-        middle, beside = (to * way).sum(axis=1) / length**2, side_of(way, to) / length
+        middle, beside = dot(to, way) / length**2, side_of(way, to) / length
         half, met = numpy.sqrt(numpy.maximum(width**2 - beside**2, 0.0)) / length, numpy.abs(beside) <= width
         low, high = numpy.where(met, numpy.minimum(low, middle - half), low), numpy.where(met, numpy.maximum(high, middle + half), high)
     return low, high
@@ -207,12 +213,18 @@ def joined(edge, low, high):
     return edges[begins], places[begins], places[ends]
 
 
+def dot(one, other):
+    return one[:, 0] * other[:, 0] + one[:, 1] * other[:, 1]
+
+
 def length_of(lines):
     return numpy.hypot(lines[:, 2] - lines[:, 0], lines[:, 3] - lines[:, 1])
 
 
 def edges_of(polygons):
-    """The edges of polygons of Shapely, as rows of x, y, x, y."""
-    blob = wkb.HEAD.pack(1, 6, len(polygons)) + b"".join(polygon.wkb for polygon in polygons)
-    rings = [numpy.frombuffer(blob, "<f8", 2 * count, at).reshape(-1, 2) for at, count, _ in wkb.rings_of(blob)]
-    return numpy.concatenate([numpy.zeros((0, 4)), *(numpy.hstack([ring[:-1], ring[1:]]) for ring in rings)])
+    """The edges of polygons of Shapely, as rows of x, y, x, y, and the number of the polygon that each is of."""
+    if not polygons:
+        return numpy.zeros((0, 4)), numpy.zeros(0, int)
+    rings = Rings([wkb.Found.of_blob(wkb.HEAD.pack(1, 6, 1) + polygon.wkb) for polygon in polygons])
+    first, ring = rings.ways()
+    return numpy.hstack([rings.points[first], rings.points[first + 1]]), rings.owners[ring]

@@ -33,12 +33,16 @@ class Rings:
         self.sizes, self.owners, self.holes = numpy.array(sizes, int), numpy.array(owners, int), numpy.array(holes, bool)
         self.starts = numpy.cumsum(self.sizes) - self.sizes
 
+    def ways(self):
+        """The place of each edge's first point, behind which its second is, and the ring that it is of."""
+        ring = numpy.repeat(numpy.arange(len(self.sizes)), self.sizes)
+        first = numpy.nonzero(ring[:-1] == ring[1:])[0]
+        return first, ring[first]
+
     def edges(self):
         """Each edge as x, y, x, y with its owner, which lies to its left."""
-        ring = numpy.repeat(numpy.arange(len(self.sizes)), self.sizes)
-        inner = numpy.nonzero(ring[:-1] == ring[1:])[0]
+        inner, ring = self.ways()
         first, second = self.points[inner], self.points[inner + 1]
-        ring = ring[inner]
         about = self.points[self.starts][ring]
         one, other = (first[:, 0] - about[:, 0]) * (second[:, 1] - about[:, 1]), (second[:, 0] - about[:, 0]) * (first[:, 1] - about[:, 1])
         doubled = numpy.bincount(ring, one - other, len(self.sizes))

@@ -141,13 +141,13 @@ class Outcome:
         self.whole.book(row, now.area, come.area - gone.area)
         if before is not now:
             gone, come = (by_geos("the change", named, one.difference, other) for one, other in ((before, after), (after, before)))
-        change, parts = gone.area + come.area, by_geos("the change", named, gone.union, come)
-        words = f"{gone.area:.3f} m2 went and {come.area:.3f} m2 came, from {before.area:.3f} to {after.area:.3f} m2"
-        loss = Loss("changed", [row[column]], words, parts, None, change, name, [number_of(row)])
-        if change > before.length * ROUNDED + TINY:
-            loss.is_grave = True
-            self.source.losses.append(loss)
-        self.keep_greatest(name, change, loss)
+        change = gone.area + come.area
+        is_grave = change > before.length * ROUNDED + TINY
+        if is_grave or self.is_greatest(name, change):
+            words = f"{gone.area:.3f} m2 went and {come.area:.3f} m2 came, from {before.area:.3f} to {after.area:.3f} m2"
+            loss = Loss("changed", [row[column]], words, by_geos("the change", named, gone.union, come), None, change, name, [number_of(row)], is_grave)
+            self.source.losses += [loss] if is_grave else []
+            self.keep_greatest(name, change, loss)
         narrow = [(what, part) for what, found in (("a spike", gone), ("a notch", come)) for part in parts_of(found) if width_of(part) < LEAST and part.length > 4 * ROUNDED]
         for (what, part), leads_away in zip(narrow, lead_away(after, [part for _, part in narrow])):
             if leads_away:
@@ -156,15 +156,16 @@ class Outcome:
 
     def least(self, name, row, column, before, area):
         """Of a row that was rounded alone the change is no more than its border has room for."""
-        if name != "parcels":
-            return
         change = abs(area - before)
-        if self.greatest is None or change > self.greatest[0]:
+        if self.is_greatest(name, change):
             words = f"rounded alone, from {before:.3f} to {area:.3f} m2"
             self.keep_greatest(name, change, Loss("changed", [row[column]], words, self.source.shapes.get(id(row)), None, change, name, [number_of(row)]))
 
+    def is_greatest(self, name, change):
+        return name == "parcels" and (self.greatest is None or change > self.greatest[0])
+
     def keep_greatest(self, name, change, loss):
-        if name == "parcels" and (self.greatest is None or change > self.greatest[0]):
+        if self.is_greatest(name, change):
             self.greatest = change, loss
 
     def lose(self, name, column, row, is_told):
@@ -183,13 +184,12 @@ class Outcome:
 
 
 def lead_away(after, parts):
-    """Which narrow parts of a change lead away from the border that a shape has afterwards: some edge of such a part does not lie along it. What is between the
-    edges of a part is as near as these, but for less than its width."""
+    """Which narrow parts of a change lead away from the border that a shape has afterwards: some edge of such a part does not lie along it. Its edges stand for
+    what is between them, which is narrow."""
     if not parts:
         return []
-    edges = [edges_of([part]) for part in parts]
-    is_along = Along(numpy.concatenate(edges), edges_of(parts_of(after)), ALONG).are()
-    owner = numpy.repeat(numpy.arange(len(parts)), [len(some) for some in edges])
+    edges, owner = edges_of(parts)
+    is_along = Along(edges, edges_of(parts_of(after))[0], ALONG).are()
     return (numpy.bincount(owner[~is_along], minlength=len(parts)) > 0).tolist()
 
 
