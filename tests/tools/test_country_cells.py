@@ -2,6 +2,7 @@
 Shapely."""
 
 import os
+import tempfile
 from unittest import mock
 
 import hard
@@ -10,10 +11,24 @@ from lpis_tools import shapely_there
 from cells_case import ByCells, mended, read
 
 if shapely_there.is_there():
-    from lpis_tools import land as land_module, last_year, rounding, snapping, store
+    from lpis_tools import country_prepare, land as land_module, last_year, naming, parts, passes, rounding, snapping, store
 
 
 class Cells(ByCells):
+    def test_steps(self):
+        """What is done about names has as many steps as its progress says."""
+        land = mended(hard.Land(0, 5, 3.0))
+        with tempfile.TemporaryDirectory() as folder:
+            for name, rows in (("parcels", land.parcels), ("covers", land.covers)):
+                parts.write(os.path.join(folder, name), name, rows, "row", {"epsg": None, "are_metres": False, "given": {kind: [] for kind in naming.KINDS}})
+            base, begins = store.merged(os.path.join(folder, "rows.db"), [os.path.join(folder, name) for name in store.LAYERS])
+            work = passes.Preparation({name: land_module.Layer(name) for name in store.LAYERS}, None, lambda words: None)
+            work.begin(base, dict(work.layers))
+            starts = dict(zip(store.LAYERS, zip(begins, (len(land.parcels), len(land.covers)))))
+            names = passes.Names(work, {kind: {} for kind in naming.KINDS})
+            self.assertEqual(len(list(country_prepare.Run.named(work, names, starts, True))), passes.STEPS)
+            base.close()
+
     def test_as_the_whole(self):
         for seed, step in enumerate((0.02, 3.0, 30.0)):
             land = mended(hard.Land(seed, 30, step))

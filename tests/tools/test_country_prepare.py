@@ -58,6 +58,30 @@ class Sources(Case):
         self.assertEqual(*self.findings)
         self.assertEqual(*([name for name in found if not name.startswith(".")] for found in self.refused))
         self.assertIn("mend the source, or mend and leave out by --accept", other.stdout)
+        self.assertRegex(self.findings[1], r"(?m)^gap,parcels,\d+,.*; it comes of piece \S+ \(fid \d+, stranger\)")
+
+    def test_taken_up(self):
+        """The run that accepts reads no row again, and takes up what was rounded without looking at a cell."""
+        told = self.runs["accepted"][1].stderr
+        self.assertIn("cells are those that the run before has rounded\n", told)
+        self.assertNotIn("rounding", told)
+        cells = os.listdir(os.path.join(self.country, ".cells"))
+        self.assertLessEqual({"cells.json", "gaps.json"}, set(cells))
+        self.assertFalse({"plan.json", "parts", "count", "0.cell"} & set(cells))
+
+    def test_changed(self):
+        """A source of which a row changed: how many cells are as they were; and other widths between parcels look at no cell."""
+        folder, source = shutil.copytree(self.country, self.path("country")), shutil.copy(self.land, self.path("land.gpkg"))
+        base = dirty.sqlite3.connect(source)
+        base.execute("DELETE FROM covers WHERE fid = 1")
+        base.commit()
+        base.close()
+        ended = run("country", "prepare", source, folder, "--accept", "--parcels", 30)
+        self.assertEqual(ended.returncode, 0, ended.stdout + ended.stderr)
+        self.assertRegex(ended.stderr, r"comparing \d+ cells with those that a run before has rounded")
+        self.assertRegex(ended.stderr, r"cells as they were: \d+ of \d+, rounded: 1\n")
+        again = run("country", "prepare", source, folder, "--accept", "--parcels", 30, "--between", 2)
+        self.assertEqual((again.returncode, "cells are those that the run before has rounded\n" in again.stderr), (0, True), again.stderr)
 
     def test_as_one_release(self):
         one, other = self.runs["accepted"]

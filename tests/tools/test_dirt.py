@@ -125,13 +125,14 @@ class Systems(Case):
 
 
 class Shapes(Case):
-    # Rings in metres of a piece's place of ten metres, what it has by its points and after it was mended.
+    # Rings in metres of a piece's place of ten metres, what its border encloses and what it has after it was mended.
     SHAPES = {
-        "hole outside": ([[[(0, 0), (10, 0), (10, 10), (0, 10), (0, 0)], [(20, 0), (30, 0), (30, 10), (20, 10), (20, 0)]]], 0, 100), "bow tie": ([[[(0, 0), (10, 10), (10, 0), (0, 10), (0, 0)]]], 0, 50),
-        "twice": ([[[(0, 0), (10, 0), (10, 10), (0, 10), (0, 0)]]] * 2, 200, 100), "members overlap": ([[[(0, 0), (6, 0), (6, 10), (0, 10), (0, 0)]], [[(4, 0), (10, 0), (10, 10), (4, 10), (4, 0)]]], 120, 100),
-        "hole twice": ([[[(0, 0), (10, 0), (10, 10), (0, 10), (0, 0)], *[[(2, 2), (4, 2), (4, 4), (2, 4), (2, 2)]] * 2]], 92, 96), "hole is the shell": ([[[(0, 0), (10, 0), (10, 10), (0, 10), (0, 0)]] * 2], 0, None),
-        "holes overlap": ([[[(0, 0), (10, 0), (10, 10), (0, 10), (0, 0)], [(2, 2), (6, 2), (6, 6), (2, 6), (2, 2)], [(4, 4), (8, 4), (8, 8), (4, 8), (4, 4)]]], 68, 72), "spike": ([[[(0, 0), (10, 0), (20, 0), (10, 0), (10, 10), (0, 10), (0, 0)]]], 100, 100),
-        "hole across": ([[[(0, 0), (10, 0), (10, 10), (0, 10), (0, 0)], [(5, 2), (15, 2), (15, 4), (5, 4), (5, 2)]]], 80, 90),
+        "hole outside": ([[[(0, 0), (10, 0), (10, 10), (0, 10), (0, 0)], [(20, 0), (30, 0), (30, 10), (20, 10), (20, 0)]]], 100, 100), "bow tie": ([[[(0, 0), (10, 10), (10, 0), (0, 10), (0, 0)]]], 50, 50),
+        "twice": ([[[(0, 0), (10, 0), (10, 10), (0, 10), (0, 0)]]] * 2, 100, 100), "members overlap": ([[[(0, 0), (6, 0), (6, 10), (0, 10), (0, 0)]], [[(4, 0), (10, 0), (10, 10), (4, 10), (4, 0)]]], 100, 100),
+        "goes round twice": ([[[(0, 0), (6, 0), (6, 8), (4, 8), (4, 2), (10, 2), (10, 10), (0, 10), (0, 0)]]], 92, 80),
+        "hole twice": ([[[(0, 0), (10, 0), (10, 10), (0, 10), (0, 0)], *[[(2, 2), (4, 2), (4, 4), (2, 4), (2, 2)]] * 2]], 96, 96), "hole is the shell": ([[[(0, 0), (10, 0), (10, 10), (0, 10), (0, 0)]] * 2], 0, None),
+        "holes overlap": ([[[(0, 0), (10, 0), (10, 10), (0, 10), (0, 0)], [(2, 2), (6, 2), (6, 6), (2, 6), (2, 2)], [(4, 4), (8, 4), (8, 8), (4, 8), (4, 4)]]], 72, 72), "spike": ([[[(0, 0), (10, 0), (20, 0), (10, 0), (10, 10), (0, 10), (0, 0)]]], 100, 100),
+        "hole across": ([[[(0, 0), (10, 0), (10, 10), (0, 10), (0, 0)], [(5, 2), (15, 2), (15, 4), (5, 4), (5, 2)]]], 90, 90),
     }
 
     def source(self):
@@ -145,14 +146,14 @@ class Shapes(Case):
         return self.package([*parcels, ("B", dirty.polygon(dirty.box(40, 0)))], [*covers, ("other", "B", "TREES", dirty.polygon(dirty.box(40, 0)))])
 
     def test_mended(self):
-        """A repair adds no land unsaid: areas before and after, a hole takes land away wherever it lies, and nobody's land is taken unnamed."""
+        """A repair adds no land unsaid: what a border encloses and what is left, a hole takes land away wherever it lies, and nobody's land is taken unnamed."""
         source = self.source()
-        self.assert_refused(self.run_on(source), *(f"invalid: covers {number} (fid {number + 1}) ({before:.3f} m2)" for number, (_, before, _) in enumerate(self.SHAPES.values())))
+        self.assert_refused(self.run_on(source), *(f"invalid: covers {number} (fid {number + 1}) ({after or 0:.3f} m2)" for number, (_, _, after) in enumerate(self.SHAPES.values())))
         run = self.run_on(source, "--accept")
         self.assertEqual(run.returncode, 0, run.stdout + run.stderr)
         done = {row["identifier"]: row["words"] + row["done"] for row in self.found() if row["kind"] == "invalid"}
-        for number, (name, (_, before, after)) in enumerate(self.SHAPES.items()):
-            self.assertIn(f"from {before:.3f} to {after:.3f} m2" if after else "nothing of it has an area", done[str(number)], name)
+        for number, (name, (_, enclosed, after)) in enumerate(self.SHAPES.items()):
+            self.assertIn(f"made valid: {after:.3f} m2 of the {enclosed:.3f} that its border encloses" if after else "nothing of it has an area", done[str(number)], name)
         self.assertEqual(self.areas(), {"GRASS": sum(after or 0 for _, _, after in self.SHAPES.values()), "TREES": 100})
         self.assertIn("the balance adds up", run.stdout)
 
@@ -169,6 +170,48 @@ class Shapes(Case):
         run = self.run_on(source, "--accept")
         self.assertEqual(run.returncode, 0, run.stdout + run.stderr)
         self.assertEqual([(row["layer"], row["class"], row["mended_m2"]) for row in rows(self.out, "balance.csv")], [("covers", "GRASS", "50.000"), ("covers", "", "50.000"), ("parcels", "", "50.000")])
+
+
+class Gaps(Case):
+    # Of a parcel's second piece: whether it names the parcel and its shape, from the parcel's corner on; and what is said of the gap.
+    HALF, BOW, DEGREES = [(5, 0), (10, 0), (10, 10), (5, 10), (5, 0)], [(5, 0), (10, 10), (10, 0), (5, 10), (5, 0)], "POLYGON((9 48,9.1 48,9.1 48.1,9 48))"
+    CASES = {
+        "none": (None, None, ""), "empty": ("empty", "", "; it may come of piece {0} (row {0}, shape)"), "degrees": ("degrees", DEGREES, "; it may come of piece {0} (row {0}, degrees)"),
+        "nameless": ("", HALF, "; it comes of piece {0} (row {0}, nameless)"), "stranger": ("nowhere", HALF, "; it comes of piece {0} (row {0}, stranger)"),
+        "elsewhere": ("nowhere", [(x + 200, y + 200) for x, y in HALF], ""), "crossing": ("crossing", BOW, "; it may come of piece {0} (row {0}, invalid)"),
+    }
+
+    def test_causes(self):
+        """A gap has the row of its parcel, and says which piece it comes of that was left out or mended; one of the source says nothing of the kind."""
+        parcels, pieces, wanted = [], [], {}
+        for number, (name, (parcel, shape, told)) in enumerate(self.CASES.items()):
+            parcels.append((name, f"POLYGON(({ring(20 * number, 0)}))"))
+            pieces.append((str(len(pieces) + 1), name, "GRASS", f"POLYGON(({ring(20 * number, 0, 5)}))"))
+            wanted[name] = str(number + 1), told.format(len(pieces) + 1)
+            if parcel is not None:
+                points = shape if isinstance(shape, str) else "POLYGON((" + ",".join(f"{EAST + 20 * number + x} {NORTH + y}" for x, y in shape) + "))"
+                pieces.append((str(len(pieces) + 1), parcel, "GRASS", points))
+        self.tables(parcels, pieces)
+        for words, table, column in (((), "prepared.csv", "identifier"), (("--accept",), "report.csv", "identifiers")):
+            ended = self.run_on(self.sheets, *words)
+            found = [row for row in rows(self.out, table) if row["kind"] == "gap"]
+            self.assertEqual({row[column] for row in found}, set(self.CASES), ended.stdout + ended.stderr)
+            for row in found:
+                number, told = wanted[row[column]]
+                self.assertEqual((row["row"], f"none of its pieces{told}" in row["words"], "come" in row["words"]), (number, True, bool(told)), row)
+
+    def test_plain_words(self):
+        """Rows without identifier and in degrees: what was done with the row, and what one may do."""
+        shape, degrees = f"POLYGON(({ring(0, 0)}))", "POLYGON((9 48,9.1 48,9.1 48.1,9 48))"
+        self.tables([("A", degrees), ("", f"POLYGON(({ring(20, 0)}))")], [("", "A", "GRASS", shape), ("2", "A", "GRASS", degrees)])
+        wanted = (("nameless", "parcels", "or --accept leaves the row out", "left out"), ("nameless", "covers", "or --accept keeps the row and names the piece row-1", "kept, and named row-1"),
+                  ("degrees", "parcels", "or --accept makes the parcel of its pieces", "made of its pieces"), ("degrees", "covers", "or --accept leaves the piece out", "left out"))
+        for words in ((), ("--accept",)):
+            self.run_on(self.sheets, *words)
+            found = {(row["kind"], row["layer"]): row for row in self.found()}
+            for kind, layer, remedy, done in wanted:
+                row = found[kind, layer]
+                self.assertEqual((remedy in row["words"], "in the source" in row["words"], row["done"]), (True, True, done if words else ""), row)
 
 
 class Names(Case):

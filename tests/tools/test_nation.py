@@ -62,6 +62,12 @@ class Nation(unittest.TestCase):
         self.assertEqual(found, [(line, int(line == "tools/country prepare land-2026.gpkg country")) for line, _ in found], "".join(ended.stdout[-2000:] + ended.stderr[-2000:] for ended in self.told.values() if ended.returncode))
         self.assertGreaterEqual(len(found), 10)
 
+    def test_checked_once(self):
+        """What is published is checked on the way; the path has no other check, and the accepting run rounds nothing."""
+        self.assertFalse([line for line in self.told if line.startswith("tools/country check")])
+        self.assertIn("\nyes\npublished 2026\n", self.ended("tools/country publish register.db 2026").stdout)
+        self.assertIn("cells are those that the run before has rounded\n", self.ended("tools/country prepare land-2026.gpkg country --accept").stderr)
+
     def test_two_years(self):
         """Nine regions; splits and merges are exact, unless an edit put a corner on a border, and published; both years are kept, and each is a yes."""
         last = self.ended("tools/country publish register.db 2027").stdout

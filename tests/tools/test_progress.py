@@ -1,10 +1,12 @@
 """Tests what is told of how much of a step is done, by a clock of its own."""
 
 import io
+import subprocess
+import time
 import unittest
+from unittest import mock
 
-
-from lpis_tools import progress
+from lpis_tools import progress, watching
 
 
 class File(io.StringIO):
@@ -58,6 +60,19 @@ class Progress(unittest.TestCase):
     def test_rows(self):
         self.assertEqual(list(progress.each(range(2500), "tool", "reading", 2500, "rows")), list(range(2500)))
         self.assertEqual(list(progress.over(list("abc"), "testing")), list("abc"))
+
+    def test_watched(self):
+        """A program that says nothing: what it reads, by the system's count, and never all of it."""
+        file, now = File(False), [0.0]
+        shown = progress.Bytes("tool", "reading", 3 << 20, clock=lambda: now[0], file=file)
+        with subprocess.Popen(["sh", "-c", "head -c 4000000 /dev/zero >/dev/null; read line"], stdin=subprocess.PIPE) as run, mock.patch.object(watching, "EACH", 0.01), watching.Watched(run.pid, shown):
+            now[0] = 11.0
+            ended = time.monotonic() + 60
+            while not file.getvalue() and time.monotonic() < ended:
+                time.sleep(0.01)
+            run.communicate(b"\n")
+        self.assertRegex(file.getvalue(), r"^tool: reading: [12] of 3 MB \(\d\d %\), \d+ s left\n")
+        self.assertIsNone(watching.moved(0))
 
     def test_bytes(self):
         """Records with their lines, by the megabytes that passed by."""

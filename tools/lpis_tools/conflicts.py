@@ -7,7 +7,7 @@ from dataclasses import dataclass, field
 
 from shapely.errors import ShapelyError
 from shapely.geometry import LineString, Polygon
-from shapely.ops import unary_union
+from shapely.ops import polygonize, unary_union
 from shapely.validation import explain_validity, make_valid
 
 from . import identifiers, land, progress, wkb
@@ -97,6 +97,15 @@ def land_of_member(rings):
     return unary_union(parts_of(shell.difference(unary_union(holes)))) if holes else shell
 
 
+def enclosed_by(members):
+    """What the borders of polygons enclose, however often they go round it: less their holes."""
+    return unary_union([outline(shell).difference(unary_union([land_of_member([hole]) for hole in holes])) for shell, *holes in members])
+
+
+def outline(ring):
+    return unary_union(list(polygonize(unary_union(LineString(ring)))))
+
+
 def by_geos(what, rows, operation, *shapes):
     """An operation of Shapely; where it fails the rows are named."""
     try:
@@ -176,7 +185,7 @@ class Source:
     def mended(self, layer, column, row, shape):
         why = explain_validity(shape)
         mended = by_geos("the shape", [(layer.name, row[column], row)], polygons_by, row.found.members)
-        words = f"{why}; mended it has {mended.area:.3f} m2, by its points {abs(shape.area):.3f}"
+        words = f"{why}; mended it has {mended.area:.3f} m2 of the {max(mended.area, enclosed_by(row.found.members).area):.3f} that its border encloses"
         row.found = wkb.Found(members_of(mended))
         self.losses.append(Loss("invalid", [row[column]], words, mended, None, mended.area, layer.name, [number_of(row)]))
         return mended

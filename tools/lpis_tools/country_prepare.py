@@ -7,7 +7,7 @@ import os
 import shutil
 import tempfile
 
-from . import engines, files, gathering, jobs, land, last_year, losses, naming, parts, passes, prepared, progress, splitting, store, streams
+from . import again, causes, engines, files, gathering, jobs, land, last_year, losses, naming, parts, passes, prepared, progress, splitting, store, streams
 
 
 class Run(prepared.Run):
@@ -51,16 +51,24 @@ class Run(prepared.Run):
         starts, are_metres = self.stored(work, layers)
         names = passes.Names(work, self.given)
         self.say("names, and what they name")
-        work.of_layers(starts, are_metres)
-        work.tell_taken()
-        work.at(passes.NAMES)
-        names.run()
-        passes.join(work)
-        work.tell_shapeless()
+        shown = progress.Progress("country", "names", passes.STEPS, "steps")
+        for _ in self.named(work, names, starts, are_metres):
+            shown.add()
+        shown.end()
         work.at(passes.CLASSES)
         classes = self.tested_classes(work, names)
         self.last_year(work)
         return work, self.whole, names, classes
+
+    @staticmethod
+    def named(work, names, starts, are_metres):
+        """Does what needs the names of the whole country, one step after the other."""
+        yield work.of_layers(starts, are_metres)
+        yield work.tell_taken()
+        work.at(passes.NAMES)
+        yield from names.steps()
+        yield from passes.joining(work)
+        yield work.tell_shapeless()
 
     def tested_classes(self, work, names):
         classes = naming.classes(work, names, self.classes(work.layers), passes.classes_used(self.base))
@@ -84,7 +92,7 @@ class Run(prepared.Run):
         work.begin(self.base, layers)
         work.counts.update({name: count for name, (_, count) in starts.items()})
         self.whole = passes.Balance(self.base)
-        self.kept_files = made
+        self.plan, self.kept_files = plan, made
         return starts, are_metres
 
     def planned(self, work, layers):
@@ -99,30 +107,52 @@ class Run(prepared.Run):
         """Has all cells rounded, and puts together what they give."""
         if self.gathered is None:
             count = store.put_cells(self.base)
-            if self.previous:
-                self.say(f"reading the corners of {self.previous.folder}")
-                self.previous.put(self.base)
-            self.say(f"rounding {count} cells")
-            names = engines.prepared(self.words, self.results, "cell", [None] * count)
+            digest = again.digest_of([], [self.plan, self.given, self.previous.stamps() if self.previous else None])
+            names = self.cells(count, digest)
             self.whole.begin(None)
             self.gathered = gathering.Gathered(self.base, self.results, names, self.whole)
             self.gathered.read(progress.Progress("country", "reading what was rounded", count, "cells"))
-            names = [*names, *self.between(count)]
-            jobs.clear(self.results, [*self.kept_files, *names, jobs.STORE])
+            self.gathered.tell_causes(causes.OfStore(self.base, work.layers["covers"].key))
+            names = [*names, *self.between(names, f"{digest} {self.words.between}")]
+            jobs.clear(self.results, [*self.kept_files, *names, "cells.json", "gaps.json", jobs.STORE])
             if self.previous:
                 self.say(f"comparing with {self.previous.folder}")
                 self.previous.count(self.base, self.gathered.text_of_parcel)
         return self.gathered
 
-    def between(self, count):
+    def cells(self, count, digest):
+        """The names of the files that have what the cells give. Where all that these hang on is as it was when a run before kept the names, no cell is looked at; else
+        each cell is read, and those that changed are rounded."""
+        names = jobs.kept(self.results, "cell", digest)
+        if names is not None and len(names) == count:
+            self.say(f"the {count} cells are those that the run before has rounded")
+            return names
+        if self.previous:
+            self.say(f"reading the corners of {self.previous.folder}")
+            self.previous.put(self.base)
+        before = set(filter(jobs.OWN.fullmatch, os.listdir(self.results)))
+        is_first = not any(name.endswith(".jsonl") for name in before)
+        self.say(f"rounding {count} cells" if is_first else f"comparing {count} cells with those that a run before has rounded, and rounding what changed")
+        names = engines.prepared(self.words, self.results, "cell", [None] * count, "rounding" if is_first else "comparing and rounding")
+        if not is_first:
+            taken = sum(name in before for name in names)
+            self.say(f"cells as they were: {taken} of {count}, rounded: {count - taken}")
+        jobs.keep(self.results, "cell", digest, names)
+        return names
+
+    def between(self, cells, digest):
         """Has the land looked for that nobody has between parcels; the names of the files that have its arms."""
         self.say(f"land between parcels, up to {self.words.between:g} m")
         self.gathered.read_narrow(self.words.between)
-        names = engines.prepared(self.words, self.results, "gap", [None] * count)
-        self.gathered.read_arms(names, progress.Progress("country", "reading what is between parcels", count, "cells"))
+        names = jobs.kept(self.results, "gap", digest)
+        if names is None or len(names) != len(cells):
+            jobs.tell_kept(self.results, "cell", cells)
+            names = engines.prepared(self.words, self.results, "gap", [None] * len(cells))
+            jobs.keep(self.results, "gap", digest, names)
+        self.gathered.read_arms(names, progress.Progress("country", "reading what is between parcels", len(cells), "cells"))
         return names
 
-    def conflicts(self, _work, seen):
+    def conflicts(self, _work, seen, _whole):
         return list(seen.losses.conflicts())
 
     def report(self, work, seen, whole):

@@ -4,12 +4,13 @@ import os
 import subprocess
 import sys
 
-from . import ending, engines, ledger, origin, program, splitting, words, yearly
+from . import ending, engines, ledger, origin, program, progress, splitting, watching, words, yearly
 from .country_years import Kept
 from .tables import Table
 from .yearly import Stop
 
 MOST_TOLD = 5
+OF_REGISTER = 5  # bytes that a register reads and writes for each of parcels.csv
 TOP_FILES = ("country.txt", "classes.csv")
 REGION_FILES = ("parcels.csv", "covers.csv", "classes.csv", "lineage.csv", "cert.txt")
 
@@ -26,10 +27,10 @@ def look_at_tables(folder, regions):
     return is_marked
 
 
-def answer(command, said, is_shown):
-    """The lines of a command over a country, shown as they come or kept; a refusal is shown with its words, and stops."""
+def answer(command, said, is_shown, shown):
+    """The lines of a command over a country, shown as they come or kept; a refusal is shown with its words, and stops. `shown`: its progress, by bytes."""
     lines = []
-    with ending.start([*command, *said], stdout=subprocess.PIPE, text=True) as run:
+    with ending.start([*command, *said], stdout=subprocess.PIPE, text=True) as run, watching.Watched(run.pid, shown):
         for line in run.stdout:
             lines.append(line)
             if is_shown:
@@ -44,6 +45,10 @@ def answer(command, said, is_shown):
             print(explained.split("\n", 1)[-1] if is_shown else explained, end="", flush=True)
         raise Stop(f"`lpis {said[0]}` ended with status {run.returncode}; nothing was published", run.returncode)
     return lines
+
+
+def size_of(folder, names):
+    return sum(os.path.getsize(os.path.join(folder, name)) for name in names)
 
 
 def compare(folder, lines):
@@ -68,9 +73,10 @@ def publish(command, said, say):
     if engines.cut(command, said, say):
         return yearly.STOPPED
     say("checking the country")
-    wanted = compare(said.folder, answer(command, ["country", said.folder], False))
-    print(f"the counts and the area are those of the source: {' '.join(wanted)}", flush=True)
     files = [*TOP_FILES, *(os.path.join(region, name) for region in regions for name in REGION_FILES)]
+    size = size_of(said.folder, files)
+    wanted = compare(said.folder, answer(command, ["country", said.folder], False, progress.Bytes("country", "checking", size)))
+    print(f"the counts and the area are those of the source: {' '.join(wanted)}", flush=True)
     with ledger.held(said.register) as log:
         before = ledger.content_of(said.register) if last else {}
         if not said.new:
@@ -78,12 +84,13 @@ def publish(command, said, say):
         options, cert = [], None
         if is_marked:
             cert = os.path.join(said.folder, "exact.txt")
-            print(answer(command, ["exact-country", said.register, said.folder, cert], False)[-1], end="", flush=True)
+            say("looking for the borders of marked splits and merges")
+            print(answer(command, ["exact-country", said.register, said.folder, cert], False, progress.Bytes("country", "marked rows", size))[-1], end="", flush=True)
             options = ["--exact", cert]
         say(f"keeping a copy of the country for {kept.place}")
         with kept.copied([*files, *(["exact.txt"] if cert else [])]):
             say("publishing the country")
-            lines = answer(command, ["publish-country", said.register, str(said.year), said.folder, *options], True)
+            lines = answer(command, ["publish-country", said.register, str(said.year), said.folder, *options], True, progress.Bytes("country", "publishing", size + OF_REGISTER * size_of(said.folder, [os.path.join(region, "parcels.csv") for region in regions])))
             printed = yearly.write(os.path.join(said.folder, f"published-{said.year}.txt"), "".join(lines).encode())
             entry = yearly.entry_of(said, command, files, cert, printed, before)
             digest = ledger.add(log, said.register, entry)

@@ -5,7 +5,7 @@ import contextlib
 import os
 import shutil
 
-from . import ledger, origin
+from . import ledger, origin, progress
 from .yearly import Stop
 
 FOLDER = "years"
@@ -30,7 +30,8 @@ class Kept:
         """Copies files of the country; what was not settled goes."""
         shutil.rmtree(self.made, ignore_errors=True)
         try:
-            for name in [*names, *(name for name in BESIDE if os.path.isfile(os.path.join(self.folder, name)))]:
+            names = [*names, *(name for name in BESIDE if os.path.isfile(os.path.join(self.folder, name)))]
+            for name in progress.each(names, "country", "copying", len(names), "files", 1):
                 self.copy(name)
             yield self
         finally:

@@ -41,9 +41,11 @@ def regions_of(folder):
             raise Trouble(f"{path}: {error}") from None
 
 
-def prepared(words, folder, kind, plan):
-    """Has the jobs of a kind done; answers the names of the files that they give."""
+def prepared(words, folder, kind, plan, what=""):
+    """Has the jobs of a kind done; answers the names of the files that they give. `what` is done, where that is not as usual."""
     if kind == "part":
+        if all(os.path.exists(os.path.join(folder, part["file"])) for part in plan):
+            return [part["file"] for part in plan]
         for name, text in ((jobs.PLAN, json.dumps(plan)), (jobs.PARTS, "".join(f"{part['file']}\n" for part in plan))):
             with files.anew(os.path.join(folder, name)) as file:
                 file.write(text)
@@ -55,8 +57,8 @@ def prepared(words, folder, kind, plan):
     if words.snakemake or words.profile:
         by_snakemake(words.out, f"{kind}s", at_once, words.profile, progress.Quiet.is_quiet, {"LPIS_COUNTRY": shlex.join([sys.executable, jobs.TOOL])})
         return jobs.done(folder, kind, plan)
-    what, things = {"part": ("reading", "parts"), "cell": ("rounding", "cells"), "gap": ("land between parcels", "cells")}[kind]
-    return jobs.do_all(folder, kind, len(plan), at_once, progress.Progress("country", what, len(plan), things))
+    usual, things = {"part": ("reading", "parts"), "cell": ("rounding", "cells"), "gap": ("land between parcels", "cells")}[kind]
+    return jobs.do_all(folder, kind, len(plan), at_once, progress.Progress("country", what or usual, len(plan), things))
 
 
 def by_snakemake(folder, target, at_once, profile, is_quiet, surroundings):

@@ -55,6 +55,11 @@ class Losses:
         """Those that the source has in itself and that stop, before anything is settled, in the order of the source."""
         return self.those("is_conflict ORDER BY kind, first, second, seq", AS_FOUND)
 
+    def gaps(self):
+        """The gaps of parcels, each with its number."""
+        for (seq,) in self.base.execute("SELECT seq FROM loss WHERE kind = ?", (ORDER.index("gap"),)).fetchall():
+            yield from ((seq, loss) for loss in self.those(f"seq = {seq}", AS_FOUND))
+
     def those(self, condition, words):
         for kind, names, said, shape, width, area, layer, rows, is_grave, x, y in self.base.execute(f"SELECT kind, names, {words}, shape, width, area, layer, rows, is_grave, x, y FROM loss WHERE {condition}"):
             yield Stored(ORDER[kind], names.split(BETWEEN), said, shape, width, area, layer, json.loads(rows), bool(is_grave), () if x is None else (x, y))
@@ -81,6 +86,12 @@ class Gathered:
             progress.add()
         if self.greatest and not self.greatest[2]:
             self.add_loss(self.greatest[1])
+        self.base.commit()
+
+    def tell_causes(self, of_gaps):
+        """Says of gaps what they come of."""
+        for seq, loss in self.losses.gaps():
+            self.base.execute("UPDATE loss SET words = words || ? WHERE seq = ?", (of_gaps.words(loss), seq))
         self.base.commit()
 
     def read_narrow(self, width):

@@ -17,7 +17,7 @@ from . import ending, files, land, progress
 
 OF_CELLS = ("cell", "gap")  # kinds of jobs of which there is one for each cell
 FOLDER, PLAN, PARTS, COUNT, STORE = ".cells", "plan.json", "parts", "count", "rows.db"
-OWN = re.compile(r"[0-9a-f]{64}\.(jsonl|part)|\d+\.(cell|gap)|plan\.json|parts|count|rows\.db(-journal)?|\.lpis-[0-9a-f]+\.new")  # names of results, and of what a killed worker left
+OWN = re.compile(r"[0-9a-f]{64}\.(jsonl|part)|\d+\.(cell|gap)|(cell|gap)s\.json|plan\.json|parts|count|rows\.db(-journal)?|\.lpis-[0-9a-f]+\.new")  # names of results, and of what a killed worker left
 TOOL = os.path.join(os.path.dirname(os.path.dirname(os.path.realpath(__file__))), "country")
 
 
@@ -127,6 +127,31 @@ def forget(folder, kind):
     for name in os.listdir(folder):
         if re.fullmatch(rf"\d+\.{kind}", name):
             files.remove(os.path.join(folder, name))
+
+
+def keep(folder, kind, digest, names):
+    """Keeps the names of the files that all jobs of a kind gave, with a digest of all that they hang on."""
+    with files.anew(os.path.join(folder, f"{kind}s.json")) as file:
+        json.dump([digest, names], file)
+
+
+def kept(folder, kind, digest):
+    """The names that a run before has kept, where all that they hang on is as it was and each file is there; else None."""
+    try:
+        with open(os.path.join(folder, f"{kind}s.json"), encoding="utf-8") as file:
+            then, names = json.load(file)
+        if then == digest and all(OWN.fullmatch(name) and os.path.exists(os.path.join(folder, name)) for name in names):
+            return names
+    except (OSError, ValueError, TypeError):
+        pass  # it is a spare: without it the jobs are done, or found done
+    return None
+
+
+def tell_kept(folder, kind, names):
+    """Says of each job of a kind that it is done, for those that ask for its file."""
+    for number, name in enumerate(names):
+        with files.anew(os.path.join(folder, f"{number}.{kind}")) as file:
+            file.write(name)
 
 
 def clear(folder, kept):

@@ -7,7 +7,7 @@ import os
 
 import numpy
 
-from . import land, polygons, previous, streams, tables, years
+from . import land, parts, polygons, previous, progress, streams, tables, years
 
 THEN = "SELECT places, left, low, right, high FROM box_of_corner JOIN corner USING (id) WHERE left <= ? AND right >= ? AND low <= ? AND high >= ?"
 NUMBERS = bytes.maketrans(b"(),", b"   ")
@@ -48,6 +48,10 @@ class LastYear:
                 if not os.path.isfile(path):
                     raise land.Trouble(f"{folder} has no table {os.path.relpath(path, folder)} of last year")
 
+    def stamps(self):
+        """What its tables are known by until they change."""
+        return [parts.stamp(tables.path_of(folder, name)) for folder in self.folders for name in ("covers", "parcels")]
+
     def why_not(self, work):
         """Why a source cannot have these borders, by what is known before they are read; nothing where it can."""
         if work.epsg and self.system and work.epsg != self.system:
@@ -56,13 +60,16 @@ class LastYear:
 
     def rows(self, name, column):
         """Identifiers and texts of a table; a row of several regions comes from each of them."""
+        shown = progress.Bytes("country", f"reading last year's {name}", sum(streams.Folder(folder).size(name) for folder in self.folders))
         for folder in self.folders:
             path = tables.path_of(folder, name)
             try:
-                for row, (key, text), _ in streams.Stream(streams.Folder(folder), name, [column, "wkt"]):
+                for row, (key, text), raw in streams.Stream(streams.Folder(folder), name, [column, "wkt"]):
                     yield f"{path} row {row}: {streams.shown(key)}", key, text
+                    shown.took(len(raw))
             except streams.Trouble as trouble:
                 raise land.Trouble(f"{path}: {trouble}") from None
+        shown.end()
 
     def shapes(self):
         """The corners of each piece."""

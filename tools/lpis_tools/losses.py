@@ -12,7 +12,7 @@ from collections import Counter
 
 from shapely.geometry import mapping
 
-from . import balance, cells, files, land, outcome
+from . import balance, causes, cells, files, land, outcome
 from .accepting import Left
 from .conflicts import ORDER, Loss, Source, find_conflicts, find_names, number_of, parts_of, polygons_by
 from .findings import readable
@@ -26,18 +26,23 @@ COUNTED = (("between", "places between parcels that nobody has: see report.csv")
 COLUMNS = ["kind", "layer", "row", "identifiers", "width_m", "area_m2", "x", "y", "stops", "words"]
 
 
-def conflicts_alone(layers, say, seen=None):
-    """The conflicts of a source that stop a recipe, before it is run. `seen` are those that its rounded map shows, where that was made."""
+def conflicts_alone(layers, say, seen=None, of_gaps=None):
+    """The conflicts of a source that stop a recipe, before it is run. `seen` are those that its rounded map shows, where that was made; `of_gaps` what gaps may
+    come of."""
     source = Source(layers)
     find_conflicts(source, say, seen)
+    if of_gaps:
+        causes.tell(source.losses, of_gaps)
     return [loss for loss in source.losses if loss.is_wide()]
 
 
-def find_all(source, tables, say, whole, seen, between):
+def find_all(source, tables, say, whole, seen, between, of_gaps=None):
     """All losses, the gravest first, and how many rows the tables have."""
     layers = source.layers
     find_names(source)
     find_conflicts(source, say, seen, between)
+    if of_gaps:
+        causes.tell(source.losses, of_gaps)
     say("comparing the tables with the source")
     whole.begin(layers)
     whole.between = math.fsum(loss.area for loss in source.losses if loss.kind == "between")
@@ -141,15 +146,15 @@ def why_nothing(losses, whole):
     return "; ".join(f"{count} row{'s' * (count > 1)}: {words}" for words, count in found.most_common(MOST_REASONS)) or "the tables have no row"
 
 
-def report(layers, out, accept, say, epsg=None, counts=None, whole=None, tables=None, source=None, seen=None, between=land.BETWEEN, refusal=""):
+def report(layers, out, accept, say, epsg=None, counts=None, whole=None, tables=None, source=None, seen=None, between=land.BETWEEN, refusal="", of_gaps=None):
     """Finds, writes and prints. The status: 1 where something is lost, changed or in wide conflict, unless `accept` takes it. `counts` are the rows of
     the source, where some were left out before; `whole` the balance of what was read, where that was mended; `tables` the folder of the tables,
-    where that is another than `out`; `seen` the conflicts that the rounded map shows, where that was made."""
+    where that is another than `out`; `seen` the conflicts that the rounded map shows, where that was made; `of_gaps` what gaps may come of."""
     if epsg is None:
         systems = [layer.system.number for layer in layers.values() if isinstance(layer, land.Layer) and layer.system]
         epsg = systems[0] if systems else None
     whole = whole or balance.Balance(layers)
-    losses, found = find_all(source or Source(layers), tables or out, say, whole, seen, between)
+    losses, found = find_all(source or Source(layers), tables or out, say, whole, seen, between, of_gaps)
     counts = counts or {name: len(layers[name].rows) for name in ("parcels", "covers")}
     return concluded(losses, found, counts, out, accept, epsg, whole, refusal)
 

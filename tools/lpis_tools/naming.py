@@ -14,6 +14,7 @@ from .findings import Finding
 
 COLUMNS = (("parcels", ["parcel"]), ("covers", ["piece", "parcel", "class"]))
 KINDS = ("parcel", "piece", "class")
+OWN = (("parcels", "parcel"), ("covers", "piece"), ("covers", "class"))  # where each kind of name is given
 
 
 def alike(name):
@@ -36,16 +37,22 @@ class Names:
         self.owners = {kind: {} for kind in KINDS}  # whose an identifier is: a name without blanks
 
     def run(self):
+        for _ in self.steps():
+            pass
+
+    def steps(self):
+        """As `run`, one step after the other."""
         for name, columns in COLUMNS:
             for column in columns:
-                self.trim(name, column)
-        self.note_owners()
+                yield self.trim(name, column)
+        yield self.note_owners()
         for name, columns in COLUMNS:
-            self.work.layers[name].keep(lambda row, name=name, columns=columns: all([self.rename(name, row, column) for column in columns]))
+            yield self.work.layers[name].keep(lambda row, name=name, columns=columns: all([self.rename(name, row, column) for column in columns]))
         for column, names in self.given.items():  # those that this year has not come back in another
             for old, new in names.items():
                 self.renamed[column].setdefault(old, new)
-        self.in_case_alone()
+        for name, column in OWN:
+            yield self.in_case_alone(name, column)
 
     def note_owners(self):
         """Names that are identifiers are their own."""
@@ -89,10 +96,10 @@ class Names:
         if not old.strip():
             if column == "piece":
                 made = f"{work.layers[layer].key}-{row.number}"
-                work.find("nameless", layer, row, "no piece identifier", f"named {made}")
+                work.find("nameless", layer, row, f"no piece identifier: name it in the source, or --accept keeps the row and names the piece {made}", f"kept, and named {made}")
                 row.fields[column] = made
                 return True
-            work.find("nameless", layer, row, f"no {column} identifier")
+            work.find("nameless", layer, row, f"no {column} identifier: name it in the source, or --accept leaves the row out")
             return False
         new = self.new_name(column, old)
         row.fields[column] = new
@@ -105,11 +112,10 @@ class Names:
                 work.find("identifier", layer, row, f"{column} {old!r} would be {new}, which is another's or no identifier: name another by --identifiers", "")
         return True
 
-    def in_case_alone(self):
+    def in_case_alone(self, layer, column):
         """Names those that people may take for one."""
-        for layer, column in (("parcels", "parcel"), ("covers", "piece"), ("covers", "class")):
-            for names in sorted(map(sorted, self.work.layers[layer].groups(column, alike))):
-                self.work.findings.append(Finding("alike", layer, None, names[0], f"the {column}s {' and '.join(names)} differ in case, or in .0, alone", "kept as they are", True))
+        for names in sorted(map(sorted, self.work.layers[layer].groups(column, alike))):
+            self.work.findings.append(Finding("alike", layer, None, names[0], f"the {column}s {' and '.join(names)} differ in case, or in .0, alone", "kept as they are", True))
 
 
 def join(work, whole):

@@ -12,7 +12,7 @@ from dataclasses import asdict
 
 from . import databases, files, identifiers, land, naming, preparing, sizes, store, unforeseen
 
-RULE = "lpis parts 1"  # what another rule gave is not taken
+RULE = "lpis parts 2"  # what another rule gave is not taken
 MOST = 25_000  # rows
 SHAPES, VALID = 1, 2  # steps: what a part finds
 

@@ -12,6 +12,7 @@ from .store import Row
 
 TABLES, SHAPES, VALID, NAMES, PARCELS, PIECES, STRANGERS, BARE, CLASSES, CONFLICTS = range(10)  # steps, in the order in which a region's are told
 MANY = 10_000  # names in memory
+STEPS = 17  # of all that is done about names
 
 
 class Kept:
@@ -150,8 +151,8 @@ class Used:
         self.base.execute("INSERT OR IGNORE INTO used VALUES (?)", (name,))
 
 
-def join(work):
-    """As `naming.join`."""
+def joining(work):
+    """As `naming.join`, one step after the other."""
     base = work.base
     for step, name, column, doubled in ((PARCELS, "parcels", "parcel", naming.doubled_parcels), (PIECES, "covers", "name", lambda *words: naming.doubled_pieces(*words, Used(base)))):
         work.at(step)
@@ -160,16 +161,19 @@ def join(work):
         join_rows(base, doubled(work, rest))
         for row in rest.rows:
             row.save()
+        yield
     work.at(STRANGERS)
     unknown = "parcel NOT IN (SELECT parcel FROM row WHERE is_cover = 0 AND is_kept)"
     strangers = list(work.layers["covers"].among(unknown))
     naming.tell_strangers(work, strangers, known_like(base, strangers))
     base.execute(f"UPDATE row SET is_kept = 0 WHERE is_cover AND is_kept AND (left IS NULL OR {unknown})")
+    yield
     work.at(BARE)
     bare = "parcel NOT IN (SELECT parcel FROM row WHERE is_cover AND is_kept)"
     naming.tell_bare(work, work.layers["parcels"].among(bare))
     base.execute(f"UPDATE row SET is_kept = 0 WHERE is_cover = 0 AND is_kept AND {bare}")
     base.commit()
+    yield
 
 
 def known_like(base, strangers):

@@ -7,7 +7,7 @@ import os
 import shutil
 import tempfile
 
-from . import accepting, again, balance, findings, land, losses, naming, preparing, previous, recipe, rounding
+from . import accepting, again, balance, causes, findings, land, losses, naming, preparing, previous, recipe, rounding
 
 TABLES = ("parcels.csv", "covers.csv", "classes.csv")
 
@@ -125,7 +125,7 @@ class Run:
         """The end of a run whose findings are not accepted, or cannot be."""
         if whole:
             seen = self.rounded(work)
-            conflicts = self.conflicts(work, seen)
+            conflicts = self.conflicts(work, seen, whole)
             if not work.hopeless():
                 self.kept.keep(work.layers, self.made, seen)
             print(*losses.first_lines(conflicts, "prepared.csv"), *whole.source_words(work.layers), sep="\n")
@@ -161,12 +161,13 @@ class Run:
             return seen
         return rounding.release(work.layers, self.made, self.say, self.previous, self.words.between)
 
-    def conflicts(self, work, seen):
+    def conflicts(self, work, seen, whole):
         """The conflicts of the source that stop, before anything is settled."""
-        return losses.conflicts_alone(work.layers, self.say, seen)
+        return losses.conflicts_alone(work.layers, self.say, seen, causes.OfRows(work, whole))
 
     def report(self, work, seen, whole):
-        return losses.report(work.layers, self.words.out, self.accept, self.say, work.epsg, work.counts, whole, self.made, seen=seen, between=self.words.between, refusal=recipe.unwritten(self.words.out))
+        return losses.report(work.layers, self.words.out, self.accept, self.say, work.epsg, work.counts, whole, self.made, seen=seen, between=self.words.between, refusal=recipe.unwritten(self.words.out),
+                             of_gaps=causes.OfRows(work, whole))
 
     def make_classes(self, work, classes):
         """Writes the table of classes, or says which rows it would have."""

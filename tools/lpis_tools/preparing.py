@@ -8,13 +8,15 @@ from shapely.validation import explain_validity
 from . import land, progress, systems, unforeseen, wkb
 from .balance import area_of
 from .boxes import Boxes
-from .conflicts import members_of, polygons_by
+from .conflicts import enclosed_by, members_of, polygons_by
 from .findings import NOTES, Finding
 
 FAR = 20_000_000.0
 ZONE = 1_000_000.0
 MOST_POINTS, MOST_ROWS = 100_000, 200_000
 KEYS = {"parcels": "parcel", "covers": "piece"}
+# What may be done about a row in degrees, beside mending it.
+DEGREES = {"parcels": "; mend its shape in the source, or --accept makes the parcel of its pieces, and leaves it out where it has none", "covers": "; mend its shape in the source, or --accept leaves the piece out"}
 
 
 class Preparation:
@@ -41,7 +43,8 @@ class Preparation:
     def conflicts(self, losses):
         """Places in conflict that are settled where that is accepted, found before any rounding."""
         for loss in losses:
-            self.findings.append(Finding(loss.kind, loss.layer, None, " ".join(loss.names), f"{loss.width:.3f} m wide: {loss.words}", "settled", False, loss.area, loss.place()))
+            rows, key = " ".join(map(str, loss.rows)) or None, self.layers[loss.layer].key
+            self.findings.append(Finding(loss.kind, loss.layer, rows, " ".join(loss.names), f"{loss.width:.3f} m wide: {loss.words}", "settled", False, loss.area, loss.place(), key))
 
     # Tables and columns.
 
@@ -130,8 +133,8 @@ class Preparation:
                 self.find(note, name, row, NOTES[note], "", True)
             self.place(name, row, are_metres)
 
-    def without_shape(self, kind, name, row, words):
-        self.find(kind, name, row, words, "made of its pieces" if name == "parcels" else "left out")
+    def without_shape(self, kind, name, row, words, remedy=""):
+        self.find(kind, name, row, words + remedy, "made of its pieces" if name == "parcels" else "left out")
         if name == "parcels":
             self.shapeless.append((row, self.findings[-1]))
         row.found, row.why = None, words
@@ -152,7 +155,7 @@ class Preparation:
             self.find("prefix", name, row, f"its eastings have the number {zone} of their zone before them", f"taken off, {zone * ZONE:,.0f} m", True)
             box = row.found.box()
         if are_metres and not land.reads_as_metres(box):
-            self.without_shape("degrees", name, row, land.among_metres(box))
+            self.without_shape("degrees", name, row, land.among_metres(box), DEGREES[name])
         elif max(map(abs, box)) > FAR:
             hint = "" if self.epsg or not FAR < box[2] < 61 * ZONE else "; where that is a zone's number before the eastings, name its system by --epsg, such as 25832"
             self.without_shape("far", name, row, f"a coordinate is beyond 20,000,000 m ({max(map(abs, box)):.10g}){hint}")
@@ -179,9 +182,8 @@ class Preparation:
         if mended.is_empty:
             self.without_shape("invalid", name, row, f"{why}, and nothing of it has an area")
             return False
-        before = size_of(row)[0]
-        self.find("invalid", name, row, why, f"made valid, from {before:.3f} to {mended.area:.3f} m2")
-        row.found = wkb.Found(members_of(mended), row.found.notes)
+        enclosed, row.found = enclosed_by(row.found.members).area, wkb.Found(members_of(mended), row.found.notes)
+        self.find("invalid", name, row, why, f"made valid: {mended.area:.3f} m2 of the {max(enclosed, mended.area):.3f} that its border encloses")
         return True
 
     def taken_from_neighbours(self, mended):

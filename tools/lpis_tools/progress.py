@@ -57,6 +57,24 @@ class Progress:
             print(file=self.file, flush=True)
 
 
+class Bytes(Progress):
+    """A step over so many bytes of files, told in megabytes."""
+
+    def __init__(self, tool, what, size, **more):
+        super().__init__(tool, what, max(1, size >> 20), "MB", **more)
+        self.bytes = 0
+
+    def took(self, number):
+        """So many bytes passed by; never more than there are."""
+        self.reached(self.bytes + number)
+
+    def reached(self, bytes_so_far):
+        self.bytes = bytes_so_far
+        now = min(self.bytes >> 20, self.count)
+        if now > self.done:
+            self.add(now - self.done)
+
+
 def time_of(seconds):
     """A length of time for people."""
     return f"{seconds:.0f} s" if seconds < 90 else f"{seconds / 60:.0f} min" if seconds < 5400 else f"{seconds / 3600:.1f} h"
@@ -79,10 +97,8 @@ def each(rows, tool, what, count, things, at_once=1000):
 
 def read(records, tool, what, size):
     """The records of a table with their lines, as `streams.Stream` has them, with the share of its bytes that passed by."""
-    progress, count = Progress(tool, what, max(1, size >> 20), "MB"), 0
+    progress = Bytes(tool, what, size)
     for record in records:
         yield record
-        count += len(record[2])
-        if count >> 20 > progress.done:
-            progress.add((count >> 20) - progress.done)
+        progress.took(len(record[2]))
     progress.end()

@@ -7,7 +7,7 @@ import sqlite3
 
 import numpy
 
-from . import around, files, land, wkb
+from . import around, files, land, progress, wkb
 from .findings import Finding
 
 PAGE = 20_000  # rows in memory at once
@@ -27,6 +27,8 @@ CREATE VIRTUAL TABLE box_of_corner USING rtree(id, left, right, low, high);
 CREATE TABLE loss (seq INTEGER PRIMARY KEY, is_conflict INTEGER, first INTEGER, second INTEGER, is_stopping INTEGER, kind INTEGER, size REAL, names TEXT, words TEXT, told TEXT, shape BLOB, width REAL,
   area REAL, layer TEXT, rows TEXT, is_grave INTEGER, x REAL, y REAL);
 """
+INDICES = ("by_parcel ON row (parcel, is_cover)", "by_name ON row (name, is_cover)", "odd ON row (id) WHERE is_odd", "in_order ON finding (step, place, seq)",
+           "gravest ON loss (is_stopping DESC, kind, size DESC, names, seq)")
 FAST = "PRAGMA synchronous = OFF; PRAGMA journal_mode = OFF; PRAGMA temp_store = FILE; PRAGMA cache_size = -65536;"
 COLUMNS = "id, is_cover, number, name, parcel, class, why, x, y, left, low, right, high"
 SIZED = "left = ?, low = ?, right = ?, high = ?, points = ?"
@@ -156,7 +158,7 @@ def merged(path, parts):
 
 def filled(base, parts):
     """Takes the parts into the store; answers where each begins in it."""
-    starts, count = [], 0
+    starts, count, shown = [], 0, progress.Progress("country", "writing all rows", 2 * len(parts) + len(INDICES), "steps")
     for part in parts:
         base.execute("ATTACH ? AS part", (part,))
         starts.append(count)
@@ -167,9 +169,15 @@ def filled(base, parts):
         count += rows
         base.commit()
         base.execute("DETACH part")
-    base.execute("INSERT INTO box SELECT id, left, right, low, high FROM row WHERE left IS NOT NULL")
-    base.executescript("CREATE INDEX by_parcel ON row (parcel, is_cover); CREATE INDEX by_name ON row (name, is_cover); CREATE INDEX odd ON row (id) WHERE is_odd; CREATE INDEX in_order ON finding (step, place, seq); CREATE INDEX gravest ON loss (is_stopping DESC, kind, size DESC, names, seq)")
+        shown.add()
+    for start, end in zip(starts, [*starts[1:], count]):
+        base.execute("INSERT INTO box SELECT id, left, right, low, high FROM row WHERE left IS NOT NULL AND id >= ? AND id < ?", (start, end))
+        shown.add()
+    for index in INDICES:
+        base.execute(f"CREATE INDEX {index}")
+        shown.add()
     base.commit()
+    shown.end()
     return starts
 
 
