@@ -7,6 +7,7 @@ from definitions import TOP, Definition, lies_in
 from modules import closing
 
 WIDTH = 120
+CODE_WIDTH = 100
 A_MINUTE = 120  # words of definitions that are read in a minute
 MARK = re.compile(r"(?ms)^<!-- trust: (?!end)(.*?) -->\n.*?^<!-- trust: end -->$")
 TYPE = r"(?m)^(?:[ \t]*(?:///|#\[)[^\n]*\n)*pub(?:\(\w+\))? (?:struct|enum|trait) {name}\b"
@@ -23,6 +24,25 @@ def shown(text):
     lines = text.strip("\n").split("\n")
     least = min((len(line) - len(line.lstrip()) for line in lines if line.strip()), default=0)
     return "\n".join(line[least:] for line in lines)
+
+
+def in_one_line(found):
+    """A variant with its fields in one line, where that fits."""
+    line = f"{found.group(1)} {{ {' '.join(found.group(2).split()).rstrip(',')} }},"
+    return line if len(line) <= CODE_WIDTH else found.group(0)
+
+
+def in_few_lines(body):
+    """The fields of a struct, or the variants of an enum: each in one line, and a comment of one line beside it, where that fits."""
+    lines = [""]
+    for line in re.sub(r"(?m)^([ \t]+\w+) \{\n((?:[ \t]+\w+: [^\n/]*,\n)+)[ \t]+\},$", in_one_line, body).split("\n"):
+        comment = lines[-1].strip()
+        whole = f"{line} {comment.replace('///', '//', 1)}"
+        if comment.startswith("/// ") and not lines[-2].strip().startswith("///") and line.endswith(",") and len(whole) <= WIDTH:
+            lines[-1] = whole
+        else:
+            lines.append(line)
+    return "\n".join(lines[1:])
 
 
 def promise_of(crate, name):
@@ -55,7 +75,7 @@ def type_of(crate, name):
         if end.group() == "{":
             body = module.source[end.end() : closing(module.source, end.start())]
             is_struct = "pub struct" in head
-            fields = public_fields(body) if is_struct else without_attributes(body).strip("\n") + "\n"
+            fields = in_few_lines(public_fields(body) if is_struct else without_attributes(body).strip("\n") + "\n")
             text = f"{head} {{\n{fields}}}" if fields else f"{head} {{ .. }}"
         return shown(text) + model_of(crate, name, bool(fields))
     return ""

@@ -81,47 +81,35 @@ pub(crate) const COMMANDS: [Line; 11] = [
 pub enum Request<'a> {
     /// The areas of the polygons of a table.
     Area {
-        /// The table.
         table: NamedFile<'a>,
     },
-    /// The cut of a release into triangles.
+    /// The cut of a release into triangles, and the path at which the certificate is written.
     Cut {
-        /// The tables of the release.
         tables: Tables<NamedFile<'a>>,
-        /// The path at which the certificate is written.
         cert: &'a str,
     },
     /// The check of a release against a certificate.
     Check {
-        /// The release, with its certificate.
         release: Folder<NamedFile<'a>>,
     },
-    /// The check of a country, region by region.
+    /// The check of a country, region by region, and what is printed.
     Country {
-        /// The country.
         country: CountryFolder<'a>,
-        /// What is printed.
         detail: Detail,
     },
     /// The places of points in a release, after its check.
     Locate {
-        /// The release, with its certificate.
         release: Folder<NamedFile<'a>>,
-        /// The table of points.
         points: NamedFile<'a>,
     },
     /// The places of points in a country, after its check.
     LocateCountry {
-        /// The country.
         country: CountryFolder<'a>,
-        /// The table of points.
         points: NamedFile<'a>,
     },
-    /// What is done with a register.
+    /// What is done with a register, whose path comes first and is opened before the files.
     InRegister {
-        /// The path of the register, which is opened before the files.
         db: &'a str,
-        /// What is done with it.
         job: Job<'a>,
     },
 }
@@ -129,41 +117,33 @@ pub enum Request<'a> {
 /// What is done with a register.
 #[derive(Drop)]
 pub enum Job<'a> {
-    /// The blocks of a certificate that the marked rows of a lineage table ask for.
+    /// The blocks of a certificate that the marked rows of a lineage table ask for, and the path at
+    /// which the certificate with its blocks is written.
     Exact {
-        /// What is handed in.
         submission: Submission<NamedFile<'a>>,
-        /// The path at which the certificate with its blocks is written.
         out: &'a str,
     },
-    /// The blocks that the marked rows of a country's lineage tables ask for.
+    /// The blocks that the marked rows of a country's lineage tables ask for, and the path at which
+    /// the certificate with these blocks is written.
     ExactCountry {
-        /// The country.
         country: CountryFolder<'a>,
-        /// The path at which the certificate with these blocks is written.
         file: &'a str,
     },
-    /// The check of a release, and its publication.
+    /// The check of a release, and its publication in a year from 1 to 9999.
     Publish {
-        /// The release's year, from 1 to 9999.
         year: u16,
-        /// What is handed in.
         submission: Submission<NamedFile<'a>>,
     },
-    /// The check of a country, region by region, and its publication.
+    /// The check of a country, region by region, and its publication in a year from 1 to 9999, with
+    /// the certificate that has the blocks of its exact lineage; and what is printed.
     PublishCountry {
-        /// The country's year, from 1 to 9999.
         year: u16,
-        /// The country.
         country: CountryFolder<'a>,
-        /// The certificate with the blocks of its exact lineage.
         exact: Option<NamedFile<'a>>,
-        /// What is printed.
         detail: Detail,
     },
-    /// What became of identifiers.
+    /// What became of the words, in their order, that are to be identifiers.
     Trace {
-        /// The words that are to be identifiers, in their order.
         ids: &'a [&'a str],
     },
 }

@@ -9,11 +9,14 @@
 #![tactic(auto)]
 
 mod cone;
+mod faces;
 mod fractions;
+mod frames;
 mod net;
 mod overlap;
 mod rooms;
 mod shared;
+mod trapezoid;
 mod vectors;
 
 pub use net::Net;

@@ -35,8 +35,10 @@ pub struct Net {
     /// Those that are left, in the order of their lines.
     net: Vec<NetEdge>,
     ends: Vec<End>,
-    /// Of these the edges of the lines at one of whose points another number of edges ends than
-    /// begins.
+    /// The first edge of a line at one of whose points another number of edges ends than begins.
+    left: Option<NetEdge>,
+    /// The stretches of these lines along which the edges have a count, between the ends of
+    /// edges: no two of them share more than an end.
     rest: Vec<NetEdge>,
     /// The flats that make up the others.
     flats: Vec<Triangle>,
@@ -78,6 +80,7 @@ impl Net {
             places: [0; PLACES],
             net: Vec::new(alloc),
             ends: Vec::new(alloc),
+            left: None,
             rest: Vec::new(alloc),
             flats: Vec::new(alloc),
         }
@@ -120,6 +123,7 @@ impl Net {
     /// Sums the edges that were added, and finds flats that make up what is left.
     pub fn settle(&mut self) -> Result<(), AllocError> {
         self.net.clear();
+        self.left = None;
         self.rest.clear();
         self.flats.clear();
         self.edges.retain(|edge| edge.count != 0);
@@ -145,7 +149,7 @@ impl Net {
 
     /// The ends of an edge that is left, and that no flats make up where there is one.
     pub fn edge_left(&self) -> Option<(Point, Point)> {
-        let edge = match self.rest.first() {
+        let edge = match &self.left {
             Some(edge) => edge,
             None => self.net.first()?,
         };
@@ -215,10 +219,33 @@ impl Net {
         if self.is_even(from, to)? {
             return self.add_flats(from, to);
         }
-        for index in from..to {
-            if let Some(edge) = self.net.get(index) {
-                self.rest.push(*edge)?;
+        if self.left.is_none() {
+            self.left = self.net.get(from).copied();
+        }
+        self.add_stretches()
+    }
+
+    /// The stretches between the ends of a line's edges, which are in order.
+    fn add_stretches(&mut self) -> Result<(), AllocError> {
+        let mut count: i64 = 0;
+        let mut low: Option<Point> = None;
+        for index in 0..self.ends.len() {
+            let Some(end) = self.ends.get(index).copied() else {
+                break;
+            };
+            if let Some(from) = low
+                && count != 0
+                && from != end.point
+            {
+                let high = end.point;
+                self.rest.push(NetEdge {
+                    low: from,
+                    high,
+                    count,
+                })?;
             }
+            low = Some(end.point);
+            count = count.wrapping_sub(end.count);
         }
         Ok(())
     }

@@ -1,6 +1,7 @@
 //! Points of rooms that residual edges bound.
 
 use crate::cone::step_between;
+use crate::faces::{Faces, MOST_FACES};
 use crate::net::NetEdge;
 use crate::vectors::{CENTIMETRE, Vector, along, cross, floor_div, product, rational, step};
 use lpis_cutter_mesh::Mesher;
@@ -16,10 +17,10 @@ const PARTS: i64 = 1_099_511_627_776;
 
 /// A triangle with its size, by which the largest are found.
 #[derive(Clone, Copy, Debug, PartialEq, Eq, PartialOrd, Ord)]
-struct Sized {
+pub(crate) struct Sized {
     /// Twice its area, below 0, so that the largest come first.
-    size: i128,
-    index: usize,
+    pub(crate) size: i128,
+    pub(crate) index: usize,
 }
 
 /// The triangles of the rooms between edges, up to where these cross.
@@ -182,7 +183,8 @@ fn points_between(
     Ok(points)
 }
 
-/// The corners of rooms, each between two residual edges next to each other that leave a point.
+/// The corners of rooms, each between two residual edges next to each other that leave a point, and
+/// behind them the faces beside residual edges.
 #[derive(Drop)]
 pub struct Corners<'a> {
     alloc: Global,
@@ -192,6 +194,7 @@ pub struct Corners<'a> {
     at: usize,
     first: usize,
     tries: usize,
+    faces: Faces,
 }
 
 impl<'a> Corners<'a> {
@@ -203,6 +206,7 @@ impl<'a> Corners<'a> {
             at: 0,
             first: 0,
             tries: 0,
+            faces: Faces::new(alloc, rest)?,
         })
     }
 
@@ -214,9 +218,18 @@ impl<'a> Corners<'a> {
         }
     }
 
-    /// Points of the next corner, or none where two edges make no corner; `None` behind the last,
-    /// or where enough were tried.
+    /// Points of the next corner, or none where two edges make no corner; behind the last, or where
+    /// enough were tried, points beside the next edge; `None` behind all.
     pub fn next_points(&mut self) -> Result<Option<Vec<RatPoint>>, AllocError> {
+        let found = self.next_corner()?;
+        if found.is_some() {
+            return Ok(found);
+        }
+        self.faces.next_points()
+    }
+
+    /// Points of the next corner; `None` behind the last, or where enough were tried.
+    fn next_corner(&mut self) -> Result<Option<Vec<RatPoint>>, AllocError> {
         let Some(ray) = self.rays.get(self.at).copied() else {
             return Ok(None);
         };
@@ -242,6 +255,6 @@ impl<'a> Corners<'a> {
 
     /// No fewer than the calls of `next_points` that answer points.
     pub fn length(&self) -> usize {
-        self.rays.len()
+        self.rays.len().saturating_add(MOST_FACES)
     }
 }
