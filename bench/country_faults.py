@@ -5,6 +5,7 @@ import os
 import re
 import shutil
 import sqlite3
+from pathlib import Path
 
 from country_years import CLASSES
 from tables import write_lines
@@ -22,8 +23,7 @@ class Given:
         return os.path.join(self.folder, *names)
 
     def lines(self, *names):
-        with open(self.path(*names), encoding="ascii") as file:
-            return file.read().splitlines()
+        return Path(self.path(*names)).read_text(encoding="ascii").splitlines()
 
     def write(self, lines, *names):
         write_lines(self.path(*names[:-1]), names[-1], lines)
@@ -35,8 +35,7 @@ class Given:
         """Replaces the first match in a file; answers whether there is one."""
         text = "\n".join([*self.lines(*names), ""])
         changed, count = re.subn(pattern, new, text, count=1)
-        with open(self.path(*names), "w", encoding="ascii") as file:
-            file.write(changed)
+        Path(self.path(*names)).write_text(changed, encoding="ascii")
         return count == 1
 
     def rows(self):
@@ -133,8 +132,7 @@ def whole_certificate(given):
     blocks = "".join(re.findall(r"(?m)^(?:exact|f) .*\n", read(given.file))) if given.file else ""
     own = read(given.path(given.region(), "cert.txt"))
     given.file = given.path("whole.txt")
-    with open(given.file, "w", encoding="ascii") as file:
-        file.write(own.replace("\npairs ", f"\n{blocks}pairs "))
+    Path(given.file).write_text(own.replace("\npairs ", f"\n{blocks}pairs "), encoding="ascii")
     return True
 
 
@@ -311,14 +309,12 @@ def other_blocks(given):
                "left out": f"f {a} {a} {a}"}[kind]
         text = text.replace(flat, new, 1)
     given.file = given.path("blocks.txt")
-    with open(given.file, "w", encoding="ascii") as file:
-        file.write(text)
+    Path(given.file).write_text(text, encoding="ascii")
     return True
 
 
 def read(path):
-    with open(path, encoding="ascii") as file:
-        return file.read()
+    return Path(path).read_text(encoding="ascii")
 
 
 # With how often each is planted.

@@ -6,6 +6,7 @@ import random
 import re
 import sqlite3
 import struct
+from pathlib import Path
 
 import lands_source
 from lands_land import Land
@@ -257,11 +258,9 @@ def damage_package(path, draw):
 
 
 def damage_file(path, draw):
-    with open(path, "rb") as file:
-        data = bytearray(file.read())
+    data = bytearray(Path(path).read_bytes())
     function = draw.choice(FILES)
-    with open(path, "wb") as file:
-        file.write(function(data, draw) if data else b"x")
+    Path(path).write_bytes(function(data, draw) if data else b"x")
     return function.__name__
 
 
@@ -269,12 +268,10 @@ def damage_sheet(folder, draw):
     path = os.path.join(folder, draw.choice(sorted(os.listdir(folder))))
     if draw.random() < 0.35:
         return damage_file(path, draw)
-    with open(path, "rb") as file:
-        data = file.read()
+    data = Path(path).read_bytes()
     encoding = "utf-16" if data[:2] in (b"\xff\xfe", b"\xfe\xff") else "utf-8"
     function = draw.choice(SHEETS)
     text = data.decode(encoding, "surrogateescape" if encoding == "utf-8" else "replace")
     if text:
-        with open(path, "wb") as file:
-            file.write(function(text, draw).encode(encoding, "surrogateescape" if encoding == "utf-8" else "replace"))
+        Path(path).write_bytes(function(text, draw).encode(encoding, "surrogateescape" if encoding == "utf-8" else "replace"))
     return function.__name__

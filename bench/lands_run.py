@@ -13,6 +13,7 @@ import sys
 import tempfile
 import traceback
 from dataclasses import dataclass
+from pathlib import Path
 
 from common import TOP
 
@@ -57,8 +58,7 @@ class Runner:
     def code(self, tool):
         if tool not in self.codes:
             path = os.path.join(TOOLS, tool)
-            with open(path, encoding="utf-8") as file:
-                self.codes[tool] = compile(file.read(), path, "exec")
+            self.codes[tool] = compile(Path(path).read_text(encoding="utf-8"), path, "exec")
         return self.codes[tool]
 
     def run(self, tool, *words, points=1000):
@@ -106,8 +106,7 @@ def in_child(code, words, out, err, seconds, room):
         os.dup2(err, 2)
         sys.stdout = io.TextIOWrapper(os.fdopen(1, "wb", closefd=False), encoding="utf-8", errors="strict")
         sys.stderr = io.TextIOWrapper(os.fdopen(2, "wb", closefd=False), encoding="utf-8", errors="backslashreplace", line_buffering=True)
-        with open("/proc/self/statm", encoding="ascii") as file:
-            begun = int(file.read().split()[0]) * resource.getpagesize()
+        begun = int(Path("/proc/self/statm").read_text(encoding="ascii").split()[0]) * resource.getpagesize()
         resource.setrlimit(resource.RLIMIT_AS, (begun + room, begun + room))
         resource.setrlimit(resource.RLIMIT_CPU, (int(seconds) + 1, int(seconds) + 1))
         resource.setrlimit(resource.RLIMIT_CORE, (0, 0))

@@ -4,6 +4,7 @@ import hashlib
 import os
 import re
 import shutil
+from pathlib import Path
 
 import lands_damage
 import lands_source
@@ -25,8 +26,7 @@ def digests(folder):
     for where, _, names in os.walk(folder):
         for name in names:
             path = os.path.join(where, name)
-            with open(path, "rb") as file:
-                found[os.path.relpath(path, folder)] = hashlib.sha256(file.read()).hexdigest()
+            found[os.path.relpath(path, folder)] = hashlib.sha256(Path(path).read_bytes()).hexdigest()
     return found
 
 
@@ -163,8 +163,7 @@ def digests_of(path):
     if os.path.isdir(path):
         return digests(path)
     beside = {name for name in os.listdir(os.path.dirname(path)) if name.startswith(os.path.basename(path))}
-    with open(path, "rb") as file:
-        return beside, hashlib.sha256(file.read()).hexdigest()
+    return beside, hashlib.sha256(Path(path).read_bytes()).hexdigest()
 
 
 def last_line(*texts):
@@ -177,8 +176,7 @@ def place_of(text):
     """Where a traceback, here or in the file that is named, says that it happened: the innermost function of the tools."""
     named = re.search(r"the traceback is in (\S+)", text)
     if named and os.path.exists(named[1]):
-        with open(named[1], encoding="utf-8") as file:
-            text = file.read()
+        text = Path(named[1]).read_text(encoding="utf-8")
     places = re.findall(r'File "[^"]*/tools/([^"]*)", line \d+, in (\S+)', text)
     return " ".join(places[-1]) if places else "somewhere"
 

@@ -21,7 +21,7 @@ from nasty_shapes import Release
 from tables import write_release
 
 TOP, LPIS = Path(common.TOP), common.lpis()
-SERIES, RELEASES, EACH_CONDITION = 4, 100, 2
+SERIES, RELEASES, EACH_CONDITION = 4, 100, 3
 MOST_LINES, COLUMNS = 365, 120  # of audit/
 DAMAGES = ["tables"] * 12 + ["wrong"] * 9 + damage.CONDITIONS * 3 + [damage.pair_added, damage.other_edge] * 2 + damage.TEXTS * 7
 EXACT = TOP / "examples" / "exact"

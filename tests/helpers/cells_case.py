@@ -5,20 +5,11 @@ import tempfile
 import unittest
 from unittest import mock
 
+from spare import Spare, read, write
 from lpis_tools import shapely_there
 
 if shapely_there.is_there():
     from lpis_tools import balance, cell, conflicts, gap, gathering, jobs, land as land_module, outcome, parts, preparing, rounding, store
-
-
-def read(*path):
-    with open(os.path.join(*path), encoding="utf-8") as file:
-        return file.read()
-
-
-def write(text, *path):
-    with open(os.path.join(*path), "w", encoding="utf-8") as file:
-        file.write(text)
 
 
 def mended(land):
@@ -37,14 +28,8 @@ def told(losses):
 
 
 @unittest.skipUnless(shapely_there.is_there(), shapely_there.LACKING)
-class Case(unittest.TestCase):
-    def setUp(self):
-        spare = tempfile.TemporaryDirectory()
-        self.addCleanup(spare.cleanup)
-        self.folder = spare.name
-
-    def path(self, *names):
-        return os.path.join(self.folder, *names)
+class Case(Spare):
+    """Wants Shapely."""
 
 
 class Quietly:

@@ -7,9 +7,9 @@ import shutil
 import subprocess
 import sys
 import tempfile
-import unittest
 
 from places import BUILT, TOOLS, TOP
+from spare import Spare, read
 import judged_country as judged
 
 HEADS = {"parcels": "parcel,wkt", "covers": "piece,parcel,class,wkt", "classes": "class,percent"}
@@ -30,11 +30,6 @@ def own_check(folder):
         return "yes\n", 0
     ended = run(BUILT, "check", folder, os.path.join(folder, "cert.txt"))
     return ended.stdout, ended.returncode
-
-
-def read(path):
-    with open(path, encoding="utf-8") as file:
-        return file.read()
 
 
 def lines(folder, name):
@@ -112,7 +107,7 @@ def generated(folder, count, *kinds):
     return folder
 
 
-class Case(unittest.TestCase):
+class Case(Spare):
     @classmethod
     def setUpClass(cls):
         spare = tempfile.TemporaryDirectory()
@@ -120,20 +115,16 @@ class Case(unittest.TestCase):
         cls.kept = os.path.join(spare.name, "kept")
 
     def setUp(self):
-        self.folder = tempfile.TemporaryDirectory()
-        self.addCleanup(self.folder.cleanup)
+        super().setUp()
         self.source, self.out = self.path("source"), self.path("country")
-
-    def path(self, *names):
-        return os.path.join(self.folder.name, *names)
 
     def begin(self, make):
         """Source and country as `make` leaves them, which is called once: the other tests of a class have copies."""
         if os.path.exists(self.kept):
-            shutil.copytree(self.kept, self.folder.name, dirs_exist_ok=True)
+            shutil.copytree(self.kept, self.folder, dirs_exist_ok=True)
         else:
             make()
-            shutil.copytree(self.folder.name, self.kept)
+            shutil.copytree(self.folder, self.kept)
 
     def split(self, *options, source=None):
         ended = country("split", source or self.source, self.out, *map(str, options))

@@ -91,8 +91,7 @@ def native(*words):
 
 
 def read(path):
-    with open(path, "rb") as file:
-        return file.read()
+    return pathlib.Path(path).read_bytes()
 
 
 def releases_of(folder):

@@ -3,12 +3,12 @@
 import csv
 import os
 import subprocess
-import tempfile
 import unittest
 
 import dirty
 import places
 from lpis_tools import shapely_there
+from spare import Spare
 
 PREPARE = os.path.join(places.TOOLS, "prepare")
 CLASSES = "class,percent\nGRASS,100\nTREES,30\nWATER,0\n"
@@ -24,16 +24,11 @@ def rows(*path):
 
 
 @unittest.skipUnless(shapely_there.python(), shapely_there.LACKING)
-class Case(unittest.TestCase):
+class Case(Spare):
     def setUp(self):
-        spare = tempfile.TemporaryDirectory()
-        self.addCleanup(spare.cleanup)
-        self.out, self.sheets = os.path.join(spare.name, "out"), os.path.join(spare.name, "sheets")
-        self.spare = spare.name
+        super().setUp()
+        self.out, self.sheets = self.path("out"), self.path("sheets")
         os.mkdir(self.sheets)
-
-    def path(self, name):
-        return os.path.join(self.spare, name)
 
     def write(self, name, text):
         with open(os.path.join(self.sheets, name), "w", encoding="utf-8", newline="") as file:

@@ -11,6 +11,7 @@ import subprocess
 import sys
 import tempfile
 import unittest
+from pathlib import Path
 
 from browser import Browser
 from page_case import CC, EXAMPLES, SOURCES, TESTS, TOP, WHOLE, built, native, node, read, releases_of, squares, tables, wanted
@@ -28,8 +29,7 @@ class Cases:
 
     def file(self, data):
         path = os.path.join(self.folder, f"f{len(os.listdir(self.folder))}")
-        with open(path, "wb") as file:
-            file.write(data)
+        Path(path).write_bytes(data)
         return path
 
     def add(self, call, name, inputs, words, cert=""):
@@ -305,8 +305,7 @@ class Page(unittest.TestCase):
         self.assertEqual((self.text(browser, "line"), browser.value("shown.result.text").encode()), ("", native("area", square)[1]))
         self.assertEqual(browser.value("tables[0].csv()").splitlines(), ["number,name,area", f"1,{browser.value('shown.result.rows[0]')},100.0000000"])
         table = os.path.join(self.folder, "shapes.csv")
-        with open(table, "w", encoding="ascii") as file:
-            file.write('name,wkt\nA,"POLYGON((0 0,1.2345 0,0 1,0 0))"\n')
+        Path(table).write_text('name,wkt\nA,"POLYGON((0 0,1.2345 0,0 1,0 0))"\n', encoding="ascii")
         browser.choose("#area", [table])
         browser.wait("document.getElementById('sentences').innerText.includes('code 14')")
         self.assertEqual(self.text(browser, "line"), native("area", table)[1].decode().strip())

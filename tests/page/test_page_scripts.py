@@ -5,6 +5,7 @@ import os
 import subprocess
 import tempfile
 import unittest
+from pathlib import Path
 
 from page_case import CC, EXAMPLES, TESTS, dev_page, native, node, releases_of, squares, tables, wanted
 from lpis_tools import explaining, report
@@ -51,8 +52,7 @@ class Examples(unittest.TestCase):
             self.assertIn(f'<button id="{button}"', markup)
             with tempfile.TemporaryDirectory() as folder:
                 for name, text in texts[button].items():
-                    with open(os.path.join(folder, f"{name}.csv"), "w", encoding="utf-8") as file:
-                        file.write(text)
+                    Path(folder, f"{name}.csv").write_text(text, encoding="utf-8")
                 self.assertEqual(native("cut", folder, os.path.join(folder, "cert.txt"))[0], status, button)
 
 
@@ -77,8 +77,7 @@ class Scripts(unittest.TestCase):
         wanted("NODE")
         with tempfile.TemporaryDirectory() as folder:
             path = os.path.join(folder, "shapes.csv")
-            with open(path, "w", encoding="ascii") as file:
-                file.write('name,wkt\nA,"POLYGON((0 0,1.2345 0,0 1,0 0))"\n')
+            Path(path).write_text('name,wkt\nA,"POLYGON((0 0,1.2345 0,0 1,0 0))"\n', encoding="ascii")
             for line in ("refused 38 area row 1 wkt 14 at 13", "refused 31 area row 0", "refused 34 area row 7"):
                 [found] = node("explain", words=dev_page.page_words.table(), cases=[{"line": line, "folder": folder, "area": path}])
                 self.assertEqual(found["en"], [words.strip() for words in explaining.Explained(line, folder, area=path).words if "points, x" not in words and "missing:" not in words])

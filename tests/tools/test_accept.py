@@ -3,6 +3,7 @@ Shapely."""
 
 import csv
 import os
+from pathlib import Path
 
 import dirty
 from preparing_case import Case, rows
@@ -77,8 +78,7 @@ class Accepted(Case):
     def test_tables_that_are_none(self):
         self.run_on(self.source)
         copy = self.marked("prepared.csv", lambda row: True, header=("who",))
-        with open(self.path("yes.csv"), "w", encoding="ascii") as file:
-            file.write("kind,layer,row,identifier,area_m2,x,y,accepted\nshape,covers,10,null.2,,,,yes\n")
+        Path(self.path("yes.csv")).write_text("kind,layer,row,identifier,area_m2,x,y,accepted\nshape,covers,10,null.2,,,,yes\n", encoding="ascii")
         for path, words in ((copy, "no column accepted: it is no copy of prepared.csv or report.csv"), (self.path("yes.csv"), "accepted is 'yes', and not 1, 0 or empty"), (self.path("none.csv"), "none.csv")):
             run = self.run_on(self.source, "--accept-from", path)
             self.assertEqual((run.returncode, words in run.stderr, "Traceback" in run.stderr), (64, True, False), run.stderr)
@@ -100,8 +100,7 @@ class Again(Case):
             self.assertNotIn(".rounded", os.listdir(self.out))
 
     def bytes_of(self, name):
-        with open(os.path.join(self.out, name), "rb") as file:
-            return file.read()
+        return Path(self.out, name).read_bytes()
 
     def change_source(self):
         base = dirty.sqlite3.connect(self.path("land.gpkg"))

@@ -10,10 +10,11 @@ import shutil
 import sqlite3
 import subprocess
 import sys
-import tempfile
 import unittest
+from pathlib import Path
 
 from places import BUILT, TOOLS, TOP
+from spare import Spare
 import dirty
 from lpis_tools import shapely_there
 
@@ -54,37 +55,36 @@ def asked(path, queries="audit.sql"):
 
 
 @unittest.skipUnless(shutil.which("sqlite3"), "no sqlite3 (Debian: sqlite3)")
-class Registers(unittest.TestCase):
+class Registers(Spare):
     def setUp(self):
-        self.spare = tempfile.TemporaryDirectory()
-        self.addCleanup(self.spare.cleanup)
-        self.path = os.path.join(self.spare.name, "register.db")
+        super().setUp()
+        self.register = self.path("register.db")
 
     def test_audit(self):
         for scripts, version in (((SECOND,), "2"), ((SECOND, THIRD), "3")):
-            path = made(self.path, *scripts)
+            path = made(self.register, *scripts)
             self.assertEqual(asked(path), [version, "ok", "2024|2|2|0|0", "2025|3|2|1|2", "2027|2|1|2|2", "2025|0|0|1", "2027|1|1|0", "2025|A|2"])
             os.remove(path)
 
     def test_audit_shapes(self):
-        path = made(self.path, SECOND, THIRD)
+        path = made(self.register, SECOND, THIRD)
         self.assertEqual(asked(path, "audit_shapes.sql"), ["1|2|58", "B|58", "2025|2"])
         made(path, "INSERT INTO lpis_text VALUES ('A', 'x')")
         self.assertEqual(asked(path, "audit_shapes.sql"), ["2|2|59", "A", "B|58", "A|1", "2025|2"])
 
     def test_faults(self):
-        path = made(self.path, SECOND, "DELETE FROM lpis_row WHERE year = 2027; INSERT INTO lpis_row VALUES (2025, 2, 'B', 'X')")
+        path = made(self.register, SECOND, "DELETE FROM lpis_row WHERE year = 2027; INSERT INTO lpis_row VALUES (2025, 2, 'B', 'X')")
         self.assertEqual(asked(path)[-5:], ["2025|A|2", "dropped without a row|C|2025", "dropped without a row|D|2025", "no such successor|X|2025", "not dropped|B|2025"])
 
     def backup(self, path):
         """The command as the guide has it, on other files."""
         with open(os.path.join(TOP, "docs", "GUIDE.md"), encoding="utf-8") as file:
             command = re.search(r"^ +(sqlite3 register\.db .*\.backup.*?)\s*(?:#.*)?$", file.read(), re.MULTILINE)[1]
-        copy = os.path.join(self.spare.name, "copy.db")
+        copy = os.path.join(self.folder, "copy.db")
         return subprocess.run(["bash", "-c", command.replace("register.db", path).replace("register-2026.db", copy)], capture_output=True, text=True, check=False), copy
 
     def test_backup(self):
-        path = made(self.path, SECOND)
+        path = made(self.register, SECOND)
         base = sqlite3.connect(path)
         base.execute("BEGIN")
         base.execute("SELECT * FROM lpis_row").fetchall()  # another process reads
@@ -103,78 +103,70 @@ class Registers(unittest.TestCase):
 
     def lines_of_the_guide(self):
         """The queries of the guide, line by line, and what it advises for another user's register."""
-        with open(os.path.join(TOP, "docs", "GUIDE.md"), encoding="utf-8") as file:
-            page = file.read()
+        page = Path(TOP, "docs", "GUIDE.md").read_text(encoding="utf-8")
         lines = [line.strip() for line in page.split("### Reading the register")[1].split("###")[0].splitlines() if line.startswith("    sqlite3 -readonly")]
         advice = re.search(r"`attempt to write a readonly database`: (db=\S+)$", page, re.MULTILINE)[1]
         self.assertGreater(len(lines), 8)
-        return [line.replace("<tools/", f"<{TOOLS}/").replace(">kept.csv", "") for line in lines], advice.replace("register.db", self.path)
+        return [line.replace("<tools/", f"<{TOOLS}/").replace(">kept.csv", "") for line in lines], advice.replace("register.db", self.register)
 
     def asked_as(self, line, setting, *before):
         return subprocess.run([*before, "bash", "-c", f"{setting}; {line}"], capture_output=True, text=True, check=False, cwd="/")
 
     def test_queries_of_the_guide(self):
         """As the owner, and as somebody who may not write beside the register."""
-        base = sqlite3.connect(made(self.path, SECOND, THIRD))
+        base = sqlite3.connect(made(self.register, SECOND, THIRD))
         base.execute("PRAGMA journal_mode = WAL")
         base.close()
-        os.chmod(self.spare.name, 0o755)
+        os.chmod(self.folder, 0o755)
         before = ["setpriv", "--reuid=65534", "--regid=65534", "--clear-groups"] if os.geteuid() == 0 else []
         lines, advice = self.lines_of_the_guide()
         if not before:
-            os.chmod(self.spare.name, 0o555)
-            self.addCleanup(os.chmod, self.spare.name, 0o755)
-        self.assertIn("readonly database", self.asked_as(lines[0], f"db={self.path}", *before).stderr)
+            os.chmod(self.folder, 0o555)
+            self.addCleanup(os.chmod, self.folder, 0o755)
+        self.assertIn("readonly database", self.asked_as(lines[0], f"db={self.register}", *before).stderr)
         if not before or os.stat(TOOLS).st_mode & 0o5 == 5:  # as the tools read it
             wanted = "import sys; sys.path.insert(0, sys.argv[1]); from lpis_tools import registers; print(registers.facts(sys.argv[2])['years'])"
-            run = subprocess.run([*before, sys.executable, "-B", "-c", wanted, TOOLS, self.path], capture_output=True, text=True, check=False, cwd="/")
+            run = subprocess.run([*before, sys.executable, "-B", "-c", wanted, TOOLS, self.register], capture_output=True, text=True, check=False, cwd="/")
             self.assertEqual((run.stdout, run.stderr), ("[2024, 2025, 2027]\n", ""))
         others = [self.asked_as(line, advice, *before) for line in lines]
         self.assertEqual([(run.returncode, run.stderr) for run in others], [(0, "")] * len(lines))
-        os.chmod(self.spare.name, 0o755)
-        self.assertEqual([self.asked_as(line, f"db={self.path}").stdout for line in lines], [run.stdout for run in others])
+        os.chmod(self.folder, 0o755)
+        self.assertEqual([self.asked_as(line, f"db={self.register}").stdout for line in lines], [run.stdout for run in others])
 
     @unittest.skipUnless(BUILT, "the program is not built")
     def test_of_the_program(self):
         for year in ("2024", "2025"):
-            folder, cert = os.path.join(TOP, "examples", "years", year), os.path.join(self.spare.name, "cert.txt")
-            for words in (["cut", folder, cert], ["publish", self.path, year, folder, cert]):
+            folder, cert = os.path.join(TOP, "examples", "years", year), os.path.join(self.folder, "cert.txt")
+            for words in (["cut", folder, cert], ["publish", self.register, year, folder, cert]):
                 subprocess.run([BUILT, *words], check=True, capture_output=True)
-        lines = asked(self.path)
+        lines = asked(self.register)
         self.assertEqual(lines[1:4], ["ok", "2024|5|5|0|0", "2025|4|3|4|5"])
         self.assertEqual(lines[-1], "2025|valley|2")
-        run, copy = self.backup(self.path)
+        run, copy = self.backup(self.register)
         self.assertEqual((run.returncode, run.stderr), (0, ""))
         self.assertEqual(asked(copy), lines)
-        found = [subprocess.run([BUILT, "trace", path, "north"], capture_output=True, text=True, check=False).stdout for path in (self.path, copy)]
+        found = [subprocess.run([BUILT, "trace", path, "north"], capture_output=True, text=True, check=False).stdout for path in (self.register, copy)]
         self.assertEqual(found, ["north-1\nnorth-2\n"] * 2)
 
 
 @unittest.skipUnless(BUILT and shapely_there.python(), "the program is not built, or Shapely is not there")
-class BeforeTheTables(unittest.TestCase):
+class BeforeTheTables(Spare):
     """A report names and sums what was left out before the tables that have the yes."""
 
     def setUp(self):
-        spare = tempfile.TemporaryDirectory()
-        self.addCleanup(spare.cleanup)
-        self.folder = spare.name
+        super().setUp()
         self.out, self.cert = self.path("release"), self.path("cert.txt")
         land = dirty.make(self.path("land.gpkg"), ["null", "twin", "bare", "blank", "wide"])
         run = subprocess.run([os.path.join(TOOLS, "prepare"), land, self.out, "--accept"], capture_output=True, text=True, check=False)
         self.assertEqual(run.returncode, 0, run.stdout + run.stderr)
         subprocess.run([BUILT, "cut", self.out, self.cert], check=True, capture_output=True)
 
-    def path(self, name):
-        return os.path.join(self.folder, name)
-
     def report(self):
         words = [os.path.join(TOOLS, "report"), self.out, self.cert, "--json", self.path("r.json"), "--html", self.path("r.html"), "--lpis", BUILT]
         run = subprocess.run(words, capture_output=True, text=True, check=False)
         self.assertEqual(run.returncode, 0, run.stdout + run.stderr)
-        with open(self.path("r.json"), encoding="utf-8") as file:
-            told = json.load(file)
-        with open(self.path("r.html"), encoding="utf-8") as file:
-            return run.stdout, told, file.read()
+        told = json.loads(Path(self.path("r.json")).read_text(encoding="utf-8"))
+        return run.stdout, told, Path(self.path("r.html")).read_text(encoding="utf-8")
 
     def test_beside(self):
         text, told, html = self.report()
@@ -188,8 +180,7 @@ class BeforeTheTables(unittest.TestCase):
         self.assertEqual(told["origin"]["faults"], [])
         self.assertIn("Balance of land", html)
         for name in ("prepared.csv", "report.csv", "balance.csv", "identifiers.csv"):
-            with open(os.path.join(self.out, name), "rb") as file:
-                digest = hashlib.sha256(file.read()).hexdigest()
+            digest = hashlib.sha256(Path(self.out, name).read_bytes()).hexdigest()
             self.assertEqual((told["files"][name]["sha256"], digest in html), (digest, True), name)
 
     def test_said(self):
@@ -204,16 +195,13 @@ class BeforeTheTables(unittest.TestCase):
         self.assertEqual((run.returncode, run.stdout.splitlines()[-4:-2]), (0, ["the balance adds up to the square metre", words]), run.stdout + run.stderr)
         self.assertRegex(run.stdout.splitlines()[-1], "^accepted by --accept: [0-9]+ rows of report.csv$")
         for name in ("prepared.csv", "report.csv"):
-            with open(os.path.join(self.out, name), "w", encoding="ascii") as file:
-                file.write("kind,layer,stops\nkept,covers,0\n")
+            Path(self.out, name).write_text("kind,layer,stops\nkept,covers,0\n", encoding="ascii")
         self.assertNotIn("left out", subprocess.run(command, capture_output=True, text=True, check=False).stderr)
 
     def test_of_other_tables(self):
         path = os.path.join(self.out, "balance.csv")
-        with open(path, encoding="utf-8") as file:
-            text = file.read()
-        with open(path, "w", encoding="utf-8") as file:
-            file.write(re.sub(r"covers,GRASS,(.*),([0-9.]+),0.000", r"covers,GRASS,\1,9.000,0.000", text))
+        text = Path(path).read_text(encoding="utf-8")
+        Path(path).write_text(re.sub(r"covers,GRASS,(.*),([0-9.]+),0.000", r"covers,GRASS,\1,9.000,0.000", text), encoding="utf-8")
         self.assertIn("balance.csv, report.csv and prepared.csv are of other tables: GRASS has 9.000 m2 there", self.report()[0])
 
     def test_nothing_beside(self):

@@ -14,6 +14,7 @@ import subprocess
 import tempfile
 import time
 import unittest
+from pathlib import Path
 
 from places import TOOLS
 import dirty
@@ -104,16 +105,13 @@ class Balance(unittest.TestCase):
     def edited(self, folder, name, edit):
         """What the judge finds where a file is edited."""
         path = os.path.join(folder, name)
-        with open(path, encoding="utf-8") as file:
-            text = file.read()
+        text = Path(path).read_text(encoding="utf-8")
         self.assertNotEqual(edit(text), text, name)
-        with open(path, "w", encoding="utf-8") as file:
-            file.write(edit(text))
+        Path(path).write_text(edit(text), encoding="utf-8")
         try:
             return judged(*((self.land, folder) if "country" not in folder else (self.path("prepare"), self.path("country"))))
         finally:
-            with open(path, "w", encoding="utf-8") as file:
-                file.write(text)
+            Path(path).write_text(text, encoding="utf-8")
 
     def reports_are_judged(self, out):
         """The judge notices what is wrong in a report or in a table."""

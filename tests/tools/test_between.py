@@ -6,6 +6,7 @@ import math
 import os
 import subprocess
 import unittest
+from pathlib import Path
 
 import dirty
 import places
@@ -65,10 +66,8 @@ class Between(Case):
             os.remove(source)
             (of_balance,) = (row for row in rows(self.out, "balance.csv") if row["layer"] == "between")
             self.assertAlmostEqual(float(of_balance["tables_m2"]), sum(area for _, _, area, _ in found), delta=0.01)
-            with open(os.path.join(self.out, "between.geojson"), encoding="utf-8") as file:
-                self.assertEqual(len(json.load(file)["features"]), len(found))
-            with open(os.path.join(self.out, "report.geojson"), encoding="utf-8") as file:
-                self.assertNotIn('"between"', file.read())
+            self.assertEqual(len(json.loads(Path(self.out, "between.geojson").read_text(encoding="utf-8"))["features"]), len(found))
+            self.assertNotIn('"between"', Path(self.out, "report.geojson").read_text(encoding="utf-8"))
 
     def test_width(self):
         """--between sets up to which width; where there is none there is no layer, and no line of the balance."""

@@ -144,10 +144,8 @@ class Choice(Case):
         """By the scripts, README.md and the manual."""
         self.assertIn(f"NEEDS='{NEEDS}'", (self.top / "tools" / "run.sh").read_text())
         for page in ("README.md", "docs/lpis.1"):
-            with open(os.path.join(TOP, page), encoding="utf-8") as file:
-                self.assertIn(NEEDS.partition(" (")[0], " ".join(file.read().split()), page)
-        with open(os.path.join(TOP, "README.md"), encoding="utf-8") as file:
-            self.assertIn(NEEDS, " ".join(file.read().split()))
+            self.assertIn(NEEDS.partition(" (")[0], " ".join(pathlib.Path(TOP, page).read_text(encoding="utf-8").split()), page)
+        self.assertIn(NEEDS, " ".join(pathlib.Path(TOP, "README.md").read_text(encoding="utf-8").split()))
 
     def test_no_memory_is_an_answer(self):
         """A program that starts, and has no memory to say its version, runs."""

@@ -5,11 +5,12 @@ import json
 import os
 import sqlite3
 import subprocess
-import tempfile
 import unittest
 from collections import Counter
+from pathlib import Path
 
 from places import TOOLS
+from spare import Spare
 import dirty
 import exact
 import stopping
@@ -42,12 +43,10 @@ def square(name, x, y, side=10.0):
     return (name, shape), (f"{name}.1", name, "GRASS", shape)
 
 
-class Case(unittest.TestCase):
+class Case(Spare):
     def setUp(self):
-        spare = tempfile.TemporaryDirectory()
-        self.addCleanup(spare.cleanup)
-        self.folder, self.out = spare.name, os.path.join(spare.name, "out")
-        self.land = os.path.join(spare.name, "land.gpkg")
+        super().setUp()
+        self.out, self.land = self.path("out"), self.path("land.gpkg")
 
     def package(self, parcels, covers, classes=(("GRASS", 100), ("TREES", 30)), system=25832):
         package = dirty.Package(self.land, system)
@@ -63,8 +62,7 @@ class Case(unittest.TestCase):
         self.put_classes()
 
     def put_classes(self, text="class,percent\nGRASS,100\nTREES,30\n"):
-        with open(os.path.join(self.out, "classes.csv"), "w", encoding="utf-8") as file:
-            file.write(text)
+        Path(self.out, "classes.csv").write_text(text, encoding="utf-8")
 
     def compare(self, *words):
         return subprocess.run([COMPARE, self.land, self.out, *words], capture_output=True, text=True, check=False)
@@ -120,8 +118,7 @@ class Source(Case):
         self.assertIn("lost bare (parcel)", run.stdout)
         self.assertEqual((by_name["lost", "flat.2"]["words"], by_name["lost", "bare"]["area_m2"]), ("its shape has no area", "100.0000"))
         self.assertIn("in the tables nobody has it, it is left out of the parcel", by_name["gap", "null"]["words"])
-        with open(os.path.join(self.out, "report.geojson"), encoding="utf-8") as file:
-            whole = json.load(file)
+        whole = json.loads(Path(self.out, "report.geojson").read_text(encoding="utf-8"))
         self.assertEqual(len(whole["features"]), len(rows))
         self.assertIn("EPSG::25832", json.dumps(whole["crs"]))
         lost = next(one for one in whole["features"] if one["properties"]["identifiers"] == "bare")
@@ -278,8 +275,7 @@ class Compare(Case):
                 "losses.write([losses.Loss('lost', [str(n)], 'gone', area=1.0, layer='covers', rows=[n]) for n in range(100_050)], sys.argv[2])")
         subprocess.run([shapely_there.python(), "-c", code, TOOLS, self.out], check=True)
         self.assertEqual(len(self.report()), 100_050)
-        with open(os.path.join(self.out, "report.geojson"), encoding="utf-8") as file:
-            self.assertEqual(len(json.load(file)["features"]), 100_050)
+        self.assertEqual(len(json.loads(Path(self.out, "report.geojson").read_text(encoding="utf-8"))["features"]), 100_050)
 
     def test_failing(self):
         """Where Shapely fails, the rows are named."""
@@ -302,8 +298,7 @@ class Names(Case):
         folder = os.path.join(self.folder, "sheets")
         os.makedirs(folder)
         for name, head, row in (("parcels", "parcel,wkt", "A"), ("covers", "piece,parcel,class,wkt", "A.1,A,GRASS")):
-            with open(os.path.join(folder, f"{name}.csv"), "w", encoding="utf-8") as file:
-                file.write(f'{head}\n{row},"POLYGON((9.1 48.1,9.2 48.1,9.2 48.2,9.1 48.1))"\n')
+            Path(folder, f"{name}.csv").write_text(f'{head}\n{row},"POLYGON((9.1 48.1,9.2 48.1,9.2 48.2,9.1 48.1))"\n', encoding="utf-8")
         run = subprocess.run([COMPARE, folder, self.out], capture_output=True, text=True, check=False)
         self.assertEqual((run.returncode, "reads as degrees" in run.stderr), (64, True), run.stderr)
 

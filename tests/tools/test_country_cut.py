@@ -109,7 +109,7 @@ class Engines(Case):
         for options in (["--snakemake"], ["--profile", os.path.join(self.out, "slurm")]):
             for name in self.certs():
                 os.remove(os.path.join(self.out, name, "cert.txt"))
-            ended = country("cut", self.out, "--lpis", f"'{self.program}'", *options, SNAKEMAKE_PROFILE="mine", PATH=f"{self.folder.name}:{os.environ['PATH']}")
+            ended = country("cut", self.out, "--lpis", f"'{self.program}'", *options, SNAKEMAKE_PROFILE="mine", PATH=f"{self.folder}:{os.environ['PATH']}")
             self.assertEqual((ended.returncode, ended.stdout.splitlines()[-1]), (0, f"regions {len(self.regions())} refused 0"), ended.stdout + ended.stderr)
             self.assertFalse(os.path.exists(hit), options)
         write_text(os.path.join(self.out, "slurm", "config.v8+.yaml"), f'cluster: "touch {hit}; bash"\n')
@@ -121,7 +121,7 @@ class Engines(Case):
         for told, wanted in (("--workflow-profile X", True), ("", False)):
             write_text(self.path("snakemake"), f'#!/bin/sh\n[ "$1" = --help ] && echo "{told}" || echo "$PWD $* profile:$SNAKEMAKE_PROFILE safe:$PYTHONSAFEPATH" >{self.path("said")}\n')
             os.chmod(self.path("snakemake"), 0o755)
-            country("cut", self.out, "--lpis", "false", "--snakemake", SNAKEMAKE_PROFILE="mine", PATH=f"{self.folder.name}:{os.environ['PATH']}")
+            country("cut", self.out, "--lpis", "false", "--snakemake", SNAKEMAKE_PROFILE="mine", PATH=f"{self.folder}:{os.environ['PATH']}")
             said = read(self.path("said"))
             self.assertEqual(("--workflow-profile none" in said, "profile: safe:1" in said), (wanted, True), said)
 
@@ -131,7 +131,7 @@ class Engines(Case):
         write_text(self.path("sbatch"), f'#!/bin/bash\necho "$*" >>{self.path("jobs")}\nfor job; do :; done\nbash "$job" >/dev/null 2>&1 &\necho $!\n')
         os.chmod(self.path("sbatch"), 0o755)
         country("cut", self.out, "--lpis", "false")  # writes the profile
-        ended = country("cut", self.out, "--lpis", f"'{self.program}'", "--profile", self.path("country", "slurm"), PATH=f"{self.folder.name}:{os.environ['PATH']}")
+        ended = country("cut", self.out, "--lpis", f"'{self.program}'", "--profile", self.path("country", "slurm"), PATH=f"{self.folder}:{os.environ['PATH']}")
         self.assertEqual(ended.returncode, 0, ended.stdout + ended.stderr)
         jobs = read(self.path("jobs")).splitlines()
         self.assertEqual((len(jobs), len(self.certs())), (len(self.regions()), len(self.regions())))

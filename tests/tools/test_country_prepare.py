@@ -11,6 +11,7 @@ import subprocess
 import tempfile
 import time
 import unittest
+from pathlib import Path
 
 from places import BUILT, TOOLS
 import dirty
@@ -127,8 +128,7 @@ class Sources(Case):
         for name in ("parcels", "covers"):
             path = os.path.join(folder, places[guest][0], f"{name}.csv")
             text = "".join(self.moved(line) if guest in line else line for line in read(path).splitlines(keepends=True))
-            with open(path, "w", encoding="utf-8") as file:
-                file.write(text)
+            Path(path).write_text(text, encoding="utf-8")
         run("country", "cut", folder, "--lpis", BUILT)
         self.assertNotEqual(run("country", "check", folder, "--lpis", BUILT).returncode, 0)
 
@@ -214,8 +214,7 @@ class Sources(Case):
         for folder, x, text in ((far, 9, "POLYGON(({0} 1,{0} 2,8 2,{0} 1))"), (wrong, 9, "POLYGON(({0}.0001 1,{0} 2,8 2,{0}.0001 1))")):
             os.mkdir(folder)
             for name, row in (("parcels", "parcel,wkt\nA"), ("covers", "piece,parcel,class,wkt\nP,A,GRASS")):
-                with open(os.path.join(folder, f"{name}.csv"), "w", encoding="ascii") as file:
-                    file.write(f'{row},"{text.format(x)}"\n')
+                Path(folder, f"{name}.csv").write_text(f'{row},"{text.format(x)}"\n', encoding="ascii")
         for words, status, told in (((bare, self.path("out"), "--previous", self.path("none")), 1, "has no table covers.csv of last year"), ((bare, self.path("out"), "--previous", far), 64, "is it of another place"),
                                     ((bare, self.path("out"), "--previous", wrong), 64, "covers.csv row 1: P: its wkt is no polygon in millimetres"), ((bare, self.path("out")), 1, "there is no table of classes"), ((self.path("none.gpkg"), self.path("out")), 64, "none.gpkg"),
                                     ((bare, self.path("out"), "--parcels", "0"), 64, "limits are 1 or more"), ((bare, self.path("out"), "--name", "x"), 64, "--name is"),

@@ -6,10 +6,10 @@ import os
 import shutil
 import sqlite3
 import subprocess
-import tempfile
 import unittest
 
 from places import BUILT, TOOLS, TOP
+from spare import Spare, read, write
 from lpis_tools import ledger, parting, splitting, streams
 
 YEARS = os.path.join(TOP, "examples", "country-years")
@@ -21,28 +21,15 @@ def run(tool, *words):
     return subprocess.run([os.path.join(TOOLS, tool), *map(str, words)], capture_output=True, text=True, check=False, env={**os.environ, "LPIS": BUILT or "false"})
 
 
-def read(*names):
-    with open(os.path.join(*names), encoding="utf-8") as file:
-        return file.read()
+class Case(Spare):
+    prefix = "country of "
 
-
-def write(text, *names):
-    with open(os.path.join(*names), "w", encoding="utf-8") as file:
-        file.write(text)
-
-
-class Case(unittest.TestCase):
     def setUp(self):
-        folder = tempfile.TemporaryDirectory(prefix="country of ")
-        self.addCleanup(folder.cleanup)
-        self.folder = folder.name
+        super().setUp()
         self.source, self.out, self.base = self.path("source"), self.path("country"), self.path("lpis.db")
         shutil.copytree(os.path.join(YEARS, "2025"), self.source)
         os.makedirs(self.out)
         shutil.copy(os.path.join(YEARS, "country.txt"), self.out)
-
-    def path(self, *names):
-        return os.path.join(self.folder, *names)
 
     def lineage(self):
         return [read(self.out, region, "lineage.csv") for region in REGIONS]

@@ -10,6 +10,7 @@ import subprocess
 import sys
 import tempfile
 import unittest
+from pathlib import Path
 
 import dirty
 import stopping
@@ -66,8 +67,7 @@ class Tables(Case):
         """A table of classes beside the tables is not written over by another one of the source."""
         source = dirty.make(self.path("l.gpkg"), [])
         os.mkdir(self.out)
-        with open(os.path.join(self.out, "classes.csv"), "w", encoding="ascii") as file:
-            file.write("class,percent\nGRASS,100\nTREES,50\n")
+        Path(self.out, "classes.csv").write_text("class,percent\nGRASS,100\nTREES,50\n", encoding="ascii")
         run = self.run_on(source, "--accept")
         self.assert_refused(run, "classes.csv has other rows than the table classes of the source")
         self.assertEqual(rows(self.out, "classes.csv")[1]["percent"], "50")
@@ -295,8 +295,7 @@ class Whole(Case):
         for row in rows(self.out, "balance.csv"):
             parts = [float(row[f"{column}_m2"]) for column in ("source", "mended", "left_out", "settled")]
             self.assertAlmostEqual(sum(parts), float(row["tables_m2"]), delta=0.5, msg=str(row))
-        with open(os.path.join(self.out, "report.geojson"), encoding="utf-8") as file:
-            features = json.load(file)["features"]
+        features = json.loads(Path(self.out, "report.geojson").read_text(encoding="utf-8"))["features"]
         left = {feature["properties"]["identifiers"]: feature for feature in features if feature["properties"]["kind"] == "left out"}
         self.assertEqual((left["bare"]["properties"]["area_m2"], bool(left["bare"]["geometry"])), (100, True))
 
@@ -306,8 +305,7 @@ class Alone(unittest.TestCase):
         """--help and --version need no Shapely."""
         with tempfile.TemporaryDirectory() as folder:
             os.makedirs(os.path.join(folder, "shapely"))
-            with open(os.path.join(folder, "shapely", "__init__.py"), "w", encoding="ascii") as file:
-                file.write("raise ImportError\n")
+            Path(folder, "shapely", "__init__.py").write_text("raise ImportError\n", encoding="ascii")
             for word, wanted in (("--help", "--accept"), ("--version", "lpis-prepare ")):
                 run = subprocess.run([sys.executable, PREPARE, word], capture_output=True, text=True, check=False, env={**os.environ, "PYTHONPATH": folder})
                 self.assertEqual((run.returncode, wanted in run.stdout), (0, True), run.stdout + run.stderr)

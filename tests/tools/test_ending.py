@@ -4,12 +4,13 @@ import os
 import shutil
 import signal
 import subprocess
-import tempfile
 import unittest
+from pathlib import Path
 
 import dirty
 import stopping
 from places import TOOLS, TOP
+from spare import Spare
 from lpis_tools import ending, shapely_there
 
 # Runs a program of its own in the background, which hears no INT, and waits for it.
@@ -33,17 +34,14 @@ def is_alive(pid):
     return bool(ending.stat_of(pid))
 
 
-class Ending(unittest.TestCase):
+class Ending(Spare):
     def setUp(self):
-        spare = tempfile.TemporaryDirectory()
-        self.addCleanup(spare.cleanup)
-        self.folder = spare.name
+        super().setUp()
         for name in ("bin", "tmp", "country", "country/only"):
             os.mkdir(self.path(name))
         dirty.make(self.path("land.gpkg"), [])
         for name, text in (("land.gml", "<none/>"), ("country/country.txt", REGION)):
-            with open(self.path(name), "w", encoding="ascii") as file:
-                file.write(text)
+            Path(self.path(name)).write_text(text, encoding="ascii")
         for name in ("parcels", "covers", "classes"):
             shutil.copy(os.path.join(EXACT, f"{name}.csv"), self.path("country/only"))
         for name in ("lpis", "ogr2ogr"):
@@ -51,16 +49,12 @@ class Ending(unittest.TestCase):
                 file.write(STANDIN)
             os.chmod(file.name, 0o755)
 
-    def path(self, name):
-        return os.path.join(self.folder, name)
-
     def pids(self):
         """Of the stand-ins that have begun."""
         found = []
         for name in os.listdir(self.folder):
             if name.startswith("pids."):
-                with open(self.path(name), encoding="ascii") as file:
-                    found += map(int, file.read().split())
+                found += map(int, Path(self.path(name)).read_text(encoding="ascii").split())
         return found
 
     def start(self, tool, words, program, ready=stopping.hears_signals):

@@ -10,6 +10,7 @@ import shutil
 import sqlite3
 import subprocess
 import xml.dom.minidom
+from pathlib import Path
 
 import pytest
 from places import BUILT, TOOLS, TOP
@@ -51,8 +52,7 @@ def explain(line, *words):
 
 
 def write(folder, name, text):
-    with open(os.path.join(folder, name), "wb") as file:
-        file.write(text if isinstance(text, bytes) else text.encode())
+    Path(folder, name).write_bytes(text if isinstance(text, bytes) else text.encode())
 
 
 def release(folder, parcels="A,\"" + SQUARE + "\"\n", covers="C,A,G,\"" + SQUARE + "\"\n", classes="G,100\n"):
@@ -84,15 +84,13 @@ def test_a_code_has_a_meaning_a_cause_and_a_remedy(code):
 
 
 def test_formats_has_the_tables():
-    with open(os.path.join(TOP, "docs", "FORMATS.md"), encoding="utf-8") as file:
-        page = file.read()
+    page = Path(TOP, "docs", "FORMATS.md").read_text(encoding="utf-8")
     assert page == codes.with_codes(page), "`python3 tools/lpis_tools/codes.py` writes them"
 
 
 @pytest.mark.parametrize("name", sorted(os.listdir(os.path.join(TOOLS, "recipes"))))
 def test_the_guide_names_the_recipes(name):
-    with open(os.path.join(TOP, "docs", "GUIDE.md"), encoding="utf-8") as file:
-        assert name in file.read()
+    assert name in Path(TOP, "docs", "GUIDE.md").read_text(encoding="utf-8")
 
 
 MARKED = "old,new,exact\nA,B,1\nA,C,1\n"

@@ -2,14 +2,13 @@
 system stands for is left out where pyproj is not there."""
 
 import contextlib
-import os
 import random
 import struct
-import tempfile
 import time
 import unittest
 from unittest import mock
 
+from spare import Spare
 import dirty
 from lpis_tools import land, sheets, systems, wkb, wkt
 
@@ -176,25 +175,18 @@ class Bytes(unittest.TestCase):
         self.assertEqual((found.members, found.count(), found.box()), ([[dirty.box(0, 0), dirty.box(1, 1, 1, 1)]], 10, (dirty.EAST, dirty.NORTH, dirty.EAST + 10, dirty.NORTH + 10)))
 
 
-class Spare(unittest.TestCase):
-    def setUp(self):
-        self.spare = tempfile.TemporaryDirectory()
-        self.addCleanup(self.spare.cleanup)
-
-    def path(self, name):
-        return os.path.join(self.spare.name, name)
-
+class Files(Spare):
     def write(self, name, text, encoding="utf-8"):
         with open(self.path(name), "wb") as file:
             file.write(text.encode(encoding) if isinstance(text, str) else text)
         return self.path(name)
 
 
-class Tables(Spare):
+class Tables(Files):
     def faults(self, covers, parcels=f'parcel,wkt\nA,"POLYGON({RING})"\n'):
         self.write("covers.csv", covers)
         self.write("parcels.csv", parcels)
-        layer = land.read(self.spare.name)["covers"]
+        layer = land.read(self.folder)["covers"]
         return layer, [(fault.row, fault.words) for fault in layer.faults]
 
     def test_faults(self):
@@ -213,7 +205,7 @@ class Tables(Spare):
     def test_chosen(self):
         self.write("covers.csv", f"{COLUMNS},CLASS\n{PIECE},WATER\n")
         self.write("parcels.csv", f'parcel,wkt\nA,"POLYGON({RING})"\n')
-        self.assertEqual(land.read(self.spare.name, {"covers.class": "CLASS"})["covers"].rows[0]["class"], "WATER")
+        self.assertEqual(land.read(self.folder, {"covers.class": "CLASS"})["covers"].rows[0]["class"], "WATER")
 
     def test_encodings(self):
         text = "class;percent\r\nGr\u00fcn;5\r\n"
@@ -275,7 +267,7 @@ class WithoutLibrary(unittest.TestCase):
                 self.assertTrue(why in system.why and bool(why) == bool(system.why), system)
 
 
-class Packages(Spare):
+class Packages(Files):
     def test_package(self):
         layers = land.read(dirty.make(self.path("l.gpkg"), ["null", "empty", "curve", "z", "line"]))
         parcels, covers = ({row.fields[key]: row for row in layers[name].rows} for name, key in (("parcels", "parcel"), ("covers", "piece")))

@@ -6,6 +6,7 @@ import os
 import tempfile
 import unittest
 import unittest.mock
+from pathlib import Path
 
 from lpis_tools import shapely_there
 
@@ -117,11 +118,8 @@ class Lands(unittest.TestCase):
         for file, old, new, kind in (("parcels.csv", "550010.000 5400010.000", "550010.000 5400009.000", "balance"), ("covers.csv", "K1,P1", "K7,P1", "silent"),
                                      ("balance.csv", "parcels,,300.000", "parcels,,299.000", "balance"), ("balance.csv", "0.000,0.000,0.000,300.000", "0.000,1.000,0.000,300.000", "uneven")):
             path = os.path.join(out, file)
-            with open(path, encoding="utf-8") as source:
-                text = source.read()
+            text = Path(path).read_text(encoding="utf-8")
             self.assertIn(old, text)
-            with open(path, "w", encoding="utf-8") as changed:
-                changed.write(text.replace(old, new))
+            Path(path).write_text(text.replace(old, new), encoding="utf-8")
             self.assertIn(kind, [fault[0] for fault in lands_trial.Judge(land, out).judge()], (file, new))
-            with open(path, "w", encoding="utf-8") as again:
-                again.write(text)
+            Path(path).write_text(text, encoding="utf-8")

@@ -5,11 +5,12 @@ import os
 import random
 import sqlite3
 import subprocess
-import tempfile
 import tracemalloc
 import unittest
+from pathlib import Path
 
 from places import BUILT, TOOLS, TOP
+from spare import Spare
 from lpis_tools import lineage_faults, shapely_there, years
 
 EXAMPLES = os.path.join(TOP, "examples", "exact")
@@ -56,11 +57,9 @@ FAULTY = [
 
 def write(folder, shapes, rows=None):
     os.makedirs(folder, exist_ok=True)
-    with open(os.path.join(folder, "parcels.csv"), "w", encoding="ascii") as file:
-        file.write("parcel,wkt\n" + "".join(f'{name},"{wkt}"\n' for name, wkt in shapes.items()))
+    Path(folder, "parcels.csv").write_text("parcel,wkt\n" + "".join(f'{name},"{wkt}"\n' for name, wkt in shapes.items()), encoding="ascii")
     if rows is not None:
-        with open(os.path.join(folder, "lineage.csv"), "w", encoding="ascii") as file:
-            file.write("old,new,exact\n" + rows)
+        Path(folder, "lineage.csv").write_text("old,new,exact\n" + rows, encoding="ascii")
     return folder
 
 
@@ -68,110 +67,102 @@ def run(*words):
     return subprocess.run([os.path.join(TOOLS, "lineage"), *words], capture_output=True, text=True, check=False)
 
 
-class Spare(unittest.TestCase):
-    def setUp(self):
-        spare = tempfile.TemporaryDirectory(prefix="years ")
-        self.addCleanup(spare.cleanup)
-        self.folder = spare.name
-
-    def place(self, *names):
-        return os.path.join(self.folder, *names)
+class Years(Spare):
+    prefix = "years "
 
     def read(self, *names):
-        with open(self.place(*names), encoding="utf-8") as file:
-            return file.read().split("\n")[1:-1]
+        return Path(self.path(*names)).read_text(encoding="utf-8").split("\n")[1:-1]
 
     def register(self, shapes):
-        base = sqlite3.connect(self.place("lpis.db"))
+        base = sqlite3.connect(self.path("lpis.db"))
         base.executescript(REGISTER)
         base.executemany("INSERT INTO lpis_span VALUES (?, 2024, 0)", [(name,) for name in shapes])
         base.executemany("INSERT INTO lpis_text VALUES (?, ?)", [item for item in shapes.items() if item[0] != "m"])
         base.execute("INSERT INTO lpis_span VALUES ('early', 2023, 2023)")
         base.commit()
         base.close()
-        return self.place("lpis.db")
+        return self.path("lpis.db")
 
 
 @unittest.skipUnless(shapely_there.python(), shapely_there.LACKING)
-class Proposals(Spare):
+class Proposals(Years):
     def test_of_folders(self):
         for number, (what, old, new, rows, left) in enumerate(PROPOSED):
             with self.subTest(what):
-                folder = self.place(str(number))
+                folder = self.path(str(number))
                 ran = run(write(os.path.join(folder, "old"), old), write(os.path.join(folder, "new"), new), os.path.join(folder, "new"))
                 self.assertEqual((rows.split(), int(bool(left))), (sorted(self.read(folder, "new", "lineage.csv")), ran.returncode), ran.stderr)
                 self.assertEqual(left.split(), [line.split()[1].rstrip(":") for line in ran.stdout.splitlines() if line.startswith("unclear")])
 
     def test_of_the_examples(self):
-        ran = run(os.path.join(EXAMPLES, "2024"), os.path.join(EXAMPLES, "2025"), self.place("proposed.csv"))
+        ran = run(os.path.join(EXAMPLES, "2024"), os.path.join(EXAMPLES, "2025"), self.path("proposed.csv"))
         with open(os.path.join(EXAMPLES, "2025", "lineage.csv"), encoding="ascii") as file:
             wanted = sorted(line.rstrip("\n").rstrip("0") for line in [*file][1:])
         self.assertEqual((0, wanted), (ran.returncode, sorted(line.rstrip("0") for line in self.read("proposed.csv"))))
 
     def test_of_a_register(self):
         base = self.register({**OLDER, "m": OLDER["m"]})
-        ran = run("--register", base, write(self.place("new"), NEWER), self.place("new"))
+        ran = run("--register", base, write(self.path("new"), NEWER), self.path("new"))
         self.assertEqual(1, ran.returncode, ran.stderr)
         self.assertEqual(["a,a1,1", "a,a2,1", "b,,0"], sorted(self.read("new", "lineage.csv")))
         self.assertIn("unclear m: the register keeps no shape of it", ran.stdout)
         self.assertIn("used before early: last in 2023", ran.stdout)
 
     def test_nothing_is_written_over(self):
-        old, new = write(self.place("old"), OLDER), write(self.place("new"), NEWER, "a,a1,\n")
+        old, new = write(self.path("old"), OLDER), write(self.path("new"), NEWER, "a,a1,\n")
         ran = run(old, new, new)
         self.assertEqual((64, ["a,a1,"]), (ran.returncode, self.read("new", "lineage.csv")))
         self.assertIn("it stays as it is", ran.stderr)
 
     def test_trouble_is_no_traceback(self):
-        new = write(self.place("new"), NEWER)
-        for words in ([], [new], [new, new, new, new], [self.place("none"), new, self.place("x.csv")], ["--register", self.place("none.db"), new, self.place("x.csv")],
-                      ["--check", new, new], ["--register", os.path.join(new, "parcels.csv"), new, self.place("x.csv")]):
+        new = write(self.path("new"), NEWER)
+        for words in ([], [new], [new, new, new, new], [self.path("none"), new, self.path("x.csv")], ["--register", self.path("none.db"), new, self.path("x.csv")],
+                      ["--check", new, new], ["--register", os.path.join(new, "parcels.csv"), new, self.path("x.csv")]):
             ran = run(*words)
             self.assertEqual(64, ran.returncode, words)
             self.assertNotIn("Traceback", ran.stderr)
 
 
 @unittest.skipUnless(shapely_there.python(), shapely_there.LACKING)
-class Faults(Spare):
+class Faults(Years):
     def test_all_at_once(self):
         base = self.register(OLDER)
         for number, (rows, wanted) in enumerate(FAULTY):
             with self.subTest(rows):
-                ran = run("--check", "--register", base, write(self.place(f"new{number}"), NEWER, rows))
+                ran = run("--check", "--register", base, write(self.path(f"new{number}"), NEWER, rows))
                 lines = [line for line in ran.stdout.splitlines() if line[:1].isdigit()]
                 self.assertEqual((1, wanted), (ran.returncode, [line.split(":")[0] for line in lines]), ran.stdout + ran.stderr)
 
     def test_exchanged_names_are_reported(self):
-        old = write(self.place("old"), OLDER)
-        ran = run("--check", old, write(self.place("new"), NEWER, "a,a1,1\na,a2,1\nb,,\nm,mm,\n"))
+        old = write(self.path("old"), OLDER)
+        ran = run("--check", old, write(self.path("new"), NEWER, "a,a1,1\na,a2,1\nb,,\nm,mm,\n"))
         moved = [line for line in ran.stdout.splitlines() if line.startswith("moved ")]
         self.assertEqual((0, 2), (ran.returncode, len(moved)), ran.stdout)
         self.assertTrue(moved[0].startswith("moved k: its old and its new shape share nothing") and moved[1].startswith("moved n:"))
 
 
-class Countries(Spare):
+class Countries(Years):
     """Parcels of regions: one that several regions have is one."""
 
     def country(self, name, shapes, rows=("", "")):
         """Two regions, west and east of x = 9 m."""
-        folder = self.place(name)
+        folder = self.path(name)
         for region, met, of_region in (("west", lambda left, right: left < 9, rows[0]), ("east", lambda left, right: right > 9, rows[1])):
             write(os.path.join(folder, region), {key: wkt for key, wkt in shapes.items() if met(*(float(wkt.split("((")[1].split(",")[at].split()[0]) for at in (0, 1)))}, of_region)
-        with open(os.path.join(folder, "country.txt"), "w", encoding="ascii") as file:
-            file.write("lpis-country 1\nx 9000\nregion west\nregion east\n")
+        Path(folder, "country.txt").write_text("lpis-country 1\nx 9000\nregion west\nregion east\n", encoding="ascii")
         return folder
 
     @unittest.skipUnless(shapely_there.python(), shapely_there.LACKING)
     def test_as_of_one_release(self):
         """Proposed rows of a dropped parcel that lies in two tiles come once, and a fault is named by its region."""
-        wanted = run("--register", self.register(OLDER), write(self.place("new"), NEWER), self.place("whole.csv"))
-        ran = run("--register", self.place("lpis.db"), self.country("country", NEWER), self.place("tiles.csv"))
+        wanted = run("--register", self.register(OLDER), write(self.path("new"), NEWER), self.path("whole.csv"))
+        ran = run("--register", self.path("lpis.db"), self.country("country", NEWER), self.path("tiles.csv"))
         self.assertEqual((ran.returncode, self.read("tiles.csv"), self.read("tiles-report.csv")), (wanted.returncode, self.read("whole.csv"), self.read("whole-report.csv")), ran.stdout + ran.stderr)
         faulty = self.country("faulty", NEWER, ("a,a1,1\na,a2,1\n", "b,,\nz,mm,\n"))
-        ran = run("--check", "--register", self.place("lpis.db"), faulty)
+        ran = run("--check", "--register", self.path("lpis.db"), faulty)
         self.assertEqual([line.split(":")[0] for line in ran.stdout.splitlines()[:3]], ["70 row 2 region east z", "75 m", "76 early 2023"], ran.stdout + ran.stderr)
-        rows = os.path.join(write(self.place("other"), {}, "a,a1,1\na,a2,1\nb,,\nm,mm,\n"), "lineage.csv")
-        ran = run("--check", "--register", self.place("lpis.db"), faulty, "--rows", rows)
+        rows = os.path.join(write(self.path("other"), {}, "a,a1,1\na,a2,1\nb,,\nm,mm,\n"), "lineage.csv")
+        ran = run("--check", "--register", self.path("lpis.db"), faulty, "--rows", rows)
         self.assertEqual([line.split(":")[0] for line in ran.stdout.splitlines()[:2]], ["76 early 2023", "moved k"], ran.stdout + ran.stderr)
 
     @unittest.skipUnless(shapely_there.python(), shapely_there.LACKING)
@@ -187,14 +178,13 @@ class Countries(Spare):
                 new.update({f"Q{number}": box(west, 0, other, 1), f"R{number}": box(middle, 0, east, 1)})
         places, told = [self.country(name, shapes) for name, shapes in (("old", old), ("new", new))], []
         for workers in ("1", "3"):
-            proposed = run(*places, self.place("rows.csv"), "--workers", workers)
+            proposed = run(*places, self.path("rows.csv"), "--workers", workers)
             marked = [line[:-1] + "1" for line in self.read("rows.csv")]
-            with open(self.place("marked.csv"), "w", encoding="ascii") as file:
-                file.write("old,new,exact\n" + "".join(f"{line}\n" for line in marked))
-            checked = run("--check", *places, "--rows", self.place("marked.csv"), "--workers", workers)
+            Path(self.path("marked.csv")).write_text("old,new,exact\n" + "".join(f"{line}\n" for line in marked), encoding="ascii")
+            checked = run("--check", *places, "--rows", self.path("marked.csv"), "--workers", workers)
             told.append((proposed.returncode, proposed.stdout, self.read("rows.csv"), self.read("rows-report.csv"), checked.returncode, checked.stdout))
-            os.remove(self.place("rows.csv"))
-            os.remove(self.place("rows-report.csv"))
+            os.remove(self.path("rows.csv"))
+            os.remove(self.path("rows-report.csv"))
         self.assertEqual(*told)
         self.assertEqual((told[0][0], len(told[0][2]), told[0][5].splitlines()[-1]), (0, 1200, "faults 400 moved 50"))
 
@@ -212,7 +202,7 @@ class Countries(Spare):
 
     def test_memory(self):
         """What is kept of a year does not grow with it."""
-        folder = write(self.place("many"), {f"P{number}": box(number, 0, number + 1, 1) for number in range(4000)})
+        folder = write(self.path("many"), {f"P{number}": box(number, 0, number + 1, 1) for number in range(4000)})
         tracemalloc.start()
         self.addCleanup(tracemalloc.stop)
         year = years.of_folder(folder)
@@ -221,26 +211,25 @@ class Countries(Spare):
 
 
 @unittest.skipUnless(BUILT, "the program is not built")
-class Beside(Spare):
+class Beside(Years):
     """The first fault of a random table is the one that `publish` reports, where it reports one of lineage."""
 
     def released(self, folder, shapes):
         write(folder, shapes)
         with open(os.path.join(folder, "covers.csv"), "w", encoding="ascii") as file:
             file.write("piece,parcel,class,wkt\n" + "".join(f'{name}-p,{name},G,"{wkt}"\n' for name, wkt in shapes.items()))
-        with open(os.path.join(folder, "classes.csv"), "w", encoding="ascii") as file:
-            file.write("class,percent\nG,100\n")
+        Path(folder, "classes.csv").write_text("class,percent\nG,100\n", encoding="ascii")
         subprocess.run([BUILT, "cut", folder, os.path.join(folder, "cert.txt")], check=True, capture_output=True)
         return folder
 
     def published(self, year, folder):
-        return subprocess.run([BUILT, "publish", self.place("lpis.db"), str(year), folder, os.path.join(folder, "cert.txt")], capture_output=True, text=True, check=False).stdout
+        return subprocess.run([BUILT, "publish", self.path("lpis.db"), str(year), folder, os.path.join(folder, "cert.txt")], capture_output=True, text=True, check=False).stdout
 
     def test_random_tables(self):
         chance = random.Random(7)
-        first, new = self.released(self.place("2023"), {"early": box(0, 0, 1, 1)}), self.released(self.place("2025"), NEWER)
+        first, new = self.released(self.path("2023"), {"early": box(0, 0, 1, 1)}), self.released(self.path("2025"), NEWER)
         write(first, {"early": box(0, 0, 1, 1)}, "")
-        old = self.released(self.place("2024"), OLDER)
+        old = self.released(self.path("2024"), OLDER)
         write(old, OLDER, "early,,\n")
         for year, folder in ((2023, first), (2024, old)):
             self.assertIn(f"published {year}", self.published(year, folder))
@@ -248,7 +237,7 @@ class Beside(Spare):
         for _ in range(24):
             rows = "".join(f"{chance.choice('aabbkmnz')},{chance.choice(['a1', 'a2', 'mm', 'n', 'zz', ''])},{chance.choice(['', '1'])}\n" for _ in range(chance.randrange(1, 6)))
             write(new, NEWER, rows)
-            found = lineage_faults.faults(years.rows_of(os.path.join(new, "lineage.csv")), years.of_register(self.place("lpis.db")), years.of_folder(new))
+            found = lineage_faults.faults(years.rows_of(os.path.join(new, "lineage.csv")), years.of_register(self.path("lpis.db")), years.of_folder(new))
             words = self.published(2025, new).split()
             self.assertEqual(["refused", "81", "lineage", found[0].code], words[:4], rows)
             self.assertEqual(str(found[0].row) if "row" in words else found[0].name.split()[0], words[5 if "row" in words else 4], rows)

@@ -4,9 +4,9 @@ hypothesis where that is there, else by names of a seeded generator."""
 import csv
 import os
 import random
-import tempfile
 import unittest
 
+from spare import Spare
 import preparing_case
 from lpis_tools import shapely_there
 
@@ -79,12 +79,7 @@ def judged(folder, parcels, classes, seed):
 
 
 @unittest.skipUnless(shapely_there.is_there(), shapely_there.LACKING)
-class Years(unittest.TestCase):
-    def setUp(self):
-        spare = tempfile.TemporaryDirectory()
-        self.addCleanup(spare.cleanup)
-        self.folder = spare.name
-
+class Years(Spare):
     def test_odd(self):
         self.assertEqual(judged(self.folder, ODD, ODD[:5], 1), [])
 

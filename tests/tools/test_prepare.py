@@ -9,8 +9,10 @@ import sys
 import tempfile
 import unittest
 import unittest.mock
+from pathlib import Path
 
 from places import BUILT, TOOLS
+from spare import Spare
 import dirty
 import exact
 from lpis_tools import identifiers, shapely_there, sheets
@@ -96,14 +98,10 @@ class Dirt(unittest.TestCase):
 
 
 @unittest.skipUnless(HAS_SHAPELY, shapely_there.LACKING)
-class Sources(unittest.TestCase):
+class Sources(Spare):
     def setUp(self):
-        self.spare = tempfile.TemporaryDirectory()
-        self.addCleanup(self.spare.cleanup)
-        self.out = os.path.join(self.spare.name, "out")
-
-    def path(self, name):
-        return os.path.join(self.spare.name, name)
+        super().setUp()
+        self.out = self.path("out")
 
     def test_clean(self):
         run = prepare(dirty.make(self.path("l.gpkg"), []), self.out)
@@ -205,19 +203,16 @@ class Sources(unittest.TestCase):
         path = dirty.make(self.path("l.gpkg"), [])
         for text, words in (("class,percent\nGRASS,100\n", "4 pieces have this class, and the table of classes has not"), ("class,percent\nGRASS,0.5\nTREES,30\n", "'0.5' is no whole number"),
                             ("class,percent\nGRASS,1\nTREES,0\n", "reads as shares")):
-            with open(self.path("classes.csv"), "w", encoding="ascii") as file:
-                file.write(text)
+            Path(self.path("classes.csv")).write_text(text, encoding="ascii")
             run = prepare(path, self.out, "--classes", self.path("classes.csv"), "--accept")
             self.assertEqual((run.returncode, words in run.stdout), (1, True), run.stdout)
 
     def test_given_identifiers(self):
         path = dirty.make(self.path("l.gpkg"), ["umlaut"])
-        with open(self.path("names.csv"), "w", encoding="utf-8") as file:
-            file.write("kind,old,new\nparcel,M\u00fchle,Mill\nparcel,clean1,clean2\n")
+        Path(self.path("names.csv")).write_text("kind,old,new\nparcel,M\u00fchle,Mill\nparcel,clean1,clean2\n", encoding="utf-8")
         run = prepare(path, self.out, "--identifiers", self.path("names.csv"))
         self.assertEqual((run.returncode, "would be clean2, which is another's" in run.stdout), (1, True), run.stdout)
-        with open(self.path("names.csv"), "w", encoding="utf-8") as file:
-            file.write("kind,old,new\nparcel,M\u00fchle,Mill\n")
+        Path(self.path("names.csv")).write_text("kind,old,new\nparcel,M\u00fchle,Mill\n", encoding="utf-8")
         run = prepare(path, self.out, "--identifiers", self.path("names.csv"))
         self.assertEqual(run.returncode, 0, run.stdout)
         self.assertIn("Mill", {row["parcel"] for row in rows(self.out, "parcels.csv")})

@@ -9,8 +9,10 @@ import subprocess
 import sys
 import tempfile
 import unittest
+from pathlib import Path
 
 from places import BUILT, TOOLS, TOP
+from spare import Spare
 from lpis_tools import shapely_there
 
 PARCELS, EDITS, SEED = 400, 90, 1
@@ -110,8 +112,7 @@ class Years(unittest.TestCase):
         for name in ("first", "kept"):
             shutil.copytree(self.path(name), self.path("published", name))
         first, kept = self.path("published", "first"), self.path("published", "kept")
-        with open(os.path.join(first, "lineage.csv"), "w", encoding="ascii") as file:
-            file.write("old,new\n")
+        Path(first, "lineage.csv").write_text("old,new\n", encoding="ascii")
         self.assertEqual(0, run("lineage", first, kept, kept).returncode)
         for words in (["cut", first, cert], ["publish", base, "2024", first, cert], ["cut", kept, cert], ["exact", base, kept, cert, self.path("exact.txt")],
                       ["publish", base, "2025", kept, self.path("exact.txt")]):
@@ -123,28 +124,20 @@ class Years(unittest.TestCase):
 
 
 @unittest.skipUnless(shapely_there.python(), shapely_there.LACKING)
-class Folders(unittest.TestCase):
+class Folders(Spare):
     """Folders that are not last year's."""
-
-    def setUp(self):
-        self.spare = tempfile.TemporaryDirectory()
-        self.addCleanup(self.spare.cleanup)
-
-    def path(self, *names):
-        return os.path.join(self.spare.name, *names)
 
     def land(self, name, shape=SOURCE):
         os.mkdir(self.path(name))
         for table, row in (("parcels", "parcel,wkt\np,"), ("covers", "piece,parcel,class,wkt\nc,p,G,"), ("classes", "class,percent\nG,100\n")):
-            with open(self.path(name, f"{table}.csv"), "w", encoding="ascii") as file:
-                file.write(row if table == "classes" else f'{row}"{shape}"\n')
+            Path(self.path(name, f"{table}.csv")).write_text(row if table == "classes" else f'{row}"{shape}"\n', encoding="ascii")
         return self.path(name)
 
     def prepared(self, name, *words):
         return run("prepare", self.land(f"source {name}", *words), self.path(name))
 
     def refused(self, folder, words, source=SOURCE):
-        number = len(os.listdir(self.spare.name))
+        number = len(os.listdir(self.folder))
         ran = run("prepare", self.land(f"source {number}", source), self.path(f"out {number}"), "--accept", "--previous", folder)
         self.assertEqual((1, False), (ran.returncode, os.path.exists(self.path(f"out {number}", "parcels.csv"))), ran.stdout + ran.stderr)
         self.assertIn(words, ran.stdout)
@@ -162,11 +155,9 @@ class Folders(unittest.TestCase):
         folder = self.land("doubles", SOURCE.replace("10.1", "10.12345"))
         self.refused(folder, "its wkt is no polygon in millimetres")
         for name in ("parcels", "covers"):
-            with open(os.path.join(folder, f"{name}.csv"), "w", encoding="ascii") as file:
-                file.write("parcel,piece,class,wkt\n")
+            Path(folder, f"{name}.csv").write_text("parcel,piece,class,wkt\n", encoding="ascii")
         self.refused(folder, "have no row")
-        with open(os.path.join(folder, "covers.csv"), "w", encoding="ascii") as file:
-            file.write("piece,class\n")
+        Path(folder, "covers.csv").write_text("piece,class\n", encoding="ascii")
         self.refused(folder, "no column")
 
     def test_another_place(self):

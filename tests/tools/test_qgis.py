@@ -12,6 +12,7 @@ import subprocess
 import tempfile
 import unittest
 import zipfile
+from pathlib import Path
 
 import dirty
 from places import BUILT, TOOLS, TOP
@@ -54,8 +55,7 @@ class Zips(unittest.TestCase):
         names = [name for name in os.listdir(plugin) if name.endswith((".py", ".txt"))]
         self.assertEqual({f"lpis/{name}" for name in names}, set(found))
         for name in names:
-            with open(os.path.join(plugin, name), "rb") as file:
-                self.assertEqual(file.read(), found[f"lpis/{name}"])
+            self.assertEqual(Path(plugin, name).read_bytes(), found[f"lpis/{name}"])
 
 
 @unittest.skipIf(LACKING, LACKING)
@@ -181,8 +181,7 @@ class Algorithms(unittest.TestCase):
         source = dirty.make(self.place("dirty.gpkg"), ["null", "wide", "stranger"])
         words = {"PARCELS": f"{source}|layername=parcels", "COVERS": f"{source}|layername=covers", "CLASSES": os.path.join(self.folder, "classes.csv"), "OUT": self.place("mended"),
                  "PARCEL_ID": "parcel", "PIECE_ID": "piece", "PIECE_PARCEL": "parcel", "PIECE_CLASS": "class"}
-        with open(words["CLASSES"], "w", encoding="ascii") as file:
-            file.write("class,percent\nGRASS,100\nTREES,30\n")
+        Path(words["CLASSES"]).write_text("class,percent\nGRASS,100\nTREES,30\n", encoding="ascii")
         found = self.run_it("preparerelease", **words, ACCEPT="true", REPORT_POLYGONS=self.place("settled.gpkg"))
         self.assertEqual((0, True), (found["STATUS"], {"overlap", "gap"} <= {row["kind"] for row in layer(self.place("settled.gpkg"))}), found["SUMMARY"])
         found = self.run_it("preparerelease", **words, FINDINGS=self.place("findings.gpkg"), REPORT_POLYGONS=self.place("nothing.gpkg"))

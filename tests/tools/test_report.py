@@ -8,10 +8,11 @@ import re
 import shutil
 import sqlite3
 import subprocess
-import tempfile
 import unittest
+from pathlib import Path
 
 from places import BUILT, TOOLS, TOP
+from spare import Spare
 from lpis_tools import page, shapely_there
 
 CHROMIUM = next((path for path in map(shutil.which, ("chromium", "chromium-browser", "google-chrome")) if path), None)
@@ -54,8 +55,7 @@ def release(folder, names, move=0, lineage=None, width=10):
     if lineage is not None:
         tables["lineage"] = ["old,new", *lineage]
     for name, lines in tables.items():
-        with open(os.path.join(folder, name + ".csv"), "w", encoding="ascii") as file:
-            file.write("\n".join(lines) + "\n")
+        Path(folder, name + ".csv").write_text("\n".join(lines) + "\n", encoding="ascii")
     return folder
 
 
@@ -101,11 +101,9 @@ const head = (number, text) => Array.from(document.querySelectorAll('table.sorte
 
 def tried(path, script, size="1200,900"):
     """What a script has put into `results` in headless Chromium."""
-    with open(path, encoding="utf-8") as file:
-        text = file.read()
+    text = Path(path).read_text(encoding="utf-8")
     done = f"<script>{HELPERS}(async () => {{ {script} }})().catch(error => {{ results.error = String(error); }}).then(() => {{ document.title = JSON.stringify(results); }});</script>"
-    with open(path + ".tried.html", "w", encoding="utf-8") as file:
-        file.write(text.replace("</body>", done + "</body>"))
+    Path(path + ".tried.html").write_text(text.replace("</body>", done + "</body>"), encoding="utf-8")
     try:
         run = subprocess.run([CHROMIUM, "--headless", "--no-sandbox", "--disable-gpu", "--disable-dev-shm-usage", f"--user-data-dir={path}.profile", "--host-resolver-rules=MAP * ~NOTFOUND",
                               "--virtual-time-budget=60000", f"--window-size={size}", "--dump-dom", f"file://{path}.tried.html"], capture_output=True, text=True, timeout=400, check=False)
@@ -116,35 +114,26 @@ def tried(path, script, size="1200,900"):
     return json.loads(html.unescape(found[1]))
 
 
-class Reports(unittest.TestCase):
+class Reports(Spare):
     def setUp(self):
-        self.spare = tempfile.TemporaryDirectory()
-        self.addCleanup(self.spare.cleanup)
+        super().setUp()
         self.program = self.path("lpis")
-        with open(self.program, "w", encoding="utf-8") as file:
-            file.write(STANDIN)
+        Path(self.program).write_text(STANDIN, encoding="utf-8")
         os.chmod(self.program, 0o755)
-        with open(self.path("facts"), "w", encoding="utf-8") as file:
-            file.write("commit 0123456789ab\nkit rattle-kit-0 logic 1\n")
-        with open(self.path("cert.txt"), "w", encoding="utf-8") as file:
-            file.write("lpis-cert 2\n")
+        Path(self.path("facts")).write_text("commit 0123456789ab\nkit rattle-kit-0 logic 1\n", encoding="utf-8")
+        Path(self.path("cert.txt")).write_text("lpis-cert 2\n", encoding="utf-8")
         self.release = release(self.path("release"), ["A", "B", "C"])
-
-    def path(self, name):
-        return os.path.join(self.spare.name, name)
 
     def report(self, *words, line="", folder=None, cert=("cert.txt",)):
         run = subprocess.run([os.path.join(TOOLS, "report"), folder or self.release, *map(self.path, cert), "--json", self.path("r.json"), "--html", self.path("r.html"), "--lpis", self.program, *words],
                              capture_output=True, text=True, check=False, env={**os.environ, "LINE": line})
         told = None
         if os.path.exists(self.path("r.json")):
-            with open(self.path("r.json"), encoding="utf-8") as file:
-                told = json.load(file)
+            told = json.loads(Path(self.path("r.json")).read_text(encoding="utf-8"))
         return run, told
 
     def html(self):
-        with open(self.path("r.html"), encoding="utf-8") as file:
-            return file.read()
+        return Path(self.path("r.html")).read_text(encoding="utf-8")
 
     def shapes(self):
         return json.loads(re.search(r'<script id="data" type="application/json">(.*?)</script>', self.html(), re.DOTALL)[1])["map"]
@@ -210,17 +199,13 @@ class Reports(unittest.TestCase):
         self.assertEqual(self.report(folder=folder)[1]["extent"]["stray"], [])
         for name in ("parcels", "covers"):
             path = os.path.join(folder, name + ".csv")
-            with open(path, encoding="ascii") as file:
-                text = file.read()
-            with open(path, "w", encoding="ascii") as file:
-                file.write(re.sub(r'(?m)^(P7[.,].*)$', lambda line: line[1].replace("5501", "3501"), text))
+            text = Path(path).read_text(encoding="ascii")
+            Path(path).write_text(re.sub(r'(?m)^(P7[.,].*)$', lambda line: line[1].replace("5501", "3501"), text), encoding="ascii")
         self.assertEqual(self.report(folder=folder)[1]["extent"]["stray"], ["P7"])
 
     def test_wrong_sums(self):
-        with open(self.program, encoding="utf-8") as file:
-            text = file.read()
-        with open(self.program, "w", encoding="utf-8") as file:
-            file.write(text.replace('print("total area", sums["area"]', 'print("total area", "299.9999999"'))
+        text = Path(self.program).read_text(encoding="utf-8")
+        Path(self.program).write_text(text.replace('print("total area", sums["area"]', 'print("total area", "299.9999999"'), encoding="utf-8")
         run, told = self.report()
         self.assertEqual((run.returncode, told), (64, None))
         self.assertIn("one of the two is wrong", run.stderr)
@@ -231,8 +216,7 @@ class Reports(unittest.TestCase):
         new = release(self.path("new"), ["B", "A", "C"])
         for name in ("parcels", "covers"):
             path = os.path.join(new, name + ".csv")
-            with open(path, encoding="ascii") as file:
-                text = file.read()
+            text = Path(path).read_text(encoding="ascii")
             with open(path, "w", encoding="ascii") as file:
                 file.write(re.sub("5500([45])([07])", lambda found: f"5500{found[1]}{6 if found[2] == '0' else 7}" if found[0] != "550050" else "550056", text))
         run, told = self.report("--diff", self.release, folder=new)
@@ -283,8 +267,7 @@ class Reports(unittest.TestCase):
     def test_country_with_a_register(self):
         folder = shutil.copytree(os.path.join(TOP, "examples", "country"), self.path("land"))
         for region in ("west", "southeast", "northeast"):
-            with open(os.path.join(folder, region, "lineage.csv"), "w", encoding="ascii") as file:
-                file.write(f"old,new\n{region},\n")
+            Path(folder, region, "lineage.csv").write_text(f"old,new\n{region},\n", encoding="ascii")
         base = sqlite3.connect(self.path("r.db"))
         base.executescript("CREATE TABLE lpis_release (year INTEGER PRIMARY KEY); CREATE TABLE lpis_span (id TEXT PRIMARY KEY, since INTEGER, until INTEGER);"
                            "INSERT INTO lpis_release VALUES (2025); INSERT INTO lpis_span VALUES ('A', 2025, 0)")
@@ -341,8 +324,7 @@ class Reports(unittest.TestCase):
             pieces.classes += ["G", "W"]
         chart = page.Map(parcels, pieces, strays=["P0"])
         rows = page.Table("Parcels", ["parcel", "#area m\u00b2"], [[name, 8100] for name in parcels.names], [("parcels", number) for number in range(20_001)])
-        with open(self.path("m.html"), "w", encoding="utf-8") as file:
-            file.write(page.page("many", "yes", True, [], chart, [rows]))
+        Path(self.path("m.html")).write_text(page.page("many", "yes", True, [], chart, [rows]), encoding="utf-8")
         found = tried(self.path("m.html"), """
           await waited(); results.first = canvas.dataset.drawn; results.rows = first(0).length;
           document.querySelector('#more0 button').click(); results.more = first(0).length;
@@ -372,5 +354,4 @@ class Reports(unittest.TestCase):
         out = self.path("faults.html")
         run = subprocess.run([os.path.join(TOOLS, "faults"), os.path.join(TOP, "examples", "overlap"), self.path("f.geojson"), "--html", out, "--lpis", BUILT], capture_output=True, text=True, check=False)
         self.assertEqual(run.returncode, 1, run.stderr)
-        with open(out, encoding="utf-8") as file:
-            self.assertIn("</i>faults: ", file.read())
+        self.assertIn("</i>faults: ", Path(out).read_text(encoding="utf-8"))

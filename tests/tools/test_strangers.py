@@ -11,10 +11,12 @@ import sys
 import tempfile
 import unittest
 import unittest.mock
+from pathlib import Path
 
 import dirty
 import stopping
 from places import TOOLS
+from spare import Spare
 from lpis_tools import countries, explaining, files, ledger, origin, page, polygons, printing, refusal, registers, report, shapely_there, streams, systems, tables, unforeseen, wkb, words, years
 
 DIGITS = "1" * 5000
@@ -63,23 +65,14 @@ def ended_in(main):
         sys.stderr = old
 
 
-class Case(unittest.TestCase):
-    def setUp(self):
-        spare = tempfile.TemporaryDirectory()
-        self.addCleanup(spare.cleanup)
-        self.folder = spare.name
-
-    def path(self, *names):
-        return os.path.join(self.folder, *names)
-
+class Case(Spare):
     def write(self, name, text):
         with open(self.path(name), "w", encoding="utf-8") as file:
             file.write(text)
         return file.name
 
     def read(self, name):
-        with open(self.path(name), encoding="utf-8") as file:
-            return file.read()
+        return Path(self.path(name)).read_text(encoding="utf-8")
 
     def run_tool(self, text, told="", **more):
         name, *rest = text.split()
@@ -161,11 +154,9 @@ class Read(Case):
             ledger.content_of(path)
             registers.Kept(path).shape(b"a")
         self.assertRaises(registers.Unreadable, registers.facts, self.path("0.db"))
-        with open(path, "rb") as file:
-            whole = file.read()
+        whole = Path(path).read_bytes()
         for damaged in (whole.replace(b"CREATE TABLE lpis_span", b"CREATE \xdfTABLE lpis_spa"), whole[:4096] + b"\xff" * 5000):
-            with open(path, "wb") as file:
-                file.write(damaged)
+            Path(path).write_bytes(damaged)
             self.assertRaises(years.Trouble, years.of_register, path)
             self.assertRaises(registers.Unreadable, registers.facts, path)
             status, told = ended_in(lambda: registers.Kept(path).text(b"a") and 0)
@@ -243,10 +234,8 @@ class Packages(Case):
     def test_schema(self):
         """A schema that is no text."""
         path = dirty.make(self.path("land.gpkg"), ["clean"])
-        with open(path, "rb") as file:
-            whole = file.read()
-        with open(path, "wb") as file:
-            file.write(whole.replace(b"CREATE TABLE gpkg_contents", b"CREATE \xc5TABLE gpkg_cont"))
+        whole = Path(path).read_bytes()
+        Path(path).write_bytes(whole.replace(b"CREATE TABLE gpkg_contents", b"CREATE \xc5TABLE gpkg_cont"))
         run = self.run_tool("prepare {0}/land.gpkg {0}/out")
         self.assertEqual((run.returncode, "land.gpkg" in run.stderr), (64, True), run.stderr)
 
@@ -281,8 +270,7 @@ class Packages(Case):
 
 def ending_soon(pid):
     """Whether a process has used half a second of a processor."""
-    with open(f"/proc/{pid}/stat", encoding="ascii") as file:
-        fields = file.read().rpartition(")")[2].split()
+    fields = Path(f"/proc/{pid}/stat").read_text(encoding="ascii").rpartition(")")[2].split()
     return (int(fields[11]) + int(fields[12])) / os.sysconf("SC_CLK_TCK") > 0.5
 
 

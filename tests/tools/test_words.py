@@ -5,10 +5,10 @@ import re
 import shutil
 import subprocess
 import sys
-import tempfile
-import unittest
+from pathlib import Path
 
 from places import TOOLS, TOP
+from spare import Spare
 from lpis_tools import installed
 
 NAMES = ("explain", "faults", "report")
@@ -20,14 +20,10 @@ def run(*words):
     return subprocess.run(words, capture_output=True, text=True, check=False, stdin=subprocess.DEVNULL)
 
 
-class Words(unittest.TestCase):
-    def setUp(self):
-        self.spare = tempfile.TemporaryDirectory()
-        self.addCleanup(self.spare.cleanup)
-
+class Words(Spare):
     def house(self):
         """The tools as they are installed, beside a stand-in for the program."""
-        lib = os.path.join(self.spare.name, "lib", "lpis")
+        lib = os.path.join(self.folder, "lib", "lpis")
         shutil.copytree(os.path.join(TOOLS, "lpis_tools"), os.path.join(lib, "lpis_tools"), ignore=shutil.ignore_patterns("__pycache__"))
         os.makedirs(os.path.join(lib, "program"))
         for name in installed.COMMANDS:
@@ -35,8 +31,7 @@ class Words(unittest.TestCase):
         with open(os.path.join(lib, "program", "lpis"), "w", encoding="ascii") as file:
             file.write(STANDIN)
         os.chmod(file.name, 0o755)
-        with open(os.path.join(lib, "program", "facts"), "w", encoding="ascii") as file:
-            file.write("commit 0123456789ab\nkit rattle-kit-0 logic 1\n")
+        Path(lib, "program", "facts").write_text("commit 0123456789ab\nkit rattle-kit-0 logic 1\n", encoding="ascii")
         return lib
 
     def test_version(self):
@@ -59,7 +54,7 @@ class Words(unittest.TestCase):
         for name in OF_SHAPELY:
             tool, *words = name.split()
             script = f"import runpy, sys; from lpis_tools import shapely_there; shapely_there.SYSTEM = '/none'; sys.argv[0] = {tool!r}; runpy.run_path({os.path.join(TOOLS, tool)!r}, run_name='__main__')"
-            done = run("env", f"PYTHONPATH={TOOLS}", sys.executable, "-S", "-c", script, *words, self.spare.name, os.path.join(self.spare.name, "out"))
+            done = run("env", f"PYTHONPATH={TOOLS}", sys.executable, "-S", "-c", script, *words, self.folder, os.path.join(self.folder, "out"))
             self.assertEqual((done.returncode, len(done.stderr.splitlines())), (64, 1), done.stderr)
             for word in (f"{os.path.basename(tool)}: ", "python3-shapely", "dev/packages"):
                 self.assertIn(word, done.stderr)
@@ -71,7 +66,7 @@ class Words(unittest.TestCase):
             self.assertEqual((f"lpis-{name}" in text, re.findall(r"tools/\w+|\./lpis", text)), (True, []))
         text = run(os.path.join(lib, "explain"), "3a", "45", "14").stdout
         self.assertEqual(re.findall(r"(?<!\S)\(?(?:tools|docs)/\w+|lpis-(?:country|explain)\b", text), ["lpis-country", "lpis-explain"])
-        self.assertIn(f"{self.spare.name}/share/doc/lpis/GUIDE.md", text)
+        self.assertIn(f"{self.folder}/share/doc/lpis/GUIDE.md", text)
 
     def test_names(self):
         for text, wanted in (
@@ -85,21 +80,19 @@ class Words(unittest.TestCase):
     def test_pages(self):
         """Of the pages that are installed each command and file is there, or the page says that it is of the sources."""
         for name in ("GUIDE", "FORMATS", "IDEA", "PROOF"):
-            with open(os.path.join(TOP, "docs", name + ".md"), encoding="utf-8") as file:
-                text = installed.page(file.read(), "/opt")
+            text = installed.page(Path(TOP, "docs", name + ".md").read_text(encoding="utf-8"), "/opt")
             self.assertEqual(re.findall(r"(?<![\w/])tools/(?!dirty|lpis_tools|test|tests)[\w/.]+|(?<!\S)\./lpis\b|(?<![\w/])audit/", text), [], name)
             self.assertEqual(bool(re.search(r"(?<![\w/])(?:bench|crates|dev|tests)/\w", text)) <= (installed.NOTE in text), True, name)
 
     def test_names_of_the_source(self):
-        with open(os.path.join(self.spare.name, "identifiers.csv"), "w", encoding="utf-8") as file:
+        with open(os.path.join(self.folder, "identifiers.csv"), "w", encoding="utf-8") as file:
             file.write("kind,old,new\nparcel,M\u00fchle,Muehle_a48e56\npiece,M\u00fchle,x\nparcel,\u00d6d 1 ,Oed_1_123456\n")
         for name, wanted in (("M\u00fchle", "Muehle_a48e56"), ("\u00d6d 1", "Oed_1_123456"), ("north", "north"), ("B\u00e4r", "Baer_")):
-            done = run(os.path.join(TOOLS, "explain"), self.spare.name, "--name", name)
+            done = run(os.path.join(TOOLS, "explain"), self.folder, "--name", name)
             self.assertEqual((done.returncode, done.stdout.startswith(wanted)), (0, True), done.stdout + done.stderr)
-        self.assertEqual(run(os.path.join(TOOLS, "explain"), os.path.join(self.spare.name, "none"), "--name", "A").returncode, 64)
+        self.assertEqual(run(os.path.join(TOOLS, "explain"), os.path.join(self.folder, "none"), "--name", "A").returncode, 64)
         for name, lines in (("parcels", 'parcel,wkt\nMuehle_a48e56,"POLYGON((0 0,1 0,1 1,0 0))"\n'), ("covers", 'piece,parcel,class,wkt\nC,A,G,"POLYGON((0 0,1 0,1 1,0 0))"\n')):
-            with open(os.path.join(self.spare.name, name + ".csv"), "w", encoding="ascii") as file:
-                file.write(lines)
+            Path(self.folder, name + ".csv").write_text(lines, encoding="ascii")
         for line in ("refused 44 parcel Muehle_a48e56", "refused 37 parcels row 1"):
-            done = subprocess.run([os.path.join(TOOLS, "explain"), self.spare.name], input=line + "\n", capture_output=True, text=True, check=False)
+            done = subprocess.run([os.path.join(TOOLS, "explain"), self.folder], input=line + "\n", capture_output=True, text=True, check=False)
             self.assertIn("parcel Muehle_a48e56 is 'M\u00fchle' in the source", done.stdout)

@@ -7,10 +7,11 @@ import os
 import shutil
 import sqlite3
 import subprocess
-import tempfile
 import unittest
+from pathlib import Path
 
 from places import BUILT, TOOLS, TOP
+from spare import Spare
 from lpis_tools import ledger
 
 EXAMPLES = os.path.join(TOP, "examples", "exact")
@@ -27,22 +28,21 @@ def change(path, statement):
     base.close()
 
 
-class Spare(unittest.TestCase):
+class Case(Spare):
+    prefix = "year of "
+
     def setUp(self):
-        spare = tempfile.TemporaryDirectory(prefix="year of ")
-        self.addCleanup(spare.cleanup)
-        self.folder = spare.name
-        self.base = os.path.join(self.folder, "lpis.db")
+        super().setUp()
+        self.base = self.path("lpis.db")
 
     def lines(self):
         return ledger.lines_of(self.base)
 
     def write(self, lines):
-        with open(ledger.path_of(self.base), "wb") as file:
-            file.write(b"".join(line + b"\n" for line in lines))
+        Path(ledger.path_of(self.base)).write_bytes(b"".join(line + b"\n" for line in lines))
 
 
-class Logs(Spare):
+class Logs(Case):
     def setUp(self):
         super().setUp()
         base = sqlite3.connect(self.base)
@@ -93,7 +93,7 @@ class Logs(Spare):
 
 
 @unittest.skipUnless(BUILT, "the program is not built")
-class Years(Spare):
+class Years(Case):
     def year(self, year, *more):
         folder = os.path.join(self.folder, str(year))
         if not os.path.isdir(folder):
@@ -118,8 +118,7 @@ class Years(Spare):
         self.assertEqual(0, run("--verify", self.base).returncode)
         copy = f"{self.base}.before-2025"
         self.assertEqual(entries[0]["content"], ledger.content_of(copy))
-        with open(f"{copy}.sha256", encoding="ascii") as file:
-            self.assertEqual(f"{ledger.digest_of(copy)}  lpis.db.before-2025\n", file.read())
+        self.assertEqual(f"{ledger.digest_of(copy)}  lpis.db.before-2025\n", Path(f"{copy}.sha256").read_text(encoding="ascii"))
 
     def test_what_it_stops_at(self):
         this = datetime.date.today().year
@@ -147,8 +146,7 @@ class Years(Spare):
         os.remove(os.path.join(folder, "lineage.csv"))
         ran = self.year(2024, "--new")
         self.assertEqual(0, ran.returncode, ran.stdout + ran.stderr)
-        with open(os.path.join(folder, "lineage.csv"), encoding="ascii") as file:
-            self.assertEqual("old,new\n", file.read())
+        self.assertEqual("old,new\n", Path(folder, "lineage.csv").read_text(encoding="ascii"))
 
     def test_a_register_without_its_log_is_a_stop(self):
         self.assertEqual(0, self.year(2024, "--new").returncode)
@@ -167,8 +165,7 @@ class Years(Spare):
         self.assertEqual(0, self.year(2024, "--new").returncode)
         folder = os.path.join(self.folder, "2025")
         shutil.copytree(os.path.join(EXAMPLES, "2025"), folder)
-        with open(os.path.join(folder, "lineage.csv"), "w", encoding="ascii") as file:
-            file.write("old,new\nmeadow,meadow-1\n")
+        Path(folder, "lineage.csv").write_text("old,new\nmeadow,meadow-1\n", encoding="ascii")
         before = ledger.content_of(self.base)
         ran = self.year(2025)
         self.assertEqual((1, before, 1), (ran.returncode, ledger.content_of(self.base), len(self.lines())))
