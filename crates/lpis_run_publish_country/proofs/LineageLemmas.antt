@@ -74,10 +74,11 @@ refused_with name table stop a b is may text status =
     (faulty-table name table (rows_of lineage_table table) (a.text.items, a.status) refl
     (refused-as {A = ℕ} (IsTableAnswer (λ rows c. ⊥) (rows_of lineage_table table)) stop (Ok a) may is))
 
--- it refuses the table of the folder
+-- what its bytes say refuses the table of a folder
 refused-in : (told : List ℕ → Option (List ℕ)) (name table : List ℕ) → IsRead table (told name) → (a : Answer) → IsTableRefusal name table a → IsTableRefused told name a
 refused-in told name table read a (fault, faulty, text) = (table, read, fault, faulty, text)
 
+-- so does what they say of the same folder, or memory ran out
 pub table_refused : (told : List ℕ → Option (List ℕ)) (name other table : List ℕ) (stop : Stop) → other ≡ name → IsRead table (told name) → IsRefusedAs (IsTableRefusal other table) stop
     → IsRefusedAs (IsTableRefused told name) stop
 table_refused told name other table stop is read may =
