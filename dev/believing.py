@@ -45,6 +45,24 @@ def in_few_lines(body):
     return "\n".join(lines[1:])
 
 
+def in_page_width(found):
+    """A line that goes on in the next one, and that line behind it, where both fit the page."""
+    line = f"{found.group(1)} {found.group(2)}"
+    return line if len(line) <= WIDTH else found.group(0)
+
+
+def joined(text):
+    """A definition whose signature, or whose right side of one line, is not broken where the page has room for it."""
+    lines = []
+    for line in text.split("\n"):
+        goes_on = lines and re.match(r" +(?:→ |: Type 0|where$|Type 0)", line) and not lines[-1].lstrip().startswith("--")
+        if goes_on and len(whole := f"{lines[-1]} {line.strip()}") <= WIDTH:
+            lines[-1] = whole
+        else:
+            lines.append(line)
+    return re.sub(r"(?m)^([^\n]* =)\n +([^\n]+)(?=\n\S|\n\n|\n?\Z)", in_page_width, "\n".join(lines))
+
+
 def promise_of(crate, name):
     """A public function up to its body: comment, signature and clauses."""
     for module in crate.modules.values():
@@ -230,7 +248,7 @@ class Page:
             if node.head != head:
                 head = node.head
                 lines += [*[""][: len(lines)], head.rstrip("\n")] if head else []
-            text = node.signature().split("\n") if node.law() else node.text.rstrip("\n").split("\n")
+            text = joined(node.signature() if node.law() else node.text.rstrip("\n")).split("\n")
             comment = [line for line in node.written if line.startswith("--") and not line.startswith("-- ----")]
             lines += [*[""][: len(lines)], *comment, *text]
         laws = [text for node in nodes if node.law() and (text := promise_of(self.trust.crates[spec.crate], node.law()))]

@@ -45,9 +45,9 @@ use Rattle.lpis_run_publish.specs.ExactAnswer.{IsBlocksAnswer, IsBlocksOutcome}
 use Rattle.lpis_run_publish.specs.Submission.{submitted}
 use Rattle.lpis_run_publish_country.specs.CountryLineage.{country_refusal_text, rows_in}
 use Rattle.lpis_run_publish_country.specs.ExactCountryAnswer.{FillsRegions, HasNoParts, IsFillAnswer, IsFillEnd, IsFillOutcome}
-use Rattle.lpis_run_publish_country.specs.ExactCountryAnswer.{RunsExactCountry, StopsFill, StopsFillBehind}
+use Rattle.lpis_run_publish_country.specs.ExactCountryAnswer.{RunsExactCountry, StopsFillBehind}
 use Rattle.lpis_run_publish_country.specs.PublishCountryAnswer.{AreTopRead, CountryFiles, CountrySaid, IsRefusedBefore, PublishCountryInputs, setting_said}
-use Rattle.lpis_run_publish_country.specs.PublishCountryRuns.{IsPublishPart}
+use Rattle.lpis_run_publish_country.specs.PublishCountryRuns.{IsPublishPart, StopsAtLineage}
 use Rattle.lpis_run_publish_country.specs.declared.inputs.Prepared.{Prepared}
 use Rattle.lpis_run_publish_country.specs.private.Filling.{FillsPrepared}
 use Rattle.lpis_run_publish_country.specs.private.Preparing.{IsPrepared, said_of}
@@ -290,7 +290,7 @@ module _ (given : CountryFiles) (before : Holdings) (file out : Option (List ℕ
 
   module _ (x : PublishCountryInputs) (read : AreTopRead given x) where
     -- nor a lineage table
-    pub runs_earlier : (f : Failure) → StopsFill given x f → RunsExactCountry given before (held file out) (held file out) (Err f)
+    pub runs_earlier : (f : Failure) → StopsAtLineage given x f → RunsExactCountry given before (held file out) (held file out) (Err f)
     runs_earlier f stopped = record { answer = tt; failure = inl (inr (x, read, stopped), Keeps-refl file, Keeps-refl out) }
 
     -- what was read has a fault, whose line was written, or a beginning of it

@@ -16,11 +16,11 @@ use Rattle.lpis_run.specs.declared.answer.Answer.{Answer as Printed}
 use Rattle.lpis_run.specs.declared.stop.Stop.{Stop}
 use Rattle.lpis_run.specs.declared.stop.Stop.TheVariants.{Refused}
 use Rattle.lpis_run.specs.declared.failure.Failure.{Failure}
-use Rattle.lpis_run_publish_country.specs.CountryLineage.{AreTablesRefused, AreTablesUnread, IsTableOf, IsUnreadTable, rows_in}
+use Rattle.lpis_run_publish_country.specs.CountryLineage.{IsTableOf, IsTableRefused, IsUnreadTable, rows_in}
 use Rattle.lpis_run_publish_country.specs.declared.lineage.CountryLineage.{CountryLineage}
 use Rattle.lpis_run_publish_country.specs.declared.unprepared.Unprepared.{Unprepared}
 use Rattle.lpis_run_publish_country.specs.declared.unprepared.Unprepared.TheVariants.{Failed, Refused as Answered}
-use Rattle.lpis_run_publish_country.specs.private.Preparing.{AddsTable, AreRowsOf, HasTables, IsTableAdded, IsTableRefusal, IsTableRefused}
+use Rattle.lpis_run_publish_country.specs.private.Preparing.{AddsTable, AreRowsOf, AreTablesRefused, AreTablesUnread, HasTables, IsTableAdded, IsTableRefusal}
 use Rattle.lpis_run_publish_country.specs.private.Unprepared.{IsUnprepared}
 
 -- ---- lists read side by side
@@ -74,34 +74,27 @@ refused_with name table stop a b is may text status =
     (faulty-table name table (rows_of lineage_table table) (a.text.items, a.status) refl
     (refused-as {A = ℕ} (IsTableAnswer (λ rows c. ⊥) (rows_of lineage_table table)) stop (Ok a) may is))
 
--- it refuses the table of the folder
+-- what its bytes say refuses the table of a folder
+refused-in : (told : List ℕ → Option (List ℕ)) (name table : List ℕ) → IsRead table (told name) → (a : Answer) → IsTableRefusal name table a → IsTableRefused told name a
+refused-in told name table read a (fault, faulty, text) = (table, read, fault, faulty, text)
+
+-- so does what they say of the same folder, or memory ran out
 pub table_refused : (told : List ℕ → Option (List ℕ)) (name other table : List ℕ) (stop : Stop) → other ≡ name → IsRead table (told name) → IsRefusedAs (IsTableRefusal other table) stop
     → IsRefusedAs (IsTableRefused told name) stop
 table_refused told name other table stop is read may =
-    refused-more (IsTableRefusal name table) (IsTableRefused told name) stop (λ a h. (table, read, h)) (subst (λ (k : List ℕ). IsRefusedAs (IsTableRefusal k table) stop) is may)
+    refused-more (IsTableRefusal name table) (IsTableRefused told name) stop (refused-in told name table read) (subst (λ (k : List ℕ). IsRefusedAs (IsTableRefusal k table) stop) is may)
 
 -- the next table is refused
 is-refused : (told : List ℕ → Option (List ℕ)) (names : List (List ℕ)) (n : ℕ) (name : List ℕ) (old : CountryLineage) (a : Answer) → n < length names → name ≡ get_or names n []
     → AreRowsOf told (take n names) old → IsTableRefused told name a → AreTablesRefused told names a
-is-refused told names n name old a lt is (tables, zip, has) (bytes, read, (fault, faulty, text)) = record {
-  passed = take n names;
-  name = name;
-  left = drop (n + 1) names;
-  all = split-here names n name lt is;
-  tables = tables;
-  of_passed = zip;
-  bytes = bytes;
-  read = read;
-  fault = fault;
-  faulty = faulty;
-  is = text;
-}
+is-refused told names n name old a lt is (tables, zip, has) refused =
+    record { passed = take n names; name = name; left = drop (n + 1) names; all = split-here names n name lt is; tables = tables; of_passed = zip; is = refused }
 
 -- or it is not read
 is-unread : (told : List ℕ → Option (List ℕ)) (names : List (List ℕ)) (n : ℕ) (name : List ℕ) (old : CountryLineage) (f : Failure) → n < length names → name ≡ get_or names n []
     → AreRowsOf told (take n names) old → IsUnreadTable name f → AreTablesUnread told names f
 is-unread told names n name old f lt is (tables, zip, has) unread =
-    record { passed = take n names; name = name; left = drop (n + 1) names; all = split-here names n name lt is; tables = tables; of_passed = zip; unread = unread }
+    record { passed = take n names; name = name; left = drop (n + 1) names; all = split-here names n name lt is; tables = tables; of_passed = zip; is = unread }
 
 -- where the next table gives no rows, neither do they all
 pub is_unprepared : (told : List ℕ → Option (List ℕ)) (names : List (List ℕ)) (n : ℕ) (name : List ℕ) (old : CountryLineage) (e : Unprepared) → n < length names → name ≡ get_or names n []

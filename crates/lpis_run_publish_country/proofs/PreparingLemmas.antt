@@ -20,13 +20,13 @@ use Rattle.lpis_country.specs.Tree.{folders}
 use Rattle.lpis_run_country.specs.Beginning.{IsBegun, IsUnbegun}
 use Rattle.lpis_run_country.specs.declared.beginning.Begun.{Begun}
 use Rattle.lpis_run.specs.declared.failure.Failure.{Failure}
-use Rattle.lpis_run_publish_country.specs.CountryLineage.{AreTablesOf, AreTablesRefused, AreTablesUnread}
+use Rattle.lpis_run_publish_country.specs.CountryLineage.{AreTablesOf}
 use Rattle.lpis_run_publish_country.specs.PublishCountryAnswer.{AreBlocksOf, CountryFiles, IsExactTextAnswer, IsRefusedBefore, PublishCountryInputs}
 use Rattle.lpis_run_publish_country.specs.PublishCountryRuns.{IsUnreadLineage}
 use Rattle.lpis_run_publish_country.specs.declared.inputs.Prepared.{Prepared}
 use Rattle.lpis_run_publish_country.specs.declared.unprepared.Unprepared.{Unprepared}
 use Rattle.lpis_run_publish_country.specs.declared.unprepared.Unprepared.TheVariants.{Failed, Refused}
-use Rattle.lpis_run_publish_country.specs.private.Preparing.{AreRowsOf, IsPrepared}
+use Rattle.lpis_run_publish_country.specs.private.Preparing.{AreRowsOf, AreTablesRefused, AreTablesUnread, IsPrepared}
 use Rattle.lpis_run_publish_country.specs.private.Unprepared.{IsUnprepared}
 
 -- ---- the certificate

@@ -28,7 +28,7 @@ use Rattle.lpis_run_publish_country.proofs.EndLemmas.{none_of_store, read_no_sto
 -- the database did not fail where a lineage table was not read
 lineage-no-store : (given : CountryFiles) (x : PublishCountryInputs) (f : Failure) → (f ≡ Memory) ⊎ IsUnreadLineage given x f → IsStoreFailure f → ⊥
 lineage-no-store given x f (inl memory) = none_of_store f (inl memory)
-lineage-no-store given x f (inr u) = table-no-store u.unread.name u.unread.unread
+lineage-no-store given x f (inr u) = table-no-store u.unread.name u.unread.is
   where
     table-no-store : (name : List ℕ) → IsUnreadTable name f → IsStoreFailure f → ⊥
     table-no-store name (inl memory) = none_of_store f (inl memory)
@@ -48,7 +48,7 @@ module _ {S : Type 0} (store : Ghosts S) (asked : CountryRequest) where
     -- a lineage table is not read, or memory runs out
     pub runs_unprepared : (out : Option (List ℕ)) (f : Failure) → (f ≡ Memory) ⊎ IsUnreadLineage asked.given x f → RunsPrepared store asked x old old out out (Err f)
     runs_unprepared out f stopped = record {
-      runs = runs_on_stopped _ _ _ out f (record { stopped = stopped; same = refl });
+      runs = runs_on_stopped _ _ _ out f (refl, stopped);
       stored = stays_same store old (Err f);
       cause = λ of. absurd (lineage-no-store asked.given x f stopped of);
     }
@@ -70,12 +70,12 @@ module _ {S : Type 0} (store : Ghosts S) (asked : CountryRequest) where
     not-above = subst (λ (n : ℕ). asked.year ≤ n) is_last early
 
     refuses-early : (a : Answer) → a ≡ (publish_refusal_text (Year last), refused) → RefusesEarly asked old.held old.held a
-    refuses-early a told = record { early = not-above; is = told ∙ ap (λ (n : ℕ). (publish_refusal_text (Year n), refused)) is_last; same = refl }
+    refuses-early a told = (refl, not-above, told ∙ ap (λ (n : ℕ). (publish_refusal_text (Year n), refused)) is_last)
 
     early-halts : (f : Failure) → ((f ≡ Memory) × Keeps before after)
         ⊎ ((f ≡ Write Out) × (a : Answer) × (a ≡ (publish_refusal_text (Year last), refused)) × Begins before after a.0)
         → EndsPublishCountry asked old.held old.held before after (Err f)
-    early-halts f (inl (memory, keeps)) = record { answer = tt; failure = inl (inl (record { early = not-above; memory = memory; same = refl }), keeps) }
+    early-halts f (inl (memory, keeps)) = record { answer = tt; failure = inl ((refl, inl (not-above, memory)), keeps) }
     early-halts f (inr (write, a, told, begins)) = record { answer = tt; failure = inr (inr (write, (a.0, inr (a.1, inl (refuses-early a told)), begins))) }
 
     -- the database did not fail then
@@ -103,7 +103,7 @@ module _ {S : Type 0} (store : Ghosts S) (asked : CountryRequest) where
   pub runs_unread : (old : RegisterState S) (out : Option (List ℕ)) (f : Failure) → last_year old.held.history < asked.year → AreUnread (files_named asked.given) f
       → RunsPublishCountry store asked old old out out (Err f)
   runs_unread old out f later unread = record {
-    runs = runs_on_stopped _ _ _ out f (inr (inl (record { later = later; unread = unread; same = refl })));
+    runs = runs_on_stopped _ _ _ out f (refl, inr (inl (later, unread)));
     stored = stays_same store old (Err f);
     cause = λ of. absurd (input-no-store asked.given f unread of);
   }
@@ -112,7 +112,7 @@ module _ {S : Type 0} (store : Ghosts S) (asked : CountryRequest) where
   pub runs_later : (old new : RegisterState S) (before after : Option (List ℕ)) (x : PublishCountryInputs) (r : Result ℕ Failure) → last_year old.held.history < asked.year
       → AreTopRead asked.given x → RunsPrepared store asked x old new before after r → RunsPublishCountry store asked old new before after r
   runs_later old new before after x r later read ran = record {
-    runs = runs_on_more _ _ _ _ _ _ before after r (λ f why. inr (inr (x, (later, read), why))) (λ lines f why. (x, (later, read), why)) (λ a is. inr (x, (later, read), is)) ran.runs;
+    runs = runs_on_more _ _ _ _ _ _ before after r (λ f why. (why.0, inr (inr (x, (later, read), why.1)))) (λ lines f why. (x, (later, read), why)) (λ a is. inr (x, (later, read), is)) ran.runs;
     stored = ran.stored;
     cause = IfErr-weaker r _ _ (λ f told of. (x, (later, read), told of)) ran.cause;
   }

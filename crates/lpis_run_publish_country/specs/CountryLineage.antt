@@ -30,36 +30,26 @@ IsTableOf told name rows =
 abbrev pub AreTablesOf : (List ℕ → Option (List ℕ)) → List (List ℕ) → List (List Row) → Type 0
 AreTablesOf told names tables = AllZip (IsTableOf told) names tables
 
--- the table of one of these folders has a fault, those before it have none: the line of its first
--- fault, with its region
-pub record AreTablesRefused (told : List ℕ → Option (List ℕ)) (names : List (List ℕ))
-    (a : Answer) : Type 0 where
+-- this is so of the table of one of these folders, and those before it have no fault
+pub record AtTable (told : List ℕ → Option (List ℕ)) (names : List (List ℕ))
+    (Is : List ℕ → Type 0) : Type 0 where
   pub passed : List (List ℕ)
   pub name : List ℕ
   pub left : List (List ℕ)
   pub all : names ≡ passed ++ name ∷ left
   pub tables : List (List Row)
   pub of_passed : AreTablesOf told passed tables
-  pub bytes : List ℕ
-  pub read : IsRead bytes (told name)
-  pub fault : TableFault
-  pub faulty : rows_of lineage_table bytes ≡ Err fault
-  pub is : a ≡ (line_in_region (refusal_text fault) name, unreadable)
+  pub is : Is name
+
+-- the lineage table of the folder of this name has a fault: the line of the first, with its region
+abbrev pub IsTableRefused : (List ℕ → Option (List ℕ)) → List ℕ → Answer → Type 0
+IsTableRefused told name a = (bytes : List ℕ) × IsRead bytes (told name) × (fault : TableFault)
+    × (rows_of lineage_table bytes ≡ Err fault)
+    × (a ≡ (line_in_region (refusal_text fault) name, unreadable))
 
 -- the lineage table of the folder of this name was not read; or memory ran out
 abbrev pub IsUnreadTable : List ℕ → Failure → Type 0
 IsUnreadTable name f = (f ≡ Memory) ⊎ IsReadOf Lineage name f
-
--- so it is of one of these folders, and the tables of those before it have no fault
-pub record AreTablesUnread (told : List ℕ → Option (List ℕ)) (names : List (List ℕ))
-    (f : Failure) : Type 0 where
-  pub passed : List (List ℕ)
-  pub name : List ℕ
-  pub left : List (List ℕ)
-  pub all : names ≡ passed ++ name ∷ left
-  pub tables : List (List Row)
-  pub of_passed : AreTablesOf told passed tables
-  pub unread : IsUnreadTable name f
 
 -- ---- rows
 -- the rows of a country are those of its tables, one table after the other

@@ -17,7 +17,6 @@ use Rattle.lpis_run.specs.Outputs.{Held, Outputs}
 use Rattle.lpis_run.specs.Run.{RunsOnBoth}
 use Rattle.lpis_run.specs.Status.{done, refused}
 use Rattle.lpis_run.specs.declared.detail.Detail.TheVariants.{Regions}
-use Rattle.lpis_run.specs.declared.failure.Failure.TheVariants.{Memory}
 use Rattle.lpis_run_country.specs.CountryAnswer.{IsReachedBy, IsRefusedRegion, Setting}
 use Rattle.lpis_run_country.specs.CountryFailures.{IsStoppedBefore}
 use Rattle.lpis_run.specs.declared.failure.Failure.{Failure}
@@ -28,7 +27,7 @@ use Rattle.lpis_run_publish_country.specs.CountryLineage.{country_refusal_text, 
 use Rattle.lpis_run_publish_country.specs.PublishCountryAnswer.{AreSaid, AreTopRead, CountryFiles}
 use Rattle.lpis_run_publish_country.specs.PublishCountryAnswer.{CountrySaid, IsRefusedBefore}
 use Rattle.lpis_run_publish_country.specs.PublishCountryAnswer.{PublishCountryInputs, setting_said}
-use Rattle.lpis_run_publish_country.specs.PublishCountryRuns.{IsPublishPart, IsUnreadLineage}
+use Rattle.lpis_run_publish_country.specs.PublishCountryRuns.{IsPublishPart, StopsAtLineage}
 
 -- ---- the union
 -- the certificate has no parts
@@ -81,17 +80,6 @@ pub record FillsRegions (given : CountryFiles) (x : PublishCountryInputs) (befor
 
 -- of these files, and these bytes of those that are no region's
 module _ (given : CountryFiles) (x : PublishCountryInputs) where
-  -- behind these lines: a file before the regions has a fault, and there are no lines, and no
-  -- certificate; or it is what follows the regions
-  abbrev pub IsExactCountryAnswer : Holdings → List ℕ → Outputs → Type 0
-  IsExactCountryAnswer before lines end =
-      ((lines ≡ []) × (end.cert ≡ None) × IsRefusedBefore given x (end.line, end.status))
-      ⊎ FillsRegions given x before lines end
-
-  -- a lineage table was not read, or memory ran out
-  abbrev pub StopsFill : Failure → Type 0
-  StopsFill f = (f ≡ Memory) ⊎ IsUnreadLineage given x f
-
   -- behind the lines of the regions that passed a file was not read, or memory ran out
   abbrev pub StopsFillBehind : List ℕ → Failure → Type 0
   StopsFillBehind lines f = (left : List (List ℕ)) × IsPublishPart given Regions x lines left
@@ -103,9 +91,11 @@ abbrev pub OfTop : CountryFiles → (PublishCountryInputs → Type 0) → Type 0
 OfTop given Holds = (x : PublishCountryInputs) × AreTopRead given x × Holds x
 
 -- how the run ends, where a register holds this: before anything is written a file before the
--- regions may not be read
+-- regions may not be read. Its answer: such a file has a fault, and there are no lines, and no
+-- certificate; or it is what follows the regions
 abbrev pub RunsExactCountry : CountryFiles → Holdings → Held → Held → Result ℕ Failure → Type 0
 RunsExactCountry given before = RunsOnBoth
-    (λ f. AreUnread (top_named given.top) f ⊎ OfTop given (λ x. StopsFill given x f))
+    (λ f. AreUnread (top_named given.top) f ⊎ OfTop given (λ x. StopsAtLineage given x f))
     (λ lines f. OfTop given (λ x. StopsFillBehind given x lines f))
-    (λ lines end. OfTop given (λ x. IsExactCountryAnswer given x before lines end))
+    (λ lines end. OfTop given (λ x. ((lines ≡ []) × (end.cert ≡ None)
+    × IsRefusedBefore given x (end.line, end.status)) ⊎ FillsRegions given x before lines end))

@@ -29,7 +29,7 @@ use Rattle.lpis_run_country.specs.CountryAnswer.{setting_of}
 use Rattle.lpis_run_country.specs.CountryLines.{country_lines}
 use Rattle.lpis_run_country.specs.Regions.{AreCountryRead, AreRegionsOf, CountryInputs, Texts}
 use Rattle.lpis_run_publish.specs.Publication.{IsReleasePublished, publication_text}
-use Rattle.lpis_run_publish_country.specs.CountryLineage.{AreTablesOf, AreTablesRefused}
+use Rattle.lpis_run_publish_country.specs.CountryLineage.{AreTablesOf, AtTable, IsTableRefused}
 use Rattle.lpis_run_publish_country.specs.CountryLineage.{country_refusal_text, rows_in}
 
 -- ---- what is handed in
@@ -75,7 +75,8 @@ AreBlocksOf (Some text) blocks = (c : Cert) × IsCertText text c × (blocks ≡ 
 -- classes, of the certificate, of the lineage tables in the order of the plan
 abbrev pub IsRefusedBefore : CountryFiles → PublishCountryInputs → Answer → Type 0
 IsRefusedBefore given x = IsTopAnswer (λ plan classes. IsExactTextAnswer
-    (λ blocks. AreTablesRefused given.lineages (folders plan)) x.exact) x.country
+    (λ blocks a. AtTable given.lineages (folders plan)
+    (λ name. IsTableRefused given.lineages name a)) x.exact) x.country
 
 -- a plan, classes, the blocks of a certificate, and tables of lineage
 pub record CountrySaid : Type 0 where
@@ -143,11 +144,6 @@ IsUnionAnswer c regions before after a =
     ⊎ (IsCountryPublished c regions before after
     × (a ≡ (country_publication_text c regions before, done)))
 
--- the lines of the regions up to the first that is refused; at the end the answer to their union
-abbrev pub IsRegionsPublishAnswer : CountryCandidate → Holdings → Holdings → Answer → Type 0
-IsRegionsPublishAnswer c before after =
-    AfterRegions c.setting (λ regions. IsUnionAnswer c regions before after)
-
 -- ---- the answer
 -- what is asked for: a year, the files of a country, and what is to be printed of its regions
 pub record CountryRequest : Type 0 where
@@ -160,10 +156,12 @@ abbrev pub country_asked : CountryRequest → CountrySaid → CountryCandidate
 country_asked asked said = country_candidate asked.year (setting_said asked.given asked.detail said)
     said.blocks said.tables
 
--- the answer in a year above the last one: faults of the files before the regions come first
+-- the answer in a year above the last one: faults of the files before the regions come first; then
+-- the lines of the regions up to the first that is refused, at the end the answer to their union
 abbrev pub IsPublishCountryAnswer : CountryRequest → PublishCountryInputs → Holdings → Holdings
     → Answer → Type 0
 IsPublishCountryAnswer asked x before after a =
     IsRefusedBefore asked.given x a
     ⊎ ((said : CountrySaid) × AreSaid asked.given x said
-    × IsRegionsPublishAnswer (country_asked asked said) before after a)
+    × AfterRegions (country_asked asked said).setting
+    (λ regions. IsUnionAnswer (country_asked asked said) regions before after) a)

@@ -28,7 +28,7 @@ use Rattle.lpis_run_country.specs.CountryAnswer.{HavePassed, IsReachedBy}
 use Rattle.lpis_run_country.specs.CountryFailures.{IsStoppedBefore}
 use Rattle.lpis_run_publish.specs.LineageLines.{publish_refusal_text}
 use Rattle.lpis_run_publish.specs.Stored.{IsStoreFailure, Stays}
-use Rattle.lpis_run_publish_country.specs.CountryLineage.{AreTablesUnread}
+use Rattle.lpis_run_publish_country.specs.CountryLineage.{AtTable, IsUnreadTable}
 use Rattle.lpis_run_publish_country.specs.PublishCountryAnswer.{AreBlocksOf, AreSaid, AreTopRead}
 use Rattle.lpis_run_publish_country.specs.PublishCountryAnswer.{CountryFiles, CountryRequest}
 use Rattle.lpis_run_publish_country.specs.PublishCountryAnswer.{CountrySaid, IsPublishCountryAnswer}
@@ -53,9 +53,13 @@ pub record IsUnreadLineage (given : CountryFiles) (x : PublishCountryInputs) (f 
   pub table : rows_of classes_table x.country.classes ≡ Ok classes
   pub blocks : List ExactBlock
   pub of_exact : AreBlocksOf x.exact blocks
-  pub unread : AreTablesUnread given.lineages (folders plan) f
+  pub unread : AtTable given.lineages (folders plan) (λ name. IsUnreadTable name f)
 
 -- ---- behind the files before the regions
+-- so it is, or memory ran out
+abbrev pub StopsAtLineage : CountryFiles → PublishCountryInputs → Failure → Type 0
+StopsAtLineage given x f = (f ≡ Memory) ⊎ IsUnreadLineage given x f
+
 -- the files before the regions have no fault, the regions before these folders passed, and these
 -- lines were printed of them
 pub record IsPublishPart (given : CountryFiles) (detail : Detail) (x : PublishCountryInputs)
@@ -66,38 +70,28 @@ pub record IsPublishPart (given : CountryFiles) (detail : Detail) (x : PublishCo
   pub reached : IsReachedBy (setting_said given detail said) regions lines left
 
 -- ---- the run
--- the line that refuses a year that is not above the last one
-abbrev pub early_text : Holdings → List ℕ
-early_text before = publish_refusal_text (Year (last_year before.history))
-
 -- the year is above the last one, and these are the bytes of the files that are no region's
 abbrev pub IsLater : CountryRequest → PublishCountryInputs → Holdings → Type 0
 IsLater asked x before = (last_year before.history < asked.year) × AreTopRead asked.given x
 
 -- over what a register holds before and after a run of a request
 module _ (asked : CountryRequest) (before after : Holdings) where
-  -- a year that is not above the last one is refused, whatever the files have, or that one is not
-  -- read
-  pub record RefusesEarly (a : Answer) : Type 0 where
-    pub early : asked.year ≤ last_year before.history
-    pub is : a ≡ (early_text before, refused)
-    pub same : after ≡ before
-
-  -- memory ran out before that was written
-  pub record StopsEarly (f : Failure) : Type 0 where
-    pub early : asked.year ≤ last_year before.history
-    pub memory : f ≡ Memory
-    pub same : after ≡ before
-
-  -- the files that are no region's were not read, or memory ran out
-  pub record StopsUnread (f : Failure) : Type 0 where
-    pub later : last_year before.history < asked.year
-    pub unread : AreUnread (files_named asked.given) f
-    pub same : after ≡ before
-
   -- this holds of the bytes of the files that are no region's, in a year above the last one
   abbrev pub OfLater : (PublishCountryInputs → Type 0) → Type 0
   OfLater Holds = (x : PublishCountryInputs) × IsLater asked x before × Holds x
+
+  -- why the run stops before anything is written: in a year that is not above the last one, which
+  -- is refused, memory ran out; in a later one so it did, or a file before the regions was not read
+  abbrev pub StopsFirst : Failure → Type 0
+  StopsFirst f = (after ≡ before)
+      × (((asked.year ≤ last_year before.history) × (f ≡ Memory))
+      ⊎ ((last_year before.history < asked.year) × AreUnread (files_named asked.given) f)
+      ⊎ OfLater (λ x. StopsAtLineage asked.given x f))
+
+  -- a year that is not above the last one is refused, whatever the files have
+  abbrev pub RefusesEarly : Answer → Type 0
+  RefusesEarly a = (after ≡ before) × (asked.year ≤ last_year before.history)
+      × (a ≡ (publish_refusal_text (Year (last_year before.history)), refused))
 
 -- the same, of these bytes of the files that are no region's
 module _ (asked : CountryRequest) (x : PublishCountryInputs) (before after : Holdings) where
@@ -105,11 +99,6 @@ module _ (asked : CountryRequest) (x : PublishCountryInputs) (before after : Hol
   pub record PublishesCountry (a : Answer) : Type 0 where
     pub answer : IsPublishCountryAnswer asked x before after a
     pub same : a.1 ≢ done → after ≡ before
-
-  -- a lineage table was not read, or memory ran out
-  pub record StopsBefore (f : Failure) : Type 0 where
-    pub stopped : (f ≡ Memory) ⊎ IsUnreadLineage asked.given x f
-    pub same : after ≡ before
 
   -- behind the lines of the regions that passed a file was not read, or memory ran out; or behind
   -- those of all regions the database failed
@@ -119,13 +108,10 @@ module _ (asked : CountryRequest) (x : PublishCountryInputs) (before after : Hol
     pub stopped : IsStoppedBefore asked.given.texts left f ⊎ ((left ≡ []) × IsStoreFailure f)
     pub same : after ≡ before
 
--- how the run ends: before anything is written memory may run out, or a file before the regions
--- may not be read
+-- how the run ends
 abbrev pub EndsPublishCountry : CountryRequest → Holdings → Holdings → Known → Known
     → Result ℕ Failure → Type 0
-EndsPublishCountry asked before after = RunsOn
-    (λ f. StopsEarly asked before after f ⊎ StopsUnread asked before after f
-    ⊎ OfLater asked before after (λ x. StopsBefore asked x before after f))
+EndsPublishCountry asked before after = RunsOn (StopsFirst asked before after)
     (λ lines f. OfLater asked before after (λ x. StopsBehind asked x before after lines f))
     (λ a. RefusesEarly asked before after a
     ⊎ OfLater asked before after (λ x. PublishesCountry asked x before after a))

@@ -9,11 +9,11 @@ ghost use Rattle.lpis_run.specs.Failures.{IsUnread};
 ghost use Rattle.lpis_run.specs.Stops.{IsRefusedAs};
 ghost use Rattle.lpis_run.specs.Streams.{IsRead};
 ghost use Rattle.lpis_run.specs.declared.failure.Name.TheVariants.{Lineage};
-ghost use Rattle.lpis_run_publish_country.specs.CountryLineage.{AreTablesRefused, AreTablesUnread};
-ghost use Rattle.lpis_run_publish_country.specs.CountryLineage.{IsUnreadTable};
+ghost use Rattle.lpis_run_publish_country.specs.CountryLineage.{IsTableRefused, IsUnreadTable};
 ghost use Rattle.lpis_run_publish_country.specs.private.Preparing.{AddsTable, AreRowsOf, HasTables};
-ghost use Rattle.lpis_run_publish_country.specs.private.Preparing.{IsTableAdded, IsTableRefusal};
-ghost use Rattle.lpis_run_publish_country.specs.private.Preparing.{IsTableRefused};
+ghost use Rattle.lpis_run_publish_country.specs.private.Preparing.{AreTablesRefused};
+ghost use Rattle.lpis_run_publish_country.specs.private.Preparing.{AreTablesUnread, IsTableAdded};
+ghost use Rattle.lpis_run_publish_country.specs.private.Preparing.{IsTableRefusal};
 ghost use Rattle.lpis_run_publish_country.specs.private.Unprepared.{IsUnprepared};
 
 use crate::unprepared::Unprepared;

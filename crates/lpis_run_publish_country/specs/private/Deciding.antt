@@ -19,7 +19,7 @@ use Rattle.lpis_run_publish_country.specs.PublishCountryAnswer.{IsUnionAnswer, P
 use Rattle.lpis_run_publish_country.specs.PublishCountryAnswer.{union_of}
 use Rattle.lpis_run_publish_country.specs.PublishCountryRuns.{FailsToPublishCountry}
 use Rattle.lpis_run_publish_country.specs.PublishCountryRuns.{PublishesCountry}
-use Rattle.lpis_run_publish_country.specs.PublishCountryRuns.{StopsBefore, StopsBehind}
+use Rattle.lpis_run_publish_country.specs.PublishCountryRuns.{StopsAtLineage, StopsBehind}
 
 -- ---- a year that is not above the last one
 -- the line that refuses it was written; or memory ran out, or the output failed
@@ -47,6 +47,11 @@ module _ {S : Type 0} (store : Ghosts S) where
         → FailsToStore store (union_of c regions) old new (f ≡ Store))
 
   -- ---- the run of what was read
+  -- a lineage table was not read, or memory ran out, and the register is as it was
+  abbrev pub StopsBefore : CountryRequest → PublishCountryInputs → Holdings → Holdings → Failure
+      → Type 0
+  StopsBefore asked x before after f = (after ≡ before) × StopsAtLineage asked.given x f
+
   pub record RunsPrepared (asked : CountryRequest) (x : PublishCountryInputs)
       (old new : RegisterState S) (before after : Known) (result : Result ℕ Failure)
       : Type 0 where

@@ -8,11 +8,12 @@ use Rattle.lpis_lineage.specs.LineageTable.{lineage_table}
 use Rattle.lpis_run.specs.CheckAnswer.{Answer}
 use Rattle.lpis_run.specs.Refusals.{line_in_region, refusal_text}
 use Rattle.lpis_run.specs.Status.{unreadable}
-use Rattle.lpis_run.specs.Streams.{IsRead}
+use Rattle.lpis_run.specs.declared.failure.Failure.{Failure}
 use Rattle.lpis_country.specs.Tree.{Tree}
 use Rattle.lpis_run.specs.Inputs.{top_of}
 use Rattle.lpis_run_country.specs.Beginning.{IsBegun}
-use Rattle.lpis_run_publish_country.specs.CountryLineage.{AreTablesOf, IsTableOf, rows_in}
+use Rattle.lpis_run_publish_country.specs.CountryLineage.{AreTablesOf, AtTable, IsTableOf}
+use Rattle.lpis_run_publish_country.specs.CountryLineage.{IsTableRefused, IsUnreadTable, rows_in}
 use Rattle.lpis_run_publish_country.specs.PublishCountryAnswer.{AreSaid, CountryFiles, CountrySaid}
 use Rattle.lpis_run_publish_country.specs.PublishCountryAnswer.{PublishCountryInputs}
 use Rattle.lpis_run_publish_country.specs.declared.inputs.Prepared.{Prepared}
@@ -25,10 +26,13 @@ abbrev pub IsTableRefusal : List ℕ → List ℕ → Answer → Type 0
 IsTableRefusal name table a = (fault : TableFault) × (rows_of lineage_table table ≡ Err fault)
     × (a ≡ (line_in_region (refusal_text fault) name, unreadable))
 
--- the table in a folder is refused
-abbrev pub IsTableRefused : (List ℕ → Option (List ℕ)) → List ℕ → Answer → Type 0
-IsTableRefused told name a = (bytes : List ℕ) × IsRead bytes (told name)
-    × IsTableRefusal name bytes a
+-- that of one of these folders is refused
+abbrev pub AreTablesRefused : (List ℕ → Option (List ℕ)) → List (List ℕ) → Answer → Type 0
+AreTablesRefused told names a = AtTable told names (λ name. IsTableRefused told name a)
+
+-- or not read
+abbrev pub AreTablesUnread : (List ℕ → Option (List ℕ)) → List (List ℕ) → Failure → Type 0
+AreTablesUnread told names f = AtTable told names (λ name. IsUnreadTable name f)
 
 -- it has the rows of these tables
 pub record HasTables (l : CountryLineage) (tables : List (List Row)) : Type 0 where

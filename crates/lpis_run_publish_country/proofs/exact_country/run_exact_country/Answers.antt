@@ -1,7 +1,7 @@
 use Rattle.std.proofs.Common.{Err, refl}
 use Rattle.std.proofs.lemmas.Result.{err_from_is_err_and}
 use Rattle.lpis_run.specs.Folders.{top_by}
-use Rattle.lpis_run_publish_country.specs.ExactCountryAnswer.{StopsFill}
+use Rattle.lpis_run_publish_country.specs.PublishCountryRuns.{StopsAtLineage}
 use Rattle.lpis_run_publish_country.specs.PublishCountryAnswer.{IsRefusedBefore}
 use Rattle.lpis_run_publish_country.specs.private.Preparing.{inputs_of}
 use Rattle.lpis_run_publish_country.proofs.FillingLemmas.{files_without, runs_earlier, runs_prepared, runs_refused, runs_unread}
@@ -21,7 +21,7 @@ returns-in-Err-Failed g c =
     rw c.in-Err-Failed.failure-is
     (runs_earlier given c.args.register.now.held (g.V.Write.contents c.args.file.now) (g.W.Write.contents c.args.out.now) x (c.in_ok-inputs.ensures.bytes given refl refl)
     c.in-Err-Failed.failure
-    (has_failed (StopsFill given x) (IsRefusedBefore given x) c.in-Err-Failed.field-0 c.in-Err-Failed.failure
+    (has_failed (StopsAtLineage given x) (IsRefusedBefore given x) c.in-Err-Failed.field-0 c.in-Err-Failed.failure
     c.in-Err-Failed.field-0-is (c.in-Err-Failed.ensures.unprepared given refl)))
 
 pub fill_prepared-requires : goal.fill_prepared-requires
@@ -43,6 +43,6 @@ returns-in-Err-Refused g c =
     let x = inputs_of c.in_ok-inputs.inputs in
     runs_refused given c.args.register.now.held (g.V.Write.contents c.args.file.now) (g.W.Write.contents c.args.out.now) x (c.in_ok-inputs.ensures.bytes given refl refl)
     (g.W.Write.contents c.write_to.new.out) c.in-Err-Refused.answer c.write_to.result
-    (is_refused (StopsFill given x) (IsRefusedBefore given x) c.in-Err-Refused.field-0 c.in-Err-Refused.answer
+    (is_refused (StopsAtLineage given x) (IsRefusedBefore given x) c.in-Err-Refused.field-0 c.in-Err-Refused.answer
     c.in-Err-Refused.field-0-is (c.in-Err-Refused.ensures.unprepared given refl))
     (rw c.in-Err-Refused.answer-is at c.write_to.ensures.status) (rw c.in-Err-Refused.answer-is at c.write_to.ensures.text) (rw c.in-Err-Refused.answer-is at c.write_to.ensures.failure)

@@ -1,8 +1,7 @@
 use Rattle.std.proofs.Common.{◌<◌, ◌∙◌, ◌≡◌, [], ap, get_or, inl, length, map, refl, subst, sym}
 use Rattle.std.proofs.lemmas.List.{get_or-map}
 use Rattle.std.specs.String.{string_bytes}
-use Rattle.lpis_run_publish_country.specs.CountryLineage.{IsUnreadTable}
-use Rattle.lpis_run_publish_country.specs.private.Preparing.{IsTableRefused}
+use Rattle.lpis_run_publish_country.specs.CountryLineage.{IsTableRefused, IsUnreadTable}
 use Rattle.lpis_run_publish_country.proofs.LineageLemmas.{table_refused}
 use Rattle.lpis_run_publish_country.proofs.UnpreparedLemmas.{failure_handed, memory_handed, stop_handed}
 use Rattle.lpis_run_publish_country.proofs.lineage.add_table.Goals as goal

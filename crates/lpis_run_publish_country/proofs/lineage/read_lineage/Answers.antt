@@ -1,7 +1,7 @@
 use Rattle.std.proofs.Common.{◌<◌, ◌≤◌, ◌∙◌, [], ap, arith, get_or, length, map, refl}
 use Rattle.std.proofs.lemmas.List.{length-map}
 use Rattle.std.specs.String.{string_bytes}
-use Rattle.lpis_run_publish_country.specs.CountryLineage.{AreTablesRefused, AreTablesUnread}
+use Rattle.lpis_run_publish_country.specs.private.Preparing.{AreTablesRefused, AreTablesUnread}
 use Rattle.lpis_run_publish_country.proofs.LineageLemmas.{all_read, goes_on, is_unprepared, next_name, no_table}
 use Rattle.lpis_run_publish_country.proofs.UnpreparedLemmas.{same_handed}
 use Rattle.lpis_run_publish_country.proofs.lineage.read_lineage.Goals as goal
