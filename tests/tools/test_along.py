@@ -35,6 +35,7 @@ CASES = {
     "beyond a disc's side": ((0, 0, 51.6, 0), [(0, 0, 50, 0)], False),
     "into a disc, aslant": ((50, 0, 51, 1), [(0, 0, 50, 0)], True),
     "out of a disc, aslant": ((50, 0, 51.1, 1.1), [(0, 0, 50, 0)], False),
+    "past a sharp corner": ((-1, 0.9, 1.2, 0), [(-45, 21, 0, 0), (0, 0, -45, -21)], True),
     "away from a segment, up to the width": ((20, 0, 20, 1.4), [(0, 0, 50, 0)], True),
     "away from a segment, a spike": ((20, 0, 20, 2), [(0, 0, 50, 0)], False),
     "across a segment": ((20, -1.4, 20, 1.4), [(0, 0, 50, 0)], True),
