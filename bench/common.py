@@ -9,6 +9,7 @@ import collections
 import contextlib
 import functools
 import json
+import multiprocessing
 import os
 import pathlib
 import resource
@@ -22,7 +23,8 @@ HERE = os.path.dirname(os.path.realpath(__file__))
 TOP = os.path.dirname(HERE)
 sys.path.append(os.path.join(TOP, "tests", "helpers"))  # what tests and benches share: registers, years, shapes
 MEGABYTE = 1_000_000
-RUNS, WIDTH = 3, 120
+RUNS, WIDTH, MOST_FAULTS = 3, 120, 20
+IN_MEMORY = "/dev/shm" if os.access("/dev/shm", os.W_OK) else None  # a folder for files that are written and synced often
 TABLES = ["parcels.csv", "covers.csv", "classes.csv"]
 CERT = "cert.txt"
 
@@ -273,6 +275,17 @@ def counted(passed, failed):
     return 1 if failed else 0
 
 
+def side_by_side(judged, numbers, answers):
+    """What is made of each number, in processes; once there are many that are not right, of no more. `judged` answers it with its faults behind it."""
+    lpis()  # built before the processes begin
+    with multiprocessing.Pool() as pool:
+        for *found, faults in pool.imap(judged, numbers):
+            answers.expect(not faults, *faults)
+            yield *found, faults
+            if answers.failed == MOST_FAULTS:
+                return
+
+
 def shares(words, steps):
     """Where `perf` is there, the share of each step in the samples of one run, as a text: a step lasts from its first sample to that of the
     next. A step is a name with words, of which its first sample has one."""
@@ -293,10 +306,18 @@ def shares(words, steps):
     return ", ".join(f"{name} {100 * count / max(1, len(samples)):.0f}" for (name, _), count in zip(steps, counts)) + " of 100"
 
 
-@contextlib.contextmanager
-def told_faults():
-    """Collects lines about what is not right, which come under the table."""
-    lines = []
-    yield lines
-    if lines:
-        print("\n" + "\n".join(wrapped(f"- {line}", "  ") for line in lines), flush=True)
+class Answers:
+    """How many answers are right. What is not, and what else is to be told, comes under the table."""
+
+    def __init__(self):
+        self.passed, self.failed, self.lines = 0, 0, []
+
+    def expect(self, is_right, *what):
+        self.passed += is_right
+        self.failed += not is_right
+        self.lines += [] if is_right else [f"not right: {line}" for line in what]
+
+    def tell(self, *more):
+        """Prints these lines, more of them, and last the counts; answers the bench's status."""
+        print("", *(wrapped(f"- {line}", "  ") for line in [*self.lines, *more]), "", sep="\n", flush=True)
+        return counted(self.passed, self.failed)

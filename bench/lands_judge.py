@@ -1,7 +1,7 @@
 """Judges a run of `tools/prepare` over a generated land, by whole numbers and fractions of its own: nothing of tools/ is used.
 
 - the areas of the source and of the tables are those of balance.csv, whose columns add up
-- a row of the source is in the tables with its area, or a row of prepared.csv or report.csv has it
+- a row of the source is in the tables with its area, or a row of prepared.csv or report.csv has it; what was left out has its own area
 - a point inside of a row of the source is in its row of the tables, or a row of a report has it; and the other way round
 - what another run over the same source wrote is the same"""
 
@@ -20,6 +20,8 @@ EDGE = 0.001  # metres that rounding may move a border by
 NEAR = 0.5  # square metres: what a balance that adds up may miss
 DEEP = 0.006  # metres from all borders of its shape: a point that rounding takes from nobody
 SAMPLES = 150
+GONE = ("lost", "left out")  # kinds of report.csv
+CONFLICTS = {"overlap", "gap", "outside"}  # kinds that name who shares land, which is no word for a row that is changed or gone
 MOST = 1e16  # square metres: of coordinates beyond the range, whose row is left out by name
 
 
@@ -73,7 +75,7 @@ class Judge:
         for record in records(out, "identifiers.csv"):
             self.new_names[record["kind"]][plain(record["old"])] = record["new"]
         self.tables = {layer: [Written(record, layer) for record in records(out, f"{layer}.csv")] for layer in KEYS}
-        self.told, self.told_names, self.made_names = defaultdict(set), set(), set()
+        self.told, self.told_names, self.gone_names, self.made_names = defaultdict(set), set(), set(), set()
         self.read_reports()
 
     def say(self, kind, words):
@@ -91,18 +93,20 @@ class Judge:
             if record["kind"] in ("doubled", "nameless"):
                 self.made_names |= set(record["done"].replace(",", " ").split())
             if record["kind"] == "doubled" and record["done"].endswith("joined"):
-                self.told_names.add(record["identifier"])  # the other of the two is named by its words
+                self.gone_names.add(record["identifier"])  # the other of the two is named by its words
         for record in records(self.out, "report.csv"):
             for layer in KEYS:
-                if layer == record["layer"] or record["kind"] in ("outside", "gap", "overlap"):
+                if layer == record["layer"] or record["kind"] in CONFLICTS:
                     for number in record["row"].split():
                         self.told[layer, number].add(record["kind"])
             if record["kind"] != "column":
-                self.told_names |= set(record["identifiers"].split())
+                (self.told_names if record["kind"] in CONFLICTS else self.gone_names).update(record["identifiers"].split())
+        self.told_names |= self.gone_names
 
     def judge(self):
         self.balance()
         self.rows()
+        self.left_out()
         self.points()
         return self.wrong
 
@@ -177,14 +181,28 @@ class Judge:
                     self.say("rows", f"{layer}: the tables have {name}, and the source has not")
 
     def row(self, row, name, found):
-        kinds = self.told[row.layer, str(row.number)]
-        if kinds - {"identifier", "curve", "z", "m"} or (not kinds and name in self.told_names and found is None):
+        kinds = self.told[row.layer, str(row.number)] - CONFLICTS
+        if kinds - {"identifier", "curve", "z", "m"} or (not kinds and name in self.gone_names and found is None):
             return
         area, slack = row.shape.area()
         if found is None:
             self.say("silent", f"{row.layer} {row.number} {name!r} of {area:.6f} m2 is in no table, and no row has it")
-        elif abs(found.area2 / 2_000_000 - area) > EDGE * row.shape.length() + slack + 0.001 and name not in self.told_names:
+        elif abs(found.area2 / 2_000_000 - area) > EDGE * row.shape.length() + slack + 0.001 and name not in self.gone_names:
             self.say("silent", f"{row.layer} {row.number} {name!r}: {area:.6f} m2 became {found.area2 / 2_000_000:.6f}, and no row has it")
+
+    def left_out(self):
+        """What is told as left out adds up to its column of the balance, and each of its rows has its own area."""
+        shapes, sums = {(row.layer, str(row.number)): row.shape for row in self.land.rows()}, defaultdict(float)
+        gone = [record for record in records(self.out, "report.csv") if record["kind"] in GONE and (record["layer"], record["row"]) in shapes]
+        for record in gone:
+            told, (area, slack) = float(record["area_m2"] or 0), shapes[record["layer"], record["row"]].area()
+            sums[record["layer"]] += told
+            if 0.001 < area < MOST and (abs(told - area) > 0.01 + slack or not record["x"]):
+                self.say("left out", f"{record['layer']} {record['row']}: told with {told} m2 at {record['x']} {record['y']}, and it has {area:.3f}")
+        for record in records(self.out, "balance.csv"):
+            layer = record["layer"]
+            if not record["class"] and layer in KEYS and abs(float(record["left_out_m2"]) + sums[layer]) > NEAR + 0.001 * len(gone):
+                self.say("left out", f"{layer}: the balance has {record['left_out_m2']}, and the rows {-sums[layer]:.3f} m2")
 
     # Points.
 

@@ -121,19 +121,23 @@ class Trial:
         if run.status != 0:
             self.say("compare", f"compare ended with {run.status}: {last_line(run.told, run.text)}")
             return
+        self.same_balance("compare", other, out, "source_m2")
+
+    def same_balance(self, tool, folder, out, source):
+        """The balance of another tool over the tables has their areas, and as its source those of one of their columns."""
         here = {(record["layer"], record["class"]): record for record in records(out, "balance.csv")}
-        for record in records(other, "balance.csv"):
+        for record in records(folder, "balance.csv"):
             group = record["layer"], record["class"]
             if group[0] == "between":  # gaps of the source, which prepare has mended before
                 continue
             mine = here.get(group, {}).get("tables_m2", "0")
             if abs(float(record["tables_m2"]) - float(mine)) > 0.002:
-                self.say("compare", f"tables of {group}: compare has {record['tables_m2']}, and prepare {mine} m2")
-            if not record["class"] and group in here and abs(float(record["source_m2"]) - float(here[group]["source_m2"])) > 0.01:
-                self.say("compare", f"source of {group}: compare has {record['source_m2']}, and prepare {here[group]['source_m2']} m2")
+                self.say(tool, f"tables of {group}: {tool} has {record['tables_m2']}, and prepare {mine} m2")
+            mine = here.get(group, {}).get(source, "0")
+            if (not record["class"] or tool == "split") and abs(float(record["source_m2"]) - float(mine)) > 0.01:
+                self.say(tool, f"source of {group}: {tool} has {record['source_m2']}, and prepare {mine} m2")
 
     def split(self, out):
-        """The regions of a country have each row of the tables, and nothing else; each gets its yes."""
         if not os.path.exists(os.path.join(out, "classes.csv")):
             return
         country = self.path("country")
@@ -145,6 +149,10 @@ class Trial:
         if run.status != 0:
             self.say("split", f"split ended with {run.status}: {last_line(run.told, run.text)}")
             return
+        self.judge_regions(out, country)
+
+    def judge_regions(self, out, country):
+        """The regions of a country have each row of the tables, and nothing else; each gets its yes."""
         with open(os.path.join(country, "country.txt"), encoding="ascii") as file:
             regions = [line.split()[1] for line in file if line.startswith("region ")]
         for name in TABLES[:2]:
@@ -152,6 +160,9 @@ class Trial:
             found = {tuple(record.items()) for region in regions for record in records(os.path.join(country, region), name)}
             if wanted != found:
                 self.say("split", f"{name}: {len(wanted - found)} rows are in no region, {len(found - wanted)} are of no table")
+        if any(records(os.path.join(country, region), "classes.csv") != records(out, "classes.csv") for region in ("", *regions)):
+            self.say("split", "the classes of a region, or of the country, are others")
+        self.same_balance("split", country, out, "tables_m2")
         for region in regions:
             answer([lpis(), "cut", os.path.join(country, region), os.path.join(country, region, "cert.txt")])
         status, text, told = answer([lpis(), "country", country])

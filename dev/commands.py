@@ -10,7 +10,7 @@ from pathlib import Path
 TOP = Path(__file__).resolve().parent.parent
 SOURCES = TOP / "crates" / "lpis_command_line" / "src"
 WORDS = """\
-# Which words of a command line are files: a line for each command, with its words in order. dev/crates --write makes it; tests/program/files holds it against the program.
+# Which words of a command line are files: a line for each command, with its words in order. dev/crates --write makes it; tests/program/test_files.py holds it against the program.
 #
 #     NAME       a file that is read, by the name that a failure has for it; >NAME is one that is written
 #     FOLDER/    a folder, whose files stand in a line of their own, in the order in which they are opened; * is each region

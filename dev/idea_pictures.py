@@ -1,4 +1,4 @@
-"""Draws docs/idea-*.svg, of worked releases and the certificates that `lpis` finds for them: imported by dev/pictures.
+"""Draws docs/parcel.svg and idea-*.svg, of worked releases and the certificates that `lpis` finds for them: imported by dev/pictures.
 
 Each is an SVG of its own, on a ground of its own, for light and for dark pages. What is flat or touches is drawn a little apart, and the page says so.
 Tables are read by audit/release.py."""
@@ -138,6 +138,25 @@ def crossings(polygon, point):
     return [sign for _, sign in sorted(found)]
 
 
+def draw_parcel(folder):
+    """A parcel with its pieces and their classes, beside the triangles of its certificate."""
+    parcels, pieces, percents = audit.read_release(TOP / "examples" / "pasture")
+    mine = {name: (land_class, shape) for name, (parcel, land_class, shape) in pieces.items() if parcel == "upper"}
+    triangles = {name: folder["pasture"][0]["piece", name][0] for name in mine}
+    drawing, fills = Drawing(250), {"meadow": "one", "scattered-trees": "three", "rock": "two"}
+    for part, title in enumerate(("A parcel and its pieces, each of a class", f"The certificate: {sum(map(len, triangles.values()))} triangles")):
+        panel = drawing.panel(title, box_of(parcels["upper"]), part, 2)
+        for name, (land_class, shape) in mine.items():
+            panel.path(rings_of(shape), fills[land_class])
+            if part:
+                panel.path(triangles[name], "cut")
+            panel.path(rings_of(shape), "shape")
+    panel = drawing.panel("", box_of(parcels["upper"]), 0, 2)
+    for land_class, place in (("meadow", (7_000, 46_000)), ("scattered-trees", (37_200, 55_000)), ("rock", (48_000, 35_000))):
+        panel.words(f"{land_class}, {percents[land_class]} %", panel.place(place))
+    return drawing
+
+
 def draw_walk(_):
     """A polygon as a closed walk, and what points count of it."""
     farm = audit.read_parcels(TOP / "examples" / "holes")["farm"]
@@ -234,21 +253,24 @@ def draw_lineage(folder):
 
 
 def certificates(folder):
-    """Triangles, flats and pair lines of the certificate of examples/junctions, and of the one with which examples/exact/2025 is published."""
+    """Triangles, flats and pair lines of the certificates of two examples, and of the one with which examples/exact/2025 is published."""
     examples = TOP / "examples"
-    lpis("cut", examples / "junctions", folder / "junctions.txt")
+    for name in ("junctions", "pasture"):
+        lpis("cut", examples / name, folder / f"{name}.txt")
     for year in ("2024", "2025"):
         lpis("cut", examples / "exact" / year, folder / f"{year}.txt")
     lpis("publish", folder / "exact.db", 2024, examples / "exact" / "2024", folder / "2024.txt")
     lpis("exact", folder / "exact.db", examples / "exact" / "2025", folder / "2025.txt", folder / "exact.txt")
-    return {name: blocks_of(folder / f"{name}.txt") for name in ("junctions", "exact")}
+    return {name: blocks_of(folder / f"{name}.txt") for name in ("junctions", "pasture", "exact")}
 
 
-DRAWINGS = {"walk": draw_walk, "cancel": draw_cancel, "pieces": draw_pieces, "border": draw_border, "lineage": draw_lineage}
+DRAWINGS = {
+    "parcel": draw_parcel, "idea-walk": draw_walk, "idea-cancel": draw_cancel, "idea-pieces": draw_pieces, "idea-border": draw_border, "idea-lineage": draw_lineage,
+}
 
 
 def draw(folder, out):
     """Writes the drawings into a folder; another one is for certificates."""
     found = certificates(folder)
     for name, drawn in DRAWINGS.items():
-        (out / f"idea-{name}.svg").write_text(drawn(found).text(), encoding="utf-8")
+        (out / f"{name}.svg").write_text(drawn(found).text(), encoding="utf-8")

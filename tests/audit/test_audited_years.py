@@ -208,9 +208,7 @@ def folder():
 def test_read_only(folder):
     """A register in the mode WAL, where no file may be made beside it: alone, with an empty log, and with rows in the log."""
     path, log, shared = (folder / f"register.db{end}" for end in ("", "-wal", "-shm"))
-    base = sqlite3.connect(path)
-    base.executescript("PRAGMA journal_mode = WAL;" + registers.VERSION_3)
-    base.close()
+    registers.made(path, "PRAGMA journal_mode = WAL;" + registers.VERSION_3)
     lawful = "lawful releases 2 identifiers 3 shapes 2\n"
     assert read(folder) == lawful
     log.touch()

@@ -1,12 +1,13 @@
 """What the tests of registers share: a call of the program, what SQLite finds in a register, the tables of version 3, a release that is cut and
 published."""
 
+import contextlib
 import pathlib
 import sqlite3
 import subprocess
 
 import common
-from registers import LEFT, RIGHT, TABLES, made, said
+from registers import LEFT, RIGHT, TABLES, made, rows, said
 
 TOP = pathlib.Path(common.TOP)
 LPIS = common.lpis()
@@ -28,20 +29,9 @@ def lpis(*words):
     return run.stdout + "".join("2> " + line + "\n" for line in run.stderr.splitlines()), run.returncode
 
 
-def rows(path, query):
-    connection = sqlite3.connect(path)
-    try:
-        return connection.execute(query).fetchall()
-    finally:
-        connection.close()
-
-
 def dump(path):
-    connection = sqlite3.connect(path)
-    try:
+    with contextlib.closing(sqlite3.connect(path)) as connection:
         return list(connection.iterdump())
-    finally:
-        connection.close()
 
 
 def texts(path):

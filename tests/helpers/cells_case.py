@@ -2,9 +2,9 @@
 
 import os
 import tempfile
-import unittest
 from unittest import mock
 
+import pytest
 from spare import Spare, read, write
 from lpis_tools import shapely_there
 
@@ -27,7 +27,7 @@ def told(losses):
     return sorted((loss.kind, loss.names, loss.rows, loss.words, loss.width, loss.area, loss.place()) for loss in losses)
 
 
-@unittest.skipUnless(shapely_there.is_there(), shapely_there.LACKING)
+@pytest.mark.skipif(not shapely_there.is_there(), reason=shapely_there.LACKING)
 class Case(Spare):
     """Wants Shapely."""
 
@@ -51,7 +51,7 @@ class ByCells(Case):
         with mock.patch.object(store, "MOST_POINTS", most), mock.patch.object(store, "LEAST", 0):
             count = store.put_cells(base)
         if last:
-            last.put(base)
+            last.put(base, [os.path.join(results, parts.made(part, results)) for part in last.planned()])
         names = [cell.made(os.path.join(made, "rows.db"), number, results) for number in range(count)]
         found = gathering.Gathered(base, results, names, balance.Balance({}))
         found.read(Quietly())

@@ -6,9 +6,10 @@ import random
 import shutil
 import subprocess
 import sys
-import tempfile
 
-from places import BUILT, TOOLS, TOP
+import pytest
+from calls import run, tool
+from places import BUILT, TOP
 from spare import Spare, read
 import judged_country as judged
 
@@ -16,12 +17,8 @@ HEADS = {"parcels": "parcel,wkt", "covers": "piece,parcel,class,wkt", "classes":
 CLASSES = ["GRASS,100", "TREES,30", "WATER,0"]
 
 
-def run(*words, **more):
-    return subprocess.run([str(word) for word in words], capture_output=True, text=True, check=False, **more)
-
-
 def country(*words, **surroundings):
-    return run(os.path.join(TOOLS, "country"), *words, env={**os.environ, **surroundings})
+    return tool("country", *words, env={**os.environ, **surroundings})
 
 
 def own_check(folder):
@@ -108,14 +105,11 @@ def generated(folder, count, *kinds):
 
 
 class Case(Spare):
-    @classmethod
-    def setUpClass(cls):
-        spare = tempfile.TemporaryDirectory()
-        cls.addClassCleanup(spare.cleanup)
-        cls.kept = os.path.join(spare.name, "kept")
+    @pytest.fixture(autouse=True, scope="class")
+    def kept_folder(self, request, tmp_path_factory):
+        request.cls.kept = str(tmp_path_factory.mktemp("kept") / "kept")
 
-    def setUp(self):
-        super().setUp()
+    def set_up(self):
         self.source, self.out = self.path("source"), self.path("country")
 
     def begin(self, make):
@@ -128,8 +122,8 @@ class Case(Spare):
 
     def split(self, *options, source=None):
         ended = country("split", source or self.source, self.out, *map(str, options))
-        self.assertEqual(ended.returncode, 0, ended.stdout + ended.stderr)
-        self.assertIn("the balance adds up to the square metre\n", ended.stdout)
+        assert ended.returncode == 0, ended.stdout + ended.stderr
+        assert "the balance adds up to the square metre\n" in ended.stdout
         return ended.stdout.splitlines()[-1].split()
 
     def regions(self):
@@ -155,22 +149,22 @@ class Case(Spare):
             self.certify()
         text, found = self.answer()
         plain = "".join(line for line in text.splitlines(True) if not line.startswith("parcel "))
-        self.assertEqual((text.splitlines()[-1], found), (ending, status), text[-400:])
+        assert (text.splitlines()[-1], found) == (ending, status), text[-400:]
         for option, wanted in (([], plain), (["--parcels"], text)) if BUILT else ():
             ended = run(BUILT, "country", *option, self.out)
-            self.assertEqual((ended.stdout, ended.returncode, ended.stderr), (wanted, status, ""))
+            assert (ended.stdout, ended.returncode, ended.stderr) == (wanted, status, "")
         return plain, text
 
     def assertIsRelease(self, source):
         """The country's answer is the report of the source, which is one release."""
         found = self.assertCountry("yes", 0)[1].splitlines()
         whole = judged.Region(source)
-        self.assertEqual(found[-2], f"country regions {len(self.regions())} {judged.counts(whole.sums(whole.parcels))}")
+        assert found[-2] == f"country regions {len(self.regions())} {judged.counts(whole.sums(whole.parcels))}"
         told = sorted(line for line in found if line.startswith("parcel "))
-        self.assertEqual(told, sorted(whole.lines(whole.parcels)))
+        assert told == sorted(whole.lines(whole.parcels))
         if BUILT:
             cert = self.path("whole.txt")
-            self.assertEqual(run(BUILT, "cut", source, cert).returncode, 0)
+            assert run(BUILT, "cut", source, cert).returncode == 0
             report = run(BUILT, "check", source, cert).stdout.splitlines()
-            self.assertEqual(sorted(line for line in report if line.startswith("parcel ")), told)
-            self.assertEqual(report[-2:], [f"total {judged.areas(*whole.sums(whole.parcels)[2:])}", "yes"])
+            assert sorted(line for line in report if line.startswith("parcel ")) == told
+            assert report[-2:] == [f"total {judged.areas(*whole.sums(whole.parcels)[2:])}", "yes"]

@@ -87,6 +87,21 @@ class Land:
                 return True
         return False
 
+    def split_across(self, name, chance):
+        """Along a line that ends somewhere between the corners of two borders; those that the parcel shares them with have no corner there."""
+        shape = self.parcels[name]
+        if shape.geom_type != "Polygon" and len(shape.geoms) != 1:
+            return False
+        outline = getattr(shape, "geoms", [shape])[0]
+        for _ in range(20):
+            a, b = (outline.exterior.interpolate(chance.random(), normalized=True) for _ in range(2))
+            line = LineString([(2 * a.x - b.x, 2 * a.y - b.y), (2 * b.x - a.x, 2 * b.y - a.y)])
+            halves = parts_of(split(outline, line))
+            if len(halves) == 2 and min(half.area for half in halves) > shape.area / 5:
+                self.divide(name, halves)
+                return True
+        return False
+
     def divide(self, name, halves):
         del self.parcels[name]
         pieces = {piece: self.take(piece) for piece in self.pieces_of(name)}

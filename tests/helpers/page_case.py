@@ -8,12 +8,11 @@ import pathlib
 import shutil
 import signal
 import subprocess
-import unittest
 from importlib.machinery import SourceFileLoader
 
+import pytest
 from browser import CHROMIUM  # noqa: F401 which `wanted` finds by its name
 from places import BUILT, TOP
-
 import tables
 
 SOURCES, TESTS, EXAMPLES = (os.path.join(TOP, *path) for path in (("page",), ("tests", "page"), ("examples",)))
@@ -73,9 +72,9 @@ def wanted(*programs):
     """Leaves a test out where one of these is not there: names of programs, or `page`."""
     for name in programs:
         if name == "page" and not built()[0]:
-            raise unittest.SkipTest(built()[1])
+            pytest.skip(built()[1])
         if name != "page" and not globals()[name]:
-            raise unittest.SkipTest(f"there is no {name.lower()}")
+            pytest.skip(f"there is no {name.lower()}")
 
 
 def node(task, **words):

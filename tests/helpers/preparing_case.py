@@ -2,9 +2,9 @@
 
 import csv
 import os
-import subprocess
-import unittest
 
+import pytest
+from calls import records, tool
 import dirty
 import places
 from lpis_tools import shapely_there
@@ -18,15 +18,9 @@ def ring(x, y, width=10.0, height=10.0):
     return ",".join(f"{east} {north}" for east, north in dirty.box(x, y, width, height))
 
 
-def rows(*path):
-    with open(os.path.join(*path), newline="", encoding="utf-8") as file:
-        return list(csv.DictReader(file))
-
-
-@unittest.skipUnless(shapely_there.python(), shapely_there.LACKING)
+@pytest.mark.skipif(not shapely_there.python(), reason=shapely_there.LACKING)
 class Case(Spare):
-    def setUp(self):
-        super().setUp()
+    def set_up(self):
         self.out, self.sheets = self.path("out"), self.path("sheets")
         os.mkdir(self.sheets)
 
@@ -50,17 +44,17 @@ class Case(Spare):
         return self.path("land.gpkg")
 
     def run_on(self, source, *words):
-        return subprocess.run([PREPARE, source, self.out, *words], capture_output=True, text=True, check=False)
+        return tool("prepare", source, self.out, *words)
 
     def found(self):
-        return rows(self.out, "prepared.csv")
+        return records(self.out, "prepared.csv")
 
     def assert_refused(self, run, *words):
         """Status 1, no table, and a finding with the words."""
-        self.assertEqual(run.returncode, 1, run.stdout + run.stderr)
-        self.assertFalse({"parcels.csv", "covers.csv"} & set(os.listdir(self.out)))
+        assert run.returncode == 1, run.stdout + run.stderr
+        assert not ({"parcels.csv", "covers.csv"} & set(os.listdir(self.out)))
         for word in words:
-            self.assertIn(word, run.stdout)
+            assert word in run.stdout
 
     def areas(self):
-        return {row["class"]: float(row["tables_m2"]) for row in rows(self.out, "balance.csv") if row["layer"] == "covers" and row["class"]}
+        return {row["class"]: float(row["tables_m2"]) for row in records(self.out, "balance.csv") if row["layer"] == "covers" and row["class"]}

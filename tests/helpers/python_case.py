@@ -1,12 +1,13 @@
 """What the tests of the package `lpis` share: where things lie, who can answer, and calls of other programs."""
 
+import functools
 import importlib.util
 import os
 import pathlib
 import shutil
-import subprocess
 import sys
 
+import calls
 import places
 
 TOP = pathlib.Path(places.TOP)
@@ -14,16 +15,7 @@ PYTHON, EXAMPLES = TOP / "python", TOP / "examples"
 NAMES = ("parcels", "covers", "classes")
 NO_LIBRARY = "no liblpis.so of these sources in out/library (dev/library), and LPIS_LIBRARY names none"
 ALONE = {name: value for name, value in os.environ.items() if not name.startswith(("PYTHON", "PIP_", "LPIS"))}  # nothing that leads to this clone
-
-
-def run(*words, **more):
-    return subprocess.run([str(word) for word in words], **{"capture_output": True, "text": True, "check": False, "env": ALONE, **more})
-
-
-def done(*words, **more):
-    ended = run(*words, **more)
-    assert ended.returncode == 0, (words, ended.returncode, ended.stdout, ended.stderr)
-    return ended.stdout
+run, done = (functools.partial(call, env=ALONE) for call in (calls.run, calls.done))
 
 
 def has(name):

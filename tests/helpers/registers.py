@@ -2,6 +2,7 @@
 starve or damage one."""
 
 import collections
+import contextlib
 import os
 import pathlib
 import sqlite3
@@ -69,6 +70,12 @@ def made(path, *scripts):
     connection.commit()
     connection.close()
     return path
+
+
+def rows(path, query):
+    """What a query finds."""
+    with contextlib.closing(sqlite3.connect(path)) as connection:
+        return connection.execute(query).fetchall()
 
 
 def register(path):

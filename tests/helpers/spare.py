@@ -1,9 +1,10 @@
-"""What tests share that have a folder of their own."""
+"""Folders of tests: one for each test of a class, or one for all of them."""
 
 import os
 import tempfile
-import unittest
 from pathlib import Path
+
+import pytest
 
 
 def read(*names):
@@ -14,15 +15,39 @@ def write(text, *names):
     Path(*names).write_text(text, encoding="utf-8")
 
 
-class Spare(unittest.TestCase):
+class Spare:
     """A folder for each test, whose name begins with `prefix`."""
 
     prefix = None
 
-    def setUp(self):
-        spare = tempfile.TemporaryDirectory(prefix=self.prefix)
-        self.addCleanup(spare.cleanup)
-        self.folder = spare.name
+    @pytest.fixture(autouse=True)
+    def spare(self):
+        with tempfile.TemporaryDirectory(prefix=self.prefix) as self.folder:
+            self.set_up()
+            yield
+
+    def set_up(self):
+        """What a test wants in its folder."""
 
     def path(self, *names):
         return os.path.join(self.folder, *names)
+
+
+class Kept:
+    """A folder that the tests of a class share."""
+
+    prefix = None
+
+    @pytest.fixture(autouse=True, scope="class")
+    def kept(self, request):
+        with tempfile.TemporaryDirectory(prefix=self.prefix) as request.cls.folder:
+            request.cls.set_up()
+            yield
+
+    @classmethod
+    def set_up(cls):
+        """What all tests want in the folder."""
+
+    @classmethod
+    def path(cls, *names):
+        return os.path.join(cls.folder, *names)

@@ -13,7 +13,6 @@ import tempfile
 import threading
 import time
 import types
-import unittest
 import unittest.mock
 from decimal import Decimal
 from fractions import Fraction
@@ -22,7 +21,6 @@ import pytest
 import stopping
 from places import BUILT
 from python_case import BACKENDS, EXAMPLES, LIBRARY, NAMES, NO_LIBRARY, PYTHON, Feature, has, mypy, release, run, square
-
 import lpis
 import tables as generated
 from lpis.backends import choose
@@ -42,34 +40,34 @@ def printed(*words):
     return run(BUILT, *words).stdout
 
 
-class Case(unittest.TestCase):
-    def setUp(self):
-        spare = tempfile.TemporaryDirectory()
-        self.addCleanup(spare.cleanup)
-        self.top = pathlib.Path(spare.name)
-        self.addCleanup(choose)
+class Case:
+    @pytest.fixture(autouse=True)
+    def begin(self, tmp_path):
+        self.top = tmp_path
+        yield
+        choose()
 
     def refused(self, call, *words):
-        with self.assertRaises(lpis.Refused) as caught:
+        with pytest.raises(lpis.Refused) as caught:
             call(*words)
-        return caught.exception
+        return caught.value
 
 
-class Types(unittest.TestCase):
-    @unittest.skipUnless(mypy(), "no mypy (Debian: mypy)")
+class TestTypes:
+    @pytest.mark.skipif(not mypy(), reason="no mypy (Debian: mypy)")
     def test_strict(self):
         with tempfile.TemporaryDirectory() as folder:
             ended = run(*mypy(), "--config-file", PYTHON / "pyproject.toml", "--cache-dir", folder, "-p", "lpis", cwd=PYTHON / "src", env=os.environ)
-        self.assertEqual(ended.returncode, 0, ended.stdout + ended.stderr)
+        assert ended.returncode == 0, ended.stdout + ended.stderr
 
-    def test_public_words(self):
+    @pytest.mark.parametrize("name", lpis.__all__)
+    def test_public_words(self, name):
         """Each public name has a text, and is said to be one."""
-        for name in lpis.__all__:
-            self.assertTrue(getattr(lpis, name).__doc__, name)
+        assert getattr(lpis, name).__doc__, name
 
 
-@unittest.skipUnless(BUILT, "the program is not built")
-class Tables(Case):
+@pytest.mark.skipif(not BUILT, reason="the program is not built")
+class TestTables(Case):
     """The same tables, whatever they come as."""
 
     def forms(self):
@@ -93,36 +91,34 @@ class Tables(Case):
 
     def test_forms(self):
         for name, parcels, covers, classes in self.forms():
-            with self.subTest(name):
-                parcels, covers = (table if isinstance(table, (bytes, str, pathlib.Path, dict, Feature)) else list(table) for table in (parcels, covers))
-                report = lpis.check(parcels, covers, classes, lpis.cut(parcels, covers, classes))
-                self.assertEqual([(row.parcel, row.area, str(row.eligible)) for row in report.parcels], [("west", 100, "100.000000000"), ("east", 100, "100.000000000")])
-                self.assertEqual([row.piece for row in report.pieces], ["0", "1"])
+            parcels, covers = (table if isinstance(table, (bytes, str, pathlib.Path, dict, Feature)) else list(table) for table in (parcels, covers))
+            report = lpis.check(parcels, covers, classes, lpis.cut(parcels, covers, classes))
+            assert [(row.parcel, row.area, str(row.eligible)) for row in report.parcels] == [("west", 100, "100.000000000"), ("east", 100, "100.000000000")]
+            assert [row.piece for row in report.pieces] == ["0", "1"]
 
     def test_shapes_alone(self):
-        self.assertEqual(lpis.area(square(0, 0)), [100])
-        self.assertEqual(lpis.area([square(0, 0), Feature(square(1e6, -2e6, 0.001))]), [100, Fraction(1, 10**6)])
+        assert lpis.area(square(0, 0)) == [100]
+        assert lpis.area([square(0, 0), Feature(square(1e6, -2e6, 0.001))]) == [100, Fraction(1, 10**6)]
         hole = {"type": "MultiPolygon", "coordinates": [[*square(0, 0)["coordinates"], *square(1, 1, 2)["coordinates"]], square(50, 0)["coordinates"]]}
-        self.assertEqual(lpis.area(hole), [196])
+        assert lpis.area(hole) == [196]
 
     def test_no_number_is_rounded(self):
         """A number is written as it is, and what is finer than a millimetre is refused, with its row and its point."""
         for value, codes in ((0.1 + 0.2, "14"), (1e-4, "14"), (5e-324, "14"), (Decimal("0.0005"), "14"), (20_000_000.001, "15"), (1e22, "15"), (float("nan"), "13"), (float("inf"), "13"),
                              (Fraction(1, 3), "13"), ("x", "13"), (None, "13")):
-            with self.subTest(value):
-                corners = [(value, 7), (10, 7), (10, 9), (value, 9), (value, 7)]
-                refused = self.refused(lpis.area, [square(0, 0), {"type": "Polygon", "coordinates": [corners]}])
-                self.assertEqual((refused.codes, refused.table, refused.row), (("38", codes), "area", 2))
-                self.assertEqual(refused.place, None if codes == "13" else lpis.Point(Fraction(Decimal(repr(value)) if isinstance(value, float) else value), Fraction(7)))
+            corners = [(value, 7), (10, 7), (10, 9), (value, 9), (value, 7)]
+            refused = self.refused(lpis.area, [square(0, 0), {"type": "Polygon", "coordinates": [corners]}])
+            assert (refused.codes, refused.table, refused.row) == (("38", codes), "area", 2)
+            assert refused.place == (None if codes == "13" else lpis.Point(Fraction(Decimal(repr(value)) if isinstance(value, float) else value), Fraction(7)))
         for value in (550000.123, 0.1, 1e-3, 1e6, -0.0, 12345678.901, Decimal("1E+3"), 7):
-            self.assertEqual(lpis.area({"type": "Polygon", "coordinates": [[(value, 0), (1.5e7, 0), (1.5e7, 2), (value, 2), (value, 0)]]}), [2 * (15_000_000 - Fraction(Decimal(str(value))))])
+            assert lpis.area({"type": "Polygon", "coordinates": [[(value, 0), (1.5e7, 0), (1.5e7, 2), (value, 2), (value, 0)]]}) == [2 * (15_000_000 - Fraction(Decimal(str(value))))]
 
     def test_what_is_no_polygon(self):
         point, line = {"type": "Point", "coordinates": (0, 0)}, {"type": "LineString", "coordinates": [(0, 0), (1, 1)]}
         deep = {"type": "Polygon", "coordinates": [[(0, 0, 1), (1, 0, 1), (1, 1, 1), (0, 0, 1)]]}
         for shape, code in ((point, "10"), (line, "10"), (None, "10"), ({"type": "GeometryCollection", "geometries": []}, "10"), ({"type": "Polygon", "coordinates": ()}, "11"),
                             ({"type": "MultiPolygon", "coordinates": [()]}, "11"), (deep, "12"), ({"type": "Polygon", "coordinates": [[(0, 0), (1, 0), (0, 0)]]}, "16")):
-            self.assertEqual(self.refused(lpis.area, [{"geometry": shape}]).codes, ("38", code), shape)
+            assert self.refused(lpis.area, [{"geometry": shape}]).codes == ("38", code), shape
 
     def test_fields(self):
         """Nothing is guessed: what is missing is an empty field, and a name stays as it is."""
@@ -131,20 +127,20 @@ class Tables(Case):
 
         for identifier in (None, float("nan"), "Mühle", "a b", 'q"', ""):
             refused = self.refused(cut, identifier)
-            self.assertEqual((refused.code, refused.identifiers), ("33", (identifier if isinstance(identifier, str) else "",)))
+            assert (refused.code, refused.identifiers) == ("33", (identifier if isinstance(identifier, str) else "",))
         for identifier in ("a", 1, 1.0, b"a"):
             cut(identifier)
         for percent in (0.5, "x", None, 101, -1):
-            self.assertEqual(self.refused(cut, "a", percent).code, "3b", percent)
+            assert self.refused(cut, "a", percent).code == "3b", percent
         cut("a", 30.0)
-        self.assertEqual(self.refused(lpis.cut, [{"geometry": square(0, 0)}], [], {}).line, "refused 31 parcels row 0")
-        self.assertEqual(self.refused(lpis.area, [{"wkt": "x", "WKT": "y"}]).code, "32")
-        self.assertEqual(lpis.cut([], [], {}).triangles, 0)
-        self.assertEqual(lpis.table({"G": 30.0}, "classes"), b"class,percent\nG,30\n")
+        assert self.refused(lpis.cut, [{"geometry": square(0, 0)}], [], {}).line == "refused 31 parcels row 0"
+        assert self.refused(lpis.area, [{"wkt": "x", "WKT": "y"}]).code == "32"
+        assert lpis.cut([], [], {}).triangles == 0
+        assert lpis.table({"G": 30.0}, "classes") == b"class,percent\nG,30\n"
         for error, words in ((TypeError, ({"a": square(0, 0)}, "parcels")), (ValueError, ([], "fields"))):
-            self.assertRaises(error, lpis.table, *words)
+            pytest.raises(error, lpis.table, *words)
 
-    @unittest.skipUnless(has("geopandas") and has("fiona"), "no GeoPandas (Debian: python3-geopandas, python3-fiona)")
+    @pytest.mark.skipif(not (has("geopandas") and has("fiona")), reason="no GeoPandas (Debian: python3-geopandas, python3-fiona)")
     def test_frames(self):
         import fiona
         import geopandas
@@ -156,18 +152,18 @@ class Tables(Case):
         covers = geopandas.GeoDataFrame({"piece": ["a", "b"], "parcel": [1, 2], "class": "G"}, geometry=shapes, crs=25832)
         classes = pandas.DataFrame({"class": ["G"], "percent": numpy.array([30.0])})
         report = lpis.check(parcels, covers, classes, lpis.cut(parcels, covers, classes))
-        self.assertEqual((report.area, report.eligible, lpis.area(shapes)), (205, Fraction("61.5"), [100, 105]))
-        self.assertEqual(lpis.area(list(shapes)), [100, 105])
+        assert (report.area, report.eligible, lpis.area(shapes)) == (205, Fraction("61.5"), [100, 105])
+        assert lpis.area(list(shapes)) == [100, 105]
         parcels.to_file(self.top / "land.gpkg", layer="parcels", driver="GPKG")
         with fiona.open(self.top / "land.gpkg") as layer:
-            self.assertEqual(lpis.area(layer), [100, 105])
+            assert lpis.area(layer) == [100, 105]
         moved = lpis.prepare(parcels.to_crs(3857), covers.to_crs(3857), classes)
-        self.assertEqual((moved.is_written, "system" in [row["kind"] for row in moved.findings]), (False, True), moved.said)
-        self.assertEqual(list(report.to_frame("classes")["eligible"]), [Decimal("61.500000000")])
+        assert (moved.is_written, "system" in [row["kind"] for row in moved.findings]) == (False, True), moved.said
+        assert list(report.to_frame("classes")["eligible"]) == [Decimal("61.500000000")]
 
 
-@unittest.skipUnless(BUILT, "the program is not built")
-class Answers(Case):
+@pytest.mark.skipif(not BUILT, reason="the program is not built")
+class TestAnswers(Case):
     def test_lines_of_the_program(self):
         """Each refusal of the examples is the line of the program, by each way of calling, with words for each code."""
         folders = sorted({path.parent for path in EXAMPLES.rglob("parcels.csv")})
@@ -176,26 +172,25 @@ class Answers(Case):
             line = printed("cut", folder, cert)
             for way in BACKENDS:
                 lpis.backend(way)
-                with self.subTest(folder=folder.relative_to(EXAMPLES), way=way):
-                    tables = [folder / f"{name}.csv" for name in NAMES]
-                    if line.startswith("refused"):
-                        refused = self.refused(lpis.cut, *tables)
-                        self.assertEqual((refused.line, refused.code, len(refused.words)), (line.strip(), line.split()[1], len(refused.codes)))
-                        self.assertEqual(pickle.loads(pickle.dumps(refused)).args, refused.args)
-                    else:
-                        made = lpis.cut(*tables)
-                        self.assertEqual((made.data, f"triangles {made.triangles} pairs {made.pairs}\n"), (cert.read_bytes(), line))
-                        self.assertEqual(lpis.check(*tables, made).text, printed("check", folder, cert))
+                tables = [folder / f"{name}.csv" for name in NAMES]
+                if line.startswith("refused"):
+                    refused = self.refused(lpis.cut, *tables)
+                    assert (refused.line, refused.code, len(refused.words)) == (line.strip(), line.split()[1], len(refused.codes))
+                    assert pickle.loads(pickle.dumps(refused)).args == refused.args
+                else:
+                    made = lpis.cut(*tables)
+                    assert (made.data, f"triangles {made.triangles} pairs {made.pairs}\n") == (cert.read_bytes(), line)
+                    assert lpis.check(*tables, made).text == printed("check", folder, cert)
 
     def test_places(self):
         for name, codes, kind, names, place in (("overlap", ("41",), "parcels", ("west", "east"), (Fraction(50_020, 1000), Fraction(23_980, 1000))),
                                                 ("gap", ("43",), "parcel", ("field",), (Fraction(149_900, 3000), 40)), ("bowtie", ("40",), "piece", ("crossed",), None)):
             refused = self.refused(lpis.cut, *release(name))
             found = refused.place and (refused.place.x, refused.place.y)
-            self.assertEqual((refused.codes, refused.kind, refused.identifiers, found), (codes, kind, names, place))
-        self.assertEqual(self.refused(lpis.cut, *release("gap")).place.__geo_interface__, {"type": "Point", "coordinates": (149.9 / 3, 40.0)})
+            assert (refused.codes, refused.kind, refused.identifiers, found) == (codes, kind, names, place)
+        assert self.refused(lpis.cut, *release("gap")).place.__geo_interface__ == {"type": "Point", "coordinates": (149.9 / 3, 40.0)}
         refused = self.refused(lpis.cut, *release("faults/35"))
-        self.assertEqual((refused.table, refused.row, refused.kind, len(refused.identifiers)), ("covers", refused.row, "", 3))
+        assert (refused.table, refused.row, refused.kind, len(refused.identifiers)) == ("covers", refused.row, "", 3)
 
     def test_certificates(self):
         """Another's, a text that is none, and a file."""
@@ -203,24 +198,24 @@ class Answers(Case):
         made = lpis.cut(*tables)
         made.save(self.top / "cert.txt")
         for good in (made, made.data, self.top / "cert.txt", str(self.top / "cert.txt")):
-            self.assertEqual(lpis.check(*tables, good).area, 9600)
-        self.assertEqual(self.refused(lpis.check, *tables, b"").line, "refused 54 cert line 1")
-        self.assertEqual(self.refused(lpis.check, *tables, lpis.cut(*release("exact/2025"))).code, "60")
+            assert lpis.check(*tables, good).area == 9600
+        assert self.refused(lpis.check, *tables, b"").line == "refused 54 cert line 1"
+        assert self.refused(lpis.check, *tables, lpis.cut(*release("exact/2025"))).code == "60"
 
     def test_report(self):
         """Every digit, as fraction, as decimal and as text; sums of pieces and classes are those of the parcels."""
         tables = release("pasture")
         report = lpis.check(*tables, lpis.cut(*tables))
-        self.assertEqual([str(row.area) for row in report.parcels], re.findall(r"(?m)^parcel \S+ area (\S+)", report.text))
-        self.assertEqual(sum(row.area for row in report.pieces), report.area)
-        self.assertEqual((sum(row.area for row in report.classes), sum(row.eligible for row in report.classes)), (report.area, report.eligible))
-        self.assertTrue({row.percent for row in report.classes} - {0, 100})
+        assert [str(row.area) for row in report.parcels] == re.findall(r"(?m)^parcel \S+ area (\S+)", report.text)
+        assert sum(row.area for row in report.pieces) == report.area
+        assert (sum(row.area for row in report.classes), sum(row.eligible for row in report.classes)) == (report.area, report.eligible)
+        assert {row.percent for row in report.classes} - {0, 100}
         area = report.parcels[0].area
         for other in (pickle.loads(pickle.dumps(area)), copy.copy(area), copy.deepcopy(area)):
-            self.assertEqual((str(other), other.decimal, other), (str(area), Decimal(str(area)), area))
+            assert (str(other), other.decimal, other) == (str(area), Decimal(str(area)), area)
         large = lpis.area([square(-20_000_000, -20_000_000, 40_000_000), square(0, 0, Decimal("0.001"))])
-        self.assertEqual([str(one.decimal) for one in large], ["1600000000000000.0000000", "0.0000010"])
-        self.assertEqual(str(lpis.Area.sum([-large[1], Fraction(-1, 2)])), "-0.500001000")
+        assert [str(one.decimal) for one in large] == ["1600000000000000.0000000", "0.0000010"]
+        assert str(lpis.Area.sum([-large[1], Fraction(-1, 2)])) == "-0.500001000"
 
     def test_frame(self):
         """By pandas, which is none of what the package needs: a stand-in keeps the rows."""
@@ -229,35 +224,35 @@ class Answers(Case):
         stand_in = types.ModuleType("pandas")
         stand_in.DataFrame = list
         with unittest.mock.patch.dict(sys.modules, {"pandas": stand_in}):
-            self.assertEqual(report.to_frame()[0], {"parcel": "meadow", "area": Decimal("2400.0000000"), "eligible": Decimal("2400.000000000")})
-            self.assertEqual(list(report.to_frame("pieces")[0]), ["piece", "parcel", "class", "area"])
-            self.assertEqual(list(report.to_frame("classes")[0]), ["class", "percent", "pieces", "area", "eligible"])
-        with unittest.mock.patch.dict(sys.modules, {"pandas": None}), self.assertRaisesRegex(ImportError, "pandas is not there"):
+            assert report.to_frame()[0] == {"parcel": "meadow", "area": Decimal("2400.0000000"), "eligible": Decimal("2400.000000000")}
+            assert list(report.to_frame("pieces")[0]) == ["piece", "parcel", "class", "area"]
+            assert list(report.to_frame("classes")[0]) == ["class", "percent", "pieces", "area", "eligible"]
+        with unittest.mock.patch.dict(sys.modules, {"pandas": None}), pytest.raises(ImportError, match="pandas is not there"):
             report.to_frame()
-        with self.assertRaises(KeyError):
+        with pytest.raises(KeyError):
             report.to_frame("text")
 
     def test_who_answers(self):
-        self.assertEqual(lpis.backend("program"), "program")
-        with self.assertRaises(ValueError):
+        assert lpis.backend("program") == "program"
+        with pytest.raises(ValueError):
             lpis.backend("nobody")
         with unittest.mock.patch.dict(os.environ, {"LPIS_LIBRARY": str(self.top / "none.so")}):
-            with self.assertRaises(lpis.Failed):
+            with pytest.raises(lpis.Failed):
                 lpis.backend("library")
-            self.assertEqual(lpis.backend(""), "program")
+            assert lpis.backend("") == "program"
         (self.top / "none.so").write_bytes(b"no library")
         with unittest.mock.patch.dict(os.environ, {"LPIS_LIBRARY": str(self.top / "none.so")}):
-            self.assertEqual(lpis.backend(""), "program")
+            assert lpis.backend("") == "program"
 
     def test_no_answer(self):
         """Where the program fails there is an exception, and no answer."""
         lpis.backend("program")
-        with unittest.mock.patch("lpis.backends.tree.program", return_value=["/bin/sh", "-c", "echo failed memory >&2; exit 3"]), self.assertRaisesRegex(lpis.Failed, "failed memory"):
+        with unittest.mock.patch("lpis.backends.tree.program", return_value=["/bin/sh", "-c", "echo failed memory >&2; exit 3"]), pytest.raises(lpis.Failed, match="failed memory"):
             lpis.cut(*release("square"))
-        with unittest.mock.patch("lpis.backends.tree.program", return_value=["/bin/sh", "-c", "kill -9 $$"]), self.assertRaisesRegex(lpis.Failed, "status -9"):
+        with unittest.mock.patch("lpis.backends.tree.program", return_value=["/bin/sh", "-c", "kill -9 $$"]), pytest.raises(lpis.Failed, match="status -9"):
             lpis.cut(*release("square"))
 
-    @unittest.skipUnless("library" in BACKENDS, NO_LIBRARY)
+    @pytest.mark.skipif(not ("library" in BACKENDS), reason=NO_LIBRARY)
     def test_same_answers(self):
         """Of inputs that are cut off, exchanged or empty the library says what the program says."""
         whole = [path.read_bytes() for path in release("square")]
@@ -267,9 +262,9 @@ class Answers(Case):
         for number, inputs in enumerate([whole, *cases]):
             for name, given in (("area", inputs[:1]), ("cut", inputs[:3]), ("check", inputs)):
                 told = [getattr(choose(way), name)(*given) for way in BACKENDS]
-                self.assertEqual(told[0], told[1], (number, name))
+                assert told[0] == told[1], (number, name)
 
-    @unittest.skipUnless("library" in BACKENDS, NO_LIBRARY)
+    @pytest.mark.skipif(not ("library" in BACKENDS), reason=NO_LIBRARY)
     def test_library(self):
         """Over a larger release: the bytes of the program, rooms that are too small, threads, and an interpreter that goes on meanwhile."""
         parcels = [(f"P{number}", [[[(100 * number, 0), (100 * number + 100, 0), (100 * number + 100, 90), (100 * number, 90)]]]) for number in range(20_000)]
@@ -278,9 +273,9 @@ class Answers(Case):
         lpis.backend("library")
         made = lpis.cut(*tables)
         printed("cut", self.top, self.top / "cert.txt")
-        self.assertEqual(made.data, (self.top / "cert.txt").read_bytes())
+        assert made.data == (self.top / "cert.txt").read_bytes()
         with unittest.mock.patch.multiple("lpis.backends", LINE=1, CORNER=0):
-            self.assertEqual((lpis.cut(*tables), lpis.check(*tables, made).text), (made, printed("check", self.top, self.top / "cert.txt")))
+            assert (lpis.cut(*tables), lpis.check(*tables, made).text) == (made, printed("check", self.top, self.top / "cert.txt"))
         told = []
         threads = [threading.Thread(target=lambda: told.append(lpis.check(*tables, made).text)) for _ in range(2)]
         for thread in threads:
@@ -289,42 +284,42 @@ class Answers(Case):
         while any(thread.is_alive() for thread in threads):
             time.sleep(0.001)
             counted_meanwhile += 1
-        self.assertEqual((len(told), len(set(told)), counted_meanwhile > 5), (2, 1, True))
+        assert (len(told), len(set(told)), counted_meanwhile > 5) == (2, 1, True)
 
 
-@unittest.skipUnless(BUILT, "the program is not built")
-class Registers(Case):
+@pytest.mark.skipif(not BUILT, reason="the program is not built")
+class TestRegisters(Case):
     def test_two_years(self):
-        with self.assertRaises(FileNotFoundError):
+        with pytest.raises(FileNotFoundError):
             lpis.Register(self.top / "r.db")
         register = lpis.Register(self.top / "r.db", new=True)
-        self.assertEqual((register.years, register.shapes(), (self.top / "r.db").exists()), ((), {}, False))
+        assert (register.years, register.shapes(), (self.top / "r.db").exists()) == ((), {}, False)
         before, after = release("exact/2024"), release("exact/2025")
         first = register.publish(2024, *before, lpis.cut(*before))
-        self.assertEqual((first.year, first.lineage, first.area, register.years), (2024, (), 9600, (2024,)))
-        with self.assertRaises(FileExistsError):
+        assert (first.year, first.lineage, first.area, register.years) == (2024, (), 9600, (2024,))
+        with pytest.raises(FileExistsError):
             lpis.Register(self.top / "r.db", new=True)
         made, rows = lpis.cut(*after), [("meadow", "meadow-1", 1), ("meadow", "meadow-2", 1), ("slope", "slope-1", 0), ("slope", "slope-2", None), ("yard", "farm", True)]
         lineage = [dict(zip(("old", "new", "exact"), row)) for row in rows]
-        self.assertEqual(self.refused(register.publish, 2025, *after, made, lineage).codes, ("85", "6a"))
-        self.assertEqual(self.refused(register.publish, 2024, *after, made, lineage).line, "refused 80 last 2024")
+        assert self.refused(register.publish, 2025, *after, made, lineage).codes == ("85", "6a")
+        assert self.refused(register.publish, 2024, *after, made, lineage).line == "refused 80 last 2024"
         wrong = self.refused(register.publish, 2025, *after, made, lineage[1:])
-        self.assertEqual((wrong.codes, wrong.row, wrong.table), (("81", "78"), 1, "lineage"))
-        self.assertEqual(register.years, (2024,))
+        assert (wrong.codes, wrong.row, wrong.table) == (("81", "78"), 1, "lineage")
+        assert register.years == (2024,)
         published = register.publish(2025, *after, register.exact(*after, made, lineage), lineage)
-        self.assertEqual(published.lineage, (lpis.Ending("meadow", "split", True), lpis.Ending("slope", "split", False), lpis.Ending("yard", "merged", True)))
-        self.assertEqual((lpis.Register(self.top / "r.db").years, register.trace("slope"), register.trace("farm")), ((2024, 2025), ("slope-1", "slope-2"), ("farm",)))
-        self.assertEqual(self.refused(register.trace, "nobody").code, "83")
+        assert published.lineage == (lpis.Ending("meadow", "split", True), lpis.Ending("slope", "split", False), lpis.Ending("yard", "merged", True))
+        assert (lpis.Register(self.top / "r.db").years, register.trace("slope"), register.trace("farm")) == ((2024, 2025), ("slope-1", "slope-2"), ("farm",))
+        assert self.refused(register.trace, "nobody").code == "83"
         shapes = register.shapes()
-        self.assertEqual(dict(zip(shapes, lpis.area(list(shapes.values())))), {row.parcel: row.area for row in published.parcels})
+        assert dict(zip(shapes, lpis.area(list(shapes.values())))) == {row.parcel: row.area for row in published.parcels}
 
     def test_no_register(self):
         path = self.top / "other.db"
         path.write_bytes(b"no database")
         for ask in (lambda: lpis.Register(path).years, lpis.Register(path).shapes, lambda: lpis.Register(path).trace("a")):
-            with self.assertRaises(lpis.Failed) as caught:
+            with pytest.raises(lpis.Failed) as caught:
                 ask()
-        self.assertIn(f"the register is {path}: it is no SQLite database", str(caught.exception))
+        assert f"the register is {path}: it is no SQLite database" in str(caught.value)
 
     @staticmethod
     def waits(pid):
@@ -342,12 +337,12 @@ class Registers(Case):
             while not (self.top / "pid").exists() or not (self.top / "pid").read_text(encoding="ascii") or not self.waits(process.pid):
                 time.sleep(0.01)
             process.send_signal(signal.SIGINT)
-            self.assertIn(b"KeyboardInterrupt", process.stderr.read())
-        self.assertFalse(os.path.exists(f"/proc/{(self.top / 'pid').read_text(encoding='ascii').strip()}"))
+            assert b"KeyboardInterrupt" in process.stderr.read()
+        assert not os.path.exists(f"/proc/{(self.top / 'pid').read_text(encoding='ascii').strip()}")
 
 
-@unittest.skipUnless(BUILT and shapely_there.python(), shapely_there.LACKING)
-class Preparing(Case):
+@pytest.mark.skipif(not (BUILT and shapely_there.python()), reason=shapely_there.LACKING)
+class TestPreparing(Case):
     def rows(self, by=0.0):
         """Two fields of doubles, the second of which crosses the first by some metres."""
         shapes = {"west": square(550_000.1234, 5_400_000), "east": square(550_010.1234 - by, 5_400_000)}
@@ -356,13 +351,13 @@ class Preparing(Case):
     def test_tables(self):
         parcels, covers = self.rows()
         made = lpis.prepare(parcels, covers, {"G": 100}, out=self.top / "release")
-        self.assertEqual((made.is_written, made.findings), (True, ()), made.said)
+        assert (made.is_written, made.findings) == (True, ()), made.said
         tables = made.parcels, made.covers, made.classes
-        self.assertEqual(tables[0], (self.top / "release" / "parcels.csv").read_bytes())
-        self.assertEqual(lpis.check(*tables, lpis.cut(*tables)).area, 200)
+        assert tables[0] == (self.top / "release" / "parcels.csv").read_bytes()
+        assert lpis.check(*tables, lpis.cut(*tables)).area == 200
         again = lpis.prepare(parcels, covers, {"G": 100}, previous=self.top / "release")
-        self.assertEqual((again.parcels, again.is_written), (made.parcels, True), again.said)
-        self.assertTrue(lpis.prepare(self.top / "release", out=self.top / "more").is_written)
+        assert (again.parcels, again.is_written) == (made.parcels, True), again.said
+        assert lpis.prepare(self.top / "release", out=self.top / "more").is_written
 
     def test_words(self):
         """A source by its path, with names of its own, land of nobody, and the names that an earlier year gave."""
@@ -372,22 +367,22 @@ class Preparing(Case):
             (self.top / f"{name}.csv").write_bytes(lpis.table(rows, name).replace(b"parcel,wkt", b"block,wkt"))
         words = {"classes": {"G": 70}, "names": {"parcels.parcel": "block"}, "epsg": 25832}
         made = lpis.prepare(self.top, **words, between=1.5, out=self.top / "out")
-        self.assertEqual(([row["old"] for row in made.identifiers], [row["kind"] for row in made.settled].count("between")), (["Mühle"], 1), made.said)
-        self.assertEqual(lpis.prepare(str(self.top), **words, identifiers=self.top / "out" / "identifiers.csv").parcels, made.parcels)
-        with self.assertRaisesRegex(lpis.Failed, r"\Aprepare: --name is"):
+        assert ([row["old"] for row in made.identifiers], [row["kind"] for row in made.settled].count("between")) == (["Mühle"], 1), made.said
+        assert lpis.prepare(str(self.top), **words, identifiers=self.top / "out" / "identifiers.csv").parcels == made.parcels
+        with pytest.raises(lpis.Failed, match=r"\Aprepare: --name is"):
             lpis.prepare(self.top, names={"parcels.none": "x"})
 
     def test_findings(self):
         """What is wrong stops, until it is accepted."""
         parcels, covers = self.rows(0.5)
         stopped = lpis.prepare(parcels, covers, {"G": 100})
-        self.assertEqual((stopped.is_written, stopped.parcels, "overlap" in stopped.said), (False, None, True), stopped.said)
-        with self.assertRaisesRegex(ValueError, "no parcels were written"):
+        assert (stopped.is_written, stopped.parcels, "overlap" in stopped.said) == (False, None, True), stopped.said
+        with pytest.raises(ValueError, match="no parcels were written"):
             stopped.to_frame("parcels")
         for accept in (True, ["overlap", "outside", "changed", "lost"]):
             made = lpis.prepare(parcels, covers, {"G": 100}, accept=accept)
-            self.assertEqual((made.is_written, "overlap" in {row["kind"] for row in made.settled}), (True, True), made.said)
-        with self.assertRaisesRegex(lpis.Failed, "none.gpkg"):
+            assert (made.is_written, "overlap" in {row["kind"] for row in made.settled}) == (True, True), made.said
+        with pytest.raises(lpis.Failed, match="none.gpkg"):
             lpis.prepare(self.top / "none.gpkg")
-        with self.assertRaises(TypeError):
+        with pytest.raises(TypeError):
             lpis.prepare(parcels)

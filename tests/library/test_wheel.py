@@ -7,14 +7,12 @@ import pathlib
 import re
 import shutil
 import sys
-import tempfile
-import unittest
 import zipfile
 
 import pytest
 from places import BUILT, TOOLS
+from spare import Kept
 from python_case import ALONE, BACKENDS, EXAMPLES, LIBRARY, PYTHON, TOP, done, has, mypy, run
-
 import wheels
 
 pytestmark = pytest.mark.finds_program
@@ -40,15 +38,13 @@ def pip():
     return None
 
 
-@unittest.skipUnless(BUILT and pip(), "the program is not built, or there is no pip of 22.3 or later (Debian: python3-pip)")
-class Installed(unittest.TestCase):
+@pytest.mark.skipif(not (BUILT and pip()), reason="the program is not built, or there is no pip of 22.3 or later (Debian: python3-pip)")
+class TestInstalled(Kept):
     """The wheel in an environment that has Python and nothing else."""
 
     @classmethod
-    def setUpClass(cls):
-        spare = tempfile.TemporaryDirectory()
-        cls.addClassCleanup(spare.cleanup)
-        cls.top = pathlib.Path(spare.name)
+    def set_up(cls):
+        cls.top = pathlib.Path(cls.folder)
         library = {"library": LIBRARY} if LIBRARY else {}
         cls.wheel = cls.top / wheels.build_wheel(cls.top, library)
         done(sys.executable, "-m", "venv", "--without-pip", cls.top / "new")
@@ -61,13 +57,13 @@ class Installed(unittest.TestCase):
     def test_eight_lines(self):
         """From two tables to a yes, and to a refusal with its place."""
         ended = self.python(EIGHT_LINES)
-        self.assertEqual((ended.stdout, len(EIGHT_LINES.strip().splitlines())), ("60.000000000\n", 8), ended.stderr)
-        self.assertIn("lpis.Refused: refused 41 parcels west east at ", ended.stderr)
-        self.assertRegex(ended.stderr, r"\nat POINT\(1010\.[012]\d+ \d\.\d+\)\n$")
+        assert (ended.stdout, len(EIGHT_LINES.strip().splitlines())) == ("60.000000000\n", 8), ended.stderr
+        assert "lpis.Refused: refused 41 parcels west east at " in ended.stderr
+        assert re.search(r"\nat POINT\(1010\.[012]\d+ \d\.\d+\)\n$", ended.stderr)
 
     def test_who_answers(self):
-        self.assertEqual(self.python("import lpis; print(lpis.backend())").stdout, f"{BACKENDS[-1]}\n")
-        self.assertEqual(self.python("import lpis; lpis.backend('program'); print(lpis.backend())").stdout, "program\n")
+        assert self.python("import lpis; print(lpis.backend())").stdout == f"{BACKENDS[-1]}\n"
+        assert self.python("import lpis; lpis.backend('program'); print(lpis.backend())").stdout == "program\n"
 
     def test_notebook(self):
         """Its cells in their order, in a folder like that of the examples."""
@@ -75,23 +71,23 @@ class Installed(unittest.TestCase):
         shutil.copytree(EXAMPLES / "exact", folder / "exact")
         found = json.loads((EXAMPLES / "two-years.ipynb").read_text(encoding="utf-8"))
         code = [cell for cell in found["cells"] if cell["cell_type"] == "code"]
-        self.assertEqual([(cell["outputs"], cell["execution_count"]) for cell in code], [([], None)] * len(code))
+        assert [(cell["outputs"], cell["execution_count"]) for cell in code] == [([], None)] * len(code)
         ended = self.python("\n".join("".join(cell["source"]) for cell in code), cwd=folder)
-        self.assertEqual((ended.returncode, ended.stdout.count("refused")), (0, 3), ended.stderr)
+        assert (ended.returncode, ended.stdout.count("refused")) == (0, 3), ended.stderr
 
     def test_commands(self):
         """Those of the archive, and each answers; the pages of the manual are where they are looked for."""
         wanted = sorted(["lpis", *(f"lpis-{name}" for name in os.listdir(TOOLS) if name != "installed" and os.path.isfile(f"{TOOLS}/{name}") and os.access(f"{TOOLS}/{name}", os.X_OK))])
-        self.assertEqual(sorted(path.name for path in self.bin.glob("lpis*")), wanted)
-        self.assertEqual(sorted(wheels.project()["project.scripts"]), wanted)
-        self.assertEqual(sorted(path.stem for path in (self.top / "new" / "share" / "man" / "man1").iterdir()), wanted)
+        assert sorted(path.name for path in self.bin.glob("lpis*")) == wanted
+        assert sorted(wheels.project()["project.scripts"]) == wanted
+        assert sorted(path.stem for path in (self.top / "new" / "share" / "man" / "man1").iterdir()) == wanted
         for name in wanted:
             ended = run(self.bin / name, "--help", cwd=self.top)
-            self.assertEqual((ended.returncode, bool(ended.stdout)), (0, True), f"{name}: {ended.stderr}")
-        self.assertEqual(done(self.bin / "lpis", "area", EXAMPLES / "square.csv"), "100.0000000\n")
-        self.assertIn(done(BUILT, "--version").split()[1], done(self.bin / "lpis-report", "--version"))
+            assert (ended.returncode, bool(ended.stdout)) == (0, True), f"{name}: {ended.stderr}"
+        assert done(self.bin / "lpis", "area", EXAMPLES / "square.csv") == "100.0000000\n"
+        assert done(BUILT, "--version").split()[1] in done(self.bin / "lpis-report", "--version")
         ended = run(self.bin / "lpis", "cut", EXAMPLES / "overlap", self.top / "none")
-        self.assertEqual((ended.returncode, ended.stdout), (1, "refused 41 parcels west east at 50020 23980 1\n"))
+        assert (ended.returncode, ended.stdout) == (1, "refused 41 parcels west east at 50020 23980 1\n")
 
     def test_one_tree(self):
         """What it carries is what ./install puts, byte for byte but for the names of places, and each file may be run as there."""
@@ -100,10 +96,10 @@ class Installed(unittest.TestCase):
         for top in ("lib", "share/doc"):
             ours = {path.relative_to(carried): path for path in (carried / top).rglob("*") if path.is_file() and path.suffix != ".pyc" and path.name != "liblpis.so"}
             theirs = {path.relative_to(self.top / "there"): path for path in (self.top / "there" / top).rglob("*") if path.is_file()}
-            self.assertEqual(sorted(ours), sorted(theirs))
+            assert sorted(ours) == sorted(theirs)
             for name, path in ours.items():
                 wanted = theirs[name].read_bytes().replace(os.fsencode(self.top / "there"), b"lpis/carried")
-                self.assertEqual((path.read_bytes() == wanted, os.access(path, os.X_OK)), (True, os.access(theirs[name], os.X_OK)), name)
+                assert (path.read_bytes() == wanted, os.access(path, os.X_OK)) == (True, os.access(theirs[name], os.X_OK)), name
 
     def test_same_bytes(self):
         """In another folder, by another mask of modes, at another time."""
@@ -111,27 +107,27 @@ class Installed(unittest.TestCase):
         other = self.top / "an other"
         other.mkdir()
         name = done(sys.executable, "-B", "-c", made, PYTHON, other, LIBRARY or "", env={**ALONE, "TZ": "Asia/Tokyo"}).strip()
-        self.assertEqual(((other / name).read_bytes(), name), (self.wheel.read_bytes(), self.wheel.name))
+        assert ((other / name).read_bytes(), name) == (self.wheel.read_bytes(), self.wheel.name)
 
     def test_facts(self):
         """The platform is that of the newest C library which is wanted, and pyproject.toml reads as everybody reads it."""
-        self.assertIn(f"-py3-none-manylinux_{wheels.libc_of(pathlib.Path(BUILT)).replace('.', '_')}_x86_64.whl", self.wheel.name)
+        assert f"-py3-none-manylinux_{wheels.libc_of(pathlib.Path(BUILT)).replace('.', '_')}_x86_64.whl" in self.wheel.name
         names = zipfile.ZipFile(self.wheel).namelist()
-        self.assertEqual(("lpis/py.typed" in names, [name for name in names if "pycache" in name]), (True, []))
+        assert ("lpis/py.typed" in names, [name for name in names if "pycache" in name]) == (True, [])
         if has("tomllib"):
             import tomllib
 
             found = tomllib.loads((PYTHON / "pyproject.toml").read_text(encoding="utf-8"))["project"]
             for key, table in (("project.scripts", found["scripts"]), ("project.optional-dependencies", found["optional-dependencies"])):
-                self.assertEqual(wheels.project()[key], table)
+                assert wheels.project()[key] == table
 
-    @unittest.skipUnless(mypy(), "no mypy (Debian: mypy)")
+    @pytest.mark.skipif(not mypy(), reason="no mypy (Debian: mypy)")
     def test_types(self):
         """Who calls it has its types."""
         script = self.top / "caller.py"
         script.write_text("import lpis\n\nreport: lpis.Report = lpis.check('p', 'c', {'G': 1}, b'')\nplace: lpis.Point = lpis.Refused('x').place\n", encoding="ascii")
         ended = run(*mypy(), "--strict", "--cache-dir", self.top / "cache", "--python-executable", self.bin / "python", script, env=os.environ)
-        self.assertEqual((ended.stdout.count("error"), 'caller.py:4: error: Incompatible types in assignment (expression has type "Optional[Point]"' in ended.stdout.replace('"Point | None"', '"Optional[Point]"')), (2, True), ended.stdout)
+        assert (ended.stdout.count("error"), 'caller.py:4: error: Incompatible types in assignment (expression has type "Optional[Point]"' in ended.stdout.replace('"Point | None"', '"Optional[Point]"')) == (2, True), ended.stdout
 
     def test_plugin(self):
         """QGIS's plugin finds the tools of an environment whose commands are on the path."""
@@ -145,13 +141,13 @@ class Installed(unittest.TestCase):
         path = [str(self.top / "stand-ins"), str(self.top / "plugins")]
         told = done(sys.executable, "-B", "-c", f"import sys; sys.path[:0] = {path}; from lpis import places; print(places.tool('prepare'), places.lpis())", env={**ALONE, "PATH": f"{self.bin}:/usr/bin:/bin"})
         home = next(self.top.glob("new/lib/python3*/site-packages/lpis/carried/lib/lpis"))
-        self.assertEqual(told, f"{home}/prepare {home}/program/lpis\n")
+        assert told == f"{home}/prepare {home}/program/lpis\n"
 
     def test_clone(self):
         """Pip makes the package of a clone, and an environment may lead to the clone."""
         done(sys.executable, "-m", "venv", "--without-pip", self.top / "clone")
         done(*pip(), "--python", self.top / "clone" / "bin" / "python", "install", "-q", "--no-index", "-e", PYTHON, cwd=self.top)
         place = done(self.top / "clone" / "bin" / "python", "-B", "-c", "import lpis; print(lpis.__file__)", cwd=self.top)
-        self.assertEqual(place, f"{PYTHON / 'src' / 'lpis' / '__init__.py'}\n")
-        self.assertEqual(run(self.top / "clone" / "bin" / "lpis", "area", EXAMPLES / "square.csv").stdout, "100.0000000\n")
-        self.assertIn("usage", run(self.top / "clone" / "bin" / "lpis-report", "--help").stdout)
+        assert place == f"{PYTHON / 'src' / 'lpis' / '__init__.py'}\n"
+        assert run(self.top / "clone" / "bin" / "lpis", "area", EXAMPLES / "square.csv").stdout == "100.0000000\n"
+        assert "usage" in run(self.top / "clone" / "bin" / "lpis-report", "--help").stdout

@@ -3,6 +3,7 @@ the page in headless Chromium. The page is built anew where the crates that it s
 Node, binaryen, Chromium, a C compiler or the kit is left out where it is not there.
 It takes a sample: with WHOLE=1 200 generated releases, 60,000 parcels in the browser, and a second build of the page."""
 
+import contextlib
 import json
 import os
 import random
@@ -10,9 +11,10 @@ import shutil
 import subprocess
 import sys
 import tempfile
-import unittest
 from pathlib import Path
 
+import pytest
+from spare import Spare
 from browser import Browser
 from page_case import CC, EXAMPLES, SOURCES, TESTS, TOP, WHOLE, built, native, node, read, releases_of, squares, tables, wanted
 from lpis_tools import explaining, report
@@ -63,8 +65,9 @@ def damaged(cert, numbers):
     return bytes(data)
 
 
-class Module(unittest.TestCase):
-    def setUp(self):
+class TestModule:
+    @pytest.fixture(autouse=True)
+    def begin(self):
         wanted("NODE", "page")
 
     def test_worked_rows(self):
@@ -80,8 +83,8 @@ class Module(unittest.TestCase):
                     if name.endswith(".csv"):
                         cases.area(os.path.join(place, name))
             cases.area(cases.file(b""))
-            self.assertGreater(len(cases.cases), 100)
-            self.assertEqual(cases.differ(), [])
+            assert len(cases.cases) > 100
+            assert cases.differ() == []
 
     def test_generated_releases(self):
         numbers = random.Random(61)
@@ -96,10 +99,10 @@ class Module(unittest.TestCase):
                     cases.check(release, one)
                     cases.check(release, cases.file(damaged(read(one), numbers)))
                 last = cert or last
-            self.assertGreater(len(cases.cases), 4 * RELEASES)
-            self.assertEqual(cases.differ(), [])
+            assert len(cases.cases) > 4 * RELEASES
+            assert cases.differ() == []
             statuses = {case["status"] for case in cases.cases}
-            self.assertEqual(statuses, {0, 1, 2})
+            assert statuses == {0, 1, 2}
 
     def test_memory_and_room(self):
         with tempfile.TemporaryDirectory() as folder:
@@ -109,19 +112,17 @@ class Module(unittest.TestCase):
             status, text = native("check", release, cert)
             inputs = [os.path.join(release, f"{name}.csv") for name in ("parcels", "covers", "classes")] + [cert]
             found = node("memory", module=os.path.join(TOP, "out", "page", "page.wasm"), inputs=inputs, pages=[0, 3, 20, 60, 100, 2000], room=1000)
-        self.assertEqual(status, 0)
+        assert status == 0
         for answer in found["few"]:
-            self.assertIn((answer["isAnswered"], answer["status"], answer["length"]), [(False, 3, 0), (True, 0, len(text))])
-        self.assertEqual([found["few"][0]["isAnswered"], found["few"][-1]["isAnswered"]], [False, True])
-        self.assertEqual(found["small"], {"isAnswered": False, "length": len(text)})
-        self.assertEqual(found["whole"], {"isAnswered": True, "length": len(text)})
+            assert (answer["isAnswered"], answer["status"], answer["length"]) in [(False, 3, 0), (True, 0, len(text))]
+        assert [found["few"][0]["isAnswered"], found["few"][-1]["isAnswered"]] == [False, True]
+        assert found["small"] == {"isAnswered": False, "length": len(text)}
+        assert found["whole"] == {"isAnswered": True, "length": len(text)}
 
 
-class Library(unittest.TestCase):
-    def setUp(self):
+class TestLibrary(Spare):
+    def set_up(self):
         wanted("page")
-        self.folder = tempfile.mkdtemp()
-        self.addCleanup(shutil.rmtree, self.folder)
 
     def cases(self):
         certs = {}
@@ -137,10 +138,9 @@ class Library(unittest.TestCase):
 
     def expect_same(self, *command):
         for release, cert in self.cases():
-            with self.subTest(release):
-                environment = {**os.environ, "ASAN_OPTIONS": "detect_leaks=0"}  # an example lets go of what it read by ending
-                run = subprocess.run([*command, release, cert], capture_output=True, check=False, env=environment)
-                self.assertEqual((run.returncode, run.stdout), native("check", release, cert), run.stderr)
+            environment = {**os.environ, "ASAN_OPTIONS": "detect_leaks=0"}  # an example lets go of what it read by ending
+            run = subprocess.run([*command, release, cert], capture_output=True, check=False, env=environment)
+            assert (run.returncode, run.stdout) == native("check", release, cert), run.stderr
 
     def test_example_in_c(self):
         wanted("CC")
@@ -156,7 +156,7 @@ class Library(unittest.TestCase):
         sources = [os.path.join(TOP, "library", "check.c"), os.path.join(SOURCES, "heap.c"), os.path.join(TESTS, "memory.c"), os.path.join(TESTS, "lent.c")]
         made = subprocess.run([CC, "-g", "-O1", "-fsanitize=address", *sources, crate, "-o", program], capture_output=True, text=True, check=False)
         if made.returncode:
-            raise unittest.SkipTest("the C compiler has no AddressSanitizer")
+            raise pytest.skip.Exception("the C compiler has no AddressSanitizer")
         self.expect_same(program)
 
     def test_example_in_python(self):
@@ -164,23 +164,22 @@ class Library(unittest.TestCase):
         self.expect_same(sys.executable, os.path.join(library, "check.py"), os.path.join(library, "liblpis.so"))
 
 
-class Page(unittest.TestCase):
+class TestPage(Spare):
     """The page in a browser: what an auditor does and sees."""
 
-    def setUp(self):
+    def set_up(self):
         wanted("CHROMIUM", "page")
-        self.folder = tempfile.mkdtemp()
-        self.addCleanup(shutil.rmtree, self.folder)
         self.page = built()[0]
 
+    @pytest.fixture(autouse=True)
+    def opened(self):
+        with contextlib.ExitStack() as self.browsers:
+            yield
+
     def browser(self, *words):
-        browser = self.enterContext(Browser(*words)) if hasattr(self, "enterContext") else self.entered(Browser(*words))
+        browser = self.browsers.enter_context(Browser(*words))
         browser.open(self.page, "document.body?.dataset.state === 'ready'")
         return browser
-
-    def entered(self, browser):
-        self.addCleanup(browser.__exit__)
-        return browser.__enter__()
 
     def text(self, browser, name):
         return browser.value(f"document.getElementById({name!r}).innerText")
@@ -194,8 +193,8 @@ class Page(unittest.TestCase):
         return release
 
     def expect_quiet(self, browser):
-        self.assertEqual(browser.errors(), [])
-        self.assertEqual([url for url in browser.requests() if not url.startswith("blob:") and url != "file://" + self.page], [])
+        assert browser.errors() == []
+        assert [url for url in browser.requests() if not url.startswith("blob:") and url != "file://" + self.page] == []
 
     def test_a_folder_without_a_certificate(self):
         browser = self.browser()
@@ -203,17 +202,17 @@ class Page(unittest.TestCase):
         browser.wait("!document.getElementById('cut').disabled && !document.getElementById('hint').hidden")
         browser.value("document.getElementById('cut').click()")
         self.finish(browser)
-        self.assertIn("Yes: the release is a sound map", self.text(browser, "verdict"))
-        self.assertIn("native program's answer is the one of record", self.text(browser, "rests"))
-        self.assertIn("audit/release.py", self.text(browser, "rests"))
+        assert "Yes: the release is a sound map" in self.text(browser, "verdict")
+        assert "native program's answer is the one of record" in self.text(browser, "rests")
+        assert "audit/release.py" in self.text(browser, "rests")
         facts = json.loads(browser.value("document.getElementById('facts').textContent"))
         for name in ("program", "module", "page"):
-            self.assertIn(facts[name], self.text(browser, "digests"))
-        self.assertEqual(self.text(browser, "differs") + self.text(browser, "wrong"), "")
+            assert facts[name] in self.text(browser, "digests")
+        assert self.text(browser, "differs") + self.text(browser, "wrong") == ""
         status, text = native("cut", os.path.join(EXAMPLES, "exact", "2024"), os.path.join(self.folder, "cert"))
-        self.assertEqual(browser.value("files.cert.text()"), read(os.path.join(self.folder, "cert")).decode())
+        assert browser.value("files.cert.text()") == read(os.path.join(self.folder, "cert")).decode()
         status, text = native("check", os.path.join(EXAMPLES, "exact", "2024"), os.path.join(self.folder, "cert"))
-        self.assertEqual((status, browser.value("shown.result.text")), (0, text.decode()))
+        assert (status, browser.value("shown.result.text")) == (0, text.decode())
         browser.drop("#drop", [self.copied("overlap")])  # the yes was not about these files
         browser.wait("document.getElementById('result').hidden && !files.cert")
         self.expect_quiet(browser)
@@ -228,15 +227,15 @@ class Page(unittest.TestCase):
         column = "[...document.querySelectorAll('#parcels tbody tr')].map(row => row.cells[2].textContent)"
         before = browser.value(column)
         browser.value("document.querySelectorAll('#parcels th')[2].click()")
-        self.assertEqual(browser.value(column), sorted(before, key=float))
+        assert browser.value(column) == sorted(before, key=float)
         browser.value("document.querySelectorAll('#parcels th')[2].click()")
-        self.assertEqual(browser.value(column), sorted(before, key=float, reverse=True))
+        assert browser.value(column) == sorted(before, key=float, reverse=True)
         lines = browser.value("tables[1].csv()").splitlines()
-        self.assertEqual(lines[0], "parcel,pieces,area,eligible")
+        assert lines[0] == "parcel,pieces,area,eligible"
         told, _, totals = report.report_lines(browser.value("shown.result.text"))
-        self.assertEqual({line.split(",")[0]: tuple(line.split(",")[2:]) for line in lines[1:]}, {name: tuple(row.values()) for name, row in told.items()})
-        self.assertIn(totals["area"], self.text(browser, "totals"))
-        self.assertIn("grass", self.text(browser, "classes"))
+        assert {line.split(",")[0]: tuple(line.split(",")[2:]) for line in lines[1:]} == {name: tuple(row.values()) for name, row in told.items()}
+        assert totals["area"] in self.text(browser, "totals")
+        assert "grass" in self.text(browser, "classes")
 
     def test_a_refusal_in_words(self):
         release = self.copied("overlap")
@@ -246,15 +245,15 @@ class Page(unittest.TestCase):
         browser.value("document.getElementById('cut').click()")
         self.finish(browser)
         browser.wait("!document.getElementById('views').hidden")
-        self.assertIn("No: the release is refused", self.text(browser, "verdict"))
+        assert "No: the release is refused" in self.text(browser, "verdict")
         line = "refused 41 parcels west east at 50020 23980 1"
-        self.assertEqual(self.text(browser, "line"), line)
-        self.assertEqual(self.text(browser, "sentences").splitlines(), [words.strip() for words in explaining.Explained(line, release).words])
-        self.assertEqual(browser.value("[data.map.marks.length, chart.old.names, chart.parcels.count]"), [1, ["west", "east"], 2])
-        self.assertEqual(self.text(browser, "line"), native("cut", release, os.path.join(self.folder, "cert"))[1].decode().strip())
+        assert self.text(browser, "line") == line
+        assert self.text(browser, "sentences").splitlines() == [words.strip() for words in explaining.Explained(line, release).words]
+        assert browser.value("[data.map.marks.length, chart.old.names, chart.parcels.count]") == [1, ["west", "east"], 2]
+        assert self.text(browser, "line") == native("cut", release, os.path.join(self.folder, "cert"))[1].decode().strip()
         browser.value("(() => { const s = document.getElementById('language'); s.value = 'de'; s.dispatchEvent(new Event('change')); })()")
-        self.assertIn("Nein: Der Jahresstand wird abgelehnt", self.text(browser, "verdict"))
-        self.assertIn("übliche Ursache", self.text(browser, "sentences"))
+        assert "Nein: Der Jahresstand wird abgelehnt" in self.text(browser, "verdict")
+        assert "übliche Ursache" in self.text(browser, "sentences")
         self.expect_quiet(browser)
 
     def test_a_damaged_certificate_and_a_damaged_table(self):
@@ -266,13 +265,13 @@ class Page(unittest.TestCase):
         paths = [os.path.join(release, f"{name}.csv") for name in ("parcels", "covers", "classes")]
         browser.drop("#drop", [*paths, cert])
         self.finish(browser)
-        self.assertIn("code 55", self.text(browser, "sentences"))
-        self.assertIn("status 2", self.text(browser, "verdict"))
+        assert "code 55" in self.text(browser, "sentences")
+        assert "status 2" in self.text(browser, "verdict")
         with open(paths[1], "ab") as file:
             file.write(b"too,few\n")
         browser.drop("#drop", paths)
         browser.wait("document.getElementById('sentences').innerText.includes('code 30')")
-        self.assertEqual(self.text(browser, "line"), native("check", release, cert)[1].decode().strip())
+        assert self.text(browser, "line") == native("check", release, cert)[1].decode().strip()
 
     def test_too_little_memory(self):
         release, cert = os.path.join(self.folder, "r"), os.path.join(self.folder, "cert.txt")
@@ -282,7 +281,7 @@ class Page(unittest.TestCase):
             browser = self.browser(f"--js-flags=--wasm-max-mem-pages={pages}")
             browser.drop("#drop", [os.path.join(release, f"{name}.csv") for name in ("parcels", "covers", "classes")] + [cert])
             self.finish(browser)
-            self.assertIn(words, self.text(browser, "verdict"))
+            assert words in self.text(browser, "verdict")
 
     def test_many_parcels(self):
         release, cert = os.path.join(self.folder, "r"), os.path.join(self.folder, "cert.txt")
@@ -293,22 +292,22 @@ class Page(unittest.TestCase):
         browser.drop("#drop", [os.path.join(release, f"{name}.csv") for name in ("parcels", "covers", "classes")] + [cert])
         self.finish(browser, 400)
         browser.wait("!document.getElementById('views').hidden", 200)
-        self.assertEqual(browser.value("shown.result.text"), native("check", release, cert)[1].decode())
-        self.assertGreater(browser.value("ticks"), 20)
-        self.assertEqual(browser.value("chart.parcels.count"), MANY)
-        self.assertIn(f"{MANY - 1000} more rows", self.text(browser, "parcels"))
+        assert browser.value("shown.result.text") == native("check", release, cert)[1].decode()
+        assert browser.value("ticks") > 20
+        assert browser.value("chart.parcels.count") == MANY
+        assert f"{MANY - 1000} more rows" in self.text(browser, "parcels")
 
     def test_areas_of_a_table(self):
         browser, square = self.browser(), os.path.join(EXAMPLES, "square.csv")
         browser.choose("#area", [square])
         self.finish(browser)
-        self.assertEqual((self.text(browser, "line"), browser.value("shown.result.text").encode()), ("", native("area", square)[1]))
-        self.assertEqual(browser.value("tables[0].csv()").splitlines(), ["number,name,area", f"1,{browser.value('shown.result.rows[0]')},100.0000000"])
+        assert (self.text(browser, "line"), browser.value("shown.result.text").encode()) == ("", native("area", square)[1])
+        assert browser.value("tables[0].csv()").splitlines() == ["number,name,area", f"1,{browser.value('shown.result.rows[0]')},100.0000000"]
         table = os.path.join(self.folder, "shapes.csv")
         Path(table).write_text('name,wkt\nA,"POLYGON((0 0,1.2345 0,0 1,0 0))"\n', encoding="ascii")
         browser.choose("#area", [table])
         browser.wait("document.getElementById('sentences').innerText.includes('code 14')")
-        self.assertEqual(self.text(browser, "line"), native("area", table)[1].decode().strip())
+        assert self.text(browser, "line") == native("area", table)[1].decode().strip()
         self.expect_quiet(browser)
 
     def test_an_example_is_a_click_away(self):
@@ -318,23 +317,23 @@ class Page(unittest.TestCase):
             browser.value(f"document.getElementById('{button}').click()")
             self.finish(browser)
             browser.wait("!document.getElementById('views').hidden")
-            self.assertIn(words, self.text(browser, "verdict"))
+            assert words in self.text(browser, "verdict")
             cert = os.path.join(self.folder, "cert")
             status, text = native("cut", os.path.join(EXAMPLES, name), cert)
             if status == 0:
                 status, text = native("check", os.path.join(EXAMPLES, name), cert)
-            self.assertEqual(browser.value("shown.result.text"), text.decode())
+            assert browser.value("shown.result.text") == text.decode()
         browser.drop("#drop", [os.path.join(self.copied("holes"), "parcels.csv")])
         browser.wait("document.getElementById('result').hidden && files.parcels && !files.covers && !files.classes && !files.cert")
         self.expect_quiet(browser)
 
     def test_what_leaves_the_page(self):
         browser = self.browser()
-        self.assertIn("refused", browser.value("fetch('https://example.com/').then(() => 'sent', () => 'refused')"))
-        self.assertEqual(browser.value("(() => { const s = document.createElement('script'); s.textContent = 'window.ran = 1'; document.body.append(s); return window.ran ?? 0; })()"), 0)
+        assert "refused" in browser.value("fetch('https://example.com/').then(() => 'sent', () => 'refused')")
+        assert browser.value("(() => { const s = document.createElement('script'); s.textContent = 'window.ran = 1'; document.body.append(s); return window.ran ?? 0; })()") == 0
 
-    @unittest.skipUnless(WHOLE, "WHOLE is not set")
+    @pytest.mark.skipif(not WHOLE, reason="WHOLE is not set")
     def test_the_same_bytes_each_time(self):
         before = read(self.page)
         subprocess.run([os.path.join(TOP, "dev", "page")], check=True, stdout=subprocess.DEVNULL)
-        self.assertEqual(read(self.page), before)
+        assert read(self.page) == before

@@ -4,9 +4,9 @@ beside tools/explain and tools/report. Node and a C compiler are wanted; what la
 import os
 import subprocess
 import tempfile
-import unittest
 from pathlib import Path
 
+import pytest
 from page_case import CC, EXAMPLES, TESTS, dev_page, native, node, releases_of, squares, tables, wanted
 from lpis_tools import explaining, report
 import nasty_shapes
@@ -15,17 +15,17 @@ FAULTS = ["refused 41 parcels west east at 50020 23980 1", "refused 43 parcel we
           "refused 44 parcel west", "refused 42 pieces nosuch west-1", "refused 34 covers row 99", "refused 60", "refused 56 cert line 2", "refused 55 cert line 900", "refused 37 parcels row 1"]
 
 
-class Heap(unittest.TestCase):
+class TestHeap:
     def run_tests(self, *flags):
         wanted("CC")
         with tempfile.TemporaryDirectory() as folder:
             words = [CC, "-O1", "-g", "-Wall", "-Wextra", *flags, "-o", f"{folder}/heap", f"{TESTS}/heap_test.c", f"{TESTS}/memory.c"]
             made = subprocess.run(words, capture_output=True, text=True, check=False)
             if made.returncode and flags:
-                raise unittest.SkipTest("the C compiler has no AddressSanitizer")
-            self.assertEqual(made.returncode, 0, made.stderr)
+                raise pytest.skip.Exception("the C compiler has no AddressSanitizer")
+            assert made.returncode == 0, made.stderr
             run = subprocess.run([f"{folder}/heap"], capture_output=True, text=True, check=False)
-        self.assertEqual((run.returncode, run.stdout.count("ok ")), (0, 9), run.stdout + run.stderr[-2000:])
+        assert (run.returncode, run.stdout.count("ok ")) == (0, 9), run.stdout + run.stderr[-2000:]
 
     def test_heap(self):
         self.run_tests()
@@ -34,44 +34,42 @@ class Heap(unittest.TestCase):
         self.run_tests("-fsanitize=address,undefined", "-fno-sanitize-recover=all")
 
 
-class Words(unittest.TestCase):
+class TestWords:
     def test_each_key_is_used(self):
         scripts = dev_page.source(*dev_page.WORK, *dev_page.SCRIPT, "page.html")
         for key in dev_page.page_words.table()["words"]:
             last = key.split()[-1]
-            with self.subTest(key):
-                self.assertTrue(f"'{key}'" in scripts or f'"{key}"' in scripts or f"'#{key}'" in scripts or last in ("meaning", "cause", "remedy") or key.split()[0] in ("file", "busy"))
+            assert f"'{key}'" in scripts or f'"{key}"' in scripts or f"'#{key}'" in scripts or last in ("meaning", "cause", "remedy") or key.split()[0] in ("file", "busy")
 
 
-class Examples(unittest.TestCase):
+class TestExamples:
     def test_they_are_what_the_buttons_say(self):
         """One passes, the other has a fault, and the page has a button for each."""
         wanted("BUILT")
         texts, markup = dev_page.examples(), dev_page.source("page.html")
         for button, status in (("good", 0), ("faulty", 1)):
-            self.assertIn(f'<button id="{button}"', markup)
+            assert f'<button id="{button}"' in markup
             with tempfile.TemporaryDirectory() as folder:
                 for name, text in texts[button].items():
                     Path(folder, f"{name}.csv").write_text(text, encoding="utf-8")
-                self.assertEqual(native("cut", folder, os.path.join(folder, "cert.txt"))[0], status, button)
+                assert native("cut", folder, os.path.join(folder, "cert.txt"))[0] == status, button
 
 
-class Scripts(unittest.TestCase):
+class TestScripts:
     def test_a_refusal_is_explained_as_by_tools_explain(self):
         wanted("NODE")
         release, cert = os.path.join(EXAMPLES, "overlap"), os.path.join(EXAMPLES, "older", "cert.txt")
         cases = [{"line": line, "folder": release, "cert": cert} for line in FAULTS]
         for line, found in zip(FAULTS, node("explain", words=dev_page.page_words.table(), cases=cases)):
-            with self.subTest(line):
-                self.assertEqual(found["en"], [words.strip() for words in explaining.Explained(line, release, cert).words])
-                self.assertEqual(len(found["de"]), len(found["en"]))
+            assert found["en"] == [words.strip() for words in explaining.Explained(line, release, cert).words]
+            assert len(found["de"]) == len(found["en"])
 
     def test_the_code_of_a_text_is_explained_too(self):
         wanted("NODE")
         line, release = "refused 38 covers row 1 code 18 offset 60", os.path.join(EXAMPLES, "overlap")
         [found] = node("explain", words=dev_page.page_words.table(), cases=[{"line": line, "folder": release}])
         said = [words.strip() for words in explaining.Explained(line, release).words]
-        self.assertEqual(found["en"], [words for words in said if "points, x" not in words])
+        assert found["en"] == [words for words in said if "points, x" not in words]
 
     def test_a_table_of_polygons_is_explained_too(self):
         wanted("NODE")
@@ -80,7 +78,7 @@ class Scripts(unittest.TestCase):
             Path(path).write_text('name,wkt\nA,"POLYGON((0 0,1.2345 0,0 1,0 0))"\n', encoding="ascii")
             for line in ("refused 38 area row 1 wkt 14 at 13", "refused 31 area row 0", "refused 34 area row 7"):
                 [found] = node("explain", words=dev_page.page_words.table(), cases=[{"line": line, "folder": folder, "area": path}])
-                self.assertEqual(found["en"], [words.strip() for words in explaining.Explained(line, folder, area=path).words if "points, x" not in words and "missing:" not in words])
+                assert found["en"] == [words.strip() for words in explaining.Explained(line, folder, area=path).words if "points, x" not in words and "missing:" not in words]
 
     def test_sums_are_those_of_tools_report(self):
         wanted("NODE")
@@ -92,9 +90,8 @@ class Scripts(unittest.TestCase):
             for case, found in zip(cases, node("sums", map=dev_page.drawn(), cases=[{"folder": case} for case in cases])):
                 rows, sums = report.by_class(report.read(case))
                 wanted_rows = [["" if row[name] is None else str(row[name]) for name in ("class", "percent", "pieces", "area", "eligible")] for row in rows]
-                with self.subTest(case):
-                    self.assertEqual(found["sums"]["rows"], wanted_rows)
-                    self.assertEqual({name: found["sums"][name] for name in ("area", "eligible")}, {name: sums[name] for name in ("area", "eligible")})
+                assert found["sums"]["rows"] == wanted_rows
+                assert {name: found["sums"][name] for name in ("area", "eligible")} == {name: sums[name] for name in ("area", "eligible")}
 
     def test_the_map_has_every_shape(self):
         wanted("NODE")
@@ -102,6 +99,6 @@ class Scripts(unittest.TestCase):
             squares(os.path.join(folder, "r"), 30)
             [found] = node("sums", map=dev_page.drawn(), cases=[{"folder": os.path.join(folder, "r")}])
         drawing = found["drawing"]
-        self.assertEqual([drawing[name]["count"] for name in ("parcels", "pieces", "old")], [30, 30, 0])
-        self.assertEqual((drawing["whole"], drawing["unit"]), ([0, 0, 300000, 9000], 1))
-        self.assertEqual([drawing["parcels"][name]["31"] for name in ("xs", "ys")], [70000, 0])
+        assert [drawing[name]["count"] for name in ("parcels", "pieces", "old")] == [30, 30, 0]
+        assert (drawing["whole"], drawing["unit"]) == ([0, 0, 300000, 9000], 1)
+        assert [drawing["parcels"][name]["31"] for name in ("xs", "ys")] == [70000, 0]

@@ -6,22 +6,24 @@ import os
 from pathlib import Path
 
 import dirty
-from preparing_case import Case, rows
+from calls import records
+from registers import made
+from preparing_case import Case
 from lpis_tools import accepting
 
 KINDS = ("null", "crossing", "wide", "narrow", "twin")
 TAKEN = "the borders are those that the run before has rounded"
 
 
-class Accepted(Case):
-    def setUp(self):
-        super().setUp()
+class TestAccepted(Case):
+    def set_up(self):
+        super().set_up()
         self.source = dirty.make(self.path("land.gpkg"), KINDS)
 
     def marked(self, table, is_accepted, name="reviewed.csv", header=()):
         """A copy of a table of the run, with the rows marked that are accepted."""
         with open(self.path(name), "w", newline="", encoding="utf-8") as file:
-            found = rows(self.out, table)
+            found = records(self.out, table)
             out = csv.DictWriter(file, [*found[0], *(header or ("accepted", "who", "why"))], delimiter=";", extrasaction="ignore")
             out.writeheader()
             out.writerows({**row, "accepted": "1" if is_accepted(row) else "", "who": "E. Muster", "why": "looked at in the field"} for row in found)
@@ -41,39 +43,36 @@ class Accepted(Case):
             (["--accept", every], 0, "to look at: 14, accepted"), (["--accept"], 0, "to look at: 14, accepted"), ([f"--accept={every}"], 0, "to look at: 14, accepted"),
         ):
             run = self.run_on(self.source, *words)
-            self.assertEqual((run.returncode, told in self.last_line(run)), (status, True), (words, self.last_line(run), run.stderr))
-            self.assertEqual("no table is written" in self.last_line(run), bool(status))
-        self.assertIn("left out", [row["kind"] for row in rows(self.out, "report.csv")])
+            assert (run.returncode, told in self.last_line(run)) == (status, True), (words, self.last_line(run), run.stderr)
+            assert ("no table is written" in self.last_line(run)) == bool(status)
+        assert "left out" in [row["kind"] for row in records(self.out, "report.csv")]
         for given, wanted in ((["--accept", "LAND", "OUT"], ["--accept=all", "LAND", "OUT"]), (["LAND", "--accept", "left-out,gap", "OUT"], ["LAND", "--accept=left-out,gap", "OUT"]),
                               (["LAND", "OUT", "--accept", "--previous", "gap"], ["LAND", "OUT", "--accept=all", "--previous", "gap"])):
-            self.assertEqual(accepting.arguments_of(given), wanted)
+            assert accepting.arguments_of(given) == wanted
         for words in (["--accept", "gapp"], ["--accept=gapp"], ["--between", "0"], ["--between", "nan"], ["--between", "wide"]):
-            self.assertEqual(self.run_on(self.source, *words).returncode, 64, words)
+            assert self.run_on(self.source, *words).returncode == 64, words
 
     def test_rows(self):
         """Rows that somebody marked in copies of both tables pass, and those alone."""
         self.run_on(self.source)
         first, every = self.marked("prepared.csv", lambda row: "twin" not in row["identifier"]), self.marked("prepared.csv", lambda row: True, "every.csv")
         run = self.run_on(self.source, "--accept-from", first)
-        self.assertEqual((run.returncode, "to look at: 9 of 14, the others are accepted (4 changed, 3 lost, 2 overlap: " in self.last_line(run)), (1, True), run.stdout + run.stderr)
+        assert (run.returncode, "to look at: 9 of 14, the others are accepted (4 changed, 3 lost, 2 overlap: " in self.last_line(run)) == (1, True), run.stdout + run.stderr
         run = self.run_on(self.source, "--accept-from", every)
-        self.assertEqual((run.returncode, "to look at: 7 of 14, the others are accepted (4 changed, 3 lost: " in self.last_line(run)), (1, True), run.stdout + run.stderr)
+        assert (run.returncode, "to look at: 7 of 14, the others are accepted (4 changed, 3 lost: " in self.last_line(run)) == (1, True), run.stdout + run.stderr
         second = self.marked("report.csv", lambda row: row["stops"] == "1" and (row["kind"], row["identifiers"]) != ("lost", "twin"), "second.csv")
         run = self.run_on(self.source, "--accept-from", every, "--accept-from", second)
-        self.assertEqual((run.returncode, "to look at: 1 of 14, the others are accepted (lost twin): mend the source" in self.last_line(run)), (1, True), self.last_line(run))
+        assert (run.returncode, "to look at: 1 of 14, the others are accepted (lost twin): mend the source" in self.last_line(run)) == (1, True), self.last_line(run)
         run = self.run_on(self.source, "--accept-from", every, "--accept-from", second, "--accept", "lost")
-        self.assertEqual((run.returncode, self.last_line(run)), (0, "to look at: 14, accepted"), run.stdout + run.stderr)
+        assert (run.returncode, self.last_line(run)) == (0, "to look at: 14, accepted"), run.stdout + run.stderr
 
     def test_another_land(self):
         """A mark is for the row that was looked at: where its area or its place is another it stops again."""
         self.run_on(self.source)
         marked = self.marked("prepared.csv", lambda row: True)
-        base = dirty.sqlite3.connect(self.source)
-        base.execute("UPDATE covers SET geom = (SELECT geom FROM covers WHERE piece = 'wide-2.2') WHERE piece = 'wide-2.1'")
-        base.commit()
-        base.close()
+        made(self.source, "UPDATE covers SET geom = (SELECT geom FROM covers WHERE piece = 'wide-2.2') WHERE piece = 'wide-2.1'")
         run = self.run_on(self.source, "--accept-from", marked)
-        self.assertEqual((run.returncode, "4 lost, 3 changed, 1 overlap, 1 gap: " in self.last_line(run)), (1, True), run.stdout + run.stderr)
+        assert (run.returncode, "4 lost, 3 changed, 1 overlap, 1 gap: " in self.last_line(run)) == (1, True), run.stdout + run.stderr
 
     def test_tables_that_are_none(self):
         self.run_on(self.source)
@@ -81,32 +80,29 @@ class Accepted(Case):
         Path(self.path("yes.csv")).write_text("kind,layer,row,identifier,area_m2,x,y,accepted\nshape,covers,10,null.2,,,,yes\n", encoding="ascii")
         for path, words in ((copy, "no column accepted: it is no copy of prepared.csv or report.csv"), (self.path("yes.csv"), "accepted is 'yes', and not 1, 0 or empty"), (self.path("none.csv"), "none.csv")):
             run = self.run_on(self.source, "--accept-from", path)
-            self.assertEqual((run.returncode, words in run.stderr, "Traceback" in run.stderr), (64, True, False), run.stderr)
+            assert (run.returncode, words in run.stderr, "Traceback" in run.stderr) == (64, True, False), run.stderr
 
 
-class Again(Case):
+class TestAgain(Case):
     def test_taken_up(self):
         """A run that accepts takes up the borders of the run before, and has the tables of one that rounds; where anything is another it rounds."""
         source = dirty.make(self.path("land.gpkg"), KINDS)
-        self.assertEqual(self.run_on(source, "--accept").returncode, 0)
+        assert self.run_on(source, "--accept").returncode == 0
         wanted = {name: self.bytes_of(name) for name in ("parcels.csv", "covers.csv", "report.csv", "balance.csv")}
-        self.assertNotIn(".rounded", os.listdir(self.out))
+        assert ".rounded" not in os.listdir(self.out)
         for change, words, is_taken in ((lambda: None, [], True), (self.change_source, [], False), (self.change_tables, [], False), (lambda: None, ["--between", "2"], False)):
-            self.assertEqual(self.run_on(source).returncode, 1)
+            assert self.run_on(source).returncode == 1
             change()
             run = self.run_on(source, "--accept", *words)
-            self.assertEqual((run.returncode, TAKEN in run.stderr), (0, is_taken), run.stderr)
-            self.assertEqual({name: self.bytes_of(name) for name in wanted}, wanted)
-            self.assertNotIn(".rounded", os.listdir(self.out))
+            assert (run.returncode, TAKEN in run.stderr) == (0, is_taken), run.stderr
+            assert {name: self.bytes_of(name) for name in wanted} == wanted
+            assert ".rounded" not in os.listdir(self.out)
 
     def bytes_of(self, name):
         return Path(self.out, name).read_bytes()
 
     def change_source(self):
-        base = dirty.sqlite3.connect(self.path("land.gpkg"))
-        base.execute("CREATE TABLE note (text TEXT)")
-        base.commit()
-        base.close()
+        made(self.path("land.gpkg"), "CREATE TABLE note (text TEXT)")
 
     def change_tables(self):
         with open(os.path.join(self.out, ".rounded", "parcels.csv"), "a", encoding="ascii") as file:

@@ -3,8 +3,8 @@ Shapely and numpy."""
 
 import math
 import random
-import unittest
 
+import pytest
 from lpis_tools import shapely_there
 
 if shapely_there.is_there():
@@ -89,8 +89,8 @@ def crowds(count):
                      for turn in (2 * math.pi * number / count for number in range(count))]
 
 
-@unittest.skipUnless(shapely_there.is_there(), shapely_there.LACKING)
-class Edges(unittest.TestCase):
+@pytest.mark.skipif(not shapely_there.is_there(), reason=shapely_there.LACKING)
+class TestEdges:
     """What lies along, and how much is looked at for it."""
 
     def along(self, edges, border, width=WIDTH):
@@ -101,7 +101,7 @@ class Edges(unittest.TestCase):
             for turn in (0.0, 0.3, math.pi / 2, 2.5):
                 for east, north in ((0.0, 0.0), (EAST, NORTH)):
                     lines = [moved(line, turn, east, north) for line in (edge, *border)]
-                    self.assertEqual(self.along(lines[:1], lines[1:]), [wanted], (name, turn, east))
+                    assert self.along(lines[:1], lines[1:]) == [wanted], (name, turn, east)
 
     def test_webs(self):
         """As a buffer of Shapely has it, where a hundredth of the width more or less makes no difference."""
@@ -114,23 +114,23 @@ class Edges(unittest.TestCase):
                     way = LineString([line[:2], line[2:]])
                     wanted = True if less.contains(way) else None if more.contains(way) else False
                     told[wanted] += 1
-                    self.assertIn(wanted, (lies, None), (line, border))
-        self.assertLess(told[None], 100)
-        self.assertTrue(told[True] > 100 and told[False] > 100, told)
+                    assert wanted in (lies, None), (line, border)
+        assert told[None] < 100
+        assert told[True] > 100 and told[False] > 100, told
 
-    def test_crowds(self):
+    @pytest.mark.parametrize("count", (500, 2_000))
+    def test_crowds(self, count):
         """However many edges there are, a number of pairs is looked at for each."""
-        for count in (500, 2_000):
-            for name, edges in crowds(count):
-                lines = numpy.array(edges)
-                along = Along(lines + numpy.array([0, 0.0004, 0, 0.0004]), lines, WIDTH)
-                self.assertTrue(along.are().all(), (name, count))
-                self.assertLess(along.looked, NEAR * len(edges), (name, count))
+        for name, edges in crowds(count):
+            lines = numpy.array(edges)
+            along = Along(lines + numpy.array([0, 0.0004, 0, 0.0004]), lines, WIDTH)
+            assert along.are().all(), (name, count)
+            assert along.looked < NEAR * len(edges), (name, count)
 
     def test_pairs(self):
         """All of one place are near to each other: their intervals are joined while they are found."""
         lines = numpy.array(bundle(600, 0.001, 50))
-        self.assertTrue(Along(lines, lines, WIDTH).are().all())
+        assert Along(lines, lines, WIDTH).are().all()
 
     def test_parts(self):
         """Parts of a change beside the shape that came of it: what leads away, and what lies along its border or a hole's."""
@@ -144,5 +144,5 @@ class Edges(unittest.TestCase):
             "a sliver that goes on": ([(0, 10), (11, 10), (5, 10.0007)], True),
             "a sliver round a corner": ([(9, 10.0005), (10.0005, 10.0005), (10.0005, 9), (10, 9), (10, 10), (9, 10)], False),
         }
-        self.assertEqual(outcome.lead_away(after, [Polygon(way) for way, _ in parts.values()]), [wanted for _, wanted in parts.values()])
-        self.assertEqual(outcome.lead_away(after, []), [])
+        assert outcome.lead_away(after, [Polygon(way) for way, _ in parts.values()]) == [wanted for _, wanted in parts.values()]
+        assert outcome.lead_away(after, []) == []

@@ -5,12 +5,13 @@ import json
 import math
 import os
 import subprocess
-import unittest
 from pathlib import Path
 
+import pytest
 import dirty
 import places
-from preparing_case import Case, rows
+from calls import records
+from preparing_case import Case
 from lpis_tools import shapely_there
 
 if shapely_there.is_there():
@@ -39,8 +40,8 @@ def lands():
     yield [("a", box(0, 0, 50, 40)), ("b", box(50.4, 0, 0.2, 40)), ("c", box(51, 0, 50, 40))], [("a b", 0.4, 16.0), ("b c", 0.4, 16.0)]  # nothing across a narrow parcel
 
 
-@unittest.skipUnless(shapely_there.is_there(), shapely_there.LACKING)
-class Between(Case):
+@pytest.mark.skipif(not shapely_there.is_there(), reason=shapely_there.LACKING)
+class TestBetween(Case):
     def source(self, turn):
         """All lands in one, each turned by an angle, and what is to be found by the names of its parcels."""
         parcels, wanted = [], []
@@ -52,30 +53,30 @@ class Between(Case):
             wanted += [(" ".join(f"{name}{number}" for name in names.split()), width, area) for names, width, area in found]
         return self.package(parcels, [(f"{name}.1", name, "GRASS", shape) for name, shape in parcels]), sorted(wanted)
 
-    def test_named(self):
-        for turn in (0.0, 0.3, 1.2, 2.9):
-            source, wanted = self.source(turn)
-            run = self.run_on(source)
-            self.assertEqual(run.returncode, 0, run.stdout + run.stderr)
-            found = sorted((row["identifiers"], float(row["width_m"]), float(row["area_m2"]), row["stops"]) for row in rows(self.out, "report.csv") if row["kind"] == "between")
-            self.assertEqual([name for name, *_ in found], [name for name, *_ in wanted], turn)
-            for (name, width, area, stops), (_, right, true) in zip(found, wanted):
-                self.assertAlmostEqual(width, right, delta=0.002, msg=name)
-                self.assertAlmostEqual(area, true, delta=0.11, msg=name)
-                self.assertEqual(stops, "0")
-            os.remove(source)
-            (of_balance,) = (row for row in rows(self.out, "balance.csv") if row["layer"] == "between")
-            self.assertAlmostEqual(float(of_balance["tables_m2"]), sum(area for _, _, area, _ in found), delta=0.01)
-            self.assertEqual(len(json.loads(Path(self.out, "between.geojson").read_text(encoding="utf-8"))["features"]), len(found))
-            self.assertNotIn('"between"', Path(self.out, "report.geojson").read_text(encoding="utf-8"))
+    @pytest.mark.parametrize("turn", (0.0, 0.3, 1.2, 2.9))
+    def test_named(self, turn):
+        source, wanted = self.source(turn)
+        run = self.run_on(source)
+        assert run.returncode == 0, run.stdout + run.stderr
+        found = sorted((row["identifiers"], float(row["width_m"]), float(row["area_m2"]), row["stops"]) for row in records(self.out, "report.csv") if row["kind"] == "between")
+        assert [name for name, *_ in found] == [name for name, *_ in wanted], turn
+        for (name, width, area, stops), (_, right, true) in zip(found, wanted):
+            assert width == pytest.approx(right, abs=0.002), name
+            assert area == pytest.approx(true, abs=0.11), name
+            assert stops == "0"
+        os.remove(source)
+        (of_balance,) = (row for row in records(self.out, "balance.csv") if row["layer"] == "between")
+        assert float(of_balance["tables_m2"]) == pytest.approx(sum(area for _, _, area, _ in found), abs=0.01)
+        assert len(json.loads(Path(self.out, "between.geojson").read_text(encoding="utf-8"))["features"]) == len(found)
+        assert '"between"' not in Path(self.out, "report.geojson").read_text(encoding="utf-8")
 
     def test_width(self):
         """--between sets up to which width; where there is none there is no layer, and no line of the balance."""
         source = self.package(*[[(*fields(name), dirty.polygon(dirty.box(*at))) for name, *at in (("a", 0, 0, 50, 40), ("b", 53, 0, 50, 40))] for fields in (lambda name: [name], lambda name: [f"{name}.1", name, "GRASS"])])
         for width, found in (("3.1", ["a b"]), ("2.9", []), ("3", ["a b"])):
             for run in (self.run_on(source, "--between", width), self.compared(source, width)):
-                self.assertEqual((run.returncode, [row["identifiers"] for row in rows(self.out, "report.csv") if row["kind"] == "between"]), (0, found), run.stdout + run.stderr)
-                self.assertEqual(("between parcels, nobody" in run.stdout, os.path.exists(os.path.join(self.out, "between.geojson"))), (bool(found), bool(found)))
+                assert (run.returncode, [row["identifiers"] for row in records(self.out, "report.csv") if row["kind"] == "between"]) == (0, found), run.stdout + run.stderr
+                assert ("between parcels, nobody" in run.stdout, os.path.exists(os.path.join(self.out, "between.geojson"))) == (bool(found), bool(found))
 
     def test_wide(self):
         """A search of any width looks at what is near each border, and not at what lies behind that: a number of borders for each, however many there are."""
@@ -91,8 +92,8 @@ class Between(Case):
             for width in (600, 100_000):
                 found = facing.Facing(borders[:, :2], borders[:, 2:], whose)
                 area = sum(Polygon(strip).area for one, other, strip, _ in found.strips(width) if max(one, other) < len(boxes))
-                self.assertAlmostEqual(area, 2 * 2 * count * (count - 1) * 0.5, delta=0.001, msg=(count, width))
-                self.assertLess(found.looked, 700 * len(borders), (count, width))
+                assert area == pytest.approx(2 * 2 * count * (count - 1) * 0.5, abs=0.001), (count, width)
+                assert found.looked < 700 * len(borders), (count, width)
 
     def test_fine(self):
         """Borders of a millimetre have no direction that rounding left them: lines stand for them, within a millimetre and a half, and the gap has its area."""
@@ -103,15 +104,15 @@ class Between(Case):
         circle = numpy.array([(round(900 * math.cos(2 * math.pi * k / count)), round(900 * math.sin(2 * math.pi * k / count))) for k in range(count)], float)
         ends = circle[numpy.any(circle != numpy.roll(circle, -1, axis=0), axis=1)]
         a, b, whose = facing.straightened(ends, numpy.roll(ends, -1, axis=0), numpy.zeros(len(ends), int), (numpy.arange(len(ends)) + 1) % len(ends))
-        self.assertLess(len(a), 200)
-        self.assertTrue((whose == 0).all() and (numpy.sort(a, axis=0) == numpy.sort(b, axis=0)).all())
-        self.assertLess(abs(numpy.hypot(*((a + b) / 2).T) - 900).max(), 3)
+        assert len(a) < 200
+        assert (whose == 0).all() and (numpy.sort(a, axis=0) == numpy.sort(b, axis=0)).all()
+        assert abs(numpy.hypot(*((a + b) / 2).T) - 900).max() < 3
         rings = [[(dirty.EAST + east + 0.9 * math.cos(2 * math.pi * k / count), dirty.NORTH + 0.9 * math.sin(2 * math.pi * k / count)) for k in [*range(count), 0]] for east in (0, 1.9, 3.8)]
         parcels = [(f"c{number}", dirty.polygon(way)) for number, way in enumerate(rings)]
         run = self.run_on(self.package(parcels, [(f"{name}.1", name, "GRASS", shape) for name, shape in parcels]))
-        found = {row["identifiers"]: float(row["area_m2"]) for row in rows(self.out, "report.csv") if row["kind"] == "between"}
-        self.assertEqual((run.returncode, sorted(found)), (0, ["c0 c1", "c1 c2"]), run.stdout + run.stderr)
-        self.assertTrue(all(0.05 < area < 0.06 for area in found.values()), found)
+        found = {row["identifiers"]: float(row["area_m2"]) for row in records(self.out, "report.csv") if row["kind"] == "between"}
+        assert (run.returncode, sorted(found)) == (0, ["c0 c1", "c1 c2"]), run.stdout + run.stderr
+        assert all(0.05 < area < 0.06 for area in found.values()), found
 
     def test_many_corners(self):
         """Circles of many corners that face each other: what their strips make together has no more corners than these have, times a number."""
@@ -123,7 +124,7 @@ class Between(Case):
                 ends = [[(east + way * radius * math.cos(k / count - 0.5), radius * math.sin(k / count - 0.5)) for k in range(count + 1)] for radius in (0.9, 1.2)]
                 sides.append([([inner, after, far, outer], 0.3 * count) for inner, after, far, outer in zip(ends[0], ends[0][1:], ends[1][1:], ends[1])])
             land = between.land_of(sides)
-            self.assertLess(sum(len(ring.coords) for part in getattr(land, "geoms", [land]) for ring in (part.exterior, *part.interiors)), 6 * count)
+            assert sum(len(ring.coords) for part in getattr(land, "geoms", [land]) for ring in (part.exterior, *part.interiors)) < 6 * count
 
     def compared(self, source, width):
         return subprocess.run([os.path.join(places.TOOLS, "recipes", "compare"), source, self.out, "--between", width], capture_output=True, text=True, check=False)

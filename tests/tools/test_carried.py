@@ -3,14 +3,14 @@ dev/sources, dev/carry and dev/carried, in small repositories with stand-ins for
 
 import os
 import pathlib
+import re
 import shutil
 import subprocess
 import sys
-import tempfile
-import unittest
 
 import pytest
 from places import TOP
+from spare import Spare
 
 pytestmark = pytest.mark.finds_program
 
@@ -34,11 +34,9 @@ def program(name, version="1.0.0", status=0):
     return f"#!/bin/sh\n[ \"$1\" = --version ] && echo lpis {version} && exit {status}\necho {name} \"$@\"\n# GLIBC_2.34\n"
 
 
-class Case(unittest.TestCase):
-    def setUp(self):
-        spare = tempfile.TemporaryDirectory()
-        self.addCleanup(spare.cleanup)
-        self.top = pathlib.Path(spare.name, "a house")
+class Case(Spare):
+    def set_up(self):
+        self.top = pathlib.Path(self.folder, "a house")
         for folder in ("dev", "bin"):
             (self.top / folder).mkdir(parents=True)
         for name in ("lpis", "dev/sources", "dev/carry", "dev/carried", "dev/facts.py"):
@@ -76,88 +74,85 @@ class Case(unittest.TestCase):
         return self.call(self.top / "dev" / "sources").stdout.strip()
 
 
-class Choice(Case):
-    def test_which_program_runs(self):
+class TestChoice(Case):
+    @pytest.mark.parametrize("built, carried, wanted, remark", (
+        ("these", "these", "out/program", "built here"), ("these", "others", "out/program", "built here"), ("these", None, "out/program", "built here"),
+        ("others", "these", "program", "carried"), (None, "these", "program", "carried"),
+        ("others", "others", "out/program", "built here, of other sources"), ("others", None, "out/program", "built here, of other sources"),
+        (None, "others", "program", "carried, of other sources"),
+    ))
+    def test_which_program_runs(self, built, carried, wanted, remark):
         """Of the two that one whose sources are those here; else that which was built here, else that which is carried, and a line."""
-        for built, carried, wanted, remark in (
-            ("these", "these", "out/program", "built here"), ("these", "others", "out/program", "built here"), ("these", None, "out/program", "built here"),
-            ("others", "these", "program", "carried"), (None, "these", "program", "carried"),
-            ("others", "others", "out/program", "built here, of other sources"), ("others", None, "out/program", "built here, of other sources"),
-            (None, "others", "program", "carried, of other sources"),
-        ):
-            with self.subTest(built=built, carried=carried):
-                for place, state in (("out/program", built), ("program", carried)):
-                    shutil.rmtree(self.top / place, ignore_errors=True)
-                    if state:
-                        self.put(place, program(place), "0" * 64 if state == "others" else None)
-                line = [f"lpis: the program ({wanted}/lpis) {OTHER}"] * ("other" in remark)
-                self.assertEqual(self.answer("area", "x"), (0, f"{wanted} area x\n", line))
-                self.assertEqual(self.answer("program"), (0, f"{self.top}/{wanted}/lpis\n", line))
-                known = "0" * 64 if "other" in remark else self.sources()
-                self.assertEqual(self.answer("--version"), (0, f"lpis 1.0.0\nkit {KIT}\nsources {known}\n{remark}\n", line))
+        for place, state in (("out/program", built), ("program", carried)):
+            shutil.rmtree(self.top / place, ignore_errors=True)
+            if state:
+                self.put(place, program(place), "0" * 64 if state == "others" else None)
+        line = [f"lpis: the program ({wanted}/lpis) {OTHER}"] * ("other" in remark)
+        assert self.answer("area", "x") == (0, f"{wanted} area x\n", line)
+        assert self.answer("program") == (0, f"{self.top}/{wanted}/lpis\n", line)
+        known = "0" * 64 if "other" in remark else self.sources()
+        assert self.answer("--version") == (0, f"lpis 1.0.0\nkit {KIT}\nsources {known}\n{remark}\n", line)
 
-    def test_facts_that_do_not_say(self):
+    @pytest.mark.parametrize("text", ("kit 1\n", "sources\n", "", None))
+    def test_facts_that_do_not_say(self, text):
         """A program whose facts have no sources, or that has none, is of others."""
-        for text in ("kit 1\n", "sources\n", "", None):
-            with self.subTest(text):
-                self.put("program", program("carried"))
-                self.write("program/facts", text or "") if text is not None else (self.top / "program/facts").unlink()
-                status, out, told = self.answer("area")
-                self.assertEqual((status, out, len(told)), (0, "carried area\n", 1))
+        self.put("program", program("carried"))
+        self.write("program/facts", text or "") if text is not None else (self.top / "program/facts").unlink()
+        status, out, told = self.answer("area")
+        assert (status, out, len(told)) == (0, "carried area\n", 1)
 
     def test_none(self):
         """No program: a line and 70 of each command and each tool, and nothing is built or made."""
         for words in (["area", "x"], ["--help"], ["program"], ["publish", "r.db", "2024", "r", "c"]):
             status, out, told = self.answer(*words)
-            self.assertEqual((status, out, len(told), "git checkout program" in told[0]), (70, "", 1, True), told)
+            assert (status, out, len(told), "git checkout program" in told[0]) == (70, "", 1, True), told
         self.check_tools("there is no program here")
-        self.assertFalse((self.top / "out").exists())
+        assert not (self.top / "out").exists()
 
     def check_tools(self, wanted):
         before = sorted(self.top.rglob("*"))
         for tool, words in (("faults", ["r", "o.json"]), ("report", ["r", "c"]), ("year", ["r.db", "2024", "r", "--new"]), ("country", ["check", "land"]), ("country", ["cut", "land"])):
             ended = self.call(sys.executable, "-B", self.top / "tools" / tool, *words)
-            self.assertEqual((ended.returncode, ended.stdout, len(ended.stderr.splitlines()), wanted in ended.stderr), (70, "", 1, True), (tool, ended.stderr))
-        self.assertEqual([path for path in sorted(self.top.rglob("*")) if "__pycache__" not in path.parts], [path for path in before if "__pycache__" not in path.parts])
+            assert (ended.returncode, ended.stdout, len(ended.stderr.splitlines()), wanted in ended.stderr) == (70, "", 1, True), (tool, ended.stderr)
+        assert [path for path in sorted(self.top.rglob("*")) if "__pycache__" not in path.parts] == [path for path in before if "__pycache__" not in path.parts]
 
     def test_a_program_that_cannot_start(self):
         """The script, the installed one and the tools say what it needs, in a line, before anything else, and never end with 1."""
         installed = self.top / "place" / "lpis"
         for name, (text, last) in ENDS.items():
-            with self.subTest(name):
-                self.put("program", text)
-                place = str(self.top / "program" / "lpis")
-                status, out, told = self.answer("publish", "new.db", "2024", "r", "c")
-                self.assertEqual((status, out, len(told), NEEDS in told[0]), (70, "", 1, True), told)
-                self.assertIn(last.replace("PROGRAM", place), told[0])
-                self.check_tools(NEEDS)
-                shutil.copytree(self.top / "program", installed / "program", dirs_exist_ok=True)
-                shutil.copy(self.top / "tools" / "run.sh", installed)
-                shutil.copy(self.top / "tools" / "installed", installed / "lpis")
-                ended = self.call(installed / "lpis", "area", "x")
-                self.assertEqual((ended.returncode, ended.stdout, ended.stderr.count("\n"), NEEDS in ended.stderr), (70, "", 1, True), ended.stderr)
+            self.put("program", text)
+            place = str(self.top / "program" / "lpis")
+            status, out, told = self.answer("publish", "new.db", "2024", "r", "c")
+            assert (status, out, len(told), NEEDS in told[0]) == (70, "", 1, True), told
+            assert last.replace("PROGRAM", place) in told[0]
+            self.check_tools(NEEDS)
+            shutil.copytree(self.top / "program", installed / "program", dirs_exist_ok=True)
+            shutil.copy(self.top / "tools" / "run.sh", installed)
+            shutil.copy(self.top / "tools" / "installed", installed / "lpis")
+            ended = self.call(installed / "lpis", "area", "x")
+            assert (ended.returncode, ended.stdout, ended.stderr.count("\n"), NEEDS in ended.stderr) == (70, "", 1, True), ended.stderr
         self.put("program", program("carried"))
         (self.top / "program" / "lpis").chmod(0o644)
-        self.assertEqual(self.answer("area", "x"), (70, "", [f"lpis: {self.top}/program/lpis may not be run: chmod +x it, on a file system from which programs may run"]))
+        assert self.answer("area", "x") == (70, "", [f"lpis: {self.top}/program/lpis may not be run: chmod +x it, on a file system from which programs may run"])
 
     def test_what_it_needs_is_told_alike(self):
         """By the scripts, README.md and the manual."""
-        self.assertIn(f"NEEDS='{NEEDS}'", (self.top / "tools" / "run.sh").read_text())
+        assert f"NEEDS='{NEEDS}'" in (self.top / "tools" / "run.sh").read_text()
         for page in ("README.md", "docs/lpis.1"):
-            self.assertIn(NEEDS.partition(" (")[0], " ".join(pathlib.Path(TOP, page).read_text(encoding="utf-8").split()), page)
-        self.assertIn(NEEDS, " ".join(pathlib.Path(TOP, "README.md").read_text(encoding="utf-8").split()))
+            assert NEEDS.partition(" (")[0] in " ".join(pathlib.Path(TOP, page).read_text(encoding="utf-8").split()), page
+        assert NEEDS in " ".join(pathlib.Path(TOP, "README.md").read_text(encoding="utf-8").split())
 
     def test_no_memory_is_an_answer(self):
         """A program that starts, and has no memory to say its version, runs."""
         self.put("program", program("carried", status=3))
-        self.assertEqual(self.answer("area", "x"), (0, "carried area x\n", []))
+        assert self.answer("area", "x") == (0, "carried area x\n", [])
 
 
-class Sources(Case):
+class TestSources(Case):
     def test_what_counts(self):
         """Names and bytes of the program's crates count; times, crates aside, their order and what is built do not."""
         first = self.sources()
-        self.assertRegex(first, "^[0-9a-f]{64}$")
+        assert re.search("^[0-9a-f]{64}$", first)
         same = {
             "times": lambda: [os.utime(path, (0, 0)) for path in self.top.rglob("*.rt")],
             "a crate aside": lambda: self.write("crates/lpis_aside/src/lib.rt", "// another\n"),
@@ -175,20 +170,20 @@ class Sources(Case):
         }
         for name, change in same.items():
             change()
-            self.assertEqual(self.sources(), first, name)
+            assert self.sources() == first, name
         known = {first}
         for name, change in other.items():
             change()
-            self.assertNotIn(self.sources(), known, name)
+            assert self.sources() not in known, name
             known.add(self.sources())
 
     def test_another_folder(self):
         other = self.top.parent / "other"
         shutil.copytree(self.top, other)
-        self.assertEqual(self.call(other / "dev" / "sources", cwd="/").stdout, self.sources() + "\n")
+        assert self.call(other / "dev" / "sources", cwd="/").stdout == self.sources() + "\n"
 
 
-class Carrying(Case):
+class TestCarrying(Case):
     def carry(self):
         return self.call(sys.executable, self.top / "dev" / "carry")
 
@@ -202,34 +197,34 @@ class Carrying(Case):
     def test_what_is_carried(self):
         """What was built of these sources, else what rt linked of them; nothing else."""
         ended = self.carry()
-        self.assertEqual((ended.returncode, "./lpis build" in ended.stderr), (1, True), ended.stderr)
+        assert (ended.returncode, "./lpis build" in ended.stderr) == (1, True), ended.stderr
         self.link(program("linked"))
         self.put("out/program", program("built"), "0" * 64)
-        self.assertEqual(self.carry().returncode, 0)
-        self.assertEqual((self.top / "program" / "lpis").read_text(), program("linked"))
+        assert self.carry().returncode == 0
+        assert (self.top / "program" / "lpis").read_text() == program("linked")
         self.put("out/program", program("built"))
-        self.assertEqual(self.carry().returncode, 0)
-        self.assertEqual((self.top / "program" / "lpis").read_text(), program("built"))
+        assert self.carry().returncode == 0
+        assert (self.top / "program" / "lpis").read_text() == program("built")
         digest = self.call("sha256sum", self.top / "program" / "lpis").stdout.split()[0]
-        self.assertEqual((self.top / "program" / "facts").read_text(), f"version 1.0.0\nkit {KIT}\nsources {self.sources()}\nsha256 {digest}\nglibc 2.34\n")
-        self.assertEqual(oct((self.top / "program" / "lpis").stat().st_mode & 0o777), "0o755")
+        assert (self.top / "program" / "facts").read_text() == f"version 1.0.0\nkit {KIT}\nsources {self.sources()}\nsha256 {digest}\nglibc 2.34\n"
+        assert oct((self.top / "program" / "lpis").stat().st_mode & 0o777) == "0o755"
         shutil.rmtree(self.top / "out")
         self.write("crates/lpis/src/lib.rt", "// newer than what rt linked\n")
         os.utime(self.top / "crates/lpis/out/lpis", (0, 0))
-        self.assertEqual(self.carry().returncode, 1)
+        assert self.carry().returncode == 1
 
     def test_a_newer_library_is_not_carried(self):
         self.link(program("linked") + "# GLIBC_2.35\n")
         ended = self.carry()
-        self.assertEqual((ended.returncode, "glibc 2.35" in ended.stderr, (self.top / "program").exists()), (1, True, False), ended.stderr)
+        assert (ended.returncode, "glibc 2.35" in ended.stderr, (self.top / "program").exists()) == (1, True, False), ended.stderr
 
     def test_it_is_what_these_sources_make(self):
         """Any difference fails with the two commands; another kit, and nothing that is carried, is told and left out."""
-        self.assertEqual(self.carried(), (0, ["left out: no program is carried (program/lpis)", "1 left out", "0 passed, 0 failed"]))
+        assert self.carried() == (0, ["left out: no program is carried (program/lpis)", "1 left out", "0 passed, 0 failed"])
         self.link(program("linked"))
         self.carry()
         facts = (self.top / "program" / "facts").read_text()
-        self.assertEqual(self.carried(), (0, ["8 passed, 0 failed"]))
+        assert self.carried() == (0, ["8 passed, 0 failed"])
         for name, change in {
             "bytes": lambda: self.write("program/lpis", program("other"), 0o755),
             "bytes, with their digest": lambda: self.write("program/facts", self.facts_of(self.write("program/lpis", program("other"), 0o755), facts)),
@@ -240,17 +235,16 @@ class Carrying(Case):
             "version": lambda: self.write("program/facts", facts.replace("1.0.0", "1.0.1")),
             "nothing linked": (self.top / "crates/lpis/out/lpis").unlink,
         }.items():
-            with self.subTest(name):
-                change()
-                status, lines = self.carried()
-                self.assertEqual((status, lines[-1].endswith(" 0 failed"), "./lpis build && dev/carry" in lines[-2]), (1, False, True), lines)
-                self.write("crates/lpis/src/lib.rt", "// lpis\n")
-                self.link(program("linked"))
-                self.carry()
+            change()
+            status, lines = self.carried()
+            assert (status, lines[-1].endswith(" 0 failed"), "./lpis build && dev/carry" in lines[-2]) == (1, False, True), lines
+            self.write("crates/lpis/src/lib.rt", "// lpis\n")
+            self.link(program("linked"))
+            self.carry()
         self.write("bin/rt", "#!/bin/sh\necho rattle-kit-1 logic 1\n", 0o755)
         self.link(program("of another kit"))
         status, lines = self.carried()
-        self.assertEqual((status, lines[0].startswith("left out: the installed kit is rattle-kit-1"), lines[1:]), (0, True, ["1 left out", "7 passed, 0 failed"]), lines)
+        assert (status, lines[0].startswith("left out: the installed kit is rattle-kit-1"), lines[1:]) == (0, True, ["1 left out", "7 passed, 0 failed"]), lines
 
     def facts_of(self, path, text):
         """Facts with the digest of another program."""

@@ -1,14 +1,14 @@
 """Tests compare: what it reports of a coverage with planted faults, and of tables that another hand made. Wants Shapely."""
 
-import csv
 import json
 import os
-import sqlite3
 import subprocess
-import unittest
 from collections import Counter
 from pathlib import Path
 
+import pytest
+from registers import made
+from calls import records, tool
 from places import TOOLS
 from spare import Spare
 import dirty
@@ -30,13 +30,6 @@ TOLD = {
 HAS_SHAPELY = shapely_there.python() is not None
 
 
-def rows_of(path):
-    if not os.path.exists(path):
-        return []
-    with open(path, newline="", encoding="utf-8") as file:
-        return list(csv.DictReader(file))
-
-
 def square(name, x, y, side=10.0):
     """A parcel of one piece, as the rows of both layers."""
     shape = dirty.polygon(dirty.box(x, y, side, side))
@@ -44,8 +37,7 @@ def square(name, x, y, side=10.0):
 
 
 class Case(Spare):
-    def setUp(self):
-        super().setUp()
+    def set_up(self):
         self.out, self.land = self.path("out"), self.path("land.gpkg")
 
     def package(self, parcels, covers, classes=(("GRASS", 100), ("TREES", 30)), system=25832):
@@ -65,26 +57,26 @@ class Case(Spare):
         Path(self.out, "classes.csv").write_text(text, encoding="utf-8")
 
     def compare(self, *words):
-        return subprocess.run([COMPARE, self.land, self.out, *words], capture_output=True, text=True, check=False)
+        return tool("recipes/compare", self.land, self.out, *words)
 
     def report(self):
-        return rows_of(os.path.join(self.out, "report.csv"))
+        return records(os.path.join(self.out, "report.csv"))
 
     def table(self, name):
-        return rows_of(os.path.join(self.out, f"{name}.csv"))
+        return records(os.path.join(self.out, f"{name}.csv"))
 
     def assert_even(self, run):
         """The balance adds up, and its columns make each other."""
-        self.assertIn("the balance adds up to the square metre", run.stdout)
+        assert "the balance adds up to the square metre" in run.stdout
         rows = self.table("balance")
         for row in rows:
             sums = sum(float(row[f"{column}_m2"]) for column in ("source", "mended", "left_out", "settled"))
-            self.assertAlmostEqual(sums, float(row["tables_m2"]), 2, row)
+            assert sums == pytest.approx(float(row["tables_m2"]), abs=0.005), row
         return {(row["layer"], row["class"]): row for row in rows}
 
 
-@unittest.skipUnless(HAS_SHAPELY, shapely_there.LACKING)
-class Source(Case):
+@pytest.mark.skipif(not HAS_SHAPELY, reason=shapely_there.LACKING)
+class TestSource(Case):
     """What is wrong with a source, of tables that were rounded as it stands."""
 
     def rounded(self, *words):
@@ -94,41 +86,41 @@ class Source(Case):
     def test_clean(self):
         dirty.make(self.land, [])
         run = self.rounded()
-        self.assertEqual((run.returncode, [row["kind"] for row in self.report()]), (0, ["changed"]), run.stdout + run.stderr)
-        self.assertIn("parcels 4 of 4 pieces 8 of 8\n", run.stdout)
-        self.assertEqual(sorted(record["piece"] for record in self.table("covers"))[:2], ["clean1.1", "clean1.2"])
-        self.assertEqual(self.assert_even(run)["covers", "GRASS"]["tables_m2"], "200.000")
-        self.assertEqual(sorted(os.listdir(self.out)), ["balance.csv", "classes.csv", "covers.csv", "parcels.csv", "report.csv", "report.geojson"])
+        assert (run.returncode, [row["kind"] for row in self.report()]) == (0, ["changed"]), run.stdout + run.stderr
+        assert "parcels 4 of 4 pieces 8 of 8\n" in run.stdout
+        assert sorted(record["piece"] for record in self.table("covers"))[:2] == ["clean1.1", "clean1.2"]
+        assert self.assert_even(run)["covers", "GRASS"]["tables_m2"] == "200.000"
+        assert sorted(os.listdir(self.out)) == ["balance.csv", "classes.csv", "covers.csv", "parcels.csv", "report.csv", "report.geojson"]
 
     def test_planted(self):
         dirty.make(self.land, PLANTED)
         run = self.rounded()
-        self.assertEqual(run.returncode, 1, run.stdout + run.stderr)
+        assert run.returncode == 1, run.stdout + run.stderr
         run, rows = self.rounded("--accept"), self.report()
-        self.assertEqual(run.returncode, 0, run.stdout + run.stderr)
-        self.assertEqual(exact.judged(self.out)[0], [])
+        assert run.returncode == 0, run.stdout + run.stderr
+        assert exact.judged(self.out)[0] == []
         by_name = {(row["kind"], row["identifiers"]): row for row in rows}
-        self.assertLessEqual(TOLD, set(by_name), run.stdout)
-        self.assertEqual([by_name["overlap", f"{kind}-2.1 {kind}.2"]["stops"] for kind in ("wide", "narrow")], ["1", "0"])
+        assert TOLD <= set(by_name), run.stdout
+        assert [by_name["overlap", f"{kind}-2.1 {kind}.2"]["stops"] for kind in ("wide", "narrow")] == ["1", "0"]
         wide = by_name["overlap", "wide-2.1 wide.2"]
-        self.assertEqual((wide["width_m"], wide["area_m2"], wide["row"], wide["layer"]), ("0.0200", "0.2000", "11 10", "covers"))
-        self.assertAlmostEqual(float(wide["x"]), dirty.EAST + 9.99, 2)
-        self.assertIn("wide-2.1 of parcel wide-2 has it in the tables", wide["words"])
-        self.assertNotIn("lpis refuses", run.stdout + wide["words"])
-        self.assertIn("lost bare (parcel)", run.stdout)
-        self.assertEqual((by_name["lost", "flat.2"]["words"], by_name["lost", "bare"]["area_m2"]), ("its shape has no area", "100.0000"))
-        self.assertIn("in the tables nobody has it, it is left out of the parcel", by_name["gap", "null"]["words"])
+        assert (wide["width_m"], wide["area_m2"], wide["row"], wide["layer"]) == ("0.0200", "0.2000", "11 10", "covers")
+        assert float(wide["x"]) == pytest.approx(dirty.EAST + 9.99, abs=0.005)
+        assert "wide-2.1 of parcel wide-2 has it in the tables" in wide["words"]
+        assert "lpis refuses" not in run.stdout + wide["words"]
+        assert "lost bare (parcel)" in run.stdout
+        assert (by_name["lost", "flat.2"]["words"], by_name["lost", "bare"]["area_m2"]) == ("its shape has no area", "100.0000")
+        assert "in the tables nobody has it, it is left out of the parcel" in by_name["gap", "null"]["words"]
         whole = json.loads(Path(self.out, "report.geojson").read_text(encoding="utf-8"))
-        self.assertEqual(len(whole["features"]), len(rows))
-        self.assertIn("EPSG::25832", json.dumps(whole["crs"]))
+        assert len(whole["features"]) == len(rows)
+        assert "EPSG::25832" in json.dumps(whole["crs"])
         lost = next(one for one in whole["features"] if one["properties"]["identifiers"] == "bare")
-        self.assertEqual((lost["properties"]["area_m2"], lost["geometry"]["type"]), (100.0, "MultiPolygon"))
+        assert (lost["properties"]["area_m2"], lost["geometry"]["type"]) == (100.0, "MultiPolygon")
 
     def test_balance(self):
         """All kinds of dirt at once: no square metre is without an account."""
         dirty.make(self.land, [*PLANTED, *NAMES, "empty", "z", "m", "open", "curve", "line"])
         run = self.rounded("--accept")
-        self.assertEqual(run.returncode, 0, run.stdout + run.stderr)
+        assert run.returncode == 0, run.stdout + run.stderr
         self.assert_even(run)
 
     def test_gap(self):
@@ -136,9 +128,9 @@ class Source(Case):
         parcel, piece = square("A", 0, 0)
         self.package([parcel], [(*piece[:3], dirty.polygon(dirty.box(0, 0, 8, 10)))])
         run = self.rounded("--accept")
-        self.assertEqual(run.returncode, 0, run.stdout + run.stderr)
-        self.assertEqual([(row["kind"], row["identifiers"], row["area_m2"], row["x"]) for row in self.report()], [("gap", "A", "20.0000", "550009.000"), ("changed", "A", "20.0000", "550009.000")])
-        self.assertEqual([self.assert_even(run)[group]["tables_m2"] for group in (("covers", ""), ("parcels", ""))], ["80.000", "80.000"])
+        assert run.returncode == 0, run.stdout + run.stderr
+        assert [(row["kind"], row["identifiers"], row["area_m2"], row["x"]) for row in self.report()] == [("gap", "A", "20.0000", "550009.000"), ("changed", "A", "20.0000", "550009.000")]
+        assert [self.assert_even(run)[group]["tables_m2"] for group in (("covers", ""), ("parcels", ""))] == ["80.000", "80.000"]
 
     def test_made(self):
         """A parcel whose own shape is none is made of its pieces, which is a row and stops."""
@@ -147,13 +139,13 @@ class Source(Case):
                   "far": dirty.polygon([(3e7, 0.0), (3.1e7, 0.0), (3.1e7, 9.0), (3e7, 0.0)])}
         self.package([(name, shapes.get(name, shape)) for (name, shape), _ in lands], [piece for _, piece in lands])
         run = self.rounded()
-        self.assertEqual(run.returncode, 1, run.stderr)
+        assert run.returncode == 1, run.stderr
         made = {row["identifiers"]: row for row in self.report() if row["kind"] == "made"}
-        self.assertEqual(sorted(made), ["empty", "far", "nan", "null"], run.stdout + run.stderr)
-        self.assertEqual({(row["area_m2"], row["stops"]) for row in made.values()}, {("100.0000", "1")})
-        self.assertIn("made of its pieces", made["null"]["words"])
+        assert sorted(made) == ["empty", "far", "nan", "null"], run.stdout + run.stderr
+        assert {(row["area_m2"], row["stops"]) for row in made.values()} == {("100.0000", "1")}
+        assert "made of its pieces" in made["null"]["words"]
         run = self.rounded("--accept")
-        self.assertEqual((run.returncode, len(self.table("parcels"))), (0, 5))
+        assert (run.returncode, len(self.table("parcels"))) == (0, 5)
         self.assert_even(run)
 
     def test_namesakes(self):
@@ -161,16 +153,16 @@ class Source(Case):
         lands = [square(name, 12 * (number % 20), 12 * (number // 20)) for number, name in enumerate(["A"] * 3 + [""] * 397)]
         self.package([parcel for parcel, _ in lands], [(*piece[:3], dirty.polygon(dirty.box(12 * (number % 20), 12 * (number // 20), 9))) for number, (_, piece) in enumerate(lands)])
         run = self.rounded("--accept")
-        self.assertEqual((run.returncode, [record["parcel"] for record in self.table("parcels")], len(self.table("covers"))), (0, ["A", ""], 400), run.stdout[-3000:] + run.stderr)
-        self.assertEqual(Counter(row["kind"] for row in self.report() if row["layer"] == "parcels" and row["kind"] in ("lost", "gap", "doubled")), {"lost": 398, "gap": 400, "doubled": 2})
-        self.assertEqual(self.assert_even(run)["parcels", ""]["tables_m2"], "36000.000")
+        assert (run.returncode, [record["parcel"] for record in self.table("parcels")], len(self.table("covers"))) == (0, ["A", ""], 400), run.stdout[-3000:] + run.stderr
+        assert Counter(row["kind"] for row in self.report() if row["layer"] == "parcels" and row["kind"] in ("lost", "gap", "doubled")) == {"lost": 398, "gap": 400, "doubled": 2}
+        assert self.assert_even(run)["parcels", ""]["tables_m2"] == "36000.000"
 
     def test_heights(self):
         """Shapes with heights and measures lose neither a parcel nor a piece."""
         box = dirty.box(0, 0)
         self.package([("A", dirty.polygon(box, z=312.5))], [("A.1", "A", "GRASS", dirty.polygon(dirty.box(0, 0, 5), z=312.5)), ("A.2", "A", "TREES", dirty.polygon(dirty.box(5, 0, 5), z=1.0, m=7.0))])
         run = self.rounded()
-        self.assertEqual((run.returncode, len(self.table("covers")), len(self.table("parcels"))), (0, 2, 1), run.stdout + run.stderr)
+        assert (run.returncode, len(self.table("covers")), len(self.table("parcels"))) == (0, 2, 1), run.stdout + run.stderr
 
     def test_no_classes(self):
         parcel, piece = square("A", 0, 0)
@@ -179,33 +171,33 @@ class Source(Case):
         self.put_classes("class,percent\nWATER,0\nROCK,33.5\n")
         run = self.compare("--accept")
         told = {row["identifiers"]: row["words"] for row in self.report() if row["kind"] == "class"}
-        self.assertEqual((run.returncode, sorted(told)), (0, ["GRASS", "ROCK"]), run.stdout + run.stderr)
-        self.assertIn("lpis refuses it (3b)", told["ROCK"])
+        assert (run.returncode, sorted(told)) == (0, ["GRASS", "ROCK"]), run.stdout + run.stderr
+        assert "lpis refuses it (3b)" in told["ROCK"]
 
     def test_words(self):
         for words, status, text in ((["--help"], 0, "usage: "), (["--version"], 0, "lpis-compare "), (["one"], 64, "usage: "), (["one", "two", "--unheard"], 64, "usage: "), (["none.gpkg", self.out], 64, "none.gpkg: No such file"),
                                     ([self.folder, self.out], 64, "no table parcels.csv")):
             run = subprocess.run([COMPARE, *words], capture_output=True, text=True, check=False)
-            self.assertEqual((run.returncode, text in run.stdout + run.stderr, "Traceback" in run.stderr), (status, True, False), run.stdout + run.stderr)
+            assert (run.returncode, text in run.stdout + run.stderr, "Traceback" in run.stderr) == (status, True, False), run.stdout + run.stderr
 
     def test_systems(self):
         dirty.make(self.land, [], 2263)
         run = self.compare()
-        self.assertEqual((run.returncode, "layer parcels is in EPSG:2263" in run.stderr, os.path.exists(self.out)), (64, True, False), run.stderr)
+        assert (run.returncode, "layer parcels is in EPSG:2263" in run.stderr, os.path.exists(self.out)) == (64, True, False), run.stderr
 
     def test_stopped(self):
         dirty.make(self.land, [])
         status, told = stopping.stopped([COMPARE, self.land, self.out], f"compare: reading {self.land}\n")
-        self.assertEqual((status, "Traceback" in told, "stopped by SIGINT: no table is written" in told), (130, False, True), told)
-        self.assertEqual([name for name in (os.listdir(self.out) if os.path.exists(self.out) else []) if name.startswith(".")], [])
+        assert (status, "Traceback" in told, "stopped by SIGINT: no table is written" in told) == (130, False, True), told
+        assert [name for name in (os.listdir(self.out) if os.path.exists(self.out) else []) if name.startswith(".")] == []
 
 
-@unittest.skipUnless(HAS_SHAPELY, shapely_there.LACKING)
-class Compare(Case):
+@pytest.mark.skipif(not HAS_SHAPELY, reason=shapely_there.LACKING)
+class TestCompare(Case):
     """Tables that another hand made are compared with the source."""
 
-    def setUp(self):
-        super().setUp()
+    def set_up(self):
+        super().set_up()
         lands = [square(name, 20 * number, 0) for number, name in enumerate("ABCDE")]
         self.package([parcel for parcel, _ in lands], [piece for _, piece in lands])
         self.round()
@@ -221,7 +213,7 @@ class Compare(Case):
         return sorted((row["layer"], row["identifiers"], row["row"], row["area_m2"]) for row in self.report() if row["kind"] == kind and row["stops"] == "1")
 
     def test_same(self):
-        self.assertEqual((self.compare().returncode, self.found("changed")), (0, []))
+        assert (self.compare().returncode, self.found("changed")) == (0, [])
 
     def test_cut(self):
         """Three parcels cut to a tenth are three rows, with their pieces."""
@@ -229,53 +221,49 @@ class Compare(Case):
             for at in (0, 20, 40):
                 self.edit(name, lambda line, at=at: line.replace(f"{550010 + at}.000", f"{550001 + at}.000"))
         run = self.compare()
-        self.assertEqual((run.returncode, len(self.found("changed"))), (1, 6), run.stdout + run.stderr)
-        self.assertEqual(self.found("changed")[3:], [("parcels", name, str(number), "90.0000") for number, name in enumerate("ABC", 1)])
-        self.assertEqual(self.assert_even(run)["parcels", ""]["settled_m2"], "-270.000")
+        assert (run.returncode, len(self.found("changed"))) == (1, 6), run.stdout + run.stderr
+        assert self.found("changed")[3:] == [("parcels", name, str(number), "90.0000") for number, name in enumerate("ABC", 1)]
+        assert self.assert_even(run)["parcels", ""]["settled_m2"] == "-270.000"
 
-    def test_millimetre(self):
+    @pytest.mark.parametrize("after, status", (("550010.003", 0), ("550010.005", 1)))
+    def test_millimetre(self, after, status):
         """The bound is the border times a millimetre."""
-        for before, after, status in (("550010.000", "550010.003", 0), ("550010.003", "550010.005", 1)):
-            with self.subTest(after):
-                self.edit("covers", lambda line, before=before, after=after: line.replace(before, after))
-                self.assertEqual((self.compare().returncode, bool(self.found("changed"))), (status, bool(status)))
+        self.edit("covers", lambda line: line.replace("550010.000", after))
+        assert (self.compare().returncode, bool(self.found("changed"))) == (status, bool(status))
 
     def test_rows(self):
         """A row that came, one that went, another class, another parcel."""
         self.edit("covers", lambda line: "" if line.startswith("A.1") else line.replace("B.1,B,GRASS", "B.1,B,TREES").replace("C.1,C,", "C.1,B,").replace("D.1", "X.1"))
-        self.assertEqual(self.compare().returncode, 1)
-        self.assertEqual([one[:3] for kind in ("lost", "added", "changed") for one in self.found(kind)],
-                         [("covers", "A.1", "1"), ("covers", "D.1", "4"), ("covers", "X.1", ""), ("covers", "B.1", "2"), ("covers", "C.1", "3")])
+        assert self.compare().returncode == 1
+        assert ([one[:3] for kind in ("lost", "added", "changed") for one in self.found(kind)]
+                == [("covers", "A.1", "1"), ("covers", "D.1", "4"), ("covers", "X.1", ""), ("covers", "B.1", "2"), ("covers", "C.1", "3")])
 
     def test_columns(self):
         """Columns that no table has are named."""
-        base = sqlite3.connect(self.land)
-        base.executescript("ALTER TABLE covers ADD owner TEXT; ALTER TABLE parcels ADD since TEXT;")
-        base.close()
-        self.assertEqual(self.compare().returncode, 0)
-        self.assertEqual([(row["layer"], row["identifiers"]) for row in self.report() if row["kind"] == "column"], [("covers", "owner"), ("parcels", "since")])
+        made(self.land, "ALTER TABLE covers ADD owner TEXT; ALTER TABLE parcels ADD since TEXT;")
+        assert self.compare().returncode == 0
+        assert [(row["layer"], row["identifiers"]) for row in self.report() if row["kind"] == "column"] == [("covers", "owner"), ("parcels", "since")]
 
     def test_classes(self):
         self.edit("classes", lambda line: line.replace("TREES,30", "TREES,100"))
-        self.assertEqual((self.compare().returncode, [row["identifiers"] for row in self.report() if row["kind"] == "class"]), (1, ["TREES"]))
+        assert (self.compare().returncode, [row["identifiers"] for row in self.report() if row["kind"] == "class"]) == (1, ["TREES"])
 
-    def test_unreadable(self):
-        for edit, words in ((lambda line: line.replace("MULTIPOLYGON", "LINESTRING"), "covers.csv row 1: A.1: its wkt is no polygon"), (lambda line: line.replace("class,wkt", "kind,wkt"), "covers.csv: no column class")):
-            with self.subTest(words):
-                before = self.table("covers")
-                self.edit("covers", edit)
-                run = self.compare()
-                self.assertEqual((run.returncode, words in run.stderr, "Traceback" in run.stderr), (64, True, False), run.stderr)
-                self.round()
-                self.assertEqual(self.table("covers"), before)
+    @pytest.mark.parametrize("edit, words", ((lambda line: line.replace("MULTIPOLYGON", "LINESTRING"), "covers.csv row 1: A.1: its wkt is no polygon"), (lambda line: line.replace("class,wkt", "kind,wkt"), "covers.csv: no column class")))
+    def test_unreadable(self, edit, words):
+        before = self.table("covers")
+        self.edit("covers", edit)
+        run = self.compare()
+        assert (run.returncode, words in run.stderr, "Traceback" in run.stderr) == (64, True, False), run.stderr
+        self.round()
+        assert self.table("covers") == before
 
     def test_all_rows(self):
         """The report has a row of each thing, however many there are."""
         code = ("import sys; sys.path.insert(0, sys.argv[1]); from lpis_tools import losses; "
                 "losses.write([losses.Loss('lost', [str(n)], 'gone', area=1.0, layer='covers', rows=[n]) for n in range(100_050)], sys.argv[2])")
         subprocess.run([shapely_there.python(), "-c", code, TOOLS, self.out], check=True)
-        self.assertEqual(len(self.report()), 100_050)
-        self.assertEqual(len(json.loads(Path(self.out, "report.geojson").read_text(encoding="utf-8"))["features"]), 100_050)
+        assert len(self.report()) == 100_050
+        assert len(json.loads(Path(self.out, "report.geojson").read_text(encoding="utf-8"))["features"]) == 100_050
 
     def test_failing(self):
         """Where Shapely fails, the rows are named."""
@@ -284,38 +272,37 @@ class Compare(Case):
                 "try: conflicts.by_geos('the overlap', [('covers', 'A.1', land.Row(7, {}))], fails)\n"
                 "except land.Trouble as trouble: print(trouble)")
         run = subprocess.run([shapely_there.python(), "-c", code, TOOLS], capture_output=True, text=True, check=True)
-        self.assertIn("the overlap of covers A.1 (row 7) cannot be worked out: mend the shape", run.stdout)
+        assert "the overlap of covers A.1 (row 7) cannot be worked out: mend the shape" in run.stdout
 
 
-@unittest.skipUnless(HAS_SHAPELY, shapely_there.LACKING)
-class Names(Case):
+@pytest.mark.skipif(not HAS_SHAPELY, reason=shapely_there.LACKING)
+class TestNames(Case):
     def test_notes(self):
         """Heights and arcs are named; a layer without a system that reads as degrees is refused."""
         dirty.make(self.land, ["z", "curve"])
         self.round()
         run = self.compare("--accept")
-        self.assertEqual((run.returncode, "parcels: heights dropped in 1 rows" in run.stderr, "covers: arcs made straight" in run.stderr), (0, True, True), run.stderr)
+        assert (run.returncode, "parcels: heights dropped in 1 rows" in run.stderr, "covers: arcs made straight" in run.stderr) == (0, True, True), run.stderr
         folder = os.path.join(self.folder, "sheets")
         os.makedirs(folder)
         for name, head, row in (("parcels", "parcel,wkt", "A"), ("covers", "piece,parcel,class,wkt", "A.1,A,GRASS")):
             Path(folder, f"{name}.csv").write_text(f'{head}\n{row},"POLYGON((9.1 48.1,9.2 48.1,9.2 48.2,9.1 48.1))"\n', encoding="utf-8")
         run = subprocess.run([COMPARE, folder, self.out], capture_output=True, text=True, check=False)
-        self.assertEqual((run.returncode, "reads as degrees" in run.stderr), (64, True), run.stderr)
+        assert (run.returncode, "reads as degrees" in run.stderr) == (64, True), run.stderr
 
     def test_tables_of_classes(self):
         dirty.make(self.land, [])
         for text, words in (("class,share\nGRASS,100\n", "it wants the columns class and percent"), ("class,percent,PERCENT\nGRASS,100,0\n", "each once"), ("class,percent\nGRASS\n", "1 fields"), ("", "none")):
-            with self.subTest(text):
-                self.round()
-                self.put_classes(text)
-                run = self.compare()
-                self.assertEqual((run.returncode, words in run.stderr, "Traceback" in run.stderr), (64, True, False), run.stderr)
+            self.round()
+            self.put_classes(text)
+            run = self.compare()
+            assert (run.returncode, words in run.stderr, "Traceback" in run.stderr) == (64, True, False), run.stderr
 
     def test_names(self):
         dirty.make(self.land, NAMES)
         self.round()
         run = self.compare()
-        self.assertEqual(run.returncode, 1, run.stdout + run.stderr)
+        assert run.returncode == 1, run.stdout + run.stderr
         found = {(row["kind"], row["layer"], row["identifiers"]) for row in self.report() if row["stops"] == "1" and row["kind"] not in ("outside", "changed")}
-        self.assertEqual(found, {("identifier", "parcels", "field 7"), ("identifier", "covers", "field 7.1"), ("identifier", "covers", "field 7.2"), ("identifier", "parcels", ""),
-                                 ("doubled", "parcels", "doubled"), ("lost", "parcels", "doubled"), ("stranger", "covers", "stranger.3 nowhere")})
+        assert found == {("identifier", "parcels", "field 7"), ("identifier", "covers", "field 7.1"), ("identifier", "covers", "field 7.2"), ("identifier", "parcels", ""),
+                         ("doubled", "parcels", "doubled"), ("lost", "parcels", "doubled"), ("stranger", "covers", "stranger.3 nowhere")}

@@ -5,23 +5,23 @@ import itertools
 import os
 import shutil
 import subprocess
-import unittest
 
-from country_case import BUILT, CLASSES, HEADS, TOOLS, TOP, Case, Land, generated, lines, read, run, write, write_text
+import pytest
+from calls import run, tool
+from country_case import BUILT, CLASSES, HEADS, TOP, Case, Land, generated, lines, read, write, write_text
 import judged_country as judged
 from lpis_tools import polygons
 
 
-class Releases(Case):
+class TestReleases(Case):
     """Countries that are split from a release."""
 
     def test_lands(self):
         for seed, (columns, count, roads, is_shuffled) in enumerate([(9, 9, (), False), (12, 12, (5,), True), (30, 4, (1, 3), False), (5, 30, (0, 10, 29), True)]):
-            with self.subTest(seed=seed):
-                shutil.rmtree(self.out, ignore_errors=True)
-                Land(seed, columns, count, roads).write(self.source, is_shuffled)
-                self.assertGreater(int(self.split("--parcels", 16)[1]), 4)
-                self.assertIsRelease(self.source)
+            shutil.rmtree(self.out, ignore_errors=True)
+            Land(seed, columns, count, roads).write(self.source, is_shuffled)
+            assert int(self.split("--parcels", 16)[1]) > 4
+            self.assertIsRelease(self.source)
 
     def test_limits(self):
         Land(7, 10, 10).write(self.source)
@@ -29,35 +29,32 @@ class Releases(Case):
             self.split(option, most, "--anew")
             for name in self.regions():
                 rows = lines(os.path.join(self.out, name), table)[1:]
-                self.assertLessEqual(sum(row.count(",") - 2 for row in rows) if option == "--points" else len(rows), most)
+                assert (sum(row.count(",") - 2 for row in rows) if option == "--points" else len(rows)) <= most
             self.assertCountry("yes", 0)
 
-    def test_generated(self):
-        for number, kinds in enumerate([(), ("digitised",), ("mosaic", "turned")]):
-            with self.subTest(kinds=kinds):
-                source = generated(self.path(f"source{number}"), 300, *kinds)
-                self.split("--parcels", 60, "--anew", source=source)
-                self.assertIsRelease(source)
+    @pytest.mark.parametrize("number, kinds", enumerate([(), ("digitised",), ("mosaic", "turned")]))
+    def test_generated(self, number, kinds):
+        source = generated(self.path(f"source{number}"), 300, *kinds)
+        self.split("--parcels", 60, "--anew", source=source)
+        self.assertIsRelease(source)
 
-    def test_worked(self):
+    @pytest.mark.parametrize("name", ("holes", "junctions", "members", "pasture", "square", "sweep", "years/2024", "years/2025", "exact/2024", "exact/2025", "older"))
+    def test_worked(self, name):
         """Four tiles around the middle of the land."""
-        for name in ("holes", "junctions", "members", "pasture", "square", "sweep", "years/2024", "years/2025", "exact/2024", "exact/2025", "older"):
-            with self.subTest(name=name):
-                shutil.rmtree(self.out, ignore_errors=True)
-                source = os.path.join(TOP, "examples", name)
-                box = polygons.box([members for _, members in judged.Region(source).parcels])
-                x, y = (box[0] + box[2]) // 2, (box[1] + box[3]) // 2
-                os.makedirs(self.out)
-                write_text(self.path("country", "country.txt"), f"lpis-country 1\nx {x}\ny {y}\nregion a\nregion b\ny {y - 1}\nregion c\nregion d\n")
-                self.split(source=source)
-                self.assertIsRelease(source)
+        source = os.path.join(TOP, "examples", name)
+        box = polygons.box([members for _, members in judged.Region(source).parcels])
+        x, y = (box[0] + box[2]) // 2, (box[1] + box[3]) // 2
+        os.makedirs(self.out)
+        write_text(self.path("country", "country.txt"), f"lpis-country 1\nx {x}\ny {y}\nregion a\nregion b\ny {y - 1}\nregion c\nregion d\n")
+        self.split(source=source)
+        self.assertIsRelease(source)
 
     def test_example(self):
         """The country of examples/, whose folders have names of their own."""
         shutil.copytree(os.path.join(TOP, "examples", "country"), self.out)
-        self.assertEqual(self.regions(), ["west", "southeast", "northeast"])
+        assert self.regions() == ["west", "southeast", "northeast"]
         found = self.assertCountry("yes", 0)[0].splitlines()
-        self.assertEqual(found[-2], "country regions 3 parcels 4 pieces 5 area 120.0000000 eligible 114.960000000")
+        assert found[-2] == "country regions 3 parcels 4 pieces 5 area 120.0000000 eligible 114.960000000"
 
     def test_years(self):
         """One tiling for the years of a map, whose identifiers change."""
@@ -69,18 +66,18 @@ class Releases(Case):
             write(self.source, name, [",".join([*row[:column], f"{row[column]}-2" if place and row[column].endswith("7") else row[column], *row[column + 1 :]]) for place, row in enumerate(rows)])
         shutil.copy(os.path.join(source, "classes.csv"), self.source)
         self.split("--parcels", 50)
-        self.assertEqual(self.regions(), names)
+        assert self.regions() == names
         self.assertIsRelease(self.source)
 
 
 # Faults that are planted: each changes the folder and answers the line that has to come.
 
 
-class Planted(Case):
+class TestPlanted(Case):
     """Faults at the seams, in the middle and in one copy of a double."""
 
-    def setUp(self):
-        super().setUp()
+    def set_up(self):
+        super().set_up()
         self.begin(self.make)
         self.names = self.regions()
         self.places = {}
@@ -115,31 +112,30 @@ class Planted(Case):
     def refused(self, code, what, number, *words):
         """The answer, and words of tools/explain about it."""
         plain, _ = self.assertCountry(f"refused {code} {what} region {self.names[number]}", 1, is_certified=False)
-        told = run(os.path.join(TOOLS, "explain"), self.out, input=plain)
-        self.assertEqual((told.returncode, told.stderr), (1, ""), told.stdout)
+        told = tool("explain", self.out, input=plain)
+        assert (told.returncode, told.stderr) == (1, ""), told.stdout
         for word in (f"code {code}: ", *words):
-            self.assertIn(word, told.stdout)
+            assert word in told.stdout
 
     def middle(self):
         """A double of most regions, with three pieces."""
         return max((it for it in self.doubles if it[0].startswith("P")), key=lambda it: len(it[1]))
 
     def test_yes(self):
-        self.assertGreater(len(self.names), 3)
-        self.assertGreater(len(self.doubles), 10)
+        assert len(self.names) > 3
+        assert len(self.doubles) > 10
         self.assertCountry("yes", 0)
 
     def test_guest_missing(self):
         name, found = self.middle()
         for number in found:
-            with self.subTest(number=number):
-                saved = shutil.copytree(self.region(number), self.path("saved"))
-                self.change(number, name, lambda rows: [], lambda rows: [])
-                # In the first region the parcel is new in the second, whose tiles before it are looked at; the first of these lacks it.
-                others = ", ".join(self.names[other] for other in found if other != number)
-                self.refused("95", f"parcel {name}", number, f"region {self.names[number]} has the tile x ", f"parcel {name} is in {others}\n", f"in {self.names[found[number == found[0]]]}: ")
-                shutil.rmtree(self.region(number))
-                os.rename(saved, self.region(number))
+            saved = shutil.copytree(self.region(number), self.path("saved"))
+            self.change(number, name, lambda rows: [], lambda rows: [])
+            # In the first region the parcel is new in the second, whose tiles before it are looked at; the first of these lacks it.
+            others = ", ".join(self.names[other] for other in found if other != number)
+            self.refused("95", f"parcel {name}", number, f"region {self.names[number]} has the tile x ", f"parcel {name} is in {others}\n", f"in {self.names[found[number == found[0]]]}: ")
+            shutil.rmtree(self.region(number))
+            os.rename(saved, self.region(number))
 
     def test_first_lacking_comes_first(self):
         number = self.doubles[-1][1][-1]
@@ -166,12 +162,11 @@ class Planted(Case):
             "its pieces in ": lambda number: self.change(number, name, lambda rows: rows[::-1]),
         }
         for number, (word, change) in itertools.product(found, changes.items()):
-            with self.subTest(number=number, word=word):
-                saved = shutil.copytree(self.region(number), self.path("saved"))
-                change(number)
-                self.refused("94", f"parcel {name}", max(number, found[1]), word)
-                shutil.rmtree(self.region(number))
-                os.rename(saved, self.region(number))
+            saved = shutil.copytree(self.region(number), self.path("saved"))
+            change(number)
+            self.refused("94", f"parcel {name}", max(number, found[1]), word)
+            shutil.rmtree(self.region(number))
+            os.rename(saved, self.region(number))
 
     def test_identifier_again(self):
         last = len(self.names) - 1
@@ -191,15 +186,14 @@ class Planted(Case):
 
     def test_stray(self):
         for number, other in ((0, len(self.names) - 1), (len(self.names) - 1, 0), (2, 0)):
-            with self.subTest(number=number):
-                saved = shutil.copytree(self.region(number), self.path("saved"))
-                name = next(it for it, found in self.places.items() if found == [other])
-                for table, column in (("parcels", 0), ("covers", 1)):
-                    rows = [row for row in lines(self.region(other), table) if row.split(",")[column] == name]
-                    self.edit(number, (table, lambda here, rows=rows: here[:7] + rows + here[7:]))
-                self.refused("92", f"parcel {name}", number, "has the tile", f"parcel {name}: row 8 of parcels.csv")
-                shutil.rmtree(self.region(number))
-                os.rename(saved, self.region(number))
+            saved = shutil.copytree(self.region(number), self.path("saved"))
+            name = next(it for it, found in self.places.items() if found == [other])
+            for table, column in (("parcels", 0), ("covers", 1)):
+                rows = [row for row in lines(self.region(other), table) if row.split(",")[column] == name]
+                self.edit(number, (table, lambda here, rows=rows: here[:7] + rows + here[7:]))
+            self.refused("92", f"parcel {name}", number, "has the tile", f"parcel {name}: row 8 of parcels.csv")
+            shutil.rmtree(self.region(number))
+            os.rename(saved, self.region(number))
 
     def test_rows_in_order(self):
         """Of two faults that of the upper row comes first, and a class before both."""
@@ -219,12 +213,11 @@ class Planted(Case):
             (4, lambda rows: [*rows, "STONE,0"]), (1, lambda rows: ["STONE,0", *rows]),
         ]
         for number, (row, change) in itertools.product((0, 1, len(self.names) - 1), changes):
-            with self.subTest(number=number, row=row):
-                saved = shutil.copytree(self.region(number), self.path("saved"))
-                self.edit(number, ("classes", change))
-                self.refused("96", f"classes row {row}", number, f"{os.path.join(self.out, 'classes.csv')}: row {row}: ", f"{os.path.join(self.region(number), 'classes.csv')}: row {row}: ")
-                shutil.rmtree(self.region(number))
-                os.rename(saved, self.region(number))
+            saved = shutil.copytree(self.region(number), self.path("saved"))
+            self.edit(number, ("classes", change))
+            self.refused("96", f"classes row {row}", number, f"{os.path.join(self.out, 'classes.csv')}: row {row}: ", f"{os.path.join(self.region(number), 'classes.csv')}: row {row}: ")
+            shutil.rmtree(self.region(number))
+            os.rename(saved, self.region(number))
         write(self.out, "classes", [HEADS["classes"], *CLASSES, "STONE,0"])
         self.refused("96", "classes row 4", 0)
 
@@ -245,16 +238,15 @@ class Planted(Case):
             if kind not in ("x", "y"):
                 continue
             for other in (f"{'y' if kind == 'x' else 'x'} {word}", f"{kind} {int(word) + 90_000}", f"{kind} {int(word) - 90_000}"):
-                with self.subTest(line=line, other=other):
-                    changed = text.splitlines()
-                    changed[place] = other
-                    write_text(path, "".join(f"{it}\n" for it in changed))
-                    found, status = self.answer()
-                    self.assertEqual((status, found.splitlines()[-1].split()[0]), (1, "refused"))
-                    self.assertCountry(found.splitlines()[-1], 1, is_certified=False)
+                changed = text.splitlines()
+                changed[place] = other
+                write_text(path, "".join(f"{it}\n" for it in changed))
+                found, status = self.answer()
+                assert (status, found.splitlines()[-1].split()[0]) == (1, "refused")
+                self.assertCountry(found.splitlines()[-1], 1, is_certified=False)
         write_text(path, text)
 
-    @unittest.skipUnless(BUILT, "the program is not built")
+    @pytest.mark.skipif(not BUILT, reason="the program is not built")
     def test_own_faults(self):
         """What a region's own check answers, with the region behind it."""
         number = len(self.names) // 2
@@ -266,26 +258,24 @@ class Planted(Case):
             "refused 60 piece": good.replace("piece ", "piece x", 1), "refused 62 piece": good.replace(triangle, " ".join([*triangle.split()[:1], *triangle.split()[3:], *triangle.split()[1:3]][:7]).replace("t", "t", 1), 1),
         }
         for start, text in changes.items():
-            with self.subTest(start=start):
-                write_text(cert, text)
-                found, status = self.answer()
-                if start != "refused 62 piece":
-                    self.assertTrue(found.splitlines()[-1].startswith(start), found[-200:])
-                self.assertCountry(found.splitlines()[-1], status, is_certified=False)
+            write_text(cert, text)
+            found, status = self.answer()
+            if start != "refused 62 piece":
+                assert found.splitlines()[-1].startswith(start), found[-200:]
+            self.assertCountry(found.splitlines()[-1], status, is_certified=False)
         write_text(cert, good)
         for table, row, code in (("parcels", "a b,POLYGON", "33"), ("parcels", 'one,"POINT(0 0)"', "38"), ("covers", "one,two,three", "30"), ("classes", "CLAY,101", "3b")):
-            with self.subTest(table=table):
-                saved = lines(self.region(number), table)
-                write(self.region(number), table, [*saved, row])
-                found, status = self.answer()
-                self.assertTrue(found.splitlines()[-1].startswith(f"refused {code} {table} row {len(saved)}"), found[-200:])
-                self.assertCountry(found.splitlines()[-1], 2, is_certified=False)
-                write(self.region(number), table, saved)
+            saved = lines(self.region(number), table)
+            write(self.region(number), table, [*saved, row])
+            found, status = self.answer()
+            assert found.splitlines()[-1].startswith(f"refused {code} {table} row {len(saved)}"), found[-200:]
+            self.assertCountry(found.splitlines()[-1], 2, is_certified=False)
+            write(self.region(number), table, saved)
         self.assertCountry("yes", 0, is_certified=False)
 
 
-@unittest.skipUnless(BUILT, "the program is not built")
-class Failures(Case):
+@pytest.mark.skipif(not BUILT, reason="the program is not built")
+class TestFailures(Case):
     """A file that is not there: what passed before is printed, and no more."""
 
     def test_files(self):
@@ -298,13 +288,13 @@ class Failures(Case):
                 path = os.path.join(self.out, name, table)
                 os.rename(path, path + ".away")
                 ended = run(BUILT, "country", self.out)
-                self.assertEqual((ended.returncode, ended.stdout.splitlines(), ended.stderr), (3, told[:number], f"failed read {table.split('.')[0]} region {name}\n"))
+                assert (ended.returncode, ended.stdout.splitlines(), ended.stderr) == (3, told[:number], f"failed read {table.split('.')[0]} region {name}\n")
                 os.rename(path + ".away", path)
         for table, word in (("country.txt", "country"), ("classes.csv", "classes")):
             path = self.path("country", table)
             os.rename(path, path + ".away")
             ended = run(BUILT, "country", self.out)
-            self.assertEqual((ended.returncode, ended.stdout, ended.stderr), (3, "", f"failed read {word}\n"))
+            assert (ended.returncode, ended.stdout, ended.stderr) == (3, "", f"failed read {word}\n")
             os.rename(path + ".away", path)
 
     def test_classes(self):
@@ -315,7 +305,7 @@ class Failures(Case):
                            (["class,percent", "A,1", "A,1"], "refused 34 classes row 2"), (["class,percent", "A,x"], "refused 3b classes row 1"), (["class,percent", "A"], "refused 30 classes row 1"), ([], "refused 31 classes row 0")):
             write(self.out, "classes", rows)
             ended = run(BUILT, "country", self.out)
-            self.assertEqual((ended.stdout, ended.returncode), (f"{line}\n", 2))
+            assert (ended.stdout, ended.returncode) == (f"{line}\n", 2)
 
     def test_devices(self):
         Land(3, 4, 4).write(self.source)
@@ -323,4 +313,4 @@ class Failures(Case):
         self.certify()
         with open("/dev/full", "w", encoding="ascii") as full:
             ended = subprocess.run([BUILT, "country", self.out], stdout=full, stderr=subprocess.PIPE, text=True, check=False)
-        self.assertEqual((ended.returncode, ended.stderr), (3, "failed write out\n"))
+        assert (ended.returncode, ended.stderr) == (3, "failed write out\n")

@@ -5,16 +5,16 @@ import os
 import tempfile
 from unittest import mock
 
+import pytest
 import hard
 from lpis_tools import shapely_there
-
 from cells_case import ByCells, mended, read
 
 if shapely_there.is_there():
     from lpis_tools import country_prepare, land as land_module, last_year, naming, parts, passes, rounding, snapping, store
 
 
-class Cells(ByCells):
+class TestCells(ByCells):
     def test_steps(self):
         """What is done about names has as many steps as its progress says."""
         land = mended(hard.Land(0, 5, 3.0))
@@ -26,33 +26,31 @@ class Cells(ByCells):
             work.begin(base, dict(work.layers))
             starts = dict(zip(store.LAYERS, zip(begins, (len(land.parcels), len(land.covers)))))
             names = passes.Names(work, {kind: {} for kind in naming.KINDS})
-            self.assertEqual(len(list(country_prepare.Run.named(work, names, starts, True))), passes.STEPS)
+            assert len(list(country_prepare.Run.named(work, names, starts, True))) == passes.STEPS
             base.close()
 
-    def test_as_the_whole(self):
-        for seed, step in enumerate((0.02, 3.0, 30.0)):
-            land = mended(hard.Land(seed, 30, step))
-            whole = self.whole(land)
-            self.assertIn("overlap", [kind for kind, *_ in whole])
-            for most, least in ((200, 4), (60, 9), (1, 25)):
-                with self.subTest(seed=seed, most=most):
-                    made, found = self.by_cells(land, most)
-                    self.assertGreaterEqual(len(os.listdir(self.path("results"))), least)
-                    for name in ("parcels.csv", "covers.csv"):
-                        self.assertEqual(read(made, name), read(self.folder, "whole", name))
-                    self.assertEqual(found, whole)
+    @pytest.mark.parametrize("seed, step", enumerate((0.02, 3.0, 30.0)))
+    def test_as_the_whole(self, seed, step):
+        land = mended(hard.Land(seed, 30, step))
+        whole = self.whole(land)
+        assert "overlap" in [kind for kind, *_ in whole]
+        for most, least in ((200, 4), (60, 9), (1, 25)):
+            made, found = self.by_cells(land, most)
+            assert len(os.listdir(self.path("results"))) >= least
+            for name in ("parcels.csv", "covers.csv"):
+                assert read(made, name) == read(self.folder, "whole", name)
+            assert found == whole
 
-    def test_between(self):
+    @pytest.mark.parametrize("seed, step, width", ((0, 3.0, 0.1), (1, 0.3, 0.1), (2, 30.0, 60.0)))
+    def test_between(self, seed, step, width):
         """Land that nobody has, as in one: faces that many cells have a part of, islands in them, and arms between parcels of two cells."""
-        for seed, step, width in ((0, 3.0, 0.1), (1, 0.3, 0.1), (2, 30.0, 60.0)):
-            land = mended(hard.Land(seed, 30, step))
-            gone = {row["parcel"] for row in land.parcels[::5]}
-            land.parcels, land.covers = ([row for row in rows if row["parcel"] not in gone] for rows in (land.parcels, land.covers))
-            whole = self.whole(land, width)
-            self.assertGreater(sum(kind == "between" for kind, *_ in whole), 5)
-            for most in (200, 60, 1):
-                with self.subTest(seed=seed, most=most):
-                    self.assertEqual(self.by_cells(land, most, width=width)[1], whole)
+        land = mended(hard.Land(seed, 30, step))
+        gone = {row["parcel"] for row in land.parcels[::5]}
+        land.parcels, land.covers = ([row for row in rows if row["parcel"] not in gone] for rows in (land.parcels, land.covers))
+        whole = self.whole(land, width)
+        assert sum(kind == "between" for kind, *_ in whole) > 5
+        for most in (200, 60, 1):
+            assert self.by_cells(land, most, width=width)[1] == whole
 
     def test_moat(self):
         """A narrow face of nobody that has the parcels of many cells around it and an island in it; and at a lesser width the one side of it that is narrow."""
@@ -64,46 +62,68 @@ class Cells(ByCells):
         land.ring("island", (1 + wide, 1 + wide), (side + 1 - wide, 1 + wide), (side + 1 - wide, side + 1 - 0.1), (1 + wide, side + 1 - 0.1))
         for width, count, area in ((0.5, 1, side * side - (side - 1) * (side - 0.6)), (0.2, side, 0.1 * (side - 1))):
             found = self.whole(land, width)
-            self.assertEqual((len(found), round(sum(loss[5] for loss in found), 6)), (count, round(area, 6)))
-            self.assertEqual(self.by_cells(land, 1, width=width)[1], found)
+            assert (len(found), round(sum(loss[5] for loss in found), 6)) == (count, round(area, 6))
+            assert self.by_cells(land, 1, width=width)[1] == found
 
-    def test_last_year(self):
+    @pytest.mark.parametrize("seed, step", enumerate((0.02, 3.0, 30.0)))
+    def test_last_year(self, seed, step):
         """With last year's corners cells give what the whole gives, and where parcels go more of the others stay as they were than without."""
-        for seed, step in enumerate((0.02, 3.0, 30.0)):
+        land = mended(hard.Land(seed, 30, step))
+        self.whole(land)
+        before, last, gone = self.texts(self.path("whole")), last_year.LastYear(self.path("whole")), {row["parcel"] for row in land.parcels[::5]}
+        land.parcels, land.covers = ([row for row in rows if row["parcel"] not in gone] for rows in (land.parcels, land.covers))
+        made = rounding.Map(land.parcels, land.covers, lambda words: None, then=rounding.numpy.concatenate([*last.shapes()]))
+        wanted = {land.covers[number]["piece"]: text for number, text in made.polygons(made.pieces)}
+        for most, large in ((200, 2000.0), (60, 2000.0), (1, 0.0)):
+            with mock.patch.object(store, "LARGE", large):
+                folder, _ = self.by_cells(land, most, last=last)
+                assert {row.split(",", 3)[0]: row.split(",", 3)[3].strip('"') for row in read(folder, "covers.csv").splitlines()[1:]} == wanted
+        stayed, without = (sum(text == before.get(name) for name, text in self.texts(found).items()) for found in (folder, self.by_cells(land, 10**9)[0]))
+        assert stayed >= without, seed
+        assert last.counts[1] == len(read(self.folder, "whole", "parcels.csv").splitlines()) - 1
+
+    def test_new_corners(self):
+        """With last year's corners, and new ones on straight edges of every third piece, cells give what the whole gives; many of the new corners are in no text."""
+        needless = 0
+        for seed, step in enumerate((0.02, 3.0, 30.0, 30.0)):
             land = mended(hard.Land(seed, 30, step))
             self.whole(land)
-            before, last, gone = self.texts(self.path("whole")), last_year.LastYear(self.path("whole")), {row["parcel"] for row in land.parcels[::5]}
-            land.parcels, land.covers = ([row for row in rows if row["parcel"] not in gone] for rows in (land.parcels, land.covers))
-            made = rounding.Map(land.parcels, land.covers, lambda words: None, then=rounding.numpy.concatenate([*last.shapes()]))
+            last = last_year.LastYear(self.path("whole"))
+            for number, row in enumerate(land.covers[::3]):
+                share = 0.1 + number % 8 / 10
+                row.found = hard.wkb.Found([[[point for a, b in zip(ring, ring[1:]) for point in (a, hard.between(a, b, share))] + ring[:1] for ring in member] for member in row.found.members])
+            mended(land)
+            then = rounding.numpy.unique(rounding.numpy.concatenate([*last.shapes()]), axis=0)
+            made = rounding.Map(land.parcels, land.covers, lambda words: None, then=then)
+            with mock.patch.object(snapping, "straightened", lambda *words: words[-1]):
+                kept = rounding.Map(land.parcels, land.covers, lambda words: None, then=then)
+            needless += sum(len(rounding.numpy.unique([one.network.first, one.network.last])) * sign for one, sign in ((kept, 1), (made, -1)))
             wanted = {land.covers[number]["piece"]: text for number, text in made.polygons(made.pieces)}
-            for most, large in ((200, 2000.0), (60, 2000.0), (1, 0.0)):
-                with self.subTest(seed=seed, most=most), mock.patch.object(store, "LARGE", large):
-                    folder, _ = self.by_cells(land, most, last=last)
-                    self.assertEqual({row.split(",", 3)[0]: row.split(",", 3)[3].strip('"') for row in read(folder, "covers.csv").splitlines()[1:]}, wanted)
-            stayed, without = (sum(text == before.get(name) for name, text in self.texts(found).items()) for found in (folder, self.by_cells(land, 10**9)[0]))
-            self.assertGreaterEqual(stayed, without, seed)
-            self.assertEqual(last.counts[1], len(read(self.folder, "whole", "parcels.csv").splitlines()) - 1)
+            for most in (200, 60, 1):
+                folder, _ = self.by_cells(land, most, last=last)
+                assert {row.split(",", 3)[0]: row.split(",", 3)[3].strip('"') for row in read(folder, "covers.csv").splitlines()[1:]} == wanted, (seed, most)
+        assert needless > 100
 
     def test_corners_that_moved(self):
         """A corner of last year's beside an end of this year is none; one in its pixel, or two away, is."""
         ends = rounding.numpy.array([[0, 0], [10, 10]])
         points = rounding.numpy.array([[0, 0], [1, 1], [-1, 0], [2, 0], [10, 11], [5, 5], [0, 10]])
         for by in (0, 10**10, -(10**10)):
-            self.assertEqual(snapping.are_beside(points + by, ends + by).tolist(), [False, True, True, False, True, False, False])
+            assert snapping.are_beside(points + by, ends + by).tolist() == [False, True, True, False, True, False, False]
         far = rounding.numpy.array([[-(2 * 10**10), -(2 * 10**10)], [2 * 10**10, 2 * 10**10]])
-        self.assertEqual(snapping.are_beside(far, far + 1).tolist(), [True, True])
+        assert snapping.are_beside(far, far + 1).tolist() == [True, True]
 
-    def test_large(self):
+    @pytest.mark.parametrize("seed, step", enumerate((3.0, 30.0, 0.3)))
+    def test_large(self, seed, step):
         """Parcels with large boxes, each a cell of its own with the rows beside its shapes alone: here all of them."""
-        for seed, step in enumerate((3.0, 30.0, 0.3)):
-            land = mended(hard.Land(seed, 30, step))
-            whole = self.whole(land)
-            with self.subTest(seed=seed), mock.patch.object(store, "LARGE", 0.0):
-                made, found = self.by_cells(land, 1)
-                self.assertEqual(len(os.listdir(self.path("results"))), len({row["parcel"] for row in land.covers}))
-                for name in ("parcels.csv", "covers.csv"):
-                    self.assertEqual(read(made, name), read(self.folder, "whole", name))
-                self.assertEqual(found, whole)
+        land = mended(hard.Land(seed, 30, step))
+        whole = self.whole(land)
+        with mock.patch.object(store, "LARGE", 0.0):
+            made, found = self.by_cells(land, 1)
+            assert len(os.listdir(self.path("results"))) == len({row["parcel"] for row in land.covers})
+            for name in ("parcels.csv", "covers.csv"):
+                assert read(made, name) == read(self.folder, "whole", name)
+            assert found == whole
 
     def test_what_is_done_is_taken_over(self):
         """Of a land with rows before all others, and with one parcel moved, the cells beside these alone are made anew."""
@@ -111,7 +131,7 @@ class Cells(ByCells):
         self.by_cells(land, 60)
         before = self.times()
         self.by_cells(land, 60)
-        self.assertEqual(self.times(), before)
+        assert self.times() == before
         last = land.covers[-1]
         last.found = hard.wkb.Found([[[(x + 0.001, y) for x, y in ring] for ring in member] for member in last.found.members])
         far = [[[(x + 5000.0, y) for x, y in ((0.0, 0.0), (9.0, 0.0), (9.0, 9.0), (0.0, 0.0))]]]
@@ -120,7 +140,7 @@ class Cells(ByCells):
         self.by_cells(land, 60)
         after = self.times()
         anew = [name for name, when in after.items() if before.get(name) != when]
-        self.assertTrue(0 < len(anew) < len(after) / 2, (len(before), len(after), len(anew)))
+        assert 0 < len(anew) < len(after) / 2, (len(before), len(after), len(anew))
 
     def times(self):
         return {name: os.stat(self.path("results", name)).st_mtime_ns for name in os.listdir(self.path("results"))}
@@ -138,14 +158,14 @@ class Cells(ByCells):
             file.write("[1\n")
         os.symlink(self.path("results"), self.path("link"))
         for name, words in (("results", "not as it was written"), ("link", "is a link")):
-            with self.assertRaisesRegex(land_module.Trouble, words):
+            with pytest.raises(land_module.Trouble, match=words):
                 self.by_cells(land, 10**9, name)
-        self.assertIn("mine.txt", os.listdir(self.path("results")))
+        assert "mine.txt" in os.listdir(self.path("results"))
 
     def test_places(self):
         """Each place is in one cell, on both sides of naught; places that no cell parts stay together."""
         places = rounding.numpy.array([[x, y] for x in (-(10**10), -1, 0, 1, 1023, 1024, 10**10) for y in (-5, 0, 2**30)] + [[7, 7]] * 5)
         cells = [numbers.tolist() for numbers in store.cells_of(places, rounding.numpy.ones(len(places), int), 2)]
-        self.assertEqual(sorted(number for cell in cells for number in cell), list(range(len(places))))
-        self.assertTrue(all(len(cell) <= 2 or (places[cell] >> 10 == places[cell[0]] >> 10).all() for cell in cells))
-        self.assertEqual(list(store.cells_of(places[:0], rounding.numpy.zeros(0, int), 2)), [])
+        assert sorted(number for cell in cells for number in cell) == list(range(len(places)))
+        assert all(len(cell) <= 2 or (places[cell] >> 10 == places[cell[0]] >> 10).all() for cell in cells)
+        assert list(store.cells_of(places[:0], rounding.numpy.zeros(0, int), 2)) == []

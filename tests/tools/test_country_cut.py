@@ -3,9 +3,10 @@
 import os
 import shutil
 import time
-import unittest
 
-from country_case import BUILT, Case, Land, country, lines, read, run, write, write_text
+import pytest
+from calls import run
+from country_case import BUILT, Case, Land, country, lines, read, write, write_text
 import judged_country as judged
 
 # A stand-in for `lpis cut` and `lpis country`: it refuses a region whose parcels have a row `bad`.
@@ -27,11 +28,11 @@ else:
 """
 
 
-class Engines(Case):
+class TestEngines(Case):
     """Certificates by make and by Snakemake, and the check."""
 
-    def setUp(self):
-        super().setUp()
+    def set_up(self):
+        super().set_up()
         self.land = Land(9, 6, 6)
         self.begin(self.make)
         self.program = self.path("lpis stand-in")
@@ -58,17 +59,17 @@ class Engines(Case):
 
     def whole(self, *options):
         ended = self.cut("--jobs", "3", *options)
-        self.assertEqual((ended.returncode, ended.stdout.splitlines()[-1]), (0, f"regions {len(self.regions())} refused 0"), ended.stdout + ended.stderr)
+        assert (ended.returncode, ended.stdout.splitlines()[-1]) == (0, f"regions {len(self.regions())} refused 0"), ended.stdout + ended.stderr
         before = self.certs()
-        self.assertEqual(len(before), len(self.regions()))
+        assert len(before) == len(self.regions())
         time.sleep(0.02)
         self.cut(*options)
-        self.assertEqual(self.certs(), before)
+        assert self.certs() == before
         regions = self.changed()
         ended = self.cut(*options)
-        self.assertEqual((ended.returncode, [name for name, when in self.certs().items() if when != before[name]]), (0, regions), ended.stderr)
+        assert (ended.returncode, [name for name, when in self.certs().items() if when != before[name]]) == (0, regions), ended.stderr
         # make alone, and Snakemake alone, have nothing left to do.
-        self.assertEqual(run("make", "-f", "Makefile", "-r", "-q", "all", cwd=self.out, env={**os.environ, "LPIS": f"'{self.program}'"}).returncode, 0)
+        assert run("make", "-f", "Makefile", "-r", "-q", "all", cwd=self.out, env={**os.environ, "LPIS": f"'{self.program}'"}).returncode == 0
 
     def test_make(self):
         self.whole()
@@ -88,14 +89,14 @@ class Engines(Case):
         os.rename(self.program, self.path("$(touch hit)", "lpis"))
         self.program = self.path("$(touch hit)", "lpis")
         ended = self.cut()
-        self.assertEqual((ended.returncode, ended.stdout.splitlines()[-1]), (0, f"regions {len(self.regions())} refused 0"), ended.stdout + ended.stderr)
-        self.assertEqual((os.path.exists(hit), os.path.exists(os.path.join(self.out, "hit")), read(kept)), (False, False, "kept\n"))
+        assert (ended.returncode, ended.stdout.splitlines()[-1]) == (0, f"regions {len(self.regions())} refused 0"), ended.stdout + ended.stderr
+        assert (os.path.exists(hit), os.path.exists(os.path.join(self.out, "hit")), read(kept)) == (False, False, "kept\n")
 
-    @unittest.skipUnless(shutil.which("snakemake"), "there is no snakemake")
+    @pytest.mark.skipif(not shutil.which("snakemake"), reason="there is no snakemake")
     def test_snakemake(self):
         self.whole("--snakemake")
 
-    @unittest.skipUnless(shutil.which("snakemake"), "there is no snakemake")
+    @pytest.mark.skipif(not shutil.which("snakemake"), reason="there is no snakemake")
     def test_strange_files_of_snakemake(self):
         """Neither modules nor profiles that lie in the folder are run: not one that the environment names, and not one beside the tool's own."""
         hit = self.path("hit")
@@ -110,37 +111,37 @@ class Engines(Case):
             for name in self.certs():
                 os.remove(os.path.join(self.out, name, "cert.txt"))
             ended = country("cut", self.out, "--lpis", f"'{self.program}'", *options, SNAKEMAKE_PROFILE="mine", PATH=f"{self.folder}:{os.environ['PATH']}")
-            self.assertEqual((ended.returncode, ended.stdout.splitlines()[-1]), (0, f"regions {len(self.regions())} refused 0"), ended.stdout + ended.stderr)
-            self.assertFalse(os.path.exists(hit), options)
+            assert (ended.returncode, ended.stdout.splitlines()[-1]) == (0, f"regions {len(self.regions())} refused 0"), ended.stdout + ended.stderr
+            assert not os.path.exists(hit), options
         write_text(os.path.join(self.out, "slurm", "config.v8+.yaml"), f'cluster: "touch {hit}; bash"\n')
         ended = country("cut", self.out, "--lpis", f"'{self.program}'", "--profile", os.path.join(self.out, "slurm"))
-        self.assertEqual((ended.returncode, "config.v8+.yaml is none of this tool's" in ended.stdout), (1, True), ended.stdout + ended.stderr)
+        assert (ended.returncode, "config.v8+.yaml is none of this tool's" in ended.stdout) == (1, True), ended.stdout + ended.stderr
 
-    def test_words_of_snakemake(self):
+    @pytest.mark.parametrize("told, wanted", (("--workflow-profile X", True), ("", False)))
+    def test_words_of_snakemake(self, told, wanted):
         """Of a version that reads a profile which nobody names: it is told not to; another one does not know these words."""
-        for told, wanted in (("--workflow-profile X", True), ("", False)):
-            write_text(self.path("snakemake"), f'#!/bin/sh\n[ "$1" = --help ] && echo "{told}" || echo "$PWD $* profile:$SNAKEMAKE_PROFILE safe:$PYTHONSAFEPATH" >{self.path("said")}\n')
-            os.chmod(self.path("snakemake"), 0o755)
-            country("cut", self.out, "--lpis", "false", "--snakemake", SNAKEMAKE_PROFILE="mine", PATH=f"{self.folder}:{os.environ['PATH']}")
-            said = read(self.path("said"))
-            self.assertEqual(("--workflow-profile none" in said, "profile: safe:1" in said), (wanted, True), said)
+        write_text(self.path("snakemake"), f'#!/bin/sh\n[ "$1" = --help ] && echo "{told}" || echo "$PWD $* profile:$SNAKEMAKE_PROFILE safe:$PYTHONSAFEPATH" >{self.path("said")}\n')
+        os.chmod(self.path("snakemake"), 0o755)
+        country("cut", self.out, "--lpis", "false", "--snakemake", SNAKEMAKE_PROFILE="mine", PATH=f"{self.folder}:{os.environ['PATH']}")
+        said = read(self.path("said"))
+        assert ("--workflow-profile none" in said, "profile: safe:1" in said) == (wanted, True), said
 
-    @unittest.skipUnless(shutil.which("snakemake"), "there is no snakemake")
+    @pytest.mark.skipif(not shutil.which("snakemake"), reason="there is no snakemake")
     def test_cluster(self):
         """The profile over a stand-in for the cluster, which starts each job by itself and prints a number."""
         write_text(self.path("sbatch"), f'#!/bin/bash\necho "$*" >>{self.path("jobs")}\nfor job; do :; done\nbash "$job" >/dev/null 2>&1 &\necho $!\n')
         os.chmod(self.path("sbatch"), 0o755)
         country("cut", self.out, "--lpis", "false")  # writes the profile
         ended = country("cut", self.out, "--lpis", f"'{self.program}'", "--profile", self.path("country", "slurm"), PATH=f"{self.folder}:{os.environ['PATH']}")
-        self.assertEqual(ended.returncode, 0, ended.stdout + ended.stderr)
+        assert ended.returncode == 0, ended.stdout + ended.stderr
         jobs = read(self.path("jobs")).splitlines()
-        self.assertEqual((len(jobs), len(self.certs())), (len(self.regions()), len(self.regions())))
-        self.assertTrue(all("--mem=1500" in job and "--time=60" in job for job in jobs), jobs)
+        assert (len(jobs), len(self.certs())) == (len(self.regions()), len(self.regions()))
+        assert all("--mem=1500" in job and "--time=60" in job for job in jobs), jobs
 
     def test_refused(self):
         """A region that is refused: the others are cut, and faults are named."""
         if not BUILT:
-            self.skipTest("the program is not built")
+            pytest.skip("the program is not built")
         bad = self.region(1)
         first = lines(bad, "covers")[1]
         name = first.split(",")[0]
@@ -151,15 +152,15 @@ class Engines(Case):
             rows = lines(folder, "covers")
             write(folder, "covers", [crossed if row == first else row for row in rows])
         ended = country("cut", self.out, "--lpis", BUILT)
-        self.assertEqual(ended.returncode, 1, ended.stdout + ended.stderr)
-        self.assertIn(name, ended.stdout)
-        self.assertIn(f"region {self.regions()[1]}: refused 4", ended.stdout)
-        self.assertTrue(os.path.exists(os.path.join(self.out, "faults.geojson")))
-        self.assertGreater(len(self.certs()), 0)
+        assert ended.returncode == 1, ended.stdout + ended.stderr
+        assert name in ended.stdout
+        assert f"region {self.regions()[1]}: refused 4" in ended.stdout
+        assert os.path.exists(os.path.join(self.out, "faults.geojson"))
+        assert len(self.certs()) > 0
 
     def test_check(self):
         whole = judged.Region(self.source)
         area = judged.areas(*whole.sums(whole.parcels)[2:]).split()[1]
         for parcels, area, status in (("36", area, 0), ("35", area, 1), ("36", f"{area[:-1]}{9 - int(area[-1])}", 1)):
             ended = country("check", self.out, "--lpis", f"'{self.program}'", PARCELS=parcels, AREA=area)
-            self.assertEqual((ended.returncode, ended.stdout.splitlines()[-1], "in no region" in ended.stderr), (status, "yes", status == 1), ended.stderr)
+            assert (ended.returncode, ended.stdout.splitlines()[-1], "in no region" in ended.stderr) == (status, "yes", status == 1), ended.stderr

@@ -8,11 +8,13 @@ import resource
 import shutil
 import signal
 import subprocess
-import tempfile
 import time
-import unittest
+from collections import Counter
 from pathlib import Path
 
+import pytest
+from registers import made
+from calls import tool
 from places import BUILT, TOOLS
 import dirty
 from cells_case import Case, read, write
@@ -24,76 +26,80 @@ PARCELS = 110  # of the dirty source
 REPORTS = ("prepared.csv", "identifiers.csv", "report.csv", "report.geojson", "balance.csv", "classes.csv")
 
 
-def run(tool, *words):
-    return subprocess.run([os.path.join(TOOLS, tool), *map(str, words)], capture_output=True, text=True, check=False)
-
-
 def rows_of(folder, table, regions=None):
     """The rows of a table, or of that of all regions, each once."""
     names = regions if regions is not None else [""]
     return sorted({row for name in names for row in read(folder, name, f"{table}.csv").splitlines()[1:]})
 
 
-class Sources(Case):
+class TestSources(Case):
     """A source with every kind of dirt, prepared as one release and as a country."""
 
-    @classmethod
-    def setUpClass(cls):
-        cls.spare = tempfile.TemporaryDirectory()
-        cls.land = dirty.make_large(os.path.join(cls.spare.name, "land.gpkg"), PARCELS)
-        cls.whole, cls.country = (os.path.join(cls.spare.name, name) for name in ("whole", "country"))
-        cls.runs = {"refused": (run("prepare", cls.land, cls.whole), run("country", "prepare", cls.land, cls.country))}
+    @pytest.fixture(autouse=True, scope="class")
+    def prepared(self, request, tmp_path_factory):
+        cls, spare = request.cls, str(tmp_path_factory.mktemp("country"))
+        cls.land = dirty.make_large(os.path.join(spare, "land.gpkg"), PARCELS)
+        cls.whole, cls.country = os.path.join(spare, "whole"), os.path.join(spare, "country")
+        cls.runs = {"refused": (tool("prepare", cls.land, cls.whole), tool("country", "prepare", cls.land, cls.country))}
         cls.refused = [sorted(os.listdir(folder)) for folder in (cls.whole, cls.country)]
         cls.findings = [read(folder, "prepared.csv") for folder in (cls.whole, cls.country)]
-        cls.runs["accepted"] = run("prepare", cls.land, cls.whole, "--accept"), run("country", "prepare", cls.land, cls.country, "--accept", "--parcels", 30, "--tables", f"{cls.country}-tables")
+        cls.runs["accepted"] = tool("prepare", cls.land, cls.whole, "--accept"), tool("country", "prepare", cls.land, cls.country, "--accept", "--parcels", 30, "--tables", f"{cls.country}-tables")
         cls.regions = re.findall(r"region (\w+)", read(cls.country, "country.txt")) if cls.runs["accepted"][1].returncode == 0 else []
-
-    @classmethod
-    def tearDownClass(cls):
-        cls.spare.cleanup()
 
     def test_refused(self):
         """Nothing is written but what was found, and that is what tools/prepare finds."""
         one, other = self.runs["refused"]
-        self.assertEqual((one.returncode, other.returncode), (1, 1), other.stdout + other.stderr)
-        self.assertEqual(*self.findings)
-        self.assertEqual(*([name for name in found if not name.startswith(".")] for found in self.refused))
-        self.assertIn("mend the source, or mend and leave out by --accept", other.stdout)
-        self.assertRegex(self.findings[1], r"(?m)^gap,parcels,\d+,.*; it comes of piece \S+ \(fid \d+, stranger\)")
+        assert (one.returncode, other.returncode) == (1, 1), other.stdout + other.stderr
+        assert self.findings[0] == self.findings[1]
+        whole, country = ([name for name in found if not name.startswith(".")] for found in self.refused)
+        assert whole == country
+        assert "mend the source, or mend and leave out by --accept" in other.stdout
+        assert re.search(r"(?m)^gap,parcels,\d+,.*; it comes of piece \S+ \(fid \d+, stranger\)", self.findings[1])
+
+    def test_what_follows(self):
+        """The run that reports says how many rows --accept takes; what it found is kept beside what the accepting run writes, under a number, and once."""
+        told = re.search(r"(?m)^--accept takes (\d+) rows, which report.csv has then: (.*);", self.runs["refused"][1].stdout)
+        stopping = [row for row in csv.DictReader(read(self.country, "report.csv").splitlines()) if row["stops"] == "1"]
+        accepted = re.search(r"(?m)^to look at: (\d+), accepted$", self.runs["accepted"][1].stdout)
+        assert [int(told[1])] * 2 == [len(stopping), int(accepted[1])]
+        assert {kind: int(count) for count, kind in (words.split(" ", 1) for words in told[2].split(", "))} == Counter(row["kind"] for row in stopping)
+        for folder, findings, ran in zip((self.whole, self.country), self.findings, self.runs["accepted"]):
+            assert read(folder, "prepared-1.csv") == findings
+            assert f"{folder}/prepared.csv of the run before is {folder}/prepared-1.csv now\n" in ran.stderr
+        for _ in range(2):
+            assert tool("prepare", self.land, self.path("again")).returncode == 1
+        assert [name for name in os.listdir(self.path("again")) if name.startswith("prepared")] == ["prepared.csv"]
 
     def test_taken_up(self):
         """The run that accepts reads no row again, and takes up what was rounded without looking at a cell."""
         told = self.runs["accepted"][1].stderr
-        self.assertIn("cells are those that the run before has rounded\n", told)
-        self.assertNotIn("rounding", told)
+        assert "cells are those that the run before has rounded\n" in told
+        assert "rounding" not in told
         cells = os.listdir(os.path.join(self.country, ".cells"))
-        self.assertLessEqual({"cells.json", "gaps.json"}, set(cells))
-        self.assertFalse({"plan.json", "parts", "count", "0.cell"} & set(cells))
+        assert {"cells.json", "gaps.json"} <= set(cells)
+        assert not ({"plan.json", "parts", "count", "0.cell"} & set(cells))
 
     def test_changed(self):
         """A source of which a row changed: how many cells are as they were; and other widths between parcels look at no cell."""
         folder, source = shutil.copytree(self.country, self.path("country")), shutil.copy(self.land, self.path("land.gpkg"))
-        base = dirty.sqlite3.connect(source)
-        base.execute("DELETE FROM covers WHERE fid = 1")
-        base.commit()
-        base.close()
-        ended = run("country", "prepare", source, folder, "--accept", "--parcels", 30)
-        self.assertEqual(ended.returncode, 0, ended.stdout + ended.stderr)
-        self.assertRegex(ended.stderr, r"comparing \d+ cells with those that a run before has rounded")
-        self.assertRegex(ended.stderr, r"cells as they were: \d+ of \d+, rounded: 1\n")
-        again = run("country", "prepare", source, folder, "--accept", "--parcels", 30, "--between", 2)
-        self.assertEqual((again.returncode, "cells are those that the run before has rounded\n" in again.stderr), (0, True), again.stderr)
+        made(source, "DELETE FROM covers WHERE fid = 1")
+        ended = tool("country", "prepare", source, folder, "--accept", "--parcels", 30)
+        assert ended.returncode == 0, ended.stdout + ended.stderr
+        assert re.search(r"comparing \d+ cells with those that a run before has rounded", ended.stderr)
+        assert re.search(r"cells as they were: \d+ of \d+, rounded: 1\n", ended.stderr)
+        again = tool("country", "prepare", source, folder, "--accept", "--parcels", 30, "--between", 2)
+        assert (again.returncode, "cells are those that the run before has rounded\n" in again.stderr) == (0, True), again.stderr
 
     def test_as_one_release(self):
         one, other = self.runs["accepted"]
-        self.assertEqual((one.returncode, other.returncode), (0, 0), other.stdout + other.stderr)
-        self.assertGreater(len(self.regions), 3)
+        assert (one.returncode, other.returncode) == (0, 0), other.stdout + other.stderr
+        assert len(self.regions) > 3
         for name in ("parcels", "covers"):
-            self.assertEqual(rows_of(self.country, name, self.regions), rows_of(self.whole, name))
+            assert rows_of(self.country, name, self.regions) == rows_of(self.whole, name)
         for name in REPORTS:
-            self.assertEqual(read(self.country, name), read(self.whole, name), name)
+            assert read(self.country, name) == read(self.whole, name), name
         for name in ("parcels.csv", "covers.csv", "classes.csv"):
-            self.assertEqual(read(f"{self.country}-tables", name), read(self.whole, name), name)
+            assert read(f"{self.country}-tables", name) == read(self.whole, name), name
 
     def test_tables(self):
         """A folder of tables goes into the store as it is read, and gives what tools/prepare makes of it."""
@@ -106,20 +112,20 @@ class Sources(Case):
                 for row in layer.rows:
                     shape = [f"SRID=25832;{rounding.shape_of(row.found).wkt}" if row.found else ""] if name != "classes" else []
                     table.writerow([*map(row.fields.get, land_module.COLUMNS[name]), *shape])
-        one, other = run("prepare", source, whole, "--accept"), run("country", "prepare", source, country, "--accept", "--tables", tables)
-        self.assertEqual((one.returncode, other.returncode), (0, 0), other.stdout + other.stderr)
+        one, other = tool("prepare", source, whole, "--accept"), tool("country", "prepare", source, country, "--accept", "--tables", tables)
+        assert (one.returncode, other.returncode) == (0, 0), other.stdout + other.stderr
         for name in REPORTS:
-            self.assertEqual(read(country, name), read(whole, name), name)
+            assert read(country, name) == read(whole, name), name
         for name in ("parcels.csv", "covers.csv", "classes.csv"):
-            self.assertEqual(read(tables, name), read(whole, name), name)
+            assert read(tables, name) == read(whole, name), name
 
-    @unittest.skipUnless(BUILT, "the program is not built")
+    @pytest.mark.skipif(not BUILT, reason="the program is not built")
     def test_yes_and_no(self):
         """The country is a yes; with a corner of a guest a millimetre elsewhere in one region it is refused."""
         folder = shutil.copytree(self.country, self.path("country"))
-        self.assertEqual(run("country", "cut", folder, "--lpis", BUILT).returncode, 0)
-        checked = run("country", "check", folder, "--lpis", BUILT)
-        self.assertEqual((checked.returncode, checked.stdout.splitlines()[-1]), (0, "yes"), checked.stdout + checked.stderr)
+        assert tool("country", "cut", folder, "--lpis", BUILT).returncode == 0
+        checked = tool("country", "check", folder, "--lpis", BUILT)
+        assert (checked.returncode, checked.stdout.splitlines()[-1]) == (0, "yes"), checked.stdout + checked.stderr
         places = {}
         for region in self.regions:
             for row in read(folder, region, "parcels.csv").splitlines()[1:]:
@@ -129,8 +135,8 @@ class Sources(Case):
             path = os.path.join(folder, places[guest][0], f"{name}.csv")
             text = "".join(self.moved(line) if guest in line else line for line in read(path).splitlines(keepends=True))
             Path(path).write_text(text, encoding="utf-8")
-        run("country", "cut", folder, "--lpis", BUILT)
-        self.assertNotEqual(run("country", "check", folder, "--lpis", BUILT).returncode, 0)
+        tool("country", "cut", folder, "--lpis", BUILT)
+        assert tool("country", "check", folder, "--lpis", BUILT).returncode != 0
 
     @staticmethod
     def moved(line):
@@ -141,9 +147,9 @@ class Sources(Case):
         """A second run changes no file of a region, and rounds nothing."""
         folder = shutil.copytree(self.country, self.path("country"))
         cells = {name: os.stat(os.path.join(folder, ".cells", name)).st_mtime_ns for name in os.listdir(os.path.join(folder, ".cells"))}
-        again = run("country", "prepare", self.land, folder, "--accept", "--parcels", 30)
-        self.assertEqual((again.returncode, again.stdout.splitlines()[-1].split()[-1]), (0, "0"), again.stdout + again.stderr)
-        self.assertEqual({name: os.stat(os.path.join(folder, ".cells", name)).st_mtime_ns for name in os.listdir(os.path.join(folder, ".cells"))}, cells)
+        again = tool("country", "prepare", self.land, folder, "--accept", "--parcels", 30)
+        assert (again.returncode, "files changed 0 " in again.stdout.splitlines()[-1]) == (0, True), again.stdout + again.stderr
+        assert {name: os.stat(os.path.join(folder, ".cells", name)).st_mtime_ns for name in os.listdir(os.path.join(folder, ".cells"))} == cells
 
     def test_killed(self):
         """After a kill no table is there, and the next run has the same bytes."""
@@ -152,11 +158,11 @@ class Sources(Case):
             for line in started.stderr:
                 if "rounding" in line:
                     os.killpg(started.pid, signal.SIGKILL)
-        self.assertFalse([name for name in os.listdir(folder) if re.fullmatch(r"r\d+|country.txt|report.*", name)])
-        again = run("country", "prepare", self.land, folder, "--accept", "--parcels", 30)
-        self.assertEqual(again.returncode, 0, again.stdout + again.stderr)
+        assert not [name for name in os.listdir(folder) if re.fullmatch(r"r\d+|country.txt|report.*", name)]
+        again = tool("country", "prepare", self.land, folder, "--accept", "--parcels", 30)
+        assert again.returncode == 0, again.stdout + again.stderr
         for name in (*REPORTS, "country.txt", "split.txt", *(f"{region}/{table}.csv" for region in self.regions for table in ("parcels", "covers", "classes", "lineage"))):
-            self.assertEqual(read(folder, name), read(self.country, name), name)
+            assert read(folder, name) == read(self.country, name), name
 
     def test_full_disk(self):
         """Where no file may grow over a size there is no table and nothing half, and the next run has the same bytes."""
@@ -164,12 +170,12 @@ class Sources(Case):
         words = [os.path.join(TOOLS, "country"), "prepare", self.land, folder, "--accept", "--parcels", "30"]
         for most in (50_000, 150_000):
             ended = subprocess.run(words, capture_output=True, text=True, check=False, preexec_fn=lambda most=most: resource.setrlimit(resource.RLIMIT_FSIZE, (most, most)))
-            self.assertEqual((ended.returncode, "Traceback" in ended.stderr), (64, False), ended.stdout + ended.stderr)
-            self.assertEqual([name for name in os.listdir(folder) if not name.startswith(".")], [])
-            self.assertEqual([name for name in os.listdir(os.path.join(folder, ".cells")) if name.endswith(".new") or name == "rows.db"], [])
-        self.assertEqual(run("country", "prepare", self.land, folder, "--accept", "--parcels", 30).returncode, 0)
+            assert (ended.returncode, "Traceback" in ended.stderr) == (64, False), ended.stdout + ended.stderr
+            assert [name for name in os.listdir(folder) if not name.startswith(".")] == []
+            assert [name for name in os.listdir(os.path.join(folder, ".cells")) if name.endswith(".new") or name == "rows.db"] == []
+        assert tool("country", "prepare", self.land, folder, "--accept", "--parcels", 30).returncode == 0
         for name in (*REPORTS, "country.txt", *(f"{region}/{table}.csv" for region in self.regions for table in ("parcels", "covers"))):
-            self.assertEqual(read(folder, name), read(self.country, name), name)
+            assert read(folder, name) == read(self.country, name), name
 
     def test_stopped(self):
         """A signal ends the workers too, and leaves no folder of its own."""
@@ -178,11 +184,11 @@ class Sources(Case):
             for line in started.stderr:
                 if "rounding" in line:
                     started.terminate()
-        self.assertEqual(started.returncode, 128 + signal.SIGTERM)
-        self.assertFalse([name for name in os.listdir(folder) if name.startswith(".prepare")])
+        assert started.returncode == 128 + signal.SIGTERM
+        assert not [name for name in os.listdir(folder) if name.startswith(".prepare")]
         time.sleep(0.1)
 
-    @unittest.skipUnless(shutil.which("snakemake"), "there is no snakemake")
+    @pytest.mark.skipif(not shutil.which("snakemake"), reason="there is no snakemake")
     def test_snakemake(self):
         """The same bytes by Snakemake: where a run before was killed, and where the folder has files that would be run if they were taken."""
         folder, hit = self.path("country"), self.path("hit")
@@ -196,12 +202,12 @@ class Sources(Case):
             for line in started.stderr:
                 if "rounding" in line:
                     os.killpg(started.pid, signal.SIGKILL)
-        self.assertFalse([name for name in os.listdir(folder) if re.fullmatch(r"r\d+|country.txt|report.*", name)])
+        assert not [name for name in os.listdir(folder) if re.fullmatch(r"r\d+|country.txt|report.*", name)]
         again = subprocess.run(words, capture_output=True, text=True, check=False)
-        self.assertEqual((again.returncode, os.path.exists(hit)), (0, False), again.stdout + again.stderr)
-        self.assertIn("(100%) done", again.stderr)
+        assert (again.returncode, os.path.exists(hit)) == (0, False), again.stdout + again.stderr
+        assert "(100%) done" in again.stderr
         for name in (*REPORTS, "country.txt", "split.txt", *(f"{region}/{table}.csv" for region in self.regions for table in ("parcels", "covers", "classes", "lineage"))):
-            self.assertEqual(read(folder, name), read(self.country, name), name)
+            assert read(folder, name) == read(self.country, name), name
 
     def test_words(self):
         bare = self.path("bare.gpkg")
@@ -219,5 +225,5 @@ class Sources(Case):
                                     ((bare, self.path("out"), "--previous", wrong), 64, "covers.csv row 1: P: its wkt is no polygon in millimetres"), ((bare, self.path("out")), 1, "there is no table of classes"), ((self.path("none.gpkg"), self.path("out")), 64, "none.gpkg"),
                                     ((bare, self.path("out"), "--parcels", "0"), 64, "limits are 1 or more"), ((bare, self.path("out"), "--name", "x"), 64, "--name is"),
                                     ((bare, self.path("out"), "--workers", "-1"), 64, "--workers is"), ((bare, self.path("out"), "--tables", self.path("out")), 64, "--tables names")):
-            ended = run("country", "prepare", *words)
-            self.assertEqual((ended.returncode, told in ended.stdout + ended.stderr, "Traceback" in ended.stderr), (status, True, False), ended.stdout + ended.stderr)
+            ended = tool("country", "prepare", *words)
+            assert (ended.returncode, told in ended.stdout + ended.stderr, "Traceback" in ended.stderr) == (status, True, False), ended.stdout + ended.stderr

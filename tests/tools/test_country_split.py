@@ -7,12 +7,19 @@ import shutil
 import sys
 import time
 
-from country_case import CLASSES, HEADS, TOOLS, Case, Land, country, lines, read, run, wkt, write, write_text
+import pytest
+from calls import tool
+from country_case import CLASSES, HEADS, Case, Land, country, lines, read, wkt, write, write_text
 import judged_country as judged
 from lpis_tools import countries, parting, splitting, streams, tiles
 
 
-class Plans(Case):
+def changed(told):
+    """How many files a split changed, by the words of its last line."""
+    return told[told.index("changed") + 1]
+
+
+class TestPlans(Case):
     """The text of country.txt and its first fault."""
 
     GOOD = "lpis-country 1\nx 5\nregion a\ny -7\nregion b\nregion c\n"
@@ -32,38 +39,37 @@ class Plans(Case):
     def test_good(self):
         for text in (self.GOOD, "lpis-country 1\nregion -_Z9\n", f"lpis-country 1\nregion {'a' * 100}\n", "lpis-country 1\nx 20000000000\nregion a\nregion b\n",
                      "lpis-country 1\nx 0\ny -20000000000\nregion a\nregion b\nregion c\n"):
-            self.assertEqual(tiles.read(text).text(), text)
-            self.assertEqual(tiles.read(text).folders, judged.Plan(text).folders)
+            assert tiles.read(text).text() == text
+            assert tiles.read(text).folders == judged.Plan(text).folders
 
     def test_tiles(self):
         """The splitter's descent and the judge's rectangles agree, also where a line lies outside of the rectangle that it parts."""
         numbers = random.Random(1)
         for text in (self.GOOD, self.OUTSIDE):
             tiling, plan = tiles.read(text), judged.Plan(text)
-            self.assertEqual(tiling.boxes(), plan.tiles)
-            self.assertEqual(["no land" in countries.extent(tile) for tile in plan.tiles], [text == self.OUTSIDE and number in (1, 2, 4) for number in range(len(plan.tiles))])
+            assert tiling.boxes() == plan.tiles
+            assert ["no land" in countries.extent(tile) for tile in plan.tiles] == [text == self.OUTSIDE and number in (1, 2, 4) for number in range(len(plan.tiles))]
             for _ in range(3000):
                 xs, ys = sorted(numbers.choices(range(2, 9), k=2)), sorted(numbers.choices(range(-10, -4), k=2))
                 if xs[0] < xs[1] and ys[0] < ys[1]:
                     parcel = "p", [[[(xs[0], ys[0]), (xs[1], ys[0]), (xs[1], ys[1]), (xs[0], ys[0])]]]
-                    self.assertEqual(tiling.met((xs[0], ys[0], xs[1], ys[1])), [n for n, tile in enumerate(plan.tiles) if judged.meets(parcel, tile)])
+                    assert tiling.met((xs[0], ys[0], xs[1], ys[1])) == [n for n, tile in enumerate(plan.tiles) if judged.meets(parcel, tile)]
 
     def test_bad(self):
         write(self.out, "classes", [HEADS["classes"]])
         for text, line in self.BAD.items():
-            with self.subTest(text=text):
-                write_text(os.path.join(self.out, "country.txt"), text)
-                self.assertCountry(f"refused 90 country line {line}", 2, is_certified=False)
-                with self.assertRaises(tiles.Unreadable) as told:
-                    tiles.read(text)
-                self.assertTrue(str(told.exception).startswith(f"line {line}"), told.exception)
+            write_text(os.path.join(self.out, "country.txt"), text)
+            self.assertCountry(f"refused 90 country line {line}", 2, is_certified=False)
+            with pytest.raises(tiles.Unreadable) as told:
+                tiles.read(text)
+            assert str(told.value).startswith(f"line {line}"), told.value
 
     def test_explained(self):
         os.makedirs(self.out)
         for text, line in list(self.BAD.items())[::6]:
             write_text(os.path.join(self.out, "country.txt"), text)
-            words = run(os.path.join(TOOLS, "explain"), self.out, input=f"refused 90 country line {line}\n")
-            self.assertEqual((words.returncode, f"  line {line}" in words.stdout), (2, True), words.stdout + words.stderr)
+            words = tool("explain", self.out, input=f"refused 90 country line {line}\n")
+            assert (words.returncode, f"  line {line}" in words.stdout) == (2, True), words.stdout + words.stderr
 
     def test_too_many(self):
         sys.setrecursionlimit(30_000)
@@ -80,15 +86,15 @@ class Plans(Case):
             self.assertCountry(f"refused 90 country line {self.GOOD[:end].count(chr(10)) + 1}", 2, is_certified=False)
 
 
-class Splits(Case):
+class TestSplits(Case):
     """What the splitter says, and what it leaves as it is."""
 
     def refuse(self, *words):
         ended = country("split", self.source, self.out)
-        self.assertEqual(ended.returncode, 1, ended.stdout + ended.stderr)
+        assert ended.returncode == 1, ended.stdout + ended.stderr
         for word in words:
-            self.assertIn(word, ended.stdout)
-        self.assertFalse(os.path.exists(self.out))
+            assert word in ended.stdout
+        assert not os.path.exists(self.out)
 
     def test_faults(self):
         good = Land(1, 3, 3)
@@ -98,16 +104,15 @@ class Splits(Case):
             ("covers", 'one,two,GRASS,"POLYGON((0 0,1 0,1 1,0 0))"', "covers.csv row 28", "two"), ("parcels", "one", "parcels.csv row 10: 1 fields"),
             ("covers", 'p1,P000.000,GRASS,"POLYGON((0 0,1 0,1 1,0))"', "covers.csv row 28: piece p1: its wkt is no polygon"), ("covers", 'p1,P000.000,GRASS,"POLYGON((0 0,1 0,1 1,0 0))\np2,P', "p1", "no polygon"),
         ]:
-            with self.subTest(row=row):
-                good.write(self.source)
-                write(self.source, name, [*lines(self.source, name), row])
-                self.refuse(*words)
+            good.write(self.source)
+            write(self.source, name, [*lines(self.source, name), row])
+            self.refuse(*words)
         good.write(self.source)
         write(self.source, "covers", [row.replace("piece,parcel", "piece,block") for row in lines(self.source, "covers")])
         self.refuse("covers.csv: no column parcel")
         shutil.rmtree(self.source)
-        self.assertEqual(country("split", self.source, self.out).returncode, 64)
-        self.assertEqual(country("split", self.source).returncode, 64)
+        assert country("split", self.source, self.out).returncode == 64
+        assert country("split", self.source).returncode == 64
 
     def test_no_cut_helps(self):
         """Long parcels that all lie over one place."""
@@ -117,9 +122,9 @@ class Splits(Case):
         for table, rows in (("parcels", [f"star-{k},{star(k)}" for k in range(30)]), ("covers", [f"s{k},star-{k},GRASS,{star(k)}" for k in range(30)]), ("classes", CLASSES)):
             write(self.source, table, [HEADS[table], *rows])
         ended = country("split", self.source, self.out, "--parcels", "20")
-        self.assertEqual((ended.returncode, "30 parcels share a place" in ended.stdout, "star-0 star-1 " in ended.stdout), (1, True, True), ended.stdout)
+        assert (ended.returncode, "30 parcels share a place" in ended.stdout, "star-0 star-1 " in ended.stdout) == (1, True, True), ended.stdout
         ended = country("split", self.source, self.out, "--points", "4")
-        self.assertEqual(ended.returncode, 1, ended.stdout)
+        assert ended.returncode == 1, ended.stdout
 
     def test_heaps(self):
         """Cuts that help are found where quantiles of middles do not help."""
@@ -129,9 +134,9 @@ class Splits(Case):
             boxes.pieces[k], boxes.points[k] = 1, 5
         found = []
         tiling = parting.part(boxes, parting.Most(60, 60, 10**6), lambda region, members: found.append(list(members)))
-        self.assertTrue(all(len(members) <= 60 for members in found))
+        assert all(len(members) <= 60 for members in found)
         for number in range(len(boxes)):
-            self.assertEqual(tiling.met(boxes.box(number)), [region for region, members in enumerate(found) if number in members])
+            assert tiling.met(boxes.box(number)) == [region for region, members in enumerate(found) if number in members]
 
     def test_texts(self):
         """Columns in another order, quotes, marks and Windows' line ends stay as they are written."""
@@ -142,8 +147,8 @@ class Splits(Case):
         self.split("--parcels", 12)
         self.assertIsRelease(self.source)
         head, rows = read(os.path.join(self.region(0), "parcels.csv")).split("\n", 1)
-        self.assertEqual(head, "Note,WKT,Parcel")
-        self.assertIn('"a, ""b""\n', rows)
+        assert head == "Note,WKT,Parcel"
+        assert '"a, ""b""\n' in rows
 
     def test_balance(self):
         """Of each class the area of the source and of the regions, as the judge has them."""
@@ -152,9 +157,9 @@ class Splits(Case):
         whole, (head, *rows) = judged.Region(self.source), [row.split(",") for row in lines(self.out, "balance")]
         found = {(row[0], row[1]): dict(zip(head, row)) for row in rows}
         area = judged.areas(*whole.sums(whole.parcels)[2:]).split()[1][:-4]
-        self.assertEqual((found["parcels", ""]["source_m2"], found["parcels", ""]["tables_m2"], found["covers", ""]["tables_m2"]), (area, area, area))
-        self.assertEqual({row["unaccounted_m2"] for row in found.values()}, {"0.000"})
-        self.assertEqual(sorted(name for _, name in found if name), sorted({row.split(",")[2] for row in lines(self.source, "covers")[1:]}))
+        assert (found["parcels", ""]["source_m2"], found["parcels", ""]["tables_m2"], found["covers", ""]["tables_m2"]) == (area, area, area)
+        assert {row["unaccounted_m2"] for row in found.values()} == {"0.000"}
+        assert sorted(name for _, name in found if name) == sorted({row.split(",")[2] for row in lines(self.source, "covers")[1:]})
 
     def test_changing(self):
         """A source that changes while it is read changes nothing, and no file is left beside the tables."""
@@ -177,15 +182,15 @@ class Splits(Case):
 
         for name, edit, error in (("covers", lambda line: line.replace("GRASS", "WATER").replace("TREES", "WATER"), streams.Trouble), ("parcels", lambda line: "", streams.Trouble),
                                   ("covers", lambda line: line.replace(",P", ",Q", 1), streams.Trouble), ("covers", fails, OSError)):
-            with self.subTest(name=name), self.assertRaises(error):
+            with pytest.raises(error):
                 splitting.split(Changing(self.source, name, edit), self.out, parting.Most(12, 10**6, 10**6), False, lambda words: None)
-            self.assertEqual(self.times(), before)
-            self.assertEqual([file for _, _, files in os.walk(self.out) for file in files if file.endswith(".new")], [])
+            assert self.times() == before
+            assert [file for _, _, files in os.walk(self.out) for file in files if file.endswith(".new")] == []
 
     def test_words(self):
         for words, status, text in ((["--version"], 0, "lpis-country "), (["--help"], 0, "usage: "), (["split", self.source, self.source], 64, "DIR is SOURCE"), (["split", "--parcels", "x", "a", "b"], 64, "usage: ")):
             ended = country(*words)
-            self.assertEqual((ended.returncode, text in ended.stdout + ended.stderr), (status, True), ended.stdout + ended.stderr)
+            assert (ended.returncode, text in ended.stdout + ended.stderr) == (status, True), ended.stdout + ended.stderr
 
     def test_order(self):
         """Rows keep the source's order in every region."""
@@ -196,7 +201,7 @@ class Splits(Case):
             every = {row: place for place, row in enumerate(lines(self.source, table))}
             for name in self.regions():
                 places = [every[row] for row in lines(os.path.join(self.out, name), table)]
-                self.assertEqual(places, sorted(places))
+                assert places == sorted(places)
 
     def test_again(self):
         """The tiling stands for the next source, and folders that are as they were keep their times."""
@@ -205,13 +210,13 @@ class Splits(Case):
         self.split("--parcels", 30)
         before = self.times()
         time.sleep(0.02)
-        self.assertEqual(self.split("--parcels", 30)[-1], "0")
-        self.assertEqual(self.times(), before)
+        assert changed(self.split("--parcels", 30)) == "0"
+        assert self.times() == before
         name = next(row.split(",")[0] for row in lines(self.region(2), "parcels")[1:] if sum(row in lines(os.path.join(self.out, it), "parcels") for it in self.regions()) == 1)
         land.covers = [row.replace("GRASS", "WATER").replace("TREES", "WATER") if row.split(",")[1] == name else row for row in land.covers]
         land.write(self.source)
-        self.assertEqual(self.split("--parcels", 30)[-1], "1")
-        self.assertEqual([path for path, when in self.times().items() if when != before[path]], [os.path.join(self.regions()[2], "covers.csv")])
+        assert changed(self.split("--parcels", 30)) == "1"
+        assert [path for path, when in self.times().items() if when != before[path]] == [os.path.join(self.regions()[2], "covers.csv")]
         self.assertIsRelease(self.source)
 
     def times(self):
@@ -224,25 +229,25 @@ class Splits(Case):
         many = len(self.regions())
         Land(8, 4, 4).write(self.source)
         ended = country("split", self.source, self.out, "--parcels", "16", "--anew")
-        self.assertEqual((len(self.regions()), "no regions now: r0002 r0003" in ended.stderr), (1, True), ended.stderr)
-        self.assertLess(1, many)
+        assert (len(self.regions()), "no regions now: r0002 r0003" in ended.stderr) == (1, True), ended.stderr
+        assert 1 < many
         Land(8, 40, 4).write(self.source)
         ended = country("split", self.source, self.out, "--parcels", "16")
-        self.assertIn("has grown over the limits", ended.stderr)
+        assert "has grown over the limits" in ended.stderr
         self.assertIsRelease(self.source)
         write_text(os.path.join(self.out, "country.txt"), "no tiling\n")
         ended = country("split", self.source, self.out, "--parcels", "16")
-        self.assertEqual((ended.returncode, "line 1" in ended.stdout, "--anew" in ended.stdout), (1, True, True))
+        assert (ended.returncode, "line 1" in ended.stdout, "--anew" in ended.stdout) == (1, True, True)
 
     def test_tiling_by_hand(self):
         Land(6, 6, 6).write(self.source)
         os.makedirs(self.out)
         write_text(os.path.join(self.out, "country.txt"), "lpis-country 1\ny 300000\nregion south\nregion north\n")
         self.split()
-        self.assertEqual(self.regions(), ["south", "north"])
+        assert self.regions() == ["south", "north"]
         self.assertIsRelease(self.source)
 
     def test_nothing(self):
         for table, head in HEADS.items():
             write(self.source, table, [head])
-        self.assertEqual(self.split()[1:4], ["1", "parcels", "0"])
+        assert self.split()[1:4] == ["1", "parcels", "0"]

@@ -9,18 +9,21 @@ import struct
 import subprocess
 import sys
 import tempfile
-import unittest
+import unittest.mock
 from pathlib import Path
 
+import pytest
+from registers import made
 import dirty
 import stopping
-from preparing_case import PREPARE, Case, ring, rows
+from calls import records
+from preparing_case import PREPARE, Case, ring
 from lpis_tools import identifiers
 
 EAST, NORTH = dirty.EAST, dirty.NORTH
 
 
-class Texts(Case):
+class TestTexts(Case):
     def test_broken(self):
         """A point without its y, a comma that is missing, commas alone: never half of the land, and never a corner that is not there."""
         x, y = EAST, NORTH
@@ -34,13 +37,13 @@ class Texts(Case):
         """With --accept a piece that cannot be read is left out, and the parcel's land with it: the balance has both."""
         self.tables([("A", f"POLYGON(({ring(0, 0)}))")], [("1", "A", "GRASS", f"POLYGON(({ring(0, 0, 5)}))"), ("2", "A", "TREES", f"POLYGON(({ring(5, 0, 5)})")])
         run = self.run_on(self.sheets, "--accept")
-        self.assertEqual(run.returncode, 0, run.stdout + run.stderr)
-        self.assertEqual([row["done"] for row in self.found() if row["kind"] == "shape"], ["left out"])
-        self.assertIn("gap A", run.stdout)
-        self.assertIn("the balance adds up", run.stdout)
+        assert run.returncode == 0, run.stdout + run.stderr
+        assert [row["done"] for row in self.found() if row["kind"] == "shape"] == ["left out"]
+        assert "gap A" in run.stdout
+        assert "the balance adds up" in run.stdout
 
 
-class Tables(Case):
+class TestTables(Case):
     def test_tables(self):
         """Two columns of one name, records longer or shorter than the header, headers alone: no table, whatever is accepted."""
         head, piece = "piece,parcel,class,wkt", f'1,A,GRASS,"POLYGON(({ring(0, 0)}))"'
@@ -55,13 +58,13 @@ class Tables(Case):
         self.tables([("A", f"POLYGON(({ring(0, 0)}))")], [])
         self.write("covers.csv", f'piece,parcel,class,wkt,owner\n1,A,GRASS,"POLYGON(({ring(0, 0)}))",me\n')
         run = self.run_on(self.sheets)
-        self.assertEqual((run.returncode, "column: covers: columns that the tables do not have: owner: not taken over" in run.stdout), (0, True), run.stdout)
+        assert (run.returncode, "column: covers: columns that the tables do not have: owner: not taken over" in run.stdout) == (0, True), run.stdout
 
-    def test_classes_first(self):
+    @pytest.mark.parametrize("word", ("--classes", "--identifiers"))
+    def test_classes_first(self, word):
         """A path of --classes or --identifiers that is wrong is found before the source is read."""
-        for word in ("--classes", "--identifiers"):
-            run = self.run_on(self.path("none.gpkg"), word, self.path("none.csv"))
-            self.assertEqual((run.returncode, "none.csv" in run.stderr, "reading" in run.stderr), (64, True, False), run.stderr)
+        run = self.run_on(self.path("none.gpkg"), word, self.path("none.csv"))
+        assert (run.returncode, "none.csv" in run.stderr, "reading" in run.stderr) == (64, True, False), run.stderr
 
     def test_classes_kept(self):
         """A table of classes beside the tables is not written over by another one of the source."""
@@ -70,12 +73,12 @@ class Tables(Case):
         Path(self.out, "classes.csv").write_text("class,percent\nGRASS,100\nTREES,50\n", encoding="ascii")
         run = self.run_on(source, "--accept")
         self.assert_refused(run, "classes.csv has other rows than the table classes of the source")
-        self.assertEqual(rows(self.out, "classes.csv")[1]["percent"], "50")
+        assert records(self.out, "classes.csv")[1]["percent"] == "50"
         run = self.run_on(source, "--classes", os.path.join(self.out, "classes.csv"))
-        self.assertEqual((run.returncode, rows(self.out, "classes.csv")[1]["percent"]), (0, "50"), run.stdout)
+        assert (run.returncode, records(self.out, "classes.csv")[1]["percent"]) == (0, "50"), run.stdout
 
 
-class Systems(Case):
+class TestSystems(Case):
     def source(self, number, text, move=(0, 0)):
         """The clean land in a system of that number and definition."""
         path = dirty.make(self.path("l.gpkg"), [])
@@ -98,7 +101,7 @@ class Systems(Case):
             self.assert_refused(self.run_on(source, "--accept"), words, "name a system in metres by --epsg")
             self.assert_refused(self.run_on(source, "--epsg", str(number)), words)
 
-    @unittest.skipUnless(shutil.which("ogr2ogr"), "no ogr2ogr")
+    @pytest.mark.skipif(not shutil.which("ogr2ogr"), reason="no ogr2ogr")
     def test_transformed(self):
         """Web Mercator at 50 degrees: 2.4 times the land there, and the land itself by --epsg."""
         with unittest.mock.patch.object(dirty, "EAST", 1_001_875), unittest.mock.patch.object(dirty, "NORTH", 6_446_275):
@@ -107,8 +110,8 @@ class Systems(Case):
         subprocess.run(["ogr2ogr", "-q", "-f", "GPKG", source, self.path("l.gpkg"), "-a_srs", "EPSG:3857", "parcels", "covers"], check=True)
         self.assert_refused(self.run_on(source), "there about 2.42 times as large")
         run = self.run_on(source, "--epsg", "25832")
-        self.assertEqual(run.returncode, 0, run.stdout + run.stderr)
-        self.assertAlmostEqual(sum(self.areas().values()), 400 / 2.42, delta=2)
+        assert run.returncode == 0, run.stdout + run.stderr
+        assert sum(self.areas().values()) == pytest.approx(400 / 2.42, abs=2)
 
     def test_degrees(self):
         """Degrees that extend over many degrees, degrees in a layer of metres, and where most rows are degrees."""
@@ -124,7 +127,7 @@ class Systems(Case):
         self.assert_refused(self.run_on(self.sheets), "shape: covers 2 (row 2)", "its own system has the number 25833")
 
 
-class Shapes(Case):
+class TestShapes(Case):
     # Rings in metres of a piece's place of ten metres, what its border encloses and what it has after it was mended.
     SHAPES = {
         "hole outside": ([[[(0, 0), (10, 0), (10, 10), (0, 10), (0, 0)], [(20, 0), (30, 0), (30, 10), (20, 10), (20, 0)]]], 100, 100), "bow tie": ([[[(0, 0), (10, 10), (10, 0), (0, 10), (0, 0)]]], 50, 50),
@@ -150,12 +153,12 @@ class Shapes(Case):
         source = self.source()
         self.assert_refused(self.run_on(source), *(f"invalid: covers {number} (fid {number + 1}) ({after or 0:.3f} m2)" for number, (_, _, after) in enumerate(self.SHAPES.values())))
         run = self.run_on(source, "--accept")
-        self.assertEqual(run.returncode, 0, run.stdout + run.stderr)
+        assert run.returncode == 0, run.stdout + run.stderr
         done = {row["identifier"]: row["words"] + row["done"] for row in self.found() if row["kind"] == "invalid"}
         for number, (name, (_, enclosed, after)) in enumerate(self.SHAPES.items()):
-            self.assertIn(f"made valid: {after:.3f} m2 of the {enclosed:.3f} that its border encloses" if after else "nothing of it has an area", done[str(number)], name)
-        self.assertEqual(self.areas(), {"GRASS": sum(after or 0 for _, _, after in self.SHAPES.values()), "TREES": 100})
-        self.assertIn("the balance adds up", run.stdout)
+            assert (f"made valid: {after:.3f} m2 of the {enclosed:.3f} that its border encloses" if after else "nothing of it has an area") in done[str(number)], name
+        assert self.areas() == {"GRASS": sum(after or 0 for _, _, after in self.SHAPES.values()), "TREES": 100}
+        assert "the balance adds up" in run.stdout
 
     def test_taken(self):
         """A mended piece that lies on its neighbour: who loses how much is in the finding."""
@@ -168,11 +171,11 @@ class Shapes(Case):
         bow = [(EAST, NORTH), (EAST + 10, NORTH + 10), (EAST + 10, NORTH), (EAST, NORTH + 10), (EAST, NORTH)]
         source = self.package([("A", dirty.polygon(bow))], [("1", "A", "GRASS", dirty.polygon(bow))])
         run = self.run_on(source, "--accept")
-        self.assertEqual(run.returncode, 0, run.stdout + run.stderr)
-        self.assertEqual([(row["layer"], row["class"], row["mended_m2"]) for row in rows(self.out, "balance.csv")], [("covers", "GRASS", "50.000"), ("covers", "", "50.000"), ("parcels", "", "50.000")])
+        assert run.returncode == 0, run.stdout + run.stderr
+        assert [(row["layer"], row["class"], row["mended_m2"]) for row in records(self.out, "balance.csv")] == [("covers", "GRASS", "50.000"), ("covers", "", "50.000"), ("parcels", "", "50.000")]
 
 
-class Gaps(Case):
+class TestGaps(Case):
     # Of a parcel's second piece: whether it names the parcel and its shape, from the parcel's corner on; and what is said of the gap.
     HALF, BOW, DEGREES = [(5, 0), (10, 0), (10, 10), (5, 10), (5, 0)], [(5, 0), (10, 10), (10, 0), (5, 10), (5, 0)], "POLYGON((9 48,9.1 48,9.1 48.1,9 48))"
     CASES = {
@@ -194,11 +197,11 @@ class Gaps(Case):
         self.tables(parcels, pieces)
         for words, table, column in (((), "prepared.csv", "identifier"), (("--accept",), "report.csv", "identifiers")):
             ended = self.run_on(self.sheets, *words)
-            found = [row for row in rows(self.out, table) if row["kind"] == "gap"]
-            self.assertEqual({row[column] for row in found}, set(self.CASES), ended.stdout + ended.stderr)
+            found = [row for row in records(self.out, table) if row["kind"] == "gap"]
+            assert {row[column] for row in found} == set(self.CASES), ended.stdout + ended.stderr
             for row in found:
                 number, told = wanted[row[column]]
-                self.assertEqual((row["row"], f"none of its pieces{told}" in row["words"], "come" in row["words"]), (number, True, bool(told)), row)
+                assert (row["row"], f"none of its pieces{told}" in row["words"], "come" in row["words"]) == (number, True, bool(told)), row
 
     def test_plain_words(self):
         """Rows without identifier and in degrees: what was done with the row, and what one may do."""
@@ -211,20 +214,20 @@ class Gaps(Case):
             found = {(row["kind"], row["layer"]): row for row in self.found()}
             for kind, layer, remedy, done in wanted:
                 row = found[kind, layer]
-                self.assertEqual((remedy in row["words"], "in the source" in row["words"], row["done"]), (True, True, done if words else ""), row)
+                assert (remedy in row["words"], "in the source" in row["words"], row["done"]) == (True, True, done if words else ""), row
 
 
-class Names(Case):
+class TestNames(Case):
     def test_blanks(self):
         """Padded identifiers are trimmed alike in all tables, and no digest is put behind them."""
         self.tables([("A".ljust(20), f"POLYGON(({ring(0, 0)}))"), ("B", f"POLYGON(({ring(10, 0)}))")],
                     [("1 ", "A", "GRASS ", f"POLYGON(({ring(0, 0)}))"), ("2", "B\u00a0", "TREES", f"POLYGON(({ring(10, 0)}))")])
         run = self.run_on(self.sheets)
-        self.assertEqual(run.returncode, 0, run.stdout + run.stderr)
-        self.assertEqual([row["parcel"] for row in rows(self.out, "parcels.csv")], ["A", "B"])
-        self.assertEqual([(row["piece"], row["parcel"], row["class"]) for row in rows(self.out, "covers.csv")], [("1", "A", "GRASS"), ("2", "B", "TREES")])
-        self.assertEqual(sum(row["kind"] == "blanks" for row in self.found()), 4, run.stdout)
-        self.assertIn({"kind": "parcel", "old": "A".ljust(20), "new": "A"}, rows(self.out, "identifiers.csv"))
+        assert run.returncode == 0, run.stdout + run.stderr
+        assert [row["parcel"] for row in records(self.out, "parcels.csv")] == ["A", "B"]
+        assert [(row["piece"], row["parcel"], row["class"]) for row in records(self.out, "covers.csv")] == [("1", "A", "GRASS"), ("2", "B", "TREES")]
+        assert sum(row["kind"] == "blanks" for row in self.found()) == 4, run.stdout
+        assert {"kind": "parcel", "old": "A".ljust(20), "new": "A"} in records(self.out, "identifiers.csv")
 
     def test_alike(self):
         """Names that differ in case, in forms of letters or in .0 alone: named, and a piece whose parcel is not there with the one that is."""
@@ -235,36 +238,33 @@ class Names(Case):
 
     def test_nameless(self):
         source = self.package([("A", dirty.polygon(dirty.box(0, 0)))], [("1", "A", "GRASS", dirty.polygon(dirty.box(0, 0, 5))), (None, "A", "TREES", dirty.polygon(dirty.box(5, 0, 5)))])
-        base = dirty.sqlite3.connect(source)
-        base.execute("UPDATE covers SET fid = 4711 WHERE piece IS NULL")
-        base.commit()
-        base.close()
+        made(source, "UPDATE covers SET fid = 4711 WHERE piece IS NULL")
         self.assert_refused(self.run_on(source), "nameless: covers (fid 4711) (50.000 m2) at")
         run = self.run_on(source, "--accept")
-        self.assertEqual((run.returncode, rows(self.out, "covers.csv")[1]["piece"]), (0, "fid-4711"), run.stdout)
+        assert (run.returncode, records(self.out, "covers.csv")[1]["piece"]) == (0, "fid-4711"), run.stdout
 
     def test_forms(self):
         """One name in two forms of Unicode, letters that are none, control characters: two names stay two, and each is named."""
         names = ["M\u00fchle", "Mu\u0308hle", "x\x07", "x\x08", "\u200b"]
         made = [identifiers.made_of(name) for name in names]
-        self.assertEqual(len(set(made)), len(names))
-        self.assertTrue(all(map(identifiers.is_one, made)), made)
+        assert len(set(made)) == len(names)
+        assert all(map(identifiers.is_one, made)), made
 
 
-class Whole(Case):
+class TestWhole(Case):
     def test_overlap_alone(self):
         """Overlaps or gaps alone: without --accept no table is written."""
         run = self.run_on(dirty.make(self.path("l.gpkg"), ["wide"]))
         self.assert_refused(run, "overlap wide-2.1 wide.2", "no table is written")
-        self.assertEqual([name for name in os.listdir(self.out) if name.startswith(".")], [".rounded"])
+        assert [name for name in os.listdir(self.out) if name.startswith(".")] == [".rounded"]
         run = self.run_on(dirty.make(self.path("l.gpkg"), ["wide"]), "--accept")
-        self.assertEqual([name for name in os.listdir(self.out) if name.startswith(".")], [])
-        self.assertEqual((run.returncode, len(rows(self.out, "parcels.csv"))), (0, 6), run.stdout)
+        assert [name for name in os.listdir(self.out) if name.startswith(".")] == []
+        assert (run.returncode, len(records(self.out, "parcels.csv"))) == (0, 6), run.stdout
 
     def test_full_disk(self):
         """Where a table cannot be written whole the old ones stay, all of them."""
         small = dirty.make(self.path("l.gpkg"), [])
-        self.assertEqual(self.run_on(small).returncode, 0)
+        assert self.run_on(small).returncode == 0
         before = {name: open(os.path.join(self.out, name), "rb").read() for name in ("parcels.csv", "covers.csv", "classes.csv")}
         package = dirty.Package(self.path("m.gpkg"))
         shapes = [(f"P{number}", dirty.polygon(dirty.box(20 * number, 0))) for number in range(300)]
@@ -278,29 +278,29 @@ class Whole(Case):
             resource.setrlimit(resource.RLIMIT_FSIZE, (20_000, 20_000))
 
         run = subprocess.run([PREPARE, self.path("m.gpkg"), self.out], capture_output=True, text=True, check=False, preexec_fn=limit)
-        self.assertEqual((run.returncode, "Traceback" in run.stderr), (64, False), run.stderr)
-        self.assertEqual(before, {name: open(os.path.join(self.out, name), "rb").read() for name in before})
-        self.assertEqual([name for name in os.listdir(self.out) if name.startswith(".")], [])
+        assert (run.returncode, "Traceback" in run.stderr) == (64, False), run.stderr
+        assert before == {name: open(os.path.join(self.out, name), "rb").read() for name in before}
+        assert [name for name in os.listdir(self.out) if name.startswith(".")] == []
 
     def test_interrupted(self):
         source = dirty.make(self.path("l.gpkg"), dirty.ALL)
         status, told = stopping.stopped([PREPARE, source, self.out], f"prepare: reading {source}\n")
-        self.assertEqual((status, "Traceback" in told, "stopped by SIGINT: no table is written" in told, os.listdir(self.out)), (130, False, True, []), told)
+        assert (status, "Traceback" in told, "stopped by SIGINT: no table is written" in told, os.listdir(self.out)) == (130, False, True, []), told
 
     def test_balance(self):
         """Every kind of dirt at once: the balance adds up, by class, and what was left out is in the report with area, place and shape."""
         run = self.run_on(dirty.make(self.path("l.gpkg"), dirty.ALL), "--accept")
-        self.assertEqual(run.returncode, 0, run.stdout + run.stderr)
-        self.assertIn("the balance adds up to the square metre", run.stdout)
-        for row in rows(self.out, "balance.csv"):
+        assert run.returncode == 0, run.stdout + run.stderr
+        assert "the balance adds up to the square metre" in run.stdout
+        for row in records(self.out, "balance.csv"):
             parts = [float(row[f"{column}_m2"]) for column in ("source", "mended", "left_out", "settled")]
-            self.assertAlmostEqual(sum(parts), float(row["tables_m2"]), delta=0.5, msg=str(row))
+            assert sum(parts) == pytest.approx(float(row["tables_m2"]), abs=0.5), str(row)
         features = json.loads(Path(self.out, "report.geojson").read_text(encoding="utf-8"))["features"]
         left = {feature["properties"]["identifiers"]: feature for feature in features if feature["properties"]["kind"] == "left out"}
-        self.assertEqual((left["bare"]["properties"]["area_m2"], bool(left["bare"]["geometry"])), (100, True))
+        assert (left["bare"]["properties"]["area_m2"], bool(left["bare"]["geometry"])) == (100, True)
 
 
-class Alone(unittest.TestCase):
+class TestAlone:
     def test_help(self):
         """--help and --version need no Shapely."""
         with tempfile.TemporaryDirectory() as folder:
@@ -308,4 +308,4 @@ class Alone(unittest.TestCase):
             Path(folder, "shapely", "__init__.py").write_text("raise ImportError\n", encoding="ascii")
             for word, wanted in (("--help", "--accept"), ("--version", "lpis-prepare ")):
                 run = subprocess.run([sys.executable, PREPARE, word], capture_output=True, text=True, check=False, env={**os.environ, "PYTHONPATH": folder})
-                self.assertEqual((run.returncode, wanted in run.stdout), (0, True), run.stdout + run.stderr)
+                assert (run.returncode, wanted in run.stdout) == (0, True), run.stdout + run.stderr

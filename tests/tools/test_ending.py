@@ -4,9 +4,9 @@ import os
 import shutil
 import signal
 import subprocess
-import unittest
 from pathlib import Path
 
+import pytest
 import dirty
 import stopping
 from places import TOOLS, TOP
@@ -34,9 +34,8 @@ def is_alive(pid):
     return bool(ending.stat_of(pid))
 
 
-class Ending(Spare):
-    def setUp(self):
-        super().setUp()
+class TestEnding(Spare):
+    def set_up(self):
         for name in ("bin", "tmp", "country", "country/only"):
             os.mkdir(self.path(name))
         dirty.make(self.path("land.gpkg"), [])
@@ -67,15 +66,14 @@ class Ending(Spare):
         run = self.start(tool, words, program)
         run.send_signal(number)
         told = run.communicate()[1]
-        self.assertEqual((run.returncode, "Traceback" in told, f"stopped by {number.name}" in told), (128 + number, False, True), told)
-        self.assertEqual((bool(self.pids()), [pid for pid in self.pids() if is_alive(pid)]), (True, []), told)
+        assert (run.returncode, "Traceback" in told, f"stopped by {number.name}" in told) == (128 + number, False, True), told
+        assert (bool(self.pids()), [pid for pid in self.pids() if is_alive(pid)]) == (True, []), told
         left = [os.path.join(at, name) for at, folders, files in os.walk(self.folder) for name in folders + files if name.endswith(".new") or name.startswith((".new-", ".prepare-"))]
-        self.assertEqual((os.listdir(self.path("tmp")), left), ([], []))
+        assert (os.listdir(self.path("tmp")), left) == ([], [])
 
     def all_of(self, cases):
         for place, case in enumerate(cases):
-            with self.subTest(" ".join(case[:2])):
-                self.stopped(stopping.SIGNALS[place % 3], *case)
+            self.stopped(stopping.SIGNALS[place % 3], *case)
             for name in os.listdir(self.folder):
                 if name.startswith("pids."):
                     os.remove(self.path(name))
@@ -86,7 +84,7 @@ class Ending(Spare):
     def test_signals(self):
         self.all_of([CASES[0]] * 3)
 
-    @unittest.skipUnless(shapely_there.python(), shapely_there.LACKING)
+    @pytest.mark.skipif(not shapely_there.python(), reason=shapely_there.LACKING)
     def test_sources(self):
         self.all_of(OF_SHAPELY)
 
@@ -100,7 +98,7 @@ class Ending(Spare):
         for number in (signal.SIGHUP, signal.SIGTERM):
             run.send_signal(number)
         run.communicate()
-        self.assertEqual((run.returncode, [pid for pid in self.pids() if is_alive(pid)]), (128 + signal.SIGTERM, []))
+        assert (run.returncode, [pid for pid in self.pids() if is_alive(pid)]) == (128 + signal.SIGTERM, [])
 
     def test_stubborn(self):
         """A program that hears neither INT nor TERM."""

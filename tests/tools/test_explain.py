@@ -13,6 +13,8 @@ import xml.dom.minidom
 from pathlib import Path
 
 import pytest
+from registers import made
+from calls import tool
 from places import BUILT, TOOLS, TOP
 from lpis_tools import codes
 
@@ -47,7 +49,7 @@ def codes_of_formats():
 
 def explain(line, *words):
     """The words, the status and the errors of tools/explain for what is told it."""
-    run = subprocess.run([os.path.join(TOOLS, "explain"), *map(str, words)], input=line, capture_output=True, text=True, check=False)
+    run = tool("explain", *words, input=line)
     return run.stdout, run.returncode, run.stderr
 
 
@@ -292,9 +294,7 @@ def test_statuses(text, options, status, tmp_path):
 def test_failures(tmp_path):
     path, store = register(tmp_path, {"A": SQUARE}), "failed store\n  " + codes.FAILURES["store"] + "\n"
     assert explain("failed store\n", tmp_path, "--register", path)[:2] == (store, 3)
-    connection = sqlite3.connect(path)
-    connection.execute("CREATE TRIGGER watch DELETE ON lpis_text BEGIN SELECT 1; END")
-    connection.close()
+    made(path, "CREATE TRIGGER watch DELETE ON lpis_text BEGIN SELECT 1; END")
     assert explain("failed store\n", tmp_path, "--register", path)[:2] == (store + "  the trigger watch on lpis_text: drop it\n", 3)
     assert explain("failed read parcels\n", tmp_path / "none")[:2] == ("failed read parcels\n  " + codes.FAILURES["read"] + "\n", 3)
     assert explain("")[1] == 64

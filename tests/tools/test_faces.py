@@ -6,9 +6,9 @@ import random
 import subprocess
 import sys
 import time
-import unittest
 from fractions import Fraction
 
+import pytest
 import places
 from lpis_tools import shapely_there
 
@@ -39,8 +39,8 @@ def place_of(edge, place):
     return (at, slope) if at < x else None
 
 
-@unittest.skipUnless(shapely_there.is_there(), shapely_there.LACKING)
-class Faces(unittest.TestCase):
+@pytest.mark.skipif(not shapely_there.is_there(), reason=shapely_there.LACKING)
+class TestFaces:
     def test_leftward(self):
         """Stars of edges around random corners, near and far from one another, and at the ends of what the tables may have."""
         import numpy
@@ -56,7 +56,7 @@ class Faces(unittest.TestCase):
                 found = Leftward(numpy.array(edges)).next_to(numpy.array(asked))
                 for number, place in zip(found.tolist(), asked):
                     best = max((told for edge in edges if (told := place_of(edge, place))), default=None)
-                    self.assertEqual(None if number < 0 else place_of(edges[number], place), best, (edges, place))
+                    assert (None if number < 0 else place_of(edges[number], place)) == best, (edges, place)
 
     def test_leftward_of_heaps(self):
         """Edges in heaps of a few millimetres beside edges of many kilometres, and rows of places that have nothing to their left for long: a number of edges
@@ -74,10 +74,10 @@ class Faces(unittest.TestCase):
             for edges, asked in ((small + far, heap), (flat, [edge[:2] for edge in flat])):
                 left = leftward.Leftward(numpy.array(edges))
                 found = left.next_to(numpy.array(asked)).tolist()
-                self.assertLessEqual(left.looked, 32 * (len(edges) + len(asked) + leftward.TURN))
+                assert left.looked <= 32 * (len(edges) + len(asked) + leftward.TURN)
                 for number, place in list(zip(found, asked))[:: count // 40]:
                     best = max((told for edge in edges if (told := place_of(edge, place))), default=None)
-                    self.assertEqual(None if number < 0 else place_of(edges[number], place), best, place)
+                    assert (None if number < 0 else place_of(edges[number], place)) == best, place
 
     def test_swept(self):
         """The line that goes upward answers as the cells do: over grids with holes, edges of one corner, and places on the level of corners."""
@@ -93,8 +93,9 @@ class Faces(unittest.TestCase):
                 asked = numpy.array([place for row in corners for place in row] + [(draw.randrange(80 * size), draw.randrange(80 * size)) for _ in range(20)])
                 left = leftward.Leftward(edges)
                 by_cells, by_line = left.next_to(asked).tolist(), leftward.swept(left.edges, asked).tolist()
-                for one, other, place in zip(by_cells, by_line, asked.tolist()):
-                    self.assertEqual(*(None if number < 0 else place_of(edges[number].tolist(), place) for number in (one, other)), place)
+                for *numbers, place in zip(by_cells, by_line, asked.tolist()):
+                    found, swept = (None if number < 0 else place_of(edges[number].tolist(), place) for number in numbers)
+                    assert found == swept, place
 
     def test_turns(self):
         """Which way a ring goes is exact, also where it is a hair that doubles take for a line."""
@@ -113,7 +114,7 @@ class Faces(unittest.TestCase):
             area = sum(ax * by - bx * ay for (ax, ay), (bx, by) in zip(way, way[1:]))
             found = [tuple(edge) for edge in edges[owners == number].tolist()]
             wanted = [(*p, *q) for p, q in zip(ring, ring[1:])]
-            self.assertEqual(found, [(*edge[2:], *edge[:2]) for edge in wanted] if area < 0 else wanted, ring)
+            assert found == ([(*edge[2:], *edge[:2]) for edge in wanted] if area < 0 else wanted), ring
 
     def test_members(self):
         """Squares of a grid, given to a few owners at random: each owner's area is kept, and each hole lies in its shell."""
@@ -130,8 +131,8 @@ class Faces(unittest.TestCase):
             made = rounding.Map(rows, rows, lambda words: None)
             for number, text in made.polygons(made.pieces):
                 shape = wkt.loads(text)
-                self.assertTrue(shape.is_valid, text)
-                self.assertEqual(shape.area, sum(who == "AB"[number] for who in cells.values()))
+                assert shape.is_valid, text
+                assert shape.area == sum(who == "AB"[number] for who in cells.values())
 
     def test_heaps(self):
         """150 shapes that all overlap: each two of them, once, in little time."""
@@ -143,14 +144,14 @@ class Faces(unittest.TestCase):
             rows.append(land.Row(1, {"parcel": f"P{number}", "piece": f"{number:03}", "class": "GRASS"}, wkb.Found([[[(x, y), (x + 100, y), (x + 100, y + 100), (x, y + 100), (x, y)]]])))
         before = time.process_time()
         found = rounding.Map([], rows, lambda words: None).conflicts()
-        self.assertEqual(len(found.overlaps), 150 * 149 // 2)
-        self.assertEqual(len({(one["piece"], other["piece"]) for one, other in found.overlaps}), 150 * 149 // 2)
-        self.assertLess(time.process_time() - before, 30)
+        assert len(found.overlaps) == 150 * 149 // 2
+        assert len({(one["piece"], other["piece"]) for one, other in found.overlaps}) == 150 * 149 // 2
+        assert time.process_time() - before < 30
 
     def test_many(self):
         """25,000 members, and as many holes, in little room."""
         hole = f"[[(-1.0, -1.0), (999.0, -1.0), (999.0, 999.0), (-1.0, 999.0), (-1.0, -1.0)], *({SQUARE}[::-1] for k in range(25000))]"
         for members, counts in ((f"[[{SQUARE}] for k in range(25000)]", ["25000", "25000"]), (f"[{hole}]", ["1", "25001"])):
             run = subprocess.run([sys.executable, "-c", MANY.format(tools=places.TOOLS, members=members)], capture_output=True, text=True, check=False, env={**os.environ, "PYTHONDONTWRITEBYTECODE": "1"})
-            self.assertEqual((run.returncode, run.stdout.split()[:2]), (0, counts), run.stderr)
-            self.assertLess(int(run.stdout.split()[2]), MOST_MEGABYTES)
+            assert (run.returncode, run.stdout.split()[:2]) == (0, counts), run.stderr
+            assert int(run.stdout.split()[2]) < MOST_MEGABYTES

@@ -1,12 +1,11 @@
 """Tests tools/faults on a release with one fault of each kind. Wants `lpis cut`: built, or named by LPIS."""
 
 import json
-import os
 import shlex
-import subprocess
 
 import pytest
-from places import BUILT, TOOLS
+from calls import tool
+from places import BUILT
 from lpis_tools import cutting
 
 
@@ -46,7 +45,7 @@ def test_a_search_ends_where_enough_are_found():
 
 
 def faults(folder, out):
-    return subprocess.run([os.path.join(TOOLS, "faults"), folder, out, "--lpis", shlex.quote(BUILT)], capture_output=True, text=True, check=False)
+    return tool("faults", folder, out, "--lpis", shlex.quote(BUILT))
 
 
 @pytest.fixture

@@ -3,13 +3,11 @@ bench/lands_trial.py. Wants Shapely."""
 
 import math
 import os
-import tempfile
-import unittest
 import unittest.mock
 from pathlib import Path
 
+import pytest
 from lpis_tools import shapely_there
-
 import lands_run
 import lands_shrink
 import lands_trial
@@ -67,31 +65,26 @@ CASES = {
 }
 
 
-@unittest.skipUnless(shapely_there.is_there(), shapely_there.LACKING)
-class Lands(unittest.TestCase):
-    @classmethod
-    def setUpClass(cls):
-        spare = tempfile.TemporaryDirectory()
-        cls.addClassCleanup(spare.cleanup)
-        cls.folder = os.path.join(spare.name, "land")
+@pytest.mark.skipif(not shapely_there.is_there(), reason=shapely_there.LACKING)
+class TestLands:
+    @pytest.fixture(autouse=True, scope="class")
+    def begin(self, request, tmp_path_factory):
+        spare = str(tmp_path_factory.mktemp("lands"))
         lands_run.preload()
-        cls.runner = lands_run.Runner(spare.name)
+        request.cls.folder, request.cls.runner = os.path.join(spare, "land"), lands_run.Runner(spare)
 
-    def test_cases(self):
-        for name, rows in CASES.items():
-            for form in ("package", "csv")[: 1 if "90 km" in name else 2]:
-                with self.subTest(name, form=form):
-                    self.assertEqual(lands_trial.of_land(Land.of_rows(*rows, form), self.runner, self.folder), [])
+    @pytest.mark.parametrize("name, rows", CASES.items())
+    def test_cases(self, name, rows):
+        for form in ("package", "csv")[: 1 if "90 km" in name else 2]:
+            assert lands_trial.of_land(Land.of_rows(*rows, form), self.runner, self.folder) == []
 
-    def test_generated(self):
-        for number in range(LANDS):
-            with self.subTest(f"bench/lands --most {MOST} --one {number} FOLDER"):
-                self.assertEqual(lands_trial.of_land(Land(number, MOST), self.runner, self.folder), [])
+    @pytest.mark.parametrize("number", range(LANDS))
+    def test_generated(self, number):
+        assert lands_trial.of_land(Land(number, MOST), self.runner, self.folder) == []
 
-    def test_damaged(self):
-        for number in (*range(DAMAGED), *ONCE):
-            with self.subTest(f"bench/lands --damaged --one {number} FOLDER"):
-                self.assertEqual(lands_trial.of_damaged(number, self.runner, self.folder)[0], [])
+    @pytest.mark.parametrize("number", (*range(DAMAGED), *ONCE))
+    def test_damaged(self, number):
+        assert lands_trial.of_damaged(number, self.runner, self.folder)[0] == []
 
     def test_shrinking(self):
         """A land that fails is made as small as it goes: the parcel and its hole that are at fault, and nothing else, in coordinates of few digits."""
@@ -106,20 +99,20 @@ class Lands(unittest.TestCase):
             with unittest.mock.patch.object(lands_shrink, "hypothesis", lands_shrink.hypothesis if is_there else None):
                 small = lands_shrink.Shrinking(whole, fails).run()
             (row,) = small.rows()
-            self.assertEqual((fails(small), [len(ring) for ring in row.shape.members[0]]), (True, [4, 4]), is_there)
-            self.assertTrue(not is_there or all(value == round(value) for point in row.shape.points() for value in point), row.shape.points())
-        self.assertEqual(len(whole.rows()), 122)
+            assert (fails(small), [len(ring) for ring in row.shape.members[0]]) == (True, [4, 4]), is_there
+            assert not is_there or all(value == round(value) for point in row.shape.points() for value in point), row.shape.points()
+        assert len(whole.rows()) == 122
 
     def test_judge(self):
         """The judge sees what is wrong: land that is gone, a name that is another's, a balance that does not add up."""
         land = Land.of_rows(*alike([[box(0, 0)]], [[box(10, 0)]], [[box(20, 0)]]))
-        self.assertEqual(lands_trial.of_land(land, self.runner, self.folder), [])
+        assert lands_trial.of_land(land, self.runner, self.folder) == []
         out = os.path.join(self.folder, "accepted")
         for file, old, new, kind in (("parcels.csv", "550010.000 5400010.000", "550010.000 5400009.000", "balance"), ("covers.csv", "K1,P1", "K7,P1", "silent"),
                                      ("balance.csv", "parcels,,300.000", "parcels,,299.000", "balance"), ("balance.csv", "0.000,0.000,0.000,300.000", "0.000,1.000,0.000,300.000", "uneven")):
             path = os.path.join(out, file)
             text = Path(path).read_text(encoding="utf-8")
-            self.assertIn(old, text)
+            assert old in text
             Path(path).write_text(text.replace(old, new), encoding="utf-8")
-            self.assertIn(kind, [fault[0] for fault in lands_trial.Judge(land, out).judge()], (file, new))
+            assert kind in [fault[0] for fault in lands_trial.Judge(land, out).judge()], (file, new)
             Path(path).write_text(text, encoding="utf-8")

@@ -6,10 +6,11 @@ import random
 import sqlite3
 import subprocess
 import tracemalloc
-import unittest
 from pathlib import Path
 
-from places import BUILT, TOOLS, TOP
+import pytest
+from calls import tool
+from places import BUILT, TOP
 from spare import Spare
 from lpis_tools import lineage_faults, shapely_there, years
 
@@ -63,10 +64,6 @@ def write(folder, shapes, rows=None):
     return folder
 
 
-def run(*words):
-    return subprocess.run([os.path.join(TOOLS, "lineage"), *words], capture_output=True, text=True, check=False)
-
-
 class Years(Spare):
     prefix = "years "
 
@@ -84,64 +81,62 @@ class Years(Spare):
         return self.path("lpis.db")
 
 
-@unittest.skipUnless(shapely_there.python(), shapely_there.LACKING)
-class Proposals(Years):
+@pytest.mark.skipif(not shapely_there.python(), reason=shapely_there.LACKING)
+class TestProposals(Years):
     def test_of_folders(self):
         for number, (what, old, new, rows, left) in enumerate(PROPOSED):
-            with self.subTest(what):
-                folder = self.path(str(number))
-                ran = run(write(os.path.join(folder, "old"), old), write(os.path.join(folder, "new"), new), os.path.join(folder, "new"))
-                self.assertEqual((rows.split(), int(bool(left))), (sorted(self.read(folder, "new", "lineage.csv")), ran.returncode), ran.stderr)
-                self.assertEqual(left.split(), [line.split()[1].rstrip(":") for line in ran.stdout.splitlines() if line.startswith("unclear")])
+            folder = self.path(str(number))
+            ran = tool("lineage", write(os.path.join(folder, "old"), old), write(os.path.join(folder, "new"), new), os.path.join(folder, "new"))
+            assert (rows.split(), int(bool(left))) == (sorted(self.read(folder, "new", "lineage.csv")), ran.returncode), ran.stderr
+            assert left.split() == [line.split()[1].rstrip(":") for line in ran.stdout.splitlines() if line.startswith("unclear")]
 
     def test_of_the_examples(self):
-        ran = run(os.path.join(EXAMPLES, "2024"), os.path.join(EXAMPLES, "2025"), self.path("proposed.csv"))
+        ran = tool("lineage", os.path.join(EXAMPLES, "2024"), os.path.join(EXAMPLES, "2025"), self.path("proposed.csv"))
         with open(os.path.join(EXAMPLES, "2025", "lineage.csv"), encoding="ascii") as file:
             wanted = sorted(line.rstrip("\n").rstrip("0") for line in [*file][1:])
-        self.assertEqual((0, wanted), (ran.returncode, sorted(line.rstrip("0") for line in self.read("proposed.csv"))))
+        assert (0, wanted) == (ran.returncode, sorted(line.rstrip("0") for line in self.read("proposed.csv")))
 
     def test_of_a_register(self):
         base = self.register({**OLDER, "m": OLDER["m"]})
-        ran = run("--register", base, write(self.path("new"), NEWER), self.path("new"))
-        self.assertEqual(1, ran.returncode, ran.stderr)
-        self.assertEqual(["a,a1,1", "a,a2,1", "b,,0"], sorted(self.read("new", "lineage.csv")))
-        self.assertIn("unclear m: the register keeps no shape of it", ran.stdout)
-        self.assertIn("used before early: last in 2023", ran.stdout)
+        ran = tool("lineage", "--register", base, write(self.path("new"), NEWER), self.path("new"))
+        assert 1 == ran.returncode, ran.stderr
+        assert ["a,a1,1", "a,a2,1", "b,,0"] == sorted(self.read("new", "lineage.csv"))
+        assert "unclear m: the register keeps no shape of it" in ran.stdout
+        assert "used before early: last in 2023" in ran.stdout
 
     def test_nothing_is_written_over(self):
         old, new = write(self.path("old"), OLDER), write(self.path("new"), NEWER, "a,a1,\n")
-        ran = run(old, new, new)
-        self.assertEqual((64, ["a,a1,"]), (ran.returncode, self.read("new", "lineage.csv")))
-        self.assertIn("it stays as it is", ran.stderr)
+        ran = tool("lineage", old, new, new)
+        assert (64, ["a,a1,"]) == (ran.returncode, self.read("new", "lineage.csv"))
+        assert "it stays as it is" in ran.stderr
 
     def test_trouble_is_no_traceback(self):
         new = write(self.path("new"), NEWER)
         for words in ([], [new], [new, new, new, new], [self.path("none"), new, self.path("x.csv")], ["--register", self.path("none.db"), new, self.path("x.csv")],
                       ["--check", new, new], ["--register", os.path.join(new, "parcels.csv"), new, self.path("x.csv")]):
-            ran = run(*words)
-            self.assertEqual(64, ran.returncode, words)
-            self.assertNotIn("Traceback", ran.stderr)
+            ran = tool("lineage", *words)
+            assert 64 == ran.returncode, words
+            assert "Traceback" not in ran.stderr
 
 
-@unittest.skipUnless(shapely_there.python(), shapely_there.LACKING)
-class Faults(Years):
+@pytest.mark.skipif(not shapely_there.python(), reason=shapely_there.LACKING)
+class TestFaults(Years):
     def test_all_at_once(self):
         base = self.register(OLDER)
         for number, (rows, wanted) in enumerate(FAULTY):
-            with self.subTest(rows):
-                ran = run("--check", "--register", base, write(self.path(f"new{number}"), NEWER, rows))
-                lines = [line for line in ran.stdout.splitlines() if line[:1].isdigit()]
-                self.assertEqual((1, wanted), (ran.returncode, [line.split(":")[0] for line in lines]), ran.stdout + ran.stderr)
+            ran = tool("lineage", "--check", "--register", base, write(self.path(f"new{number}"), NEWER, rows))
+            lines = [line for line in ran.stdout.splitlines() if line[:1].isdigit()]
+            assert (1, wanted) == (ran.returncode, [line.split(":")[0] for line in lines]), ran.stdout + ran.stderr
 
     def test_exchanged_names_are_reported(self):
         old = write(self.path("old"), OLDER)
-        ran = run("--check", old, write(self.path("new"), NEWER, "a,a1,1\na,a2,1\nb,,\nm,mm,\n"))
+        ran = tool("lineage", "--check", old, write(self.path("new"), NEWER, "a,a1,1\na,a2,1\nb,,\nm,mm,\n"))
         moved = [line for line in ran.stdout.splitlines() if line.startswith("moved ")]
-        self.assertEqual((0, 2), (ran.returncode, len(moved)), ran.stdout)
-        self.assertTrue(moved[0].startswith("moved k: its old and its new shape share nothing") and moved[1].startswith("moved n:"))
+        assert (0, 2) == (ran.returncode, len(moved)), ran.stdout
+        assert moved[0].startswith("moved k: its old and its new shape share nothing") and moved[1].startswith("moved n:")
 
 
-class Countries(Years):
+class TestCountries(Years):
     """Parcels of regions: one that several regions have is one."""
 
     def country(self, name, shapes, rows=("", "")):
@@ -152,20 +147,20 @@ class Countries(Years):
         Path(folder, "country.txt").write_text("lpis-country 1\nx 9000\nregion west\nregion east\n", encoding="ascii")
         return folder
 
-    @unittest.skipUnless(shapely_there.python(), shapely_there.LACKING)
+    @pytest.mark.skipif(not shapely_there.python(), reason=shapely_there.LACKING)
     def test_as_of_one_release(self):
         """Proposed rows of a dropped parcel that lies in two tiles come once, and a fault is named by its region."""
-        wanted = run("--register", self.register(OLDER), write(self.path("new"), NEWER), self.path("whole.csv"))
-        ran = run("--register", self.path("lpis.db"), self.country("country", NEWER), self.path("tiles.csv"))
-        self.assertEqual((ran.returncode, self.read("tiles.csv"), self.read("tiles-report.csv")), (wanted.returncode, self.read("whole.csv"), self.read("whole-report.csv")), ran.stdout + ran.stderr)
+        wanted = tool("lineage", "--register", self.register(OLDER), write(self.path("new"), NEWER), self.path("whole.csv"))
+        ran = tool("lineage", "--register", self.path("lpis.db"), self.country("country", NEWER), self.path("tiles.csv"))
+        assert (ran.returncode, self.read("tiles.csv"), self.read("tiles-report.csv")) == (wanted.returncode, self.read("whole.csv"), self.read("whole-report.csv")), ran.stdout + ran.stderr
         faulty = self.country("faulty", NEWER, ("a,a1,1\na,a2,1\n", "b,,\nz,mm,\n"))
-        ran = run("--check", "--register", self.path("lpis.db"), faulty)
-        self.assertEqual([line.split(":")[0] for line in ran.stdout.splitlines()[:3]], ["70 row 2 region east z", "75 m", "76 early 2023"], ran.stdout + ran.stderr)
+        ran = tool("lineage", "--check", "--register", self.path("lpis.db"), faulty)
+        assert [line.split(":")[0] for line in ran.stdout.splitlines()[:3]] == ["70 row 2 region east z", "75 m", "76 early 2023"], ran.stdout + ran.stderr
         rows = os.path.join(write(self.path("other"), {}, "a,a1,1\na,a2,1\nb,,\nm,mm,\n"), "lineage.csv")
-        ran = run("--check", "--register", self.path("lpis.db"), faulty, "--rows", rows)
-        self.assertEqual([line.split(":")[0] for line in ran.stdout.splitlines()[:2]], ["76 early 2023", "moved k"], ran.stdout + ran.stderr)
+        ran = tool("lineage", "--check", "--register", self.path("lpis.db"), faulty, "--rows", rows)
+        assert [line.split(":")[0] for line in ran.stdout.splitlines()[:2]] == ["76 early 2023", "moved k"], ran.stdout + ran.stderr
 
-    @unittest.skipUnless(shapely_there.python(), shapely_there.LACKING)
+    @pytest.mark.skipif(not shapely_there.python(), reason=shapely_there.LACKING)
     def test_many_processes(self):
         """By three processes the same bytes as by one, of proposals and of faults, with marks that are wrong and parcels that moved."""
         old, new = {}, {}
@@ -178,40 +173,41 @@ class Countries(Years):
                 new.update({f"Q{number}": box(west, 0, other, 1), f"R{number}": box(middle, 0, east, 1)})
         places, told = [self.country(name, shapes) for name, shapes in (("old", old), ("new", new))], []
         for workers in ("1", "3"):
-            proposed = run(*places, self.path("rows.csv"), "--workers", workers)
+            proposed = tool("lineage", *places, self.path("rows.csv"), "--workers", workers)
             marked = [line[:-1] + "1" for line in self.read("rows.csv")]
             Path(self.path("marked.csv")).write_text("old,new,exact\n" + "".join(f"{line}\n" for line in marked), encoding="ascii")
-            checked = run("--check", *places, "--rows", self.path("marked.csv"), "--workers", workers)
+            checked = tool("lineage", "--check", *places, "--rows", self.path("marked.csv"), "--workers", workers)
             told.append((proposed.returncode, proposed.stdout, self.read("rows.csv"), self.read("rows-report.csv"), checked.returncode, checked.stdout))
             os.remove(self.path("rows.csv"))
             os.remove(self.path("rows-report.csv"))
-        self.assertEqual(*told)
-        self.assertEqual((told[0][0], len(told[0][2]), told[0][5].splitlines()[-1]), (0, 1200, "faults 400 moved 50"))
+        assert told[0] == told[1]
+        assert (told[0][0], len(told[0][2]), told[0][5].splitlines()[-1]) == (0, 1200, "faults 400 moved 50")
 
     def test_what_does_not_fit(self):
         country = self.country("country", NEWER)
-        self.assertEqual(list(years.of_folder(country).shapes), ["a1", "a2", "k", "n", "mm", "early"])
+        assert list(years.of_folder(country).shapes) == ["a1", "a2", "k", "n", "mm", "early"]
         write(os.path.join(country, "east"), {"a2": box(8, 0, 20, 11)})
-        with self.assertRaisesRegex(years.Trouble, "a2: the region west has another shape of it"):
+        with pytest.raises(years.Trouble, match="a2: the region west has another shape of it"):
             years.of_folder(country)
         write(os.path.join(country, "east"), {})
         with open(os.path.join(country, "east", "parcels.csv"), "a", encoding="ascii") as file:
             file.write(f'k,"{NEWER["k"]}"\n' * 2)
-        with self.assertRaisesRegex(years.Trouble, "row 2: k: `lpis cut` reports"):
+        with pytest.raises(years.Trouble, match="row 2: k: `lpis cut` reports"):
             years.of_folder(country)
 
     def test_memory(self):
         """What is kept of a year does not grow with it."""
         folder = write(self.path("many"), {f"P{number}": box(number, 0, number + 1, 1) for number in range(4000)})
         tracemalloc.start()
-        self.addCleanup(tracemalloc.stop)
         year = years.of_folder(folder)
-        self.assertLess(tracemalloc.get_traced_memory()[1], 700_000)
-        self.assertEqual((year.shapes["P7"], "P4000" in year.shapes, year.shapes.near((7500, 100, 7600, 200))), ([[[(7000, 0), (8000, 0), (8000, 1000), (7000, 1000), (7000, 0)]]], False, ["P7"]))
+        most = tracemalloc.get_traced_memory()[1]
+        tracemalloc.stop()
+        assert most < 700_000
+        assert (year.shapes["P7"], "P4000" in year.shapes, year.shapes.near((7500, 100, 7600, 200))) == ([[[(7000, 0), (8000, 0), (8000, 1000), (7000, 1000), (7000, 0)]]], False, ["P7"])
 
 
-@unittest.skipUnless(BUILT, "the program is not built")
-class Beside(Years):
+@pytest.mark.skipif(not BUILT, reason="the program is not built")
+class TestBeside(Years):
     """The first fault of a random table is the one that `publish` reports, where it reports one of lineage."""
 
     def released(self, folder, shapes):
@@ -232,14 +228,14 @@ class Beside(Years):
         old = self.released(self.path("2024"), OLDER)
         write(old, OLDER, "early,,\n")
         for year, folder in ((2023, first), (2024, old)):
-            self.assertIn(f"published {year}", self.published(year, folder))
+            assert f"published {year}" in self.published(year, folder)
         agreed = 0
         for _ in range(24):
             rows = "".join(f"{chance.choice('aabbkmnz')},{chance.choice(['a1', 'a2', 'mm', 'n', 'zz', ''])},{chance.choice(['', '1'])}\n" for _ in range(chance.randrange(1, 6)))
             write(new, NEWER, rows)
             found = lineage_faults.faults(years.rows_of(os.path.join(new, "lineage.csv")), years.of_register(self.path("lpis.db")), years.of_folder(new))
             words = self.published(2025, new).split()
-            self.assertEqual(["refused", "81", "lineage", found[0].code], words[:4], rows)
-            self.assertEqual(str(found[0].row) if "row" in words else found[0].name.split()[0], words[5 if "row" in words else 4], rows)
+            assert ["refused", "81", "lineage", found[0].code] == words[:4], rows
+            assert (str(found[0].row) if "row" in words else found[0].name.split()[0]) == words[5 if "row" in words else 4], rows
             agreed += 1
-        self.assertEqual(24, agreed)
+        assert 24 == agreed

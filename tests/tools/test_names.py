@@ -4,9 +4,10 @@ hypothesis where that is there, else by names of a seeded generator."""
 import csv
 import os
 import random
-import unittest
 
+import pytest
 from spare import Spare
+from calls import records
 import preparing_case
 from lpis_tools import shapely_there
 
@@ -78,38 +79,38 @@ def judged(folder, parcels, classes, seed):
     return wrong
 
 
-@unittest.skipUnless(shapely_there.is_there(), shapely_there.LACKING)
-class Years(Spare):
+@pytest.mark.skipif(not shapely_there.is_there(), reason=shapely_there.LACKING)
+class TestYears(Spare):
     def test_odd(self):
-        self.assertEqual(judged(self.folder, ODD, ODD[:5], 1), [])
+        assert judged(self.folder, ODD, ODD[:5], 1) == []
 
-    def test_generated(self):
-        for seed in range(100):
-            rng = random.Random(seed)
-            letters = "aA1.0 \t\r\n,;\"'=+-@|\u00fc\u00e9\u0308\u00df\u202e\u3000\U0001f33e\x00\\/:_"
-            made = ["".join(rng.choice(letters) for _ in range(rng.randrange(1, 8))) for _ in range(30)]
-            self.assertEqual(judged(self.folder, made + rng.sample(ODD, 5), made[:3], seed), [], (seed, made))
+    @pytest.mark.parametrize("seed", range(100))
+    def test_generated(self, seed):
+        rng = random.Random(seed)
+        letters = "aA1.0 \t\r\n,;\"'=+-@|\u00fc\u00e9\u0308\u00df\u202e\u3000\U0001f33e\x00\\/:_"
+        made = ["".join(rng.choice(letters) for _ in range(rng.randrange(1, 8))) for _ in range(30)]
+        assert judged(self.folder, made + rng.sample(ODD, 5), made[:3], seed) == [], (seed, made)
 
-    @unittest.skipUnless(hypothesis, "hypothesis is not there (Debian: python3-hypothesis)")
+    @pytest.mark.skipif(not hypothesis, reason="hypothesis is not there (Debian: python3-hypothesis)")
     def test_hypothesis(self):
         text = strategies.one_of(strategies.sampled_from(ODD), strategies.text(strategies.characters(blacklist_categories=("Cs",)), min_size=1, max_size=12))
 
         @hypothesis.settings(**SETTINGS)
         @hypothesis.given(strategies.lists(text, min_size=1, max_size=8), strategies.lists(text, min_size=1, max_size=3), strategies.integers(0, 1000))
         def tried(parcels, classes, seed):
-            self.assertEqual(judged(self.folder, parcels, classes, seed), [])
+            assert judged(self.folder, parcels, classes, seed) == []
 
         tried()
 
-    def test_cells(self):
-        for name in (*ODD, "", "'", "'a", "'''=", "\r", "a\r\nb", '"', "\n"):
-            path = os.path.join(self.folder, "cells.csv")
-            with open(path, "w", newline="", encoding="utf-8") as file:
-                cells.Writer(file).writerow(["x", cells.text(name), 1.5, None])
-            with open(path, newline="", encoding="utf-8") as file:
-                (found,) = csv.reader(file)
-            self.assertEqual((cells.plain(found[1]), found[2:]), (name, ["1.5", ""]))
-            self.assertFalse(found[1].startswith(("=", "+", "-", "@", "\t", "\r")))
+    @pytest.mark.parametrize("name", (*ODD, "", "'", "'a", "'''=", "\r", "a\r\nb", '"', "\n"))
+    def test_cells(self, name):
+        path = os.path.join(self.folder, "cells.csv")
+        with open(path, "w", newline="", encoding="utf-8") as file:
+            cells.Writer(file).writerow(["x", cells.text(name), 1.5, None])
+        with open(path, newline="", encoding="utf-8") as file:
+            (found,) = csv.reader(file)
+        assert (cells.plain(found[1]), found[2:]) == (name, ["1.5", ""])
+        assert not found[1].startswith(("=", "+", "-", "@", "\t", "\r"))
 
     def test_own_tables(self):
         """A table of one's own may tell names apart that differ in blanks, exchange two names, and name an absent one; what cannot be read is refused."""
@@ -124,15 +125,15 @@ class Years(Spare):
             given.run()
             return [other["parcel"] for other in work.layers["parcels"].rows], given.renamed["parcel"], len(work.hopeless())
 
-        self.assertEqual(found('kind,old,new\nparcel,"a  ",b\n', ["a  ", "a"])[::2], (["b", "a"], 0))
-        self.assertEqual(found("kind,old,new\nparcel,a,b\nparcel,b,a\n", ["a", "b"]), (["b", "a"], {"a": "b", "b": "a"}, 0))
-        self.assertEqual(found("kind,old,new\nparcel,x y,foo\n", ["a"])[1], {"x y": "foo"})
-        self.assertEqual(found("kind,old,new\nparcel,a,b\n", ["a", "b"])[2], 1)
-        with self.assertRaises(naming.land.Trouble):
+        assert found('kind,old,new\nparcel,"a  ",b\n', ["a  ", "a"])[::2] == (["b", "a"], 0)
+        assert found("kind,old,new\nparcel,a,b\nparcel,b,a\n", ["a", "b"]) == (["b", "a"], {"a": "b", "b": "a"}, 0)
+        assert found("kind,old,new\nparcel,x y,foo\n", ["a"])[1] == {"x y": "foo"}
+        assert found("kind,old,new\nparcel,a,b\n", ["a", "b"])[2] == 1
+        with pytest.raises(naming.land.Trouble):
             found('kind,old,new\nparcel,"a,b\n', ["a"])
 
 
-class Whole(preparing_case.Case):
+class TestWhole(preparing_case.Case):
     def test_three_years(self):
         """Of the tool itself: pieces with blanks behind their parcel's name, and names of every kind."""
         odd = [name for name in ODD if name.strip() and "\x00" not in name and name.strip() not in ("A", "7.0", "-1")]
@@ -142,10 +143,10 @@ class Whole(preparing_case.Case):
         found, words = [], []
         for year in range(3):
             run = self.run_on(self.sheets, *words)
-            self.assertEqual((year, run.returncode), (year, 0), run.stdout + run.stderr)
-            found.append([record["parcel"] for record in preparing_case.rows(self.out, "parcels.csv")])
+            assert (year, run.returncode) == (year, 0), run.stdout + run.stderr
+            found.append([record["parcel"] for record in records(self.out, "parcels.csv")])
             os.replace(os.path.join(self.out, "identifiers.csv"), self.path("names.csv"))
             words = ["--identifiers", self.path("names.csv")]
-        self.assertEqual((found[1], found[2], len(set(found[0]))), (found[0], found[0], len(odd)))
+        assert (found[1], found[2], len(set(found[0]))) == (found[0], found[0], len(odd))
         with open(self.path("names.csv"), newline="", encoding="utf-8") as file:
-            self.assertFalse([field for record in csv.reader(file) for field in record if field.startswith(("=", "+", "-", "@"))])
+            assert not [field for record in csv.reader(file) for field in record if field.startswith(("=", "+", "-", "@"))]

@@ -17,7 +17,7 @@ from places import BUILT, TOOLS, TOP
 from lpis_tools import shapely_there
 
 PARCELS = int(os.environ.get("PARCELS", "0"))
-FEW, MOST, MEGABYTE = 200, 0.85, 1024
+FEW, MEGABYTE = 200, 1024
 CAN = shapely_there.is_there() and BUILT and shutil.which("ogrinfo")
 
 
@@ -69,11 +69,10 @@ class Nation(unittest.TestCase):
         self.assertIn("cells are those that the run before has rounded\n", self.ended("tools/country prepare land-2026.gpkg country --accept").stderr)
 
     def test_two_years(self):
-        """Nine regions; splits and merges are exact, unless an edit put a corner on a border, and published; both years are kept, and each is a yes."""
+        """Nine regions; all splits and merges are exact and published; both years are kept, and each is a yes."""
         last = self.ended("tools/country publish register.db 2027").stdout
         self.assertIn("\npublished 2027\n", last)
-        exact = int(re.search(r"(?m)^exact (\d+)$", last)[1])
-        self.assertTrue(exact == self.edits if not PARCELS else exact > MOST * self.edits, last)
+        self.assertEqual(int(re.search(r"(?m)^exact (\d+)$", last)[1]), self.edits, last)
         for year in ("2026", "2027"):
             ran = subprocess.run([BUILT, "country", self.path("country", "years", year)], capture_output=True, text=True, check=False)
             self.assertEqual((ran.stdout.splitlines()[-1], ran.stdout.count("region ")), ("yes", 9), ran.stdout + ran.stderr)
@@ -86,3 +85,11 @@ class Nation(unittest.TestCase):
         gone, changed, unchanged = (int(re.search(rf"since \S+: .*{word} (\d+)", report)[1]) for word in ("gone", "changed", "kept"))
         self.assertEqual((kept, changed, unchanged), (of_them - gone, 0, kept), report)
         self.assertRegex(report, r"(?m)^accepted by --accept: [1-9]")
+
+    def test_source_that_stays(self):
+        """A parcel whose rows are the same in both sources has the same text: all edits are between corners, so that no new border ends on one of it."""
+        import neighbours
+
+        found = neighbours.Neighbours(*(self.path(f"land-{year}.gpkg") for year in (2026, 2027)), *(self.path("country", "years", year) for year in ("2026", "2027")))
+        self.assertGreater(len(found.unchanged()), self.edits)
+        self.assertEqual(found.other(), [])

@@ -12,12 +12,12 @@ import sqlite3
 import subprocess
 import tempfile
 import time
-import unittest
 import zipfile
 
 import pytest
+from calls import done, run
 from places import BUILT, TOP
-
+from spare import Kept
 import tables
 
 pytestmark = pytest.mark.finds_program
@@ -27,16 +27,6 @@ LOG_OF_TABLES = 5_000  # bytes, more than the log of a new register has before t
 WHOLE = bool(os.environ.get("WHOLE"))
 MANY = 20_000 if WHOLE else 5_000  # parcels of the release whose publish is stopped
 AUTHOR = ["-c", "user.name=a", "-c", "user.email=a@b", "-c", "commit.gpgsign=false"]
-
-
-def run(*words, **more):
-    return subprocess.run([str(word) for word in words], **{"capture_output": True, "text": True, "check": False, **more})
-
-
-def done(*words, **more):
-    ended = run(*words, **more)
-    assert ended.returncode == 0, (words, ended.returncode, ended.stdout, ended.stderr)
-    return ended.stdout
 
 
 def house(folder, source=TOP):
@@ -103,13 +93,11 @@ def heard_signals():
         signal.signal(number, signal.SIG_DFL)
 
 
-@unittest.skipUnless(BUILT, "the program is not built")
-class Packages(unittest.TestCase):
+@pytest.mark.skipif(not BUILT, reason="the program is not built")
+class TestPackages(Kept):
     @classmethod
-    def setUpClass(cls):
-        cls.spare = tempfile.TemporaryDirectory()
-        cls.addClassCleanup(cls.spare.cleanup)
-        cls.top = pathlib.Path(cls.spare.name)
+    def set_up(cls):
+        cls.top = pathlib.Path(cls.folder)
         os.chmod(cls.top, 0o755)
         cls.house = house(cls.top / "one")
         cls.packed = run(cls.house / "dev" / "package", "--unfinished", "--without-page")
@@ -121,8 +109,8 @@ class Packages(unittest.TestCase):
         (self.house / "README.md").write_text("changed", encoding="ascii")
         ended = run(self.house / "dev" / "package")
         done("git", "-C", self.house, "checkout", "-q", "README.md")
-        self.assertEqual((ended.returncode, "the whole test did not pass" in ended.stderr, "the tree has changes" in ended.stderr), (1, True, True), ended.stderr)
-        self.assertIn("unfinished", self.archive.name)
+        assert (ended.returncode, "the whole test did not pass" in ended.stderr, "the tree has changes" in ended.stderr) == (1, True, True), ended.stderr
+        assert "unfinished" in self.archive.name
 
     def dated(self, name):
         """A clone of the house whose CHANGELOG.md has a date behind the version of the program."""
@@ -137,7 +125,7 @@ class Packages(unittest.TestCase):
         done("git", *AUTHOR, "-C", place, "commit", "-q", "--allow-empty", "-am", "changed")
         return done("git", "-C", place, "rev-parse", "--short=12", "HEAD").strip()
 
-    @unittest.skipUnless(shutil.which("dpkg-deb"), "no dpkg (Debian: dpkg)")
+    @pytest.mark.skipif(not shutil.which("dpkg-deb"), reason="no dpkg (Debian: dpkg)")
     def test_release(self):
         """release/ has the files of the last version alone, as dev/lint wants them; a commit that is not finished changes nothing there."""
         place, version = self.dated("released"), done(BUILT, "--version").split()[1]
@@ -148,23 +136,23 @@ class Packages(unittest.TestCase):
         release.mkdir(exist_ok=True)
         (release / "lpis-0.0.1.html").write_text("older", encoding="ascii")
         (place / ".git" / "info" / "exclude").write_text("release\n", encoding="ascii")
-        self.assertEqual((run(place / "dev" / "package", "--release").returncode, [path.name for path in release.glob("lpis-0.0.1*")]), (1, ["lpis-0.0.1.html"]))
+        assert (run(place / "dev" / "package", "--release").returncode, [path.name for path in release.glob("lpis-0.0.1*")]) == (1, ["lpis-0.0.1.html"])
         (place / "out" / "gate.log").write_text(f"     9.0 6 passed, 0 failed\n# date 2030-01-02\n# commit {commit}\n", encoding="ascii")
         done(place / "dev" / "package", "--release", cwd=place)
         names = {"SHA256SUMS", "facts", f"lpis-{version}.html", f"lpis-{version}-linux-x86_64.tar.gz", f"lpis_{version}_amd64.deb", f"lpis-{version}-py3-none-manylinux_2_34_x86_64.whl"}
-        self.assertEqual({path.name for path in release.iterdir() if "qgis" not in path.name}, names)
-        self.assertEqual(run("sha256sum", "-c", "SHA256SUMS", cwd=release).returncode, 0)
+        assert {path.name for path in release.iterdir() if "qgis" not in path.name} == names
+        assert run("sha256sum", "-c", "SHA256SUMS", cwd=release).returncode == 0
         told = run(place / "dev" / "lint").stdout.splitlines()
-        self.assertEqual([line for line in told if line.startswith("release") and "qgis" not in line], [])
+        assert [line for line in told if line.startswith("release") and "qgis" not in line] == []
         with zipfile.ZipFile(next(release.glob("*.whl"))) as wheel:
-            self.assertEqual(wheel.read("lpis/carried/lib/lpis/program/liblpis.so"), b"library\n")
+            assert wheel.read("lpis/carried/lib/lpis/program/liblpis.so") == b"library\n"
         (release / f"lpis-{version}.html").write_text("another", encoding="ascii")
-        self.assertIn(f"release/lpis-{version}.html: is not as SHA256SUMS has it", run(place / "dev" / "lint").stdout)
+        assert f"release/lpis-{version}.html: is not as SHA256SUMS has it" in run(place / "dev" / "lint").stdout
 
     def test_verify_wants_a_file(self):
         """Before anything is proved."""
         ended = run(self.house / "dev" / "package", "--verify", self.top / "none.tar.gz")
-        self.assertEqual((ended.returncode, "none.tar.gz is not there" in ended.stderr, "prov" in ended.stderr), (64, True, False), ended.stderr)
+        assert (ended.returncode, "none.tar.gz is not there" in ended.stderr, "prov" in ended.stderr) == (64, True, False), ended.stderr
 
     def test_finished(self):
         """A commit on which the whole test passed, by its log, is packed by its version; one with another commit's log, or another commit's tag, is not."""
@@ -175,13 +163,13 @@ class Packages(unittest.TestCase):
                              (f"     9.0 6 passed, 0 failed\n# date 2030-01-02\n# commit {commit}\n", 0)):
             log.write_text(text, encoding="ascii")
             ended = run(finished / "dev" / "package", "--without-page")
-            self.assertEqual(ended.returncode, wanted, ended.stderr)
-        self.assertIn(f"test 2030-01-02 on {commit}: 6 passed, 0 failed\n", (finished / "out" / "package" / "facts").read_text(encoding="ascii"))
-        self.assertRegex(next((finished / "out" / "package").glob("*.tar.gz")).name, r"^lpis-\d+\.\d+\.\d+-linux-x86_64\.tar\.gz$")
+            assert ended.returncode == wanted, ended.stderr
+        assert f"test 2030-01-02 on {commit}: 6 passed, 0 failed\n" in (finished / "out" / "package" / "facts").read_text(encoding="ascii")
+        assert re.search(r"^lpis-\d+\.\d+\.\d+-linux-x86_64\.tar\.gz$", next((finished / "out" / "package").glob("*.tar.gz")).name)
         version = done(BUILT, "--version").split()[1]
         done("git", *AUTHOR, "-C", finished, "tag", f"v{version}", "HEAD~1")
         ended = run(finished / "dev" / "package", "--without-page")
-        self.assertEqual((ended.returncode, f"v{version} is another commit" in ended.stderr), (1, True), ended.stderr)
+        assert (ended.returncode, f"v{version} is another commit" in ended.stderr) == (1, True), ended.stderr
 
     def test_no_page_is_no_package(self):
         """Where the page can't be made, nothing is packed unless that is asked for."""
@@ -192,25 +180,25 @@ class Packages(unittest.TestCase):
             (tools / name).chmod(0o755)
         other = house(self.top / "no page", self.house)
         ended = run(other / "dev" / "package", "--unfinished", env={**os.environ, "PATH": f"{tools}:{os.environ['PATH']}"})
-        self.assertEqual((ended.returncode, "rt ended with status 1" in ended.stderr, "--without-page packs the rest" in ended.stderr), (64, True, True), ended.stderr)
-        self.assertEqual(list((other / "out" / "package").glob("lpis*")), [])
+        assert (ended.returncode, "rt ended with status 1" in ended.stderr, "--without-page packs the rest" in ended.stderr) == (64, True, True), ended.stderr
+        assert list((other / "out" / "package").glob("lpis*")) == []
 
     def test_sums(self):
-        self.assertEqual(run("sha256sum", "-c", "SHA256SUMS", cwd=self.out).returncode, 0, self.packed.stderr)
+        assert run("sha256sum", "-c", "SHA256SUMS", cwd=self.out).returncode == 0, self.packed.stderr
         facts = (self.out / "facts").read_text(encoding="utf-8")
         digest = done("sha256sum", BUILT).split()[0]
-        self.assertIn(f"sha256 {digest}\n", facts)
+        assert f"sha256 {digest}\n" in facts
 
     def test_two_packings_are_equal(self):
         other = house(self.top / "an other" / "place", self.house)
         done(other / "dev" / "package", "--unfinished", "--without-page", env={**os.environ, "TZ": "Asia/Tokyo"}, umask=0o077)
         sums = [(place / "out" / "package" / "SHA256SUMS").read_text(encoding="utf-8") for place in (self.house, other)]
-        self.assertEqual(sums[0], sums[1])
+        assert sums[0] == sums[1]
 
     def test_verify(self):
         for file in filter(None, (self.archive, self.package, self.wheel)):
             ended = run(self.house / "dev" / "package", "--verify", file)
-            self.assertEqual((ended.returncode, f"the program of {file.name} is that of these sources" in ended.stdout), (0, True), ended.stdout + ended.stderr)
+            assert (ended.returncode, f"the program of {file.name} is that of these sources" in ended.stdout) == (0, True), ended.stdout + ended.stderr
         changed = self.top / "changed"
         changed.mkdir()
         done("tar", "-xzf", self.archive, "-C", changed)
@@ -220,7 +208,7 @@ class Packages(unittest.TestCase):
                 file.write(b"#")
         done("tar", "-czf", changed / self.archive.name, "-C", changed, name)
         ended = run(self.house / "dev" / "package", "--verify", changed / self.archive.name)
-        self.assertEqual((ended.returncode, [word in ended.stdout for word in ("is not that of these sources", "lib/lpis/explain: it differs", "lib/lpis/report")]), (1, [True, True, False]), ended.stdout)
+        assert (ended.returncode, [word in ended.stdout for word in ("is not that of these sources", "lib/lpis/explain: it differs", "lib/lpis/report")]) == (1, [True, True, False]), ended.stdout
 
     def check_lines(self, folder, blocks, **more):
         """Runs the lines of blocks in one shell, and compares what each prints."""
@@ -231,7 +219,7 @@ class Packages(unittest.TestCase):
         os.chmod(out, 0o777)
         ended = run("bash", "-c", "\n".join(script), cwd=folder, env={"PATH": PATH, "HOME": str(folder), "LC_ALL": "C.UTF-8", "OUT": str(out), "TMPDIR": str(out)}, **more)
         for number, (command, wanted) in enumerate([line for block in blocks for line in block]):
-            self.assertEqual((out / str(number)).read_text(encoding="utf-8").splitlines(), wanted, f"{command}\n{ended.stderr}")
+            assert (out / str(number)).read_text(encoding="utf-8").splitlines() == wanted, f"{command}\n{ended.stderr}"
         return ended
 
     def test_lines_of_readme_with_the_archive(self):
@@ -244,9 +232,9 @@ class Packages(unittest.TestCase):
         self.check_lines(folder, [install, [(area[0], ["100.0000000"])], years, version], **OTHER)
         top = next(path for path in folder.iterdir() if (path / "bin").exists())
         links = re.findall(r"\]\(([^)#]+)\)", (top / "README.md").read_text(encoding="utf-8"))
-        self.assertEqual([link for link in links if not (top / link).exists()], [])
-        self.assertIn("docs/GUIDE.md", links)
-        self.assertEqual([path for path in top.rglob("*") if path.is_symlink() and not path.exists()], [])
+        assert [link for link in links if not (top / link).exists()] == []
+        assert "docs/GUIDE.md" in links
+        assert [path for path in top.rglob("*") if path.is_symlink() and not path.exists()] == []
 
     def test_a_publish_that_is_stopped(self):
         """By a signal to the script, while the program writes: the script ends by it, no program runs on, and the register is whole."""
@@ -265,17 +253,17 @@ class Packages(unittest.TestCase):
                     time.sleep(0.001)
                 running.send_signal(number)
                 ended = running.wait()
-            self.assertEqual(programs_of(program), [], number.name)
-            self.assertIn(ended, (-number, 0), number.name)  # 0: it was through before the signal came
+            assert programs_of(program) == [], number.name
+            assert ended in (-number, 0), number.name  # 0: it was through before the signal came
             ends.add(ended)
             published = run(script, *publish[1:])
-            self.assertEqual((published.returncode, "published 2024" in published.stdout), (0, True) if ended else (1, False), published.stdout + published.stderr)
+            assert (published.returncode, "published 2024" in published.stdout) == ((0, True) if ended else (1, False)), published.stdout + published.stderr
             with sqlite3.connect(register) as base:
                 rows = [base.execute(f"SELECT count(*) FROM {name}").fetchone()[0] for name in ("lpis_release", "lpis_text")]
-                self.assertEqual((base.execute("PRAGMA integrity_check").fetchone()[0], rows), ("ok", [1, MANY]), number.name)
+                assert (base.execute("PRAGMA integrity_check").fetchone()[0], rows) == ("ok", [1, MANY]), number.name
             base.close()
         if WHOLE:  # a small one may be through each time
-            self.assertNotEqual(ends, {0})
+            assert ends != {0}
 
     def unpacked(self, folder):
         done("tar", "-xzf", self.archive, "-C", folder)
@@ -286,12 +274,12 @@ class Packages(unittest.TestCase):
         sources = done(self.house / "dev" / "sources").strip()
         return [f"commit {commit}", "kit rattle-kit-0 logic 1", f"sources {sources}", "unfinished: the whole test did not pass on this commit"]
 
-    @unittest.skipUnless(WHOLE and shutil.which("lintian"), "WHOLE is not set, or there is no lintian (Debian: lintian)")
+    @pytest.mark.skipif(not (WHOLE and shutil.which("lintian")), reason="WHOLE is not set, or there is no lintian (Debian: lintian)")
     def test_lintian(self):
         ended = run("lintian", "--fail-on", "error", "--allow-root", self.package)
-        self.assertEqual(ended.returncode, 0, ended.stdout + ended.stderr)
+        assert ended.returncode == 0, ended.stdout + ended.stderr
 
-    @unittest.skipUnless(shutil.which("dpkg-deb") and shutil.which("dpkg"), "no dpkg (Debian: dpkg)")
+    @pytest.mark.skipif(not (shutil.which("dpkg-deb") and shutil.which("dpkg")), reason="no dpkg (Debian: dpkg)")
     def test_package(self):
         """Installed over an older version, with a tool that is no more, and removed: what the user made stays, and nothing else."""
         older = self.top / "older"
@@ -310,18 +298,18 @@ class Packages(unittest.TestCase):
         path = f"PATH={os.environ['PATH']}:/usr/sbin:/sbin"
         dpkg = ["env", path, "dpkg", f"--root={root}", "--force-depends", "--force-not-root", "--force-script-chrootless", f"--log={self.top}/dpkg.log"]
         done(*dpkg, "-i", self.top / "older.deb")
-        self.assertTrue((root / "usr/bin/lpis-older").is_symlink())
+        assert (root / "usr/bin/lpis-older").is_symlink()
         done(*dpkg, "-i", self.package)
-        self.assertEqual((os.path.lexists(root / "usr/bin/lpis-older"), (root / "usr/lib/lpis/older").exists()), (False, False))
+        assert (os.path.lexists(root / "usr/bin/lpis-older"), (root / "usr/lib/lpis/older").exists()) == (False, False)
         os.chmod(root / "home", 0o777)
         _, years, install, _ = lines_of_readme()
         copied = [(f"cp -r '{root}/usr/share/doc/lpis/examples' .", []), (f"PATH='{root}/usr/bin':$PATH", []), ("echo mine >mine.txt", [])]
-        self.assertEqual([line for line, _ in install], ["sudo apt install ./release/lpis_*_amd64.deb"])
+        assert [line for line, _ in install] == ["sudo apt install ./release/lpis_*_amd64.deb"]
         self.check_lines(root / "home", [copied, [(line.replace("./lpis", "lpis"), wanted) for line, wanted in years]], **OTHER)
         for tool in sorted((root / "usr" / "bin").iterdir()):
             ended = run(tool, "--help", env={"PATH": PATH, "HOME": "/"})
-            self.assertEqual((ended.returncode, bool(ended.stdout)), (0, True), f"{tool}: {ended.stderr}")
+            assert (ended.returncode, bool(ended.stdout)) == (0, True), f"{tool}: {ended.stderr}"
         done(*dpkg, "-r", "lpis")
         left = sorted(str(path.relative_to(root)) for path in root.rglob("*") if not path.is_dir() and "var/lib/dpkg" not in str(path))
-        self.assertEqual([path for path in left if not path.startswith("home/")], [])
-        self.assertIn("home/mine.txt", left)
+        assert [path for path in left if not path.startswith("home/")] == []
+        assert "home/mine.txt" in left

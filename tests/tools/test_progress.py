@@ -1,9 +1,9 @@
 """Tests what is told of how much of a step is done, by a clock of its own."""
 
 import io
+import re
 import subprocess
 import time
-import unittest
 from unittest import mock
 
 from lpis_tools import progress, watching
@@ -20,7 +20,7 @@ class File(io.StringIO):
         return self.is_terminal
 
 
-class Progress(unittest.TestCase):
+class TestProgress:
     def told(self, seconds, is_terminal=False, count=100):
         """What is told where each of so many takes so many seconds."""
         file, now = File(is_terminal), [0.0]
@@ -32,34 +32,33 @@ class Progress(unittest.TestCase):
 
     def test_quick(self):
         """A step that is done within ten seconds says nothing."""
-        self.assertEqual(self.told(0.09), "")
-        self.assertEqual(self.told(0.09, True), "")
+        assert self.told(0.09) == ""
+        assert self.told(0.09, True) == ""
 
     def test_in_a_file(self):
         """After ten seconds, then a line a minute, and one at the end."""
         lines = self.told(2.0).splitlines()
-        self.assertEqual(lines, ["tool: rounding: 5 of 100 cells (5 %), 3 min left", "tool: rounding: 35 of 100 cells (35 %), 2 min left", "tool: rounding: 65 of 100 cells (65 %), 70 s left",
-                                 "tool: rounding: 95 of 100 cells (95 %), 10 s left", "tool: rounding: 100 of 100 cells (100 %), took 3 min"])
+        assert lines == ["tool: rounding: 5 of 100 cells (5 %), 3 min left", "tool: rounding: 35 of 100 cells (35 %), 2 min left", "tool: rounding: 65 of 100 cells (65 %), 70 s left",
+                         "tool: rounding: 95 of 100 cells (95 %), 10 s left", "tool: rounding: 100 of 100 cells (100 %), took 3 min"]
 
     def test_on_a_terminal(self):
         """One line that is written over, and ends where the step does."""
         text = self.told(1.0, True, 20)
-        self.assertEqual((text.count("\n"), text[-1], text.count("\r")), (1, "\n", 11))
+        assert (text.count("\n"), text[-1], text.count("\r")) == (1, "\n", 11)
         lines = text.rstrip("\n").split("\r")[1:]
-        self.assertEqual(lines[0], "tool: rounding: 10 of 20 cells (50 %), 10 s left")
-        self.assertTrue(all(len(after) >= len(before.rstrip()) for before, after in zip(lines, lines[1:])))
+        assert lines[0] == "tool: rounding: 10 of 20 cells (50 %), 10 s left"
+        assert all(len(after) >= len(before.rstrip()) for before, after in zip(lines, lines[1:]))
 
-    def test_quiet(self):
-        progress.Quiet.is_quiet = True
-        self.addCleanup(setattr, progress.Quiet, "is_quiet", False)
-        self.assertEqual(self.told(30.0), "")
+    def test_quiet(self, monkeypatch):
+        monkeypatch.setattr(progress.Quiet, "is_quiet", True)
+        assert self.told(30.0) == ""
 
     def test_times(self):
-        self.assertEqual([progress.time_of(seconds) for seconds in (0.4, 89, 91, 5399, 5400, 20_000)], ["0 s", "89 s", "2 min", "90 min", "1.5 h", "5.6 h"])
+        assert [progress.time_of(seconds) for seconds in (0.4, 89, 91, 5399, 5400, 20_000)] == ["0 s", "89 s", "2 min", "90 min", "1.5 h", "5.6 h"]
 
     def test_rows(self):
-        self.assertEqual(list(progress.each(range(2500), "tool", "reading", 2500, "rows")), list(range(2500)))
-        self.assertEqual(list(progress.over(list("abc"), "testing")), list("abc"))
+        assert list(progress.each(range(2500), "tool", "reading", 2500, "rows")) == list(range(2500))
+        assert list(progress.over(list("abc"), "testing")) == list("abc")
 
     def test_watched(self):
         """A program that says nothing: what it reads, by the system's count, and never all of it."""
@@ -71,10 +70,10 @@ class Progress(unittest.TestCase):
             while not file.getvalue() and time.monotonic() < ended:
                 time.sleep(0.01)
             run.communicate(b"\n")
-        self.assertRegex(file.getvalue(), r"^tool: reading: [12] of 3 MB \(\d\d %\), \d+ s left\n")
-        self.assertIsNone(watching.moved(0))
+        assert re.search(r"^tool: reading: [12] of 3 MB \(\d\d %\), \d+ s left\n", file.getvalue())
+        assert watching.moved(0) is None
 
     def test_bytes(self):
         """Records with their lines, by the megabytes that passed by."""
         records = [(number, "", "x" * 1000) for number in range(3000)]
-        self.assertEqual(list(progress.read(iter(records), "tool", "parcels", 3_000_000)), records)
+        assert list(progress.read(iter(records), "tool", "parcels", 3_000_000)) == records

@@ -8,9 +8,10 @@ import re
 import shutil
 import sqlite3
 import subprocess
-import unittest
 from pathlib import Path
 
+import pytest
+from calls import tool
 from places import BUILT, TOOLS, TOP
 from spare import Spare
 from lpis_tools import page, shapely_there
@@ -108,15 +109,14 @@ def tried(path, script, size="1200,900"):
         run = subprocess.run([CHROMIUM, "--headless", "--no-sandbox", "--disable-gpu", "--disable-dev-shm-usage", f"--user-data-dir={path}.profile", "--host-resolver-rules=MAP * ~NOTFOUND",
                               "--virtual-time-budget=60000", f"--window-size={size}", "--dump-dom", f"file://{path}.tried.html"], capture_output=True, text=True, timeout=400, check=False)
     except subprocess.TimeoutExpired:
-        raise unittest.SkipTest("Chromium did not answer in seven minutes") from None
+        raise pytest.skip.Exception("Chromium did not answer in seven minutes") from None
     found = re.search(r"<title>(\{.*?\})</title>", run.stdout, re.DOTALL)
     assert found, run.stderr[-500:]
     return json.loads(html.unescape(found[1]))
 
 
-class Reports(Spare):
-    def setUp(self):
-        super().setUp()
+class TestReports(Spare):
+    def set_up(self):
         self.program = self.path("lpis")
         Path(self.program).write_text(STANDIN, encoding="utf-8")
         os.chmod(self.program, 0o755)
@@ -140,46 +140,46 @@ class Reports(Spare):
 
     def test_yes(self):
         run, told = self.report()
-        self.assertEqual((run.returncode, run.stdout.splitlines()[0]), (0, "yes"), run.stderr)
-        self.assertEqual((told["answer"], told["status"], told["parcels"], told["pieces"], told["area"], told["eligible"]), ("yes", 0, 3, 6, "300.0000000", "186.600000000"))
-        self.assertEqual(told["classes"][1], {"class": "TREES", "percent": 37, "pieces": 3, "area": "180.0000000", "eligible": "66.600000000"})
-        self.assertEqual((told["extent"]["least_x"], told["extent"]["greatest_x"], told["extent"]["height"]), ("550000.000", "550050.000", "10.000"))
-        self.assertEqual((told["program"]["version"], told["program"]["commit"], told["program"]["kit"]), ("lpis 9.8.7", "0123456789ab", "rattle-kit-0 logic 1"))
+        assert (run.returncode, run.stdout.splitlines()[0]) == (0, "yes"), run.stderr
+        assert (told["answer"], told["status"], told["parcels"], told["pieces"], told["area"], told["eligible"]) == ("yes", 0, 3, 6, "300.0000000", "186.600000000")
+        assert told["classes"][1] == {"class": "TREES", "percent": 37, "pieces": 3, "area": "180.0000000", "eligible": "66.600000000"}
+        assert (told["extent"]["least_x"], told["extent"]["greatest_x"], told["extent"]["height"]) == ("550000.000", "550050.000", "10.000")
+        assert (told["program"]["version"], told["program"]["commit"], told["program"]["kit"]) == ("lpis 9.8.7", "0123456789ab", "rattle-kit-0 logic 1")
         sums = subprocess.run(["sha256sum", os.path.join(self.release, "covers.csv"), self.program], capture_output=True, text=True, check=True).stdout.split()
-        self.assertEqual((told["files"]["covers.csv"]["sha256"], told["program"]["sha256"]), (sums[0], sums[2]))
-        self.assertRegex(told["date"], r"^\d{4}-\d\d-\d\dT\d\d:\d\d:\d\dZ$")
+        assert (told["files"]["covers.csv"]["sha256"], told["program"]["sha256"]) == (sums[0], sums[2])
+        assert re.search(r"^\d{4}-\d\d-\d\dT\d\d:\d\d:\d\dZ$", told["date"])
         text = self.html()
         shapes = self.shapes()
-        self.assertEqual((shapes["pieces"]["count"], shapes["parcels"]["names"], text.count("<td>A</td>")), (6, ["A", "B", "C"], 1))
-        self.assertNotRegex(text, r"https?:|<link|<img|@import|src=")
+        assert (shapes["pieces"]["count"], shapes["parcels"]["names"], text.count("<td>A</td>")) == (6, ["A", "B", "C"], 1)
+        assert not re.search(r"https?:|<link|<img|@import|src=", text)
         for words in ("area m\u00b2<small>in all 0.0300 ha", "300.0000000 m\u00b2 (0.0300 ha)", "</i>GRASS</span>", "</i>TREES</span>", "</i>border of a parcel</span>"):
-            self.assertIn(words, text)
-        self.assertNotIn("fault", text.split('class="legend"')[1].split("</p>")[0])
-        self.assertIn(told["files"]["certificate"]["sha256"], text)
+            assert words in text
+        assert "fault" not in text.split('class="legend"')[1].split("</p>")[0]
+        assert told["files"]["certificate"]["sha256"] in text
 
     def test_refused(self):
         run, told = self.report(line="refused 41 parcels A B at 550005000 5400005000 1")
-        self.assertEqual((run.returncode, told["status"], told["refusal"]["code"], told["refusal"]["identifiers"]), (1, 1, "41", ["A", "B"]), run.stderr)
-        self.assertEqual(told["refusal"]["place"], ["550005.000000", "5400005.000000"])
-        self.assertTrue(any("overlap" in words for words in told["refusal"]["words"]))
-        self.assertEqual(len(self.shapes()["marks"]), 1)
-        self.assertIn("</i>faults: 1</span>", self.html())
+        assert (run.returncode, told["status"], told["refusal"]["code"], told["refusal"]["identifiers"]) == (1, 1, "41", ["A", "B"]), run.stderr
+        assert told["refusal"]["place"] == ["550005.000000", "5400005.000000"]
+        assert any("overlap" in words for words in told["refusal"]["words"])
+        assert len(self.shapes()["marks"]) == 1
+        assert "</i>faults: 1</span>" in self.html()
 
     def test_difference(self):
         new = release(self.path("new"), ["A", "B2", "B3"], lineage=["B,B2", "B,B3", "X,"], width=11)
         run, told = self.report("--diff", self.release, folder=new)
-        self.assertIn("new 2 gone 2 changed 1 kept 0", run.stdout)
+        assert "new 2 gone 2 changed 1 kept 0" in run.stdout
         difference = told["difference"]
-        self.assertEqual([(row["parcel"], row["from"]) for row in difference["new"]], [("B2", ["B"]), ("B3", ["B"])])
-        self.assertEqual([(row["parcel"], row["to"], row["explained"]) for row in difference["gone"]], [("B", ["B2", "B3"], True), ("C", [], False)])
-        self.assertEqual((difference["changed"][0]["before"], difference["changed"][0]["after"], difference["changed"][0]["difference"]), ("100.0000000", "110.0000000", "10.0000000"))
+        assert [(row["parcel"], row["from"]) for row in difference["new"]] == [("B2", ["B"]), ("B3", ["B"])]
+        assert [(row["parcel"], row["to"], row["explained"]) for row in difference["gone"]] == [("B", ["B2", "B3"], True), ("C", [], False)]
+        assert (difference["changed"][0]["before"], difference["changed"][0]["after"], difference["changed"][0]["difference"]) == ("100.0000000", "110.0000000", "10.0000000")
         for words in ("no row of lineage explains it", "</i>new: 2</span>", "</i>of another area: 1</span>", "</i>gone, as it was: 2</span>"):
-            self.assertIn(words, self.html())
-        self.assertNotIn("</i>moved", self.html())
-        self.assertEqual((self.shapes()["old"]["names"], self.shapes()["parcels"]["kinds"]), (["B", "C"], [[0, "changed"], [1, "new"], [2, "new"]]))
+            assert words in self.html()
+        assert "</i>moved" not in self.html()
+        assert (self.shapes()["old"]["names"], self.shapes()["parcels"]["kinds"]) == (["B", "C"], [[0, "changed"], [1, "new"], [2, "new"]])
         moved = release(self.path("moved"), ["A", "B", "C"], move=1)
-        self.assertEqual(self.report("--diff", self.release, folder=moved)[1]["difference"]["other_shape_same_area"], ["A", "B", "C"])
-        self.assertEqual(self.report("--diff", self.path("none"))[0].returncode, 64)
+        assert self.report("--diff", self.release, folder=moved)[1]["difference"]["other_shape_same_area"] == ["A", "B", "C"]
+        assert self.report("--diff", self.path("none"))[0].returncode == 64
 
     def test_years_of_a_register(self):
         base = sqlite3.connect(self.path("r.db"))
@@ -187,30 +187,30 @@ class Reports(Spare):
                            "INSERT INTO lpis_release VALUES (2025), (2024), (2027); INSERT INTO lpis_span VALUES ('A', 2024, 0), ('B', 2024, 2025)")
         base.close()
         run, told = self.report("--register", self.path("r.db"))
-        self.assertEqual((told["register"]["years"], told["register"]["live"]), ([2024, 2025, 2027], 1), run.stderr)
-        self.assertIn("r.db: 3 years (2024 to 2027), 1 live identifiers of 2, 0 shapes", run.stdout)
-        self.assertIn("3 years (2024 to 2027)", self.html())
+        assert (told["register"]["years"], told["register"]["live"]) == ([2024, 2025, 2027], 1), run.stderr
+        assert "r.db: 3 years (2024 to 2027), 1 live identifiers of 2, 0 shapes" in run.stdout
+        assert "3 years (2024 to 2027)" in self.html()
         for path in (self.path("none.db"), self.path("cert.txt")):
             run, _ = self.report("--register", path)
-            self.assertEqual((run.returncode, "is no register" in run.stderr), (64, True), run.stderr)
+            assert (run.returncode, "is no register" in run.stderr) == (64, True), run.stderr
 
     def test_stray(self):
         folder = release(self.path("far"), [f"P{number}" for number in range(20)])
-        self.assertEqual(self.report(folder=folder)[1]["extent"]["stray"], [])
+        assert self.report(folder=folder)[1]["extent"]["stray"] == []
         for name in ("parcels", "covers"):
             path = os.path.join(folder, name + ".csv")
             text = Path(path).read_text(encoding="ascii")
             Path(path).write_text(re.sub(r'(?m)^(P7[.,].*)$', lambda line: line[1].replace("5501", "3501"), text), encoding="ascii")
-        self.assertEqual(self.report(folder=folder)[1]["extent"]["stray"], ["P7"])
+        assert self.report(folder=folder)[1]["extent"]["stray"] == ["P7"]
 
     def test_wrong_sums(self):
         text = Path(self.program).read_text(encoding="utf-8")
         Path(self.program).write_text(text.replace('print("total area", sums["area"]', 'print("total area", "299.9999999"'), encoding="utf-8")
         run, told = self.report()
-        self.assertEqual((run.returncode, told), (64, None))
-        self.assertIn("one of the two is wrong", run.stderr)
+        assert (run.returncode, told) == (64, None)
+        assert "one of the two is wrong" in run.stderr
 
-    @unittest.skipUnless(shapely_there.python(), "no Shapely (Debian: python3-shapely)")
+    @pytest.mark.skipif(not shapely_there.python(), reason="no Shapely (Debian: python3-shapely)")
     def test_moved(self):
         """Two that exchanged their names share nothing; one moved by two thirds of its length shares less than half."""
         new = release(self.path("new"), ["B", "A", "C"])
@@ -220,49 +220,49 @@ class Reports(Spare):
             with open(path, "w", encoding="ascii") as file:
                 file.write(re.sub("5500([45])([07])", lambda found: f"5500{found[1]}{6 if found[2] == '0' else 7}" if found[0] != "550050" else "550056", text))
         run, told = self.report("--diff", self.release, folder=new)
-        self.assertEqual([row["parcel"] for row in told["difference"]["moved"]], ["A", "B", "C"], run.stderr)
-        self.assertEqual(["share nothing" in row["words"] for row in told["difference"]["moved"]], [True, True, False])
-        self.assertIn("moved C: its old and its new shape share 40 percent", run.stdout)
-        self.assertIn("</i>moved, with its identifier: 6</span>", self.html())
-        self.assertEqual(self.shapes()["old"]["words"], ["before it moved"] * 3)
+        assert [row["parcel"] for row in told["difference"]["moved"]] == ["A", "B", "C"], run.stderr
+        assert ["share nothing" in row["words"] for row in told["difference"]["moved"]] == [True, True, False]
+        assert "moved C: its old and its new shape share 40 percent" in run.stdout
+        assert "</i>moved, with its identifier: 6</span>" in self.html()
+        assert self.shapes()["old"]["words"] == ["before it moved"] * 3
 
     def test_names_are_text(self):
         shape = [[[(0, 0), (1, 0), (1, 1), (0, 0)]]]
         chart = page.Map(page.Layer(["<p>"], [shape], ["</script>"]), page.Layer(["<q>"], [shape], classes=["<c>"]), marks=[(0, 0, "<m>")])
         text = page.page("<t>", "<a>", True, [("<f>", "<&>")], chart, [page.Table("<h>", ["<c>"], [["<d>"]])])
-        self.assertFalse(re.search(r"<(t|a|f|&|q|m|c|h|d)>|<p>(?!<)", text.replace("<p></p>", "")))
-        self.assertEqual(text.count("</script>"), 2)
+        assert not re.search(r"<(t|a|f|&|q|m|c|h|d)>|<p>(?!<)", text.replace("<p></p>", ""))
+        assert text.count("</script>") == 2
 
-    def test_packed_shapes(self):
-        for shapes in ([[[[(0, 0), (5, 0), (5, 5), (0, 0)]]]], [[[[(550_000_123, 5_400_000_456), (1, 2), (-20_000_000_000, 20_000_000_000), (550_000_123, 5_400_000_456)], [(3, 3), (4, 3), (4, 4), (3, 3)]]], [[[(7, 7), (8, 7), (8, 8)]], [[(9, 9), (9, 8), (8, 8)]]]]):
-            layer = page.Layer([str(number) for number in range(len(shapes))], shapes)
-            chart = page.Map(layer)
-            found, wanted = unpacked(chart.packed(layer, {})["text"]), [[ring[:-1] if ring[0] == ring[-1] else ring for member in members for ring in member] for members in shapes]
-            self.assertEqual([[len(ring) for ring in rings] for rings in found], [[len(ring) for ring in rings] for rings in wanted])
-            for x, y, (px, py) in ((x, y, point) for rings, others in zip(found, wanted) for ring, other in zip(rings, others) for (x, y), point in zip(ring, other)):
-                self.assertLess(max(abs(chart.left + chart.unit * x - px), abs(chart.top - chart.unit * y - py)), chart.unit)
+    @pytest.mark.parametrize("shapes", ([[[[(0, 0), (5, 0), (5, 5), (0, 0)]]]], [[[[(550_000_123, 5_400_000_456), (1, 2), (-20_000_000_000, 20_000_000_000), (550_000_123, 5_400_000_456)], [(3, 3), (4, 3), (4, 4), (3, 3)]]], [[[(7, 7), (8, 7), (8, 8)]], [[(9, 9), (9, 8), (8, 8)]]]]))
+    def test_packed_shapes(self, shapes):
+        layer = page.Layer([str(number) for number in range(len(shapes))], shapes)
+        chart = page.Map(layer)
+        found, wanted = unpacked(chart.packed(layer, {})["text"]), [[ring[:-1] if ring[0] == ring[-1] else ring for member in members for ring in member] for members in shapes]
+        assert [[len(ring) for ring in rings] for rings in found] == [[len(ring) for ring in rings] for rings in wanted]
+        for x, y, (px, py) in ((x, y, point) for rings, others in zip(found, wanted) for ring, other in zip(rings, others) for (x, y), point in zip(ring, other)):
+            assert max(abs(chart.left + chart.unit * x - px), abs(chart.top - chart.unit * y - py)) < chart.unit
 
-    def test_colours(self):
-        for count in (1, 12, 13, 40):
-            fills = page.fills_of([f"c{number}" for number in range(count)])
-            self.assertEqual(len(set(fills.values())), count)
+    @pytest.mark.parametrize("count", (1, 12, 13, 40))
+    def test_colours(self, count):
+        fills = page.fills_of([f"c{number}" for number in range(count)])
+        assert len(set(fills.values())) == count
 
     def test_country(self):
         folder = os.path.join(TOP, "examples", "country")
         line = ("region west parcels 3 pieces 4 area 96.0000000 eligible 90.960000000\nregion southeast parcels 3 pieces 4 area 56.0000000 eligible 50.960000000\n"
                 "region northeast parcels 2 pieces 2 area 40.0000000 eligible 40.000000000\ncountry regions 3 parcels 4 pieces 5 area 120.0000000 eligible 114.960000000\nyes")
         run, told = self.report(line=line, folder=folder, cert=())
-        self.assertEqual((run.returncode, told["country"]["parcels"], [row["area"] for row in told["regions"]]), (0, 4, ["96.0000000", "56.0000000", "40.0000000"]), run.stderr)
-        self.assertIn("region west parcels 3 pieces 4 area 96.0000000 (0.0096 ha)", run.stdout)
+        assert (run.returncode, told["country"]["parcels"], [row["area"] for row in told["regions"]]) == (0, 4, ["96.0000000", "56.0000000", "40.0000000"]), run.stderr
+        assert "region west parcels 3 pieces 4 area 96.0000000 (0.0096 ha)" in run.stdout
         for words in ("in the country 0.0120 ha", "<td>southeast</td>", "</i>border of a region</span>", told["files"]["west/parcels.csv"]["sha256"]):
-            self.assertIn(words, self.html())
-        self.assertEqual((self.shapes()["tiles"]["names"], sum(cell[2] for cell in self.shapes()["cells"]["counts"])), (["west", "southeast", "northeast"], 4))
+            assert words in self.html()
+        assert (self.shapes()["tiles"]["names"], sum(cell[2] for cell in self.shapes()["cells"]["counts"])) == (["west", "southeast", "northeast"], 4)
         run, told = self.report(line=line.replace("regions 3 parcels 4", "regions 3 parcels 5"), folder=folder, cert=())
-        self.assertEqual((run.returncode, "one of the two is wrong" in run.stderr), (64, True))
+        assert (run.returncode, "one of the two is wrong" in run.stderr) == (64, True)
         run, told = self.report(line=line.split("region southeast")[0] + "refused 43 parcel A at 1 1 1 region southeast", folder=folder, cert=())
-        self.assertEqual((run.returncode, [("area" in row) for row in told["regions"]], len(self.shapes()["marks"])), (1, [True, False, False], 1), run.stderr)
+        assert (run.returncode, [("area" in row) for row in told["regions"]], len(self.shapes()["marks"])) == (1, [True, False, False], 1), run.stderr
         for words in ([], ["--audit"], ["--diff", self.path("none")]):
-            self.assertEqual(self.report(*words, folder=folder if words else self.release, cert=())[0].returncode, 64)
+            assert self.report(*words, folder=folder if words else self.release, cert=())[0].returncode == 64
 
     def test_country_with_a_register(self):
         folder = shutil.copytree(os.path.join(TOP, "examples", "country"), self.path("land"))
@@ -273,11 +273,11 @@ class Reports(Spare):
                            "INSERT INTO lpis_release VALUES (2025); INSERT INTO lpis_span VALUES ('A', 2025, 0)")
         base.close()
         run, told = self.report("--register", self.path("r.db"), line="refused 90 country line 1", folder=folder, cert=())
-        self.assertEqual((run.returncode, run.stdout.splitlines()[-1], told["register"]["years"]), (1, "register 1 year (2025), 1 live identifiers of 1, 0 shapes", [2025]), run.stderr)
-        self.assertTrue({"classes.csv", "west/lineage.csv", "northeast/lineage.csv"} <= set(told["files"]), sorted(told["files"]))
-        self.assertIn("1 year (2025)", self.html())
+        assert (run.returncode, run.stdout.splitlines()[-1], told["register"]["years"]) == (1, "register 1 year (2025), 1 live identifiers of 1, 0 shapes", [2025]), run.stderr
+        assert {"classes.csv", "west/lineage.csv", "northeast/lineage.csv"} <= set(told["files"]), sorted(told["files"])
+        assert "1 year (2025)" in self.html()
 
-    @unittest.skipUnless(CHROMIUM, "no Chromium (Debian: chromium)")
+    @pytest.mark.skipif(not CHROMIUM, reason="no Chromium (Debian: chromium)")
     def test_in_a_browser(self):
         """Colours, names, search, rows, heads, wheel and drag, at the size of a desk and of a telephone."""
         new = release(self.path("wide"), ["B2", "C", "A"], lineage=["B,B2"], width=11)
@@ -304,16 +304,16 @@ class Reports(Spare):
         """
         for size in ("1200,900", "390,844"):
             found = tried(self.path("r.html"), script, size)
-            self.assertEqual(found.get("error"), None)
-            self.assertEqual((found["drawn"], found["colours"]), ("parcels 3 pieces 6", [page.FILLS[0], page.FILLS[1], "#ffffff"]))
-            self.assertEqual([name.split("\n")[:2] for name in found["names"]], [["parcel B2", "piece B2.1 GRASS"], ["parcel A", "piece A.2 TREES"], [""]])
-            self.assertEqual((found["up"], found["down"]), (["A", "B2", "C"], ["C", "B2", "A"]))
-            self.assertEqual((found["away"], found["back"], found["near"] > found["whole"], found["chosen"]), (False, True, True, "C"))
-            self.assertEqual((found["found"], found["searched"], found["none"]), ("B2B2.1B2.2", "B2", "none found"))
-            self.assertEqual((found["button"] > found["whole"], found["wheel"] > found["whole"], found["dragged"], found["wide"]), (True, True, True, True))
-            self.assertIn("parcel", found["tapped"])
+            assert found.get("error") is None
+            assert (found["drawn"], found["colours"]) == ("parcels 3 pieces 6", [page.FILLS[0], page.FILLS[1], "#ffffff"])
+            assert [name.split("\n")[:2] for name in found["names"]] == [["parcel B2", "piece B2.1 GRASS"], ["parcel A", "piece A.2 TREES"], [""]]
+            assert (found["up"], found["down"]) == (["A", "B2", "C"], ["C", "B2", "A"])
+            assert (found["away"], found["back"], found["near"] > found["whole"], found["chosen"]) == (False, True, True, "C")
+            assert (found["found"], found["searched"], found["none"]) == ("B2B2.1B2.2", "B2", "none found")
+            assert (found["button"] > found["whole"], found["wheel"] > found["whole"], found["dragged"], found["wide"]) == (True, True, True, True)
+            assert "parcel" in found["tapped"]
 
-    @unittest.skipUnless(CHROMIUM, "no Chromium (Debian: chromium)")
+    @pytest.mark.skipif(not CHROMIUM, reason="no Chromium (Debian: chromium)")
     def test_many_shapes_in_a_browser(self):
         """Of 20,001 parcels, one of which lies far away, the pieces are drawn where the map is enlarged, and the rest of a table comes on demand."""
         parcels, pieces = page.Layer(), page.Layer(classes=[])
@@ -333,12 +333,12 @@ class Reports(Spare):
           results.colours = [colour(left + 20000, top + 45000), colour(left + 60000, top + 45000)]; results.name = named(left + 60000, top + 45000);
           document.querySelector('[data-show=whole]').click(); await waited(); results.whole = canvas.dataset.drawn;
         """)
-        self.assertEqual((found.get("error"), found["first"], found["whole"]), (None, "parcels 20000 pieces 40000", "parcels 20001 pieces 40002"))
-        self.assertEqual((found["rows"], found["more"]), (page.FIRST_ROWS, page.FIRST_ROWS + 500))
-        self.assertLess(int(found["near"].split()[1]), 30)
-        self.assertEqual((found["colours"], found["name"]), ([page.FILLS[0], page.FILLS[1]], "parcel P12345\npiece P12345.2 W"))
+        assert (found.get("error"), found["first"], found["whole"]) == (None, "parcels 20000 pieces 40000", "parcels 20001 pieces 40002")
+        assert (found["rows"], found["more"]) == (page.FIRST_ROWS, page.FIRST_ROWS + 500)
+        assert int(found["near"].split()[1]) < 30
+        assert (found["colours"], found["name"]) == ([page.FILLS[0], page.FILLS[1]], "parcel P12345\npiece P12345.2 W")
 
-    @unittest.skipUnless(BUILT, "the program is not built")
+    @pytest.mark.skipif(not BUILT, reason="the program is not built")
     def test_of_the_program(self):
         cert = self.path("cert.txt")
         for folder in ("square", "overlap"):
@@ -347,11 +347,11 @@ class Reports(Spare):
             self.program = BUILT
             run, told = self.report(folder=source)
             if folder == "square":
-                self.assertEqual((run.returncode, told["answer"], told["area"], told["eligible"]), (0, "yes", "100.0000000", "68.500000000"), run.stderr)
+                assert (run.returncode, told["answer"], told["area"], told["eligible"]) == (0, "yes", "100.0000000", "68.500000000"), run.stderr
             else:
-                self.assertEqual((run.returncode, told["status"] in (1, 2), "faults" in told), (told["status"], True, True), run.stderr)
-                self.assertGreater(len(self.shapes()["marks"]), 0)
+                assert (run.returncode, told["status"] in (1, 2), "faults" in told) == (told["status"], True, True), run.stderr
+                assert len(self.shapes()["marks"]) > 0
         out = self.path("faults.html")
-        run = subprocess.run([os.path.join(TOOLS, "faults"), os.path.join(TOP, "examples", "overlap"), self.path("f.geojson"), "--html", out, "--lpis", BUILT], capture_output=True, text=True, check=False)
-        self.assertEqual(run.returncode, 1, run.stderr)
-        self.assertIn("</i>faults: ", Path(out).read_text(encoding="utf-8"))
+        run = tool("faults", os.path.join(TOP, "examples", "overlap"), self.path("f.geojson"), "--html", out, "--lpis", BUILT)
+        assert run.returncode == 1, run.stderr
+        assert "</i>faults: " in Path(out).read_text(encoding="utf-8")

@@ -3,10 +3,9 @@ edges cross or touch but in corners, that no border moves by more than 0.708 mm,
 with the rows beside it, has the very text that it has in the whole land. Wants Shapely."""
 
 import random
-import unittest
 from fractions import Fraction
 
-
+import pytest
 import hard
 from lpis_tools import shapely_there
 
@@ -70,11 +69,12 @@ def beside(rows, boxes):
     return [row for row in rows if any(left <= box[2] and low <= box[3] and box[0] <= right and box[1] <= high for box in (row.found.box(),) for left, low, right, high in boxes)]
 
 
-@unittest.skipUnless(shapely_there.is_there(), shapely_there.LACKING)
-class Pixels(unittest.TestCase):
+@pytest.mark.skipif(not shapely_there.is_there(), reason=shapely_there.LACKING)
+class TestPixels:
     """Edges over few pixels, many of them along their sides and through their corners, as short ones and as numbers of any size."""
 
-    def setUp(self):
+    @pytest.fixture(autouse=True)
+    def begin(self):
         numbers = random.Random(3)
 
         def value():
@@ -86,26 +86,26 @@ class Pixels(unittest.TestCase):
 
     def test_meets(self):
         wanted = [meets(edge, pixel) for edge, pixel in zip(self.edges, self.pixels)]
-        self.assertGreater(sum(wanted), 500)
+        assert sum(wanted) > 500
         for kind in (numpy.int64, object):
-            self.assertEqual(snapping.meets(numpy.array(self.edges), numpy.array(self.pixels), kind).tolist(), wanted)
+            assert snapping.meets(numpy.array(self.edges), numpy.array(self.pixels), kind).tolist() == wanted
 
     def test_crossings(self):
         half = len(self.edges) // 2
         first, second = self.edges[:half], self.edges[half : 2 * half]
         wanted = [found for found in map(crossing, first, second) if found]
-        self.assertGreater(len(wanted), 500)
+        assert len(wanted) > 500
         for kind in (numpy.int64, object):
-            self.assertEqual(list(map(tuple, snapping.crossing_pixels(numpy.array(first), numpy.array(second), kind).tolist())), wanted)
+            assert list(map(tuple, snapping.crossing_pixels(numpy.array(first), numpy.array(second), kind).tolist())) == wanted
 
     def test_points(self):
         """A point on a side belongs to the greater pixel, on either side of naught."""
         points = numpy.array([[0.0005, -0.0005], [0.000499, -0.000501], [-0.0015, 1.2345], [0.0004996, 0.0]])
-        self.assertEqual(snapping.pixels_of(points).tolist(), [[1, 0], [0, -1], [-1, 1235], [1, 0]])
+        assert snapping.pixels_of(points).tolist() == [[1, 0], [0, -1], [-1, 1235], [1, 0]]
 
 
-@unittest.skipUnless(shapely_there.is_there(), shapely_there.LACKING)
-class Lands(unittest.TestCase):
+@pytest.mark.skipif(not shapely_there.is_there(), reason=shapely_there.LACKING)
+class TestLands:
     def lands(self, count):
         """Lands of cells of each size, again and again."""
         for seed in range(count):
@@ -126,10 +126,10 @@ class Lands(unittest.TestCase):
                     if min(c[1], d[1]) > max(a[1], b[1]) or max(c[1], d[1]) < min(a[1], b[1]):
                         continue
                     sides = turn(a, b, c), turn(a, b, d), turn(c, d, a), turn(c, d, b)
-                    self.assertFalse(sides[0] * sides[1] < 0 and sides[2] * sides[3] < 0, (a, b, c, d))
+                    assert not (sides[0] * sides[1] < 0 and sides[2] * sides[3] < 0), (a, b, c, d)
                     for side, (p, q), point in zip(sides, ((a, b), (a, b), (c, d), (c, d)), (c, d, a, b)):
                         is_between = min(p[0], q[0]) <= point[0] <= max(p[0], q[0]) and min(p[1], q[1]) <= point[1] <= max(p[1], q[1])
-                        self.assertFalse(side == 0 and is_between and point not in (p, q), (p, q, point))
+                        assert not (side == 0 and is_between and point not in (p, q)), (p, q, point)
 
     def test_borders_stay_near(self):
         """Each corner of the way of an edge lies within the bound of the edge."""
@@ -139,14 +139,14 @@ class Lands(unittest.TestCase):
             ends, points = edges.ends[edge] / WHOLE, corners.points[corner]
             way, from_start = ends[:, 2:] - ends[:, :2], points - ends[:, :2]
             along = numpy.clip((from_start * way).sum(axis=1) / (way * way).sum(axis=1), 0, 1)
-            self.assertLess(numpy.sqrt(((from_start - along[:, None] * way) ** 2).sum(axis=1)).max(), MOST)
-            self.assertEqual(sorted(set(edge.tolist())), list(range(len(edges.ends))))
+            assert numpy.sqrt(((from_start - along[:, None] * way) ** 2).sum(axis=1)).max() < MOST
+            assert sorted(set(edge.tolist())) == list(range(len(edges.ends)))
 
     def test_order_of_rows(self):
         for land in self.lands(5):
             whole = texts(land.parcels, land.covers)
             numbers = random.Random(1)
-            self.assertEqual(texts(*(numbers.sample(rows, len(rows)) for rows in (land.parcels, land.covers))), whole)
+            assert texts(*(numbers.sample(rows, len(rows)) for rows in (land.parcels, land.covers))) == whole
 
     def alone(self, land, reach):
         """How many of some parcels have another text where only the rows within a reach of their pieces are there."""
@@ -161,24 +161,24 @@ class Lands(unittest.TestCase):
 
     def test_alone(self):
         found = [self.alone(land, snapping.REACH) for land in self.lands(20)]
-        self.assertGreater(sum(count for count, _ in found), 250)
-        self.assertEqual(sum(different for _, different in found), 0)
+        assert sum(count for count, _ in found) > 250
+        assert sum(different for _, different in found) == 0
 
     def test_alone_with_less(self):
         """The test can fail: with rows that overlap the pieces by some length alone, parcels differ."""
-        self.assertGreater(sum(self.alone(land, -land.step / 2)[1] for land in self.lands(20)), 0)
+        assert sum(self.alone(land, -land.step / 2)[1] for land in self.lands(20)) > 0
 
-    def test_long_edges(self):
+    @pytest.mark.parametrize("length", (3_000.0, 40_000.0))
+    def test_long_edges(self, length):
         """Of three and of forty kilometres, whose products do not fit 64 bits: by numbers of any size."""
-        for length in (3_000.0, 40_000.0):
-            land = hard.Land(1, 9, length / 3)
-            network = snapping.network_of([row.found for row in land.covers], print)
-            self.assertTrue(len(network.first))
-            self.assertEqual(self.alone(land, snapping.REACH)[1], 0)
+        land = hard.Land(1, 9, length / 3)
+        network = snapping.network_of([row.found for row in land.covers], print)
+        assert len(network.first)
+        assert self.alone(land, snapping.REACH)[1] == 0
 
     def test_nothing(self):
         """A land without edges, and one whose shapes are points."""
-        self.assertEqual(texts([], []), ({}, {}))
+        assert texts([], []) == ({}, {})
         row = hard.Row(0, {"piece": "K", "parcel": "P", "class": "A"}, [[[(1.0, 1.0), (1.0000001, 1.0), (1.0, 1.0000001), (1.0, 1.0)]]])
-        self.assertIsInstance(row.found, wkb.Found)
-        self.assertEqual(texts([], [row]), ({"P": None}, {}))
+        assert isinstance(row.found, wkb.Found)
+        assert texts([], [row]) == ({"P": None}, {})

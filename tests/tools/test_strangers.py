@@ -9,10 +9,11 @@ import struct
 import subprocess
 import sys
 import tempfile
-import unittest
 import unittest.mock
 from pathlib import Path
 
+import pytest
+from registers import made
 import dirty
 import stopping
 from places import TOOLS
@@ -79,7 +80,7 @@ class Case(Spare):
         return subprocess.run([os.path.join(TOOLS, name), *(word.format(self.folder) for word in rest)], input=told, capture_output=True, text=True, check=False, timeout=120, **more)
 
 
-class LastResort(Case):
+class TestLastResort(Case):
     """An error that nobody foresaw."""
 
     def ended(self, main, folder=None):
@@ -94,100 +95,96 @@ class LastResort(Case):
     def test_sentence(self):
         status, told = self.ended(fails)
         (kept,) = os.listdir(self.folder)
-        self.assertEqual((status, told.count("\n"), "Traceback" in told), (70, 1, False), told)
-        self.assertEqual([word for word in ("TypeError", "row 17 of the layer parcels of land.gpkg", "object is not subscriptable", self.path(kept)) if word not in told], [], told)
-        self.assertIn("Traceback", self.read(kept))
-        self.assertEqual(stat.S_IMODE(os.stat(self.path(kept)).st_mode), 0o600)
+        assert (status, told.count("\n"), "Traceback" in told) == (70, 1, False), told
+        assert [word for word in ("TypeError", "row 17 of the layer parcels of land.gpkg", "object is not subscriptable", self.path(kept)) if word not in told] == [], told
+        assert "Traceback" in self.read(kept)
+        assert stat.S_IMODE(os.stat(self.path(kept)).st_mode) == 0o600
 
     def test_no_room(self):
         status, told = self.ended(fails, self.path("none"))
-        self.assertEqual((status, "could not be written" in told, told.count("\n")), (70, True, 1), told)
+        assert (status, "could not be written" in told, told.count("\n")) == (70, True, 1), told
 
-    def test_kinds(self):
-        for main, status, word in ((deep, 70, "nested deeper"), (raises(MemoryError()), 64, "not enough memory"), (raises(BrokenPipeError()), 64, ""), (raises(KeyboardInterrupt()), 130, ""),
-                                   (raises(SystemExit(3)), 3, ""), (raises(OSError(5, "gone", "a\x1bb")), 64, "gone"), (lambda: 1, 1, "")):
-            found, told = self.ended(main)
-            self.assertEqual((found, word in told, "Traceback" in told), (status, True, False), told)
+    @pytest.mark.parametrize("main, status, word", ((deep, 70, "nested deeper"), (raises(MemoryError()), 64, "not enough memory"), (raises(BrokenPipeError()), 64, ""), (raises(KeyboardInterrupt()), 130, ""),
+                                                    (raises(SystemExit(3)), 3, ""), (raises(OSError(5, "gone", "a\x1bb")), 64, "gone"), (lambda: 1, 1, "")))
+    def test_kinds(self, main, status, word):
+        found, told = self.ended(main)
+        assert (found, word in told, "Traceback" in told) == (status, True, False), told
 
     def test_place(self):
         """Rows of another table in between, and no row after the last."""
         for number, _ in unforeseen.each("covers", "ab", "land.gpkg"):
-            self.assertEqual(unforeseen.PLACE.words(), f", at row {number} of the layer covers of land.gpkg")
+            assert unforeseen.PLACE.words() == f", at row {number} of the layer covers of land.gpkg"
             unforeseen.at("other")
-        self.assertEqual(unforeseen.PLACE.words(), "")
+        assert unforeseen.PLACE.words() == ""
 
 
-class Read(Case):
+class TestRead(Case):
     """What is read of numbers and brackets without end."""
 
     def test_polygons(self):
         for text in (f"POLYGON{'(' * DEEP}1 1{')' * DEEP}", f"MULTIPOLYGON((({DIGITS}.000 1.000,2.000 2.000,3.000 1.000,1.000 1.000)))", f"POLYGON(({DIGITS} 1,1 1,1 2,1 1))"):
-            self.assertIsNone(polygons.read(text.encode()))
+            assert polygons.read(text.encode()) is None
             streams.measured(text)
-        self.assertEqual(polygons.read(b"POLYGON((000000000000000000001 1,2 1,2 2,1 1))"), [[[(1000, 1000), (2000, 1000), (2000, 2000), (1000, 1000)]]])
+        assert polygons.read(b"POLYGON((000000000000000000001 1,2 1,2 2,1 1))") == [[[(1000, 1000), (2000, 1000), (2000, 2000), (1000, 1000)]]]
 
-    def test_systems(self):
-        for text in ('PROJCS["x",PROJECTION["Lambert_Conformal_Conic_2SP"],PARAMETER["standard_parallel_1","none"],UNIT["metre",1]]', 'PROJCS["x",PROJECTION["Transverse_Mercator"],UNIT["metre",inf]]',
-                     "A[" * 5000 + "]" * 5000, "A[" * 5000 + 'PROJCS["x",PROJECTION["Transverse_Mercator"],UNIT["metre",1]]' + "]" * 5000, "PROJCS[" * 5000, '"' * 5000):
-            self.assertFalse(systems.of_definition(None, text).suits(), text[:100])
+    @pytest.mark.parametrize("text", ('PROJCS["x",PROJECTION["Lambert_Conformal_Conic_2SP"],PARAMETER["standard_parallel_1","none"],UNIT["metre",1]]', 'PROJCS["x",PROJECTION["Transverse_Mercator"],UNIT["metre",inf]]',
+                                      "A[" * 5000 + "]" * 5000, "A[" * 5000 + 'PROJCS["x",PROJECTION["Transverse_Mercator"],UNIT["metre",1]]' + "]" * 5000, "PROJCS[" * 5000, '"' * 5000))
+    def test_systems(self, text):
+        assert not systems.of_definition(None, text).suits(), text[:100]
 
     def test_shapes(self):
         curve = b"".join([struct.pack("<BII", 1, 10, 1), struct.pack("<BII", 1, 9, 1) * 3000, dirty.line((0, 0), (1, 0), (1, 1), (0, 0))])
         for field in (5, 5.5, "text", b"", b"GP\0\1" + b"\0" * 4 + curve):
-            with self.assertRaises(wkb.Unreadable):
+            with pytest.raises(wkb.Unreadable):
                 wkb.of_package(field)
 
-    def test_refusals(self):
-        for line in ("refused 41 parcels a b at 1 1 0", f"refused 41 parcels a b at {DIGITS} 1 1", "refused 37 parcels row -1", "refused 50 pair 1 b", "refused 37 parcels row \u0661"):
-            self.assertIsNone(refusal.read(line), line)
+    @pytest.mark.parametrize("line", ("refused 41 parcels a b at 1 1 0", f"refused 41 parcels a b at {DIGITS} 1 1", "refused 37 parcels row -1", "refused 50 pair 1 b", "refused 37 parcels row \u0661"))
+    def test_refusals(self, line):
+        assert refusal.read(line) is None, line
 
     def test_registers(self):
         """Registers of another shape: texts for years, bytes for texts, a schema that is no text, and pages that are none."""
-        made = ("CREATE TABLE lpis_release (year); CREATE TABLE lpis_span (id, since, until); CREATE TABLE lpis_text (id, wkt);", "INSERT INTO lpis_release VALUES ('x'); INSERT INTO lpis_span VALUES ('a', 1, 0);",
-                "INSERT INTO lpis_release VALUES (2024); INSERT INTO lpis_span VALUES ('a', 1, 'y');", "INSERT INTO lpis_release VALUES (2024); INSERT INTO lpis_span VALUES ('a', 1, 0); INSERT INTO lpis_text VALUES ('a', x'ff');")
-        for number, more in enumerate(made[1:]):
+        first, *others = ("CREATE TABLE lpis_release (year); CREATE TABLE lpis_span (id, since, until); CREATE TABLE lpis_text (id, wkt);", "INSERT INTO lpis_release VALUES ('x'); INSERT INTO lpis_span VALUES ('a', 1, 0);",
+                          "INSERT INTO lpis_release VALUES (2024); INSERT INTO lpis_span VALUES ('a', 1, 'y');", "INSERT INTO lpis_release VALUES (2024); INSERT INTO lpis_span VALUES ('a', 1, 0); INSERT INTO lpis_text VALUES ('a', x'ff');")
+        for number, more in enumerate(others):
             path = self.path(f"{number}.db")
-            base = sqlite3.connect(path)
-            base.executescript(made[0] + more)
-            base.close()
-            self.assertRaises(years.Trouble, years.of_register, path)
+            made(path, first + more)
+            pytest.raises(years.Trouble, years.of_register, path)
             ledger.content_of(path)
             registers.Kept(path).shape(b"a")
-        self.assertRaises(registers.Unreadable, registers.facts, self.path("0.db"))
+        pytest.raises(registers.Unreadable, registers.facts, self.path("0.db"))
         whole = Path(path).read_bytes()
         for damaged in (whole.replace(b"CREATE TABLE lpis_span", b"CREATE \xdfTABLE lpis_spa"), whole[:4096] + b"\xff" * 5000):
             Path(path).write_bytes(damaged)
-            self.assertRaises(years.Trouble, years.of_register, path)
-            self.assertRaises(registers.Unreadable, registers.facts, path)
+            pytest.raises(years.Trouble, years.of_register, path)
+            pytest.raises(registers.Unreadable, registers.facts, path)
             status, told = ended_in(lambda: registers.Kept(path).text(b"a") and 0)
-            self.assertEqual((status, "cannot be read" in told), (64, True), told)
+            assert (status, "cannot be read" in told) == (64, True), told
 
     def test_lines(self):
         """Lines that name less than their code wants, or something else, over a country."""
         self.write("country.txt", "lpis-country 1\nregion west\n")
         for line in ("81 lineage 73 row 1", "3d parcels row 1 wkt 18 at 5", "90", "93", "94 cert line 1", "96", "96 classes row 1", "43", "45 exact a"):
             for region in ("", " region west"):
-                self.assertTrue(explaining.Explained(f"refused {line}{region}", self.folder).words, line)
+                assert explaining.Explained(f"refused {line}{region}", self.folder).words, line
 
     def test_logs(self):
         """Lines of another shape are lines that were changed."""
         lines = [b"[1]", b"3", b"null", b'{"own": 1}', b'{"own": "", "before": "", "year": "x", "content": {}}', b'{"own": "", "before": "", "year": 1, "content": [[]]}', b"[" * 100_000, b"\xff", DIGITS.encode()]
-        self.assertEqual([fault.endswith("was changed since it was written") for fault in ledger.entries_of(lines)[1]], [True] * len(lines))
+        assert [fault.endswith("was changed since it was written") for fault in ledger.entries_of(lines)[1]] == [True] * len(lines)
 
 
-class Tools(Case):
-    def setUp(self):
-        super().setUp()
+class TestTools(Case):
+    def set_up(self):
         ring = f"{DIGITS}.000 1.000,2.000 2.000,3.000 1.000,1.000 1.000"
         self.write("parcels.csv", f'parcel,wkt\na,"POLYGON{"(" * DEEP}1 1{")" * DEEP}"\nb,"MULTIPOLYGON((({ring})))"\n')
         self.write("covers.csv", "piece,parcel,class,wkt\n")
         self.write("classes.csv", f"class,percent\nG,{'9' * 5000}\n")
 
-    def test_cases(self):
-        for text, told, status, word in TOOL_CASES:
-            with self.subTest(text, told=told[:60]):
-                run = self.run_tool(text, told)
-                self.assertEqual((run.returncode, word in run.stdout + run.stderr, "Traceback" in run.stderr), (status, True, False), (run.stdout[-500:], run.stderr[-500:]))
+    @pytest.mark.parametrize("text, told, status, word", TOOL_CASES)
+    def test_cases(self, text, told, status, word):
+        run = self.run_tool(text, told)
+        assert (run.returncode, word in run.stdout + run.stderr, "Traceback" in run.stderr) == (status, True, False), (run.stdout[-500:], run.stderr[-500:])
 
     def test_folder(self):
         """A folder whose name is not UTF-8."""
@@ -197,28 +194,28 @@ class Tools(Case):
             os.rename(self.path(name), os.path.join(odd, os.fsencode(name)))
         for name, rest in (("report", [odd + b"/none", "--html", odd + b"/r.html", "--json", odd + b"/r.json", "--lpis", "false"]), ("faults", [odd + b"/f.geojson", "--html", odd + b"/f.html", "--lpis", "false"])):
             run = subprocess.run([os.path.join(TOOLS, name), odd, *rest], capture_output=True, text=True, check=False, errors="replace")
-            self.assertEqual((run.returncode in (1, 64), "Traceback" in run.stderr, "encode" in run.stderr), (True, False, False), run.stderr)
-        self.assertTrue(os.path.exists(odd + b"/r.html"))
+            assert (run.returncode in (1, 64), "Traceback" in run.stderr, "encode" in run.stderr) == (True, False, False), run.stderr
+        assert os.path.exists(odd + b"/r.html")
 
-    def test_output(self):
+    @pytest.mark.parametrize("text", ("explain --codes", "explain 43"))
+    def test_output(self, text):
         """Standard output that takes nothing, or that nobody reads."""
-        for text in ("explain --codes", "explain 43"):
-            with open("/dev/full", "w", encoding="ascii") as full:
-                run = subprocess.run([os.path.join(TOOLS, text.split()[0]), *text.split()[1:]], stdout=full, stderr=subprocess.PIPE, text=True, check=False)
-            self.assertEqual((run.returncode, run.stderr.count("\n"), "No space" in run.stderr), (64, 1, True), run.stderr)
-            closed = subprocess.run(["bash", "-c", f"{os.path.join(TOOLS, text)} >&-"], stderr=subprocess.PIPE, text=True, check=False)
-            self.assertEqual((closed.returncode, "closed" in closed.stderr), (64, True), closed.stderr)
-            gone = subprocess.run(["bash", "-c", f"{os.path.join(TOOLS, text)} | true; exit ${{PIPESTATUS[0]}}"], stderr=subprocess.PIPE, text=True, check=False)
-            self.assertEqual((gone.returncode in (0, 64), gone.stderr), (True, ""))
+        with open("/dev/full", "w", encoding="ascii") as full:
+            run = subprocess.run([os.path.join(TOOLS, text.split()[0]), *text.split()[1:]], stdout=full, stderr=subprocess.PIPE, text=True, check=False)
+        assert (run.returncode, run.stderr.count("\n"), "No space" in run.stderr) == (64, 1, True), run.stderr
+        closed = subprocess.run(["bash", "-c", f"{os.path.join(TOOLS, text)} >&-"], stderr=subprocess.PIPE, text=True, check=False)
+        assert (closed.returncode, "closed" in closed.stderr) == (64, True), closed.stderr
+        gone = subprocess.run(["bash", "-c", f"{os.path.join(TOOLS, text)} | true; exit ${{PIPESTATUS[0]}}"], stderr=subprocess.PIPE, text=True, check=False)
+        assert (gone.returncode in (0, 64), gone.stderr) == (True, "")
 
     def test_passed_on(self):
         """What explain reads is passed on byte for byte."""
         run = subprocess.run([os.path.join(TOOLS, "explain"), self.folder], input=b"x\xff\x1b y\nyes\n", capture_output=True, check=False)
-        self.assertEqual((run.stdout, b"Traceback" in run.stderr), (b"x\xff\x1b y\nyes\n", False))
+        assert (run.stdout, b"Traceback" in run.stderr) == (b"x\xff\x1b y\nyes\n", False)
 
 
-@unittest.skipUnless(shapely_there.python(), shapely_there.LACKING)
-class Packages(Case):
+@pytest.mark.skipif(not shapely_there.python(), reason=shapely_there.LACKING)
+class TestPackages(Case):
     def test_names(self):
         """A source, tables and a register in a folder whose name is not UTF-8."""
         odd = os.path.join(os.fsencode(self.folder), b"caf\xe9 ?#%20")
@@ -229,7 +226,7 @@ class Packages(Case):
         for words_of, wanted in ((("prepare", odd + b"/land.gpkg", odd + b"/out"), 0), (("recipes/compare", odd + b"/land.gpkg", odd + b"/out"), 0), (("country", "split", odd + b"/out", odd + b"/country"), 0),
                                  (("lineage", odd + b"/out", odd + b"/out", odd + b"/l.csv"), 0), (("year", "--verify", odd + b"/r.db"), 1)):
             run = subprocess.run([os.path.join(TOOLS, words_of[0]), *words_of[1:]], capture_output=True, text=True, check=False)
-            self.assertEqual((run.returncode, "decode" in run.stderr), (wanted, False), (words_of, run.stdout, run.stderr))
+            assert (run.returncode, "decode" in run.stderr) == (wanted, False), (words_of, run.stdout, run.stderr)
 
     def test_schema(self):
         """A schema that is no text."""
@@ -237,7 +234,7 @@ class Packages(Case):
         whole = Path(path).read_bytes()
         Path(path).write_bytes(whole.replace(b"CREATE TABLE gpkg_contents", b"CREATE \xc5TABLE gpkg_cont"))
         run = self.run_tool("prepare {0}/land.gpkg {0}/out")
-        self.assertEqual((run.returncode, "land.gpkg" in run.stderr), (64, True), run.stderr)
+        assert (run.returncode, "land.gpkg" in run.stderr) == (64, True), run.stderr
 
     def endless(self, name):
         """A GeoPackage whose layer of parcels is a view that never ends."""
@@ -245,16 +242,14 @@ class Packages(Case):
         package.layer("parcels", ["parcel"], [])
         package.layer("covers", ["piece", "parcel", "class"], [])
         package.close()
-        base = sqlite3.connect(self.path(name))
-        base.executescript(f"DROP TABLE parcels; CREATE VIEW parcels AS {ENDLESS} WHERE fid < 0;" if name == "silent.gpkg" else f"DROP TABLE parcels; CREATE VIEW parcels AS {ENDLESS};")
-        base.close()
+        made(self.path(name), f"DROP TABLE parcels; CREATE VIEW parcels AS {ENDLESS} WHERE fid < 0;" if name == "silent.gpkg" else f"DROP TABLE parcels; CREATE VIEW parcels AS {ENDLESS};")
         return self.path(name)
 
-    def test_endless(self):
-        for name in ("silent.gpkg", "loud.gpkg"):
-            self.endless(name)
-            run = self.run_tool(f"prepare {{0}}/{name} {{0}}/out")
-            self.assertEqual((run.returncode, "a view without an end" in run.stderr), (64, True), run.stderr)
+    @pytest.mark.parametrize("name", ("silent.gpkg", "loud.gpkg"))
+    def test_endless(self, name):
+        self.endless(name)
+        run = self.run_tool(f"prepare {{0}}/{name} {{0}}/out")
+        assert (run.returncode, "a view without an end" in run.stderr) == (64, True), run.stderr
 
     def test_stopped(self):
         """TERM is heard while a view runs."""
@@ -265,7 +260,7 @@ class Packages(Case):
         stopping.until(lambda: ending_soon(run.pid), "the view runs")
         run.terminate()
         told = run.communicate(timeout=60)[1]
-        self.assertEqual((run.returncode, "stopped by SIGTERM" in told), (128 + 15, True), told)
+        assert (run.returncode, "stopped by SIGTERM" in told) == (128 + 15, True), told
 
 
 def ending_soon(pid):
@@ -274,32 +269,38 @@ def ending_soon(pid):
     return (int(fields[11]) + int(fields[12])) / os.sysconf("SC_CLK_TCK") > 0.5
 
 
-class Silent(Case):
+class TestSilent(Case):
     """What cannot be read is no absent table and no shorter one."""
 
-    def test_tables(self):
+    @pytest.fixture
+    def narrow(self):
+        """No field is longer than 100,000 bytes."""
+        before = csv.field_size_limit(100_000)
+        yield
+        csv.field_size_limit(before)
+
+    def test_tables(self, narrow):
         path = self.write("parcels.csv", "parcel,wkt\na,POLYGON EMPTY\n" + "b" * 200_000 + ",POLYGON EMPTY\n")
-        self.addCleanup(csv.field_size_limit, csv.field_size_limit(100_000))
         for read, kind in ((lambda: tables.Table(path, "parcels"), OSError), (lambda: list(streams.records(streams.Folder(self.folder).lines("parcels"))), streams.Trouble)):
-            with self.assertRaises(kind) as found:
+            with pytest.raises(kind) as found:
                 read()
-            self.assertIn("cannot be read behind line", str(found.exception))
+            assert "cannot be read behind line" in str(found.value)
 
     def test_unreadable(self):
         """A folder in the place of a table: the report and the words about a country say so."""
         self.write("parcels.csv", "parcel,wkt\n")
         self.write("classes.csv", "class,percent\n")
         os.mkdir(self.path("covers.csv"))
-        self.assertRaises(OSError, report.read, self.folder)
+        pytest.raises(OSError, report.read, self.folder)
         os.mkdir(self.path("west"))
         os.mkdir(self.path("west", "parcels.csv"))
         self.write("country.txt", "lpis-country 1\nregion west\n")
-        self.assertRaises(OSError, list, countries.Together(self.folder, ["west"], "parcels").rows())
+        pytest.raises(OSError, list, countries.Together(self.folder, ["west"], "parcels").rows())
         run = self.run_tool("explain {0}", "refused 93 parcel a region east\n")
-        self.assertIn("region west cannot be looked at", run.stdout)
+        assert "region west cannot be looked at" in run.stdout
         os.mkdir(self.path("identifiers.csv"))
         run = self.run_tool("explain {0} --name a")
-        self.assertEqual((run.returncode, run.stdout), (64, ""), run.stderr)
+        assert (run.returncode, run.stdout) == (64, ""), run.stderr
 
     def test_balance(self):
         """Numbers of a balance that are none, in words and on the page."""
@@ -307,8 +308,8 @@ class Silent(Case):
         self.write("balance.csv", "layer,class,source_m2,mended_m2,left_out_m2,settled_m2,tables_m2,unaccounted_m2\n" + "\n".join(rows) + "\n")
         self.write("report.csv", f"kind,layer,area_m2,stops\nlost,parcels,{DIGITS},1\nlost,parcels\n")
         found = origin.facts(self.folder, [])
-        self.assertTrue(origin.balance_lines(found)[-1].startswith("the balance does not add up"))
-        self.assertNotIn("\n", origin.brief(self.folder))
+        assert origin.balance_lines(found)[-1].startswith("the balance does not add up")
+        assert "\n" not in origin.brief(self.folder)
         page.page("x", "no", False, [], None, [page.Table("b", origin.BALANCE, origin.balance_rows(found)), page.Table("r", origin.COLUMNS, origin.rows(found))])
 
     def test_no_counts(self):
@@ -319,10 +320,10 @@ class Silent(Case):
             if counts is not None:
                 self.write("split.txt", counts)
             run = self.run_tool("country check {0} --lpis {0}/lpis")
-            self.assertEqual((run.returncode, "compared" in run.stderr or "the source had" in run.stderr), (status, True), run.stderr)
+            assert (run.returncode, "compared" in run.stderr or "the source had" in run.stderr) == (status, True), run.stderr
 
 
-class Files(Case):
+class TestFiles(Case):
     def test_links(self):
         """A link is replaced, and what it leads to stays; the mode of a file stays too."""
         self.write("kept", "kept")
@@ -334,12 +335,12 @@ class Files(Case):
                 os.chmod(self.path(name), mode)
             with files.anew(self.path(name)) as file:
                 file.write("new")
-            self.assertEqual((self.read(name), os.path.islink(self.path(name))), ("new", False))
-            self.assertEqual(stat.S_IMODE(os.stat(self.path(name)).st_mode), mode or stat.S_IMODE(os.stat(self.path("kept")).st_mode))
+            assert (self.read(name), os.path.islink(self.path(name))) == ("new", False)
+            assert stat.S_IMODE(os.stat(self.path(name)).st_mode) == (mode or stat.S_IMODE(os.stat(self.path("kept")).st_mode))
         os.symlink(self.path("kept"), self.path("d"))
         files.fresh(self.path("d")).close()
-        self.assertRaises(OSError, files.more, self.write_link("e"))
-        self.assertEqual(self.read("kept"), "kept")
+        pytest.raises(OSError, files.more, self.write_link("e"))
+        assert self.read("kept") == "kept"
 
     def write_link(self, name):
         os.symlink(self.path("kept"), self.path(name))
@@ -348,22 +349,22 @@ class Files(Case):
     def test_broken(self):
         """Where it breaks off, what stood there stands, and nothing is beside it."""
         self.write("a", "old")
-        with self.assertRaises(ValueError), files.anew(self.path("a")) as file:
+        with pytest.raises(ValueError), files.anew(self.path("a")) as file:
             file.write("half")
             raise ValueError
-        self.assertEqual((self.read("a"), os.listdir(self.folder)), ("old", ["a"]))
+        assert (self.read("a"), os.listdir(self.folder)) == ("old", ["a"])
         with files.anew("/dev/null") as file:
             file.write("gone")
 
     def test_devices(self):
         """What can't be renamed over is written to; a file in memory is a file."""
         for path, wanted in (("/dev/null", True), ("/dev/stdout", True), ("/dev/fd/1", True), ("/proc/self/fd/1", True), ("/dev/shm/lpis-none/a.csv", False), (self.path("a"), False), (self.folder, True)):
-            self.assertEqual(files.is_device(path), wanted, path)
+            assert files.is_device(path) == wanted, path
 
     def test_said(self):
         """What the scripts say has no letters that move the cursor."""
         run = subprocess.run(["bash", "-c", f". {os.path.join(TOOLS, 'run.sh')}; say $'a\\x1b[31mb\\nc \u00fc'"], capture_output=True, check=False, env={**os.environ, "LC_ALL": "C.UTF-8"})
-        self.assertEqual(run.stderr.decode(), "lpis: a?[31mb?c \u00fc\n")
+        assert run.stderr.decode() == "lpis: a?[31mb?c \u00fc\n"
 
     def test_printed(self):
         for text, wanted in PRINTED:
@@ -371,5 +372,5 @@ class Files(Case):
             printed = printing.Printed(into, encoding="utf-8", errors="backslashreplace", newline="")
             printed.write(text)
             printed.flush()
-            self.assertEqual(into.getvalue().decode(), wanted)
-        self.assertEqual((printing.readable("a\nb"), printing.readable("ab"), printing.escaped("a\tb\U000e0001")), ("'a\\nb'", "ab", "a\\tb\\U000e0001"))
+            assert into.getvalue().decode() == wanted
+        assert (printing.readable("a\nb"), printing.readable("ab"), printing.escaped("a\tb\U000e0001")) == ("'a\\nb'", "ab", "a\\tb\\U000e0001")

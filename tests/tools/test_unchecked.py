@@ -5,9 +5,8 @@ import os
 import pathlib
 import shutil
 import subprocess
-import tempfile
-import unittest
 
+import pytest
 from places import TOP
 
 RT = shutil.which("rt") or "/opt/rattle/bin/rt"
@@ -15,31 +14,31 @@ PARTS = ("src", "specs", "proofs")
 SECONDS = 900
 
 
-@unittest.skipUnless(os.access(RT, os.X_OK), "the kit is not there")
-class Unchecked(unittest.TestCase):
-    def tried(self, crate, name, old, new):
-        """What the compiler says of the program where one text of a file is another."""
-        spare = tempfile.TemporaryDirectory()
-        self.addCleanup(spare.cleanup)
-        room = pathlib.Path(spare.name)
-        for source in pathlib.Path(TOP, "crates").iterdir():
-            for part in PARTS:
-                if (source / part).is_dir():
-                    shutil.copytree(source / part, room / "crates" / source.name / part)
-        shutil.copy(pathlib.Path(TOP, "crates.txt"), room)
-        path = room / "crates" / crate / "src" / name
-        text = path.read_text(encoding="utf-8")
-        self.assertEqual(text.count(old), 1, f"{name} has no such text: {old}")
-        path.write_text(text.replace(old, new), encoding="utf-8")
-        words = [RT, "try", "--", "--version"]
-        run = subprocess.run(words, cwd=room / "crates" / "lpis", stdin=subprocess.DEVNULL, capture_output=True, text=True, timeout=SECONDS, check=False)
-        self.assertNotEqual(run.returncode, 0)
-        return run.stdout + run.stderr
+pytestmark = pytest.mark.skipif(not os.access(RT, os.X_OK), reason="the kit is not there")
 
-    def test_a_release_without_a_yes(self):
-        said = self.tried("lpis_run_publish", "publish.rt", "            &yes,\n", "            &said.release,\n")
-        self.assertIn("error[mismatched-types]: expected `&Yes`, found `&Release`", said)
 
-    def test_a_country_that_was_not_joined(self):
-        said = self.tried("lpis_run_publish_country", "publish_country.rt", "accept_country(year, &parcels,", "accept_country(year, parcels.parcels(),")
-        self.assertIn("error[mismatched-types]: expected `&Joined`, found `&[Parcel]`", said)
+def tried(room, crate, name, old, new):
+    """What the compiler says of the program where one text of a file is another."""
+    for source in pathlib.Path(TOP, "crates").iterdir():
+        for part in PARTS:
+            if (source / part).is_dir():
+                shutil.copytree(source / part, room / "crates" / source.name / part)
+    shutil.copy(pathlib.Path(TOP, "crates.txt"), room)
+    path = room / "crates" / crate / "src" / name
+    text = path.read_text(encoding="utf-8")
+    assert text.count(old) == 1, f"{name} has no such text: {old}"
+    path.write_text(text.replace(old, new), encoding="utf-8")
+    words = [RT, "try", "--", "--version"]
+    run = subprocess.run(words, cwd=room / "crates" / "lpis", stdin=subprocess.DEVNULL, capture_output=True, text=True, timeout=SECONDS, check=False)
+    assert run.returncode != 0
+    return run.stdout + run.stderr
+
+
+def test_a_release_without_a_yes(tmp_path):
+    said = tried(tmp_path, "lpis_run_publish", "publish.rt", "            &yes,\n", "            &said.release,\n")
+    assert "error[mismatched-types]: expected `&Yes`, found `&Release`" in said
+
+
+def test_a_country_that_was_not_joined(tmp_path):
+    said = tried(tmp_path, "lpis_run_publish_country", "publish_country.rt", "accept_country(year, &parcels,", "accept_country(year, parcels.parcels(),")
+    assert "error[mismatched-types]: expected `&Joined`, found `&[Parcel]`" in said

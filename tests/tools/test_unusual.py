@@ -7,20 +7,21 @@ import struct
 import subprocess
 import unittest.mock
 
+import pytest
 import dirty
 import places
-from preparing_case import CLASSES, Case, ring, rows
+from calls import records
+from preparing_case import CLASSES, Case, ring
 
 
-class Unusual(Case):
+class TestUnusual(Case):
     """Sources of kinds that are rare: each is named or comes through whole."""
 
     POINT = struct.pack("<BI2d", 1, 1, dirty.EAST, dirty.NORTH)
 
-    def setUp(self):
-        super().setUp()
+    def set_up(self):
+        super().set_up()
         self.bases = []
-        self.addCleanup(self.put_away)
 
     def put_away(self):
         """The source of a case, with those who hold it."""
@@ -105,7 +106,7 @@ class Unusual(Case):
     def test_named(self):
         for make, (right, words) in self.cases():
             status, told = self.told(make())
-            self.assertEqual((status, words in told, "Traceback" in told), (right, True, False), told)
+            assert (status, words in told, "Traceback" in told) == (right, True, False), told
             self.put_away()
 
     def test_columns(self):
@@ -114,12 +115,12 @@ class Unusual(Case):
         for word, status, words in (("covers.wkt=Outline", 0, "columns that the tables do not have: geom"), ("covers.wkt=geom", 1, "no shape (NULL)"),
                                     ("covers.wkt=way", 64, "no column of shapes way: there are geom, outline")):
             run = self.run_on(source, "--name", word)
-            self.assertEqual((run.returncode, words in run.stdout + run.stderr), (status, True), run.stdout + run.stderr)
+            assert (run.returncode, words in run.stdout + run.stderr) == (status, True), run.stdout + run.stderr
         if shutil.which("ogr2ogr"):  # which calls the column by a name of its own
             self.put_away()
             source = self.changed("ALTER TABLE covers RENAME COLUMN geom TO shape", "UPDATE gpkg_geometry_columns SET column_name = 'shape' WHERE table_name = 'covers'")
             run = self.run_on(source, "--name", "covers.wkt=shape", "--epsg", "25833")
-            self.assertEqual((run.returncode, run.stdout.count("transformed to EPSG:25833")), (0, 2), run.stdout + run.stderr)
+            assert (run.returncode, run.stdout.count("transformed to EPSG:25833")) == (0, 2), run.stdout + run.stderr
 
     def test_nothing(self):
         """Where nothing is left no table is written, whatever is accepted, and the reasons are counted; only what has pieces is made of them."""
@@ -131,12 +132,12 @@ class Unusual(Case):
         ):
             source = self.package(parcels, covers)
             status, told = self.told(source, "--accept")
-            self.assertEqual((status, words in told, "made of its pieces" in told, "parcels.csv" in os.listdir(self.out)), (1, True, False, False), told)
+            assert (status, words in told, "made of its pieces" in told, "parcels.csv" in os.listdir(self.out)) == (1, True, False, False), told
             os.remove(source)
         shutil.rmtree(self.out)
         source = self.package([("A", self.POINT), ("B", self.POINT)], [("A.1", "A", "GRASS", box)])
-        self.assertEqual(self.run_on(source, "--accept").returncode, 0)
-        self.assertEqual([row["done"] for row in self.found() if row["kind"] == "shape"], ["made of its pieces", "left out"])
+        assert self.run_on(source, "--accept").returncode == 0
+        assert [row["done"] for row in self.found() if row["kind"] == "shape"] == ["made of its pieces", "left out"]
 
     def far(self, east, system, others=()):
         """A source of one parcel beside others, at an easting, in a system."""
@@ -149,14 +150,13 @@ class Unusual(Case):
         package.close()
         return self.path("land.gpkg")
 
-    def test_zones(self):
+    @pytest.mark.parametrize("east, system, kind", ((32_550_000, 25832, "prefix"), (32_550_000, 4647, "prefix"), (30_550_000, 25832, "far"), (32_550_000, 2154, "far"), (20_000_139, 32720, "prefix"), (20_000_139, 25832, "far"),
+                                                    (33_550_000, 4647, "far"), (61_000_000, 25832, "far")))
+    def test_zones(self, east, system, kind):
         """A zone's number is taken off where the system has that zone, each parcel by name; nothing else is moved."""
-        for east, system, kind in ((32_550_000, 25832, "prefix"), (32_550_000, 4647, "prefix"), (30_550_000, 25832, "far"), (32_550_000, 2154, "far"), (20_000_139, 32720, "prefix"), (20_000_139, 25832, "far"),
-                                   (33_550_000, 4647, "far"), (61_000_000, 25832, "far")):
-            run = self.run_on(self.far(east, system, [550_000]))
-            found = [(row["kind"], row["identifier"]) for row in self.found() if row["kind"] in ("prefix", "far")]
-            self.assertEqual((run.returncode, found), (int(kind == "far"), [(kind, "A0"), (kind, "A0.1")]), (east, system, run.stdout))
-            self.put_away()
+        run = self.run_on(self.far(east, system, [550_000]))
+        found = [(row["kind"], row["identifier"]) for row in self.found() if row["kind"] in ("prefix", "far")]
+        assert (run.returncode, found) == (int(kind == "far"), [(kind, "A0"), (kind, "A0.1")]), (east, system, run.stdout)
 
     def test_degrees_among_metres(self):
         """A parcel in degrees among metres is a row that stops."""
@@ -168,10 +168,10 @@ class Unusual(Case):
         base.commit()
         base.close()
         status, told = self.told(source)
-        self.assertEqual((status, told.count("which reads as degrees among metres") >= 2), (1, True), told)
+        assert (status, told.count("which reads as degrees among metres") >= 2) == (1, True), told
         status, told = self.told(source, "--accept")
-        balance = {row["layer"]: row for row in rows(self.out, "balance.csv")}
-        self.assertEqual((status, balance["parcels"]["source_m2"], balance["parcels"]["left_out_m2"], "the balance adds up" in told), (0, "100.005", "-0.005", True), told)
+        balance = {row["layer"]: row for row in records(self.out, "balance.csv")}
+        assert (status, balance["parcels"]["source_m2"], balance["parcels"]["left_out_m2"], "the balance adds up" in told) == (0, "100.005", "-0.005", True), told
 
     def test_spikes(self):
         """Spikes and notches that are narrower than a millimetre have each a row: of parcels, of pieces, in a corner and in an edge, in every direction."""
@@ -183,15 +183,15 @@ class Unusual(Case):
             parcels.append((f"A{number}", dirty.polygon([(dirty.EAST + 200 * number + a, dirty.NORTH + b) for a, b in way])))
         source = self.package(parcels, [(f"{name}.1", name, "GRASS", shape) for name, shape in parcels])
         status, told = self.told(source)
-        found = [row["identifiers"] for row in rows(self.out, "report.csv") if row["kind"] == "spike"]
-        self.assertEqual((status, sorted(found)), (0, sorted([name for name, _ in parcels] + [f"{name}.1" for name, _ in parcels])), told)
+        found = [row["identifiers"] for row in records(self.out, "report.csv") if row["kind"] == "spike"]
+        assert (status, sorted(found)) == (0, sorted([name for name, _ in parcels] + [f"{name}.1" for name, _ in parcels])), told
 
     def test_whole(self):
         for make in self.whole():
             source = make()
             status, told = self.told(source)
-            self.assertEqual((status, len(rows(self.out, "parcels.csv")), "left out" in told.split("balance of land")[0]), (0, 1, False), told)
-            self.assertEqual([float(row["tables_m2"]) for row in rows(self.out, "balance.csv")], [100.0] * 3, told)
+            assert (status, len(records(self.out, "parcels.csv")), "left out" in told.split("balance of land")[0]) == (0, 1, False), told
+            assert [float(row["tables_m2"]) for row in records(self.out, "balance.csv")] == [100.0] * 3, told
             self.put_away()
 
     def slivers(self):
@@ -213,11 +213,11 @@ class Unusual(Case):
             wanted = sorted((name, f"{box[2] * box[3]:.4f}") for name, _, box in shapes if name.startswith("B"))
             for words, status in ((["--accept"], int(len(wanted) == len(land))), ([], 1)):
                 run = self.run_on(self.sheets, *words)
-                self.assertEqual((run.returncode, "Traceback" in run.stderr), (status, False), run.stdout + run.stderr)
-                lost = [row for row in rows(self.out, "report.csv") if row["kind"] == "lost"]
-                self.assertEqual(sorted((row["identifiers"], row["area_m2"]) for row in lost if row["layer"] == "parcels"), wanted)
-                self.assertEqual(sorted(row["identifiers"] for row in lost if row["layer"] == "covers"), sorted(f"{name}.1" for name, _ in wanted))
-                self.assertTrue(all(row["x"] and row["y"] for row in lost))
+                assert (run.returncode, "Traceback" in run.stderr) == (status, False), run.stdout + run.stderr
+                lost = [row for row in records(self.out, "report.csv") if row["kind"] == "lost"]
+                assert sorted((row["identifiers"], row["area_m2"]) for row in lost if row["layer"] == "parcels") == wanted
+                assert sorted(row["identifiers"] for row in lost if row["layer"] == "covers") == sorted(f"{name}.1" for name, _ in wanted)
+                assert all(row["x"] and row["y"] for row in lost)
 
     # Shapes by their members and rings, in metres from the corner of the land, as test suites of other programs have them: parts of them have no width, or less than rounding can show.
     COLLAPSING = {
@@ -251,21 +251,21 @@ class Unusual(Case):
             land = self.placed([*some, sound])
             self.tables(land, [(f"{name}.1", name, "GRASS", text) for name, text in land])
             status, told = self.told(self.sheets, "--accept")
-            self.assertEqual((status, "Traceback" in told, "the balance adds up" in told), (0, False, True), (some, told))
-            written, named = {row["parcel"] for row in rows(self.out, "parcels.csv")}, self.named()
-            self.assertEqual({name for name, _ in land} - written - named, set(), told)
-            self.assertIn("sound", written)
+            assert (status, "Traceback" in told, "the balance adds up" in told) == (0, False, True), (some, told)
+            written, named = {row["parcel"] for row in records(self.out, "parcels.csv")}, self.named()
+            assert {name for name, _ in land} - written - named == set(), told
+            assert "sound" in written
             if places.BUILT:
                 for words in (["cut", self.out, self.path("cert.txt")], ["check", self.out, self.path("cert.txt")]):
                     run = subprocess.run([places.BUILT, *words], capture_output=True, text=True, check=False)
-                    self.assertEqual(run.returncode, 0, (some, run.stdout))
-                self.assertEqual(run.stdout.splitlines()[-1], "yes")
+                    assert run.returncode == 0, (some, run.stdout)
+                assert run.stdout.splitlines()[-1] == "yes"
             shutil.rmtree(self.out)
 
     def named(self):
         """Who stands in a report."""
         tables = [(table, column) for table, column in (("prepared.csv", "identifier"), ("report.csv", "identifiers")) if os.path.exists(os.path.join(self.out, table))]
-        return {name for table, column in tables for row in rows(self.out, table) for name in row[column].split()}
+        return {name for table, column in tables for row in records(self.out, table) for name in row[column].split()}
 
     @staticmethod
     def ended(run):

@@ -3,10 +3,11 @@
 import os
 import re
 import shutil
-import subprocess
 import sys
 from pathlib import Path
 
+import pytest
+from calls import run, tool
 from places import TOOLS, TOP
 from spare import Spare
 from lpis_tools import installed
@@ -16,11 +17,7 @@ OF_SHAPELY = ("prepare", "lineage .", "country prepare", "recipes/compare")
 STANDIN = "#!/bin/sh\necho lpis 9.8.7\n"
 
 
-def run(*words):
-    return subprocess.run(words, capture_output=True, text=True, check=False, stdin=subprocess.DEVNULL)
-
-
-class Words(Spare):
+class TestWords(Spare):
     def house(self):
         """The tools as they are installed, beside a stand-in for the program."""
         lib = os.path.join(self.folder, "lib", "lpis")
@@ -38,61 +35,61 @@ class Words(Spare):
         lib = self.house()
         for name in NAMES:
             done = run(os.path.join(lib, name), "--version")
-            self.assertEqual((done.returncode, done.stdout), (0, f"lpis-{name} 9.8.7\ncommit 0123456789ab\nkit rattle-kit-0 logic 1\n"), done.stderr)
-            self.assertRegex(run(os.path.join(TOOLS, name), "--version").stdout, rf"^lpis-{name} \d+\.\d+\.\d+\n")
+            assert (done.returncode, done.stdout) == (0, f"lpis-{name} 9.8.7\ncommit 0123456789ab\nkit rattle-kit-0 logic 1\n"), done.stderr
+            assert re.search(rf"^lpis-{name} \d+\.\d+\.\d+\n", tool(name, "--version").stdout)
 
-    def test_help_and_wrong_words(self):
-        for name in NAMES:
-            done = run(os.path.join(TOOLS, name), "--help")
-            self.assertEqual((done.returncode, "--version" in done.stdout), (0, True), done.stderr)
-            for words in (["--none"], []):
-                done = run(os.path.join(TOOLS, name), *words)
-                self.assertEqual((done.returncode, done.stderr.splitlines()[-1].startswith(f"{name}: ")), (64, True), done.stderr)
+    @pytest.mark.parametrize("name", NAMES)
+    def test_help_and_wrong_words(self, name):
+        done = tool(name, "--help")
+        assert (done.returncode, "--version" in done.stdout) == (0, True), done.stderr
+        for words in (["--none"], []):
+            done = tool(name, *words)
+            assert (done.returncode, done.stderr.splitlines()[-1].startswith(f"{name}: ")) == (64, True), done.stderr
 
-    def test_without_shapely(self):
+    @pytest.mark.parametrize("name", OF_SHAPELY)
+    def test_without_shapely(self, name):
         """What wants it says so in one sentence, before it reads anything."""
-        for name in OF_SHAPELY:
-            tool, *words = name.split()
-            script = f"import runpy, sys; from lpis_tools import shapely_there; shapely_there.SYSTEM = '/none'; sys.argv[0] = {tool!r}; runpy.run_path({os.path.join(TOOLS, tool)!r}, run_name='__main__')"
-            done = run("env", f"PYTHONPATH={TOOLS}", sys.executable, "-S", "-c", script, *words, self.folder, os.path.join(self.folder, "out"))
-            self.assertEqual((done.returncode, len(done.stderr.splitlines())), (64, 1), done.stderr)
-            for word in (f"{os.path.basename(tool)}: ", "python3-shapely", "dev/packages"):
-                self.assertIn(word, done.stderr)
+        tool, *words = name.split()
+        script = f"import runpy, sys; from lpis_tools import shapely_there; shapely_there.SYSTEM = '/none'; sys.argv[0] = {tool!r}; runpy.run_path({os.path.join(TOOLS, tool)!r}, run_name='__main__')"
+        done = run("env", f"PYTHONPATH={TOOLS}", sys.executable, "-S", "-c", script, *words, self.folder, os.path.join(self.folder, "out"))
+        assert (done.returncode, len(done.stderr.splitlines())) == (64, 1), done.stderr
+        for word in (f"{os.path.basename(tool)}: ", "python3-shapely", "dev/packages"):
+            assert word in done.stderr
 
     def test_installed_tools_name_what_is_installed(self):
         lib = self.house()
         for name in NAMES:
             text = run(os.path.join(lib, name), "--help").stdout
-            self.assertEqual((f"lpis-{name}" in text, re.findall(r"tools/\w+|\./lpis", text)), (True, []))
+            assert (f"lpis-{name}" in text, re.findall(r"tools/\w+|\./lpis", text)) == (True, [])
         text = run(os.path.join(lib, "explain"), "3a", "45", "14").stdout
-        self.assertEqual(re.findall(r"(?<!\S)\(?(?:tools|docs)/\w+|lpis-(?:country|explain)\b", text), ["lpis-country", "lpis-explain"])
-        self.assertIn(f"{self.folder}/share/doc/lpis/GUIDE.md", text)
+        assert re.findall(r"(?<!\S)\(?(?:tools|docs)/\w+|lpis-(?:country|explain)\b", text) == ["lpis-country", "lpis-explain"]
+        assert f"{self.folder}/share/doc/lpis/GUIDE.md" in text
 
-    def test_names(self):
-        for text, wanted in (
-            ("run `tools/explain 43`", "run `lpis-explain 43`"), ("./lpis cut a b && ./lpis check a b", "lpis cut a b && lpis check a b"), ("`./lpis`", "`lpis`"),
-            ("tools/recipes/compare x", "/opt/lib/lpis/recipes/compare x"), ("both in `tools/recipes`.", "both in `/opt/lib/lpis/recipes`."), ("<tools/audit_shapes.sql", "</opt/lib/lpis/audit_shapes.sql"),
-            ("see docs/FORMATS.md", "see /opt/share/doc/lpis/FORMATS.md"), ('LPIS="$PWD/lpis"', "LPIS=lpis"), ("docs/DECISIONS.md", "docs/DECISIONS.md"),
-            ("docs/IDEA.md", "/opt/share/doc/lpis/IDEA.md"), ("`audit/`: python3 audit/release.py", "`/opt/lib/lpis/audit/`: python3 /opt/lib/lpis/audit/release.py"), ("tests/audit/run", "tests/audit/run"),
-        ):
-            self.assertEqual(installed.named(text, "/opt"), wanted)
+    @pytest.mark.parametrize("text, wanted", (
+        ("run `tools/explain 43`", "run `lpis-explain 43`"), ("./lpis cut a b && ./lpis check a b", "lpis cut a b && lpis check a b"), ("`./lpis`", "`lpis`"),
+        ("tools/recipes/compare x", "/opt/lib/lpis/recipes/compare x"), ("both in `tools/recipes`.", "both in `/opt/lib/lpis/recipes`."), ("<tools/audit_shapes.sql", "</opt/lib/lpis/audit_shapes.sql"),
+        ("see docs/FORMATS.md", "see /opt/share/doc/lpis/FORMATS.md"), ('LPIS="$PWD/lpis"', "LPIS=lpis"), ("docs/DECISIONS.md", "docs/DECISIONS.md"),
+        ("docs/IDEA.md", "/opt/share/doc/lpis/IDEA.md"), ("`audit/`: python3 audit/release.py", "`/opt/lib/lpis/audit/`: python3 /opt/lib/lpis/audit/release.py"), ("tests/audit/run", "tests/audit/run"),
+    ))
+    def test_names(self, text, wanted):
+        assert installed.named(text, "/opt") == wanted
 
-    def test_pages(self):
+    @pytest.mark.parametrize("name", ("GUIDE", "FORMATS", "IDEA", "PROOF"))
+    def test_pages(self, name):
         """Of the pages that are installed each command and file is there, or the page says that it is of the sources."""
-        for name in ("GUIDE", "FORMATS", "IDEA", "PROOF"):
-            text = installed.page(Path(TOP, "docs", name + ".md").read_text(encoding="utf-8"), "/opt")
-            self.assertEqual(re.findall(r"(?<![\w/])tools/(?!dirty|lpis_tools|test|tests)[\w/.]+|(?<!\S)\./lpis\b|(?<![\w/])audit/", text), [], name)
-            self.assertEqual(bool(re.search(r"(?<![\w/])(?:bench|crates|dev|tests)/\w", text)) <= (installed.NOTE in text), True, name)
+        text = installed.page(Path(TOP, "docs", name + ".md").read_text(encoding="utf-8"), "/opt")
+        assert re.findall(r"(?<![\w/])tools/(?!dirty|lpis_tools|test|tests)[\w/.]+|(?<!\S)\./lpis\b|(?<![\w/])audit/", text) == [], name
+        assert installed.NOTE in text or not re.search(r"(?<![\w/])(?:bench|crates|dev|tests)/\w", text), name
 
     def test_names_of_the_source(self):
         with open(os.path.join(self.folder, "identifiers.csv"), "w", encoding="utf-8") as file:
             file.write("kind,old,new\nparcel,M\u00fchle,Muehle_a48e56\npiece,M\u00fchle,x\nparcel,\u00d6d 1 ,Oed_1_123456\n")
         for name, wanted in (("M\u00fchle", "Muehle_a48e56"), ("\u00d6d 1", "Oed_1_123456"), ("north", "north"), ("B\u00e4r", "Baer_")):
-            done = run(os.path.join(TOOLS, "explain"), self.folder, "--name", name)
-            self.assertEqual((done.returncode, done.stdout.startswith(wanted)), (0, True), done.stdout + done.stderr)
-        self.assertEqual(run(os.path.join(TOOLS, "explain"), os.path.join(self.folder, "none"), "--name", "A").returncode, 64)
+            done = tool("explain", self.folder, "--name", name)
+            assert (done.returncode, done.stdout.startswith(wanted)) == (0, True), done.stdout + done.stderr
+        assert tool("explain", os.path.join(self.folder, "none"), "--name", "A").returncode == 64
         for name, lines in (("parcels", 'parcel,wkt\nMuehle_a48e56,"POLYGON((0 0,1 0,1 1,0 0))"\n'), ("covers", 'piece,parcel,class,wkt\nC,A,G,"POLYGON((0 0,1 0,1 1,0 0))"\n')):
             Path(self.folder, name + ".csv").write_text(lines, encoding="ascii")
         for line in ("refused 44 parcel Muehle_a48e56", "refused 37 parcels row 1"):
-            done = subprocess.run([os.path.join(TOOLS, "explain"), self.folder], input=line + "\n", capture_output=True, text=True, check=False)
-            self.assertIn("parcel Muehle_a48e56 is 'M\u00fchle' in the source", done.stdout)
+            done = tool("explain", self.folder, input=line + "\n")
+            assert "parcel Muehle_a48e56 is 'M\u00fchle' in the source" in done.stdout

@@ -5,12 +5,12 @@ import datetime
 import json
 import os
 import shutil
-import sqlite3
-import subprocess
-import unittest
 from pathlib import Path
 
-from places import BUILT, TOOLS, TOP
+import pytest
+from registers import made
+from calls import tool
+from places import BUILT, TOP
 from spare import Spare
 from lpis_tools import ledger
 
@@ -18,21 +18,13 @@ EXAMPLES = os.path.join(TOP, "examples", "exact")
 
 
 def run(*words):
-    return subprocess.run([os.path.join(TOOLS, "year"), *words], capture_output=True, text=True, check=False, env={**os.environ, "LPIS": BUILT or ""})
-
-
-def change(path, statement):
-    base = sqlite3.connect(path)
-    base.execute(statement)
-    base.commit()
-    base.close()
+    return tool("year", *words, env={**os.environ, "LPIS": BUILT or ""})
 
 
 class Case(Spare):
     prefix = "year of "
 
-    def setUp(self):
-        super().setUp()
+    def set_up(self):
         self.base = self.path("lpis.db")
 
     def lines(self):
@@ -42,15 +34,13 @@ class Case(Spare):
         Path(ledger.path_of(self.base)).write_bytes(b"".join(line + b"\n" for line in lines))
 
 
-class Logs(Case):
-    def setUp(self):
-        super().setUp()
-        base = sqlite3.connect(self.base)
-        base.executescript("CREATE TABLE lpis_release (year INTEGER PRIMARY KEY); CREATE TABLE lpis_span (id TEXT PRIMARY KEY, since INTEGER, until INTEGER);")
-        base.close()
+class TestLogs(Case):
+    def set_up(self):
+        super().set_up()
+        made(self.base, "CREATE TABLE lpis_release (year INTEGER PRIMARY KEY); CREATE TABLE lpis_span (id TEXT PRIMARY KEY, since INTEGER, until INTEGER);")
         for year in (2024, 2025, 2026):
-            change(self.base, f"INSERT INTO lpis_release VALUES ({year})")
-            change(self.base, f"INSERT INTO lpis_span VALUES ('p{year}', {year}, 0)")
+            made(self.base, f"INSERT INTO lpis_release VALUES ({year})")
+            made(self.base, f"INSERT INTO lpis_span VALUES ('p{year}', {year}, 0)")
             with ledger.held(self.base) as log:
                 ledger.add(log, self.base, {"year": year, "user": "clerk", "content": ledger.content_of(self.base)})
 
@@ -58,14 +48,14 @@ class Logs(Case):
         return " ".join(ledger.faults_of(self.base))
 
     def test_a_log_agrees(self):
-        self.assertEqual([], ledger.faults_of(self.base))
-        change(self.base, "VACUUM")
-        self.assertEqual((0, [], True), (run("--verify", self.base).returncode, ledger.faults_of(self.base), "3 lines" in run("--verify", self.base).stdout))
+        assert [] == ledger.faults_of(self.base)
+        made(self.base, "VACUUM")
+        assert (0, [], True) == (run("--verify", self.base).returncode, ledger.faults_of(self.base), "3 lines" in run("--verify", self.base).stdout)
 
     def test_an_edited_register_is_found(self):
-        change(self.base, "UPDATE lpis_span SET since = 2023 WHERE id = 'p2024'")
-        self.assertIn("lpis_span changed since", self.faults())
-        self.assertEqual(1, run("--verify", self.base).returncode)
+        made(self.base, "UPDATE lpis_span SET since = 2023 WHERE id = 'p2024'")
+        assert "lpis_span changed since" in self.faults()
+        assert 1 == run("--verify", self.base).returncode
 
     def test_lines_that_were_changed_or_taken_out_are_found(self):
         lines = self.lines()
@@ -83,17 +73,16 @@ class Logs(Case):
             ("no line", [], "no line"),
             ("no text", [*lines[:2], b"\xff\xfe"], "line 3 was changed"),
         ):
-            with self.subTest(what):
-                self.write(others)
-                self.assertIn(words, self.faults())
+            self.write(others)
+            assert words in self.faults()
 
     def test_words(self):
         for words in ([], [self.base], [self.base, "2027"], ["--verify", self.base, "2027", self.folder], [self.base, "next", self.folder]):
-            self.assertEqual(64, run(*words).returncode, words)
+            assert 64 == run(*words).returncode, words
 
 
-@unittest.skipUnless(BUILT, "the program is not built")
-class Years(Case):
+@pytest.mark.skipif(not BUILT, reason="the program is not built")
+class TestYears(Case):
     def year(self, year, *more):
         folder = os.path.join(self.folder, str(year))
         if not os.path.isdir(folder):
@@ -105,69 +94,69 @@ class Years(Case):
 
     def test_two_years(self):
         ran = self.year(2024, "--new")
-        self.assertEqual(0, ran.returncode, ran.stdout + ran.stderr)
+        assert 0 == ran.returncode, ran.stdout + ran.stderr
         ran = self.year(2025)
-        self.assertEqual(0, ran.returncode, ran.stdout + ran.stderr)
-        self.assertIn("exact 2", ran.stdout)
-        self.assertLessEqual({"cert.txt", "exact.txt", "published-2025.txt", "report-2025.json", "report-2025.html"}, set(self.files("2025")))
+        assert 0 == ran.returncode, ran.stdout + ran.stderr
+        assert "exact 2" in ran.stdout
+        assert {"cert.txt", "exact.txt", "published-2025.txt", "report-2025.json", "report-2025.html"} <= set(self.files("2025"))
         with open(os.path.join(self.folder, "2025", "published-2025.txt"), encoding="ascii") as file:
-            self.assertTrue(file.read().endswith("lineage yard merged exact\npublished 2025\n"))
+            assert file.read().endswith("lineage yard merged exact\npublished 2025\n")
         entries, faults = ledger.entries_of(self.lines())
-        self.assertEqual(([2024, 2025], [], entries[0]["content"]), ([entry["year"] for entry in entries], faults, entries[1]["content_before"]))
-        self.assertEqual(entries[1]["certificate"], ledger.digest_of(os.path.join(self.folder, "2025", "exact.txt")))
-        self.assertEqual(0, run("--verify", self.base).returncode)
+        assert ([2024, 2025], [], entries[0]["content"]) == ([entry["year"] for entry in entries], faults, entries[1]["content_before"])
+        assert entries[1]["certificate"] == ledger.digest_of(os.path.join(self.folder, "2025", "exact.txt"))
+        assert 0 == run("--verify", self.base).returncode
         copy = f"{self.base}.before-2025"
-        self.assertEqual(entries[0]["content"], ledger.content_of(copy))
-        self.assertEqual(f"{ledger.digest_of(copy)}  lpis.db.before-2025\n", Path(f"{copy}.sha256").read_text(encoding="ascii"))
+        assert entries[0]["content"] == ledger.content_of(copy)
+        assert f"{ledger.digest_of(copy)}  lpis.db.before-2025\n" == Path(f"{copy}.sha256").read_text(encoding="ascii")
 
     def test_what_it_stops_at(self):
         this = datetime.date.today().year
-        self.assertEqual(1, self.year(2024).returncode)
-        self.assertFalse(os.path.exists(self.base))
-        self.assertEqual(0, self.year(2024, "--new").returncode)
+        assert 1 == self.year(2024).returncode
+        assert not os.path.exists(self.base)
+        assert 0 == self.year(2024, "--new").returncode
         before = ledger.content_of(self.base)
         shutil.copytree(os.path.join(EXAMPLES, "2025"), os.path.join(self.folder, "next"))
         for words, status in (
             (["2025", "next", "--new"], 1), (["2025", "2024/parcels.csv"], 64), (["2028", "next"], 1), (["2024", "next"], 1), (["2023", "next"], 1), (["2205", "next"], 1), ([str(this + 2), "next"], 1), (["2025", "none"], 64),
         ):
             ran = run(self.base, words[0], os.path.join(self.folder, words[1]), *words[2:])
-            self.assertEqual((status, before, 1), (ran.returncode, ledger.content_of(self.base), len(self.lines())), (words, ran.stderr))
-            self.assertNotIn("Traceback", ran.stderr)
-        change(self.base, "UPDATE lpis_text SET wkt = replace(wkt, '.000', '.0')")
+            assert (status, before, 1) == (ran.returncode, ledger.content_of(self.base), len(self.lines())), (words, ran.stderr)
+            assert "Traceback" not in ran.stderr
+        made(self.base, "UPDATE lpis_text SET wkt = replace(wkt, '.000', '.0')")
         ran = run(self.base, "2025", os.path.join(self.folder, "next"))
-        self.assertEqual(1, ran.returncode)
-        self.assertIn("lpis_text changed since", ran.stderr)
+        assert 1 == ran.returncode
+        assert "lpis_text changed since" in ran.stderr
         ran = run(self.base, "2025", os.path.join(self.folder, "next"), "--register-anyway")
-        self.assertEqual((0, True), (ran.returncode, json.loads(self.lines()[1])["register_anyway"]), ran.stderr)
+        assert (0, True) == (ran.returncode, json.loads(self.lines()[1])["register_anyway"]), ran.stderr
 
     def test_a_first_year_needs_no_table_of_lineage(self):
         folder = os.path.join(self.folder, "2024")
         shutil.copytree(os.path.join(EXAMPLES, "2024"), folder)
         os.remove(os.path.join(folder, "lineage.csv"))
         ran = self.year(2024, "--new")
-        self.assertEqual(0, ran.returncode, ran.stdout + ran.stderr)
-        self.assertEqual("old,new\n", Path(folder, "lineage.csv").read_text(encoding="ascii"))
+        assert 0 == ran.returncode, ran.stdout + ran.stderr
+        assert "old,new\n" == Path(folder, "lineage.csv").read_text(encoding="ascii")
 
     def test_a_register_without_its_log_is_a_stop(self):
-        self.assertEqual(0, self.year(2024, "--new").returncode)
+        assert 0 == self.year(2024, "--new").returncode
         os.remove(ledger.path_of(self.base))
         ran = self.year(2025)
-        self.assertEqual((1, True), (ran.returncode, "no line: the register has no log" in ran.stderr), ran.stderr)
-        self.assertEqual((0, True), (self.year(2025, "--register-anyway").returncode, json.loads(self.lines()[0])["register_anyway"]))
+        assert (1, True) == (ran.returncode, "no line: the register has no log" in ran.stderr), ran.stderr
+        assert (0, True) == (self.year(2025, "--register-anyway").returncode, json.loads(self.lines()[0])["register_anyway"])
 
     def test_places_that_are_none(self):
         for base, year, folder, words in ((os.path.join(self.folder, "no", "lpis.db"), "2024", self.folder, "no is not there"), (self.folder, "2024", self.folder, "is a folder, and no register"),
                                           (self.base, "2024", os.path.join(self.folder, "none"), "none is not there")):
             ran = run(base, year, folder, "--new")
-            self.assertEqual((64, True, []), (ran.returncode, words in ran.stderr, os.listdir(self.folder)), ran.stderr)
+            assert (64, True, []) == (ran.returncode, words in ran.stderr, os.listdir(self.folder)), ran.stderr
 
     def test_a_refusal_publishes_nothing(self):
-        self.assertEqual(0, self.year(2024, "--new").returncode)
+        assert 0 == self.year(2024, "--new").returncode
         folder = os.path.join(self.folder, "2025")
         shutil.copytree(os.path.join(EXAMPLES, "2025"), folder)
         Path(folder, "lineage.csv").write_text("old,new\nmeadow,meadow-1\n", encoding="ascii")
         before = ledger.content_of(self.base)
         ran = self.year(2025)
-        self.assertEqual((1, before, 1), (ran.returncode, ledger.content_of(self.base), len(self.lines())))
-        self.assertIn("refused 81 lineage 75", ran.stdout)
-        self.assertIn("nothing was published", ran.stderr)
+        assert (1, before, 1) == (ran.returncode, ledger.content_of(self.base), len(self.lines()))
+        assert "refused 81 lineage 75" in ran.stdout
+        assert "nothing was published" in ran.stderr

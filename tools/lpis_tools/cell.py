@@ -16,8 +16,8 @@ from . import balance, conflicts, files, last_year, outcome, polygons, rounding,
 from .snapping import REACH
 
 FAR = 2 * REACH  # from a shape, whose borders move
-RULE = "lpis cells 3"  # what another rule gave is not taken
-OWN = "SELECT row.id, left, low, right, high FROM row JOIN cell USING (parcel) WHERE cell.number = ? AND is_kept"
+RULE = "lpis cells 4"  # what another rule gave is not taken
+OWN = "SELECT row.id, is_cover, row.parcel, left, low, right, high FROM row JOIN cell USING (parcel) WHERE cell.number = ? AND is_kept"
 BESIDE = "SELECT id, left, low, right, high FROM box WHERE left <= ? AND right >= ? AND low <= ? AND high >= ?"
 FIELDS = "SELECT id, is_cover, name, parcel, class, area, why, shape, read FROM row JOIN shape USING (id) WHERE id = ? AND is_kept"
 
@@ -52,28 +52,42 @@ class Near:
 
     def __init__(self, base, number, left, low, right, high):
         self.base, self.box, self.shape = base, (left - REACH, low - REACH, right + REACH, high + REACH), None
-        if max(right - left, high - low) > store.LARGE:
+        if is_large(left, low, right, high):
             self.shape = prep(shapely_wkb.loads(base.execute("SELECT shape FROM shape WHERE id = ?", (number,)).fetchone()[0]))
 
     def those(self, query):
         """What a query gives of the rows of a table with boxes, which stand behind it."""
         left, low, right, high = self.box
-        for one, west, south, east, north in self.base.execute(query, (right, left, high, low)):
-            if self.shape is None or self.shape.intersects(box(west - FAR, south - FAR, east + FAR, north + FAR)):
-                yield one
+        found = self.base.execute(query, (right, left, high, low))
+        if self.shape is None:
+            return [one for one, *_ in found]
+        return [one for one, west, south, east, north in found if self.shape.intersects(box(west - FAR, south - FAR, east + FAR, north + FAR))]
+
+
+def is_large(left, low, right, high):
+    return max(right - left, high - low) > store.LARGE
+
+
+def asked(rows):
+    """The rows to ask what is near them: those in the box of their parcel's own row, unless that is large, are not asked."""
+    parcels = {parcel: found for _, is_cover, parcel, *found in rows if not is_cover and found[0] is not None and not is_large(*found)}
+    for number, is_cover, parcel, left, low, right, high in rows:
+        of_parcel = parcels.get(parcel) if is_cover else None
+        if left is not None and not (of_parcel and of_parcel[0] <= left and of_parcel[1] <= low and right <= of_parcel[2] and high <= of_parcel[3]):
+            yield number, left, low, right, high
 
 
 class Cell:
     """A cell: the names of its parcels, its rows and those that their rounding hangs on."""
 
     def __init__(self, base, number):
-        own, numbers, then = set(), set(), []
-        for one, left, low, right, high in base.execute(OWN, (number,)).fetchall():
-            own.add(one)
-            if left is not None:
-                near = Near(base, one, left, low, right, high)
-                numbers.update(near.those(BESIDE))
-                then += last_year.corners_in(near.box, near.those(last_year.THEN))
+        rows, numbers, then = base.execute(OWN, (number,)).fetchall(), set(), []
+        own, is_later = {one for one, *_ in rows}, base.execute("SELECT EXISTS (SELECT 1 FROM corner)").fetchone()[0]
+        for found in asked(rows):
+            near = Near(base, *found)
+            numbers.update(near.those(BESIDE))
+            if is_later:
+                then.append(last_year.corners_in(near.box, near.those(last_year.THEN)))
         rows = [Row(*fields) for one in sorted(numbers | own) for fields in base.execute(FIELDS, (one,))]
         self.wanted, self.then = {row["parcel"] for row in rows if row.id in own}, last_year.different(then)
         self.own = {name: [row for row in rows if row.is_cover == is_cover and row.id in own] for is_cover, name in enumerate(("parcels", "covers"))}

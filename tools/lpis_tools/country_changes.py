@@ -3,9 +3,11 @@ parcel by parcel."""
 
 from __future__ import annotations
 
-from . import differences, origin, years
+from . import differences, origin, progress, years
+from .printing import escaped
 
 FINDINGS, REPORT = "prepared.csv", "report.csv"
+COUNTED = ("findings", "accepted")
 CHANGES = ("new", "gone", "changed", "other_shape_same_area", "moved")
 
 
@@ -15,13 +17,26 @@ def tile_at(tiling, x, y):
 
 
 def reported(folder, tiling):
-    """Of each region how many findings of the tests lie there, and how many rows of the report stop and were accepted; those without a place are in none."""
-    found = {name: {"findings": 0, "accepted": 0} for name in tiling.folders}
+    """Of each region how many findings of the tests lie there, and how many rows of the report stop and were accepted; and those without a place, which are in no
+    region, by what was found of them: kind, rows, and the words of the first."""
+    found, nowhere, reasons = {name: dict.fromkeys(COUNTED, 0) for name in tiling.folders}, {name: {} for name in COUNTED}, {}
     for name, column, is_counted in ((FINDINGS, "findings", lambda row: True), (REPORT, "accepted", lambda row: row.get("stops") == "1")):
-        for row in origin.records(folder, name):
-            if row.get("x") and row.get("y") and is_counted(row):
+        for row in filter(is_counted, origin.records(folder, name)):
+            if row.get("x") and row.get("y"):
                 found[tile_at(tiling, *(round(1000 * origin.number(row[axis])) for axis in "xy"))][column] += 1
-    return found
+                continue
+            key, own = (row.get("layer"), row.get("row")), (row.get("kind") or "", row.get("words") or "")
+            kind, words = reasons.setdefault(key, own) if name == FINDINGS else reasons.get(key, own)
+            told = nowhere[column].setdefault(kind, {"kind": kind, "rows": 0, "words": words})
+            told["rows"] += 1
+    return found, {column: sorted(told.values(), key=lambda one: (-one["rows"], one["kind"])) for column, told in nowhere.items()}
+
+
+def without_place(nowhere):
+    """In words, a line each."""
+    for column, told in nowhere.items():
+        if told:
+            yield f"{column} in no region, since these rows have no place: {sum(one['rows'] for one in told)}: " + ", ".join(f"{one['rows']} {one['kind']} (such as: {escaped(one['words'])})" for one in told)
 
 
 def difference(old, folder, tiling):
@@ -30,7 +45,7 @@ def difference(old, folder, tiling):
     found = differences.of_shapes(before.shapes, after.shapes, list(before.shapes.differing(after.shapes)), differences.lineage(folder))
     tiles = {name: dict.fromkeys(CHANGES, 0) for name in tiling.folders}
     for kind in CHANGES:
-        for row in found[kind] or []:
+        for row in progress.over(found[kind] or [], f"places of what is {kind}"):
             name = row if kind == "other_shape_same_area" else row["parcel"]
             tiles[after.shapes.region(name) if kind != "gone" else tile_at(tiling, *before.shapes[name][0][0][0])][kind] += 1
     return found, tiles

@@ -6,6 +6,7 @@ from __future__ import annotations
 import os
 import shutil
 import tempfile
+from collections import Counter
 
 from . import again, causes, engines, files, gathering, jobs, land, last_year, losses, naming, parts, passes, prepared, progress, splitting, store, streams
 
@@ -123,13 +124,15 @@ class Run(prepared.Run):
     def cells(self, count, digest):
         """The names of the files that have what the cells give. Where all that these hang on is as it was when a run before kept the names, no cell is looked at; else
         each cell is read, and those that changed are rounded."""
+        then = self.previous.planned() if self.previous else []
+        self.kept_files = [*self.kept_files, *(part["file"] for part in then)]
         names = jobs.kept(self.results, "cell", digest)
         if names is not None and len(names) == count:
             self.say(f"the {count} cells are those that the run before has rounded")
             return names
         if self.previous:
             self.say(f"reading the corners of {self.previous.folder}")
-            self.previous.put(self.base)
+            self.previous.put(self.base, [os.path.join(self.results, name) for name in engines.prepared(self.words, self.results, "part", then, "reading last year's corners")])
         before = set(filter(jobs.OWN.fullmatch, os.listdir(self.results)))
         is_first = not any(name.endswith(".jsonl") for name in before)
         self.say(f"rounding {count} cells" if is_first else f"comparing {count} cells with those that a run before has rounded, and rounding what changed")
@@ -151,6 +154,12 @@ class Run(prepared.Run):
             jobs.keep(self.results, "gap", digest, names)
         self.gathered.read_arms(names, progress.Progress("country", "reading what is between parcels", len(cells), "cells"))
         return names
+
+    def what_follows(self, seen):
+        counts = Counter(loss.kind for loss in seen.losses if loss.stops())
+        counts["left out"] += sum(1 for _ in passes.left_out(self.base))
+        kinds = ", ".join(f"{count} {kind}" for kind, count in counts.most_common() if count)
+        return f"--accept takes {sum(counts.values())} rows, which report.csv has then: {kinds}; what is left out or mended changes others, so that there are more of them than there is to look at now"
 
     def conflicts(self, _work, seen, _whole):
         return list(seen.losses.conflicts())

@@ -3,6 +3,7 @@
 import os
 import subprocess
 import sys
+from collections import Counter
 
 from . import ending, engines, ledger, origin, program, progress, splitting, watching, words, yearly
 from .country_years import Kept
@@ -10,7 +11,9 @@ from .tables import Table
 from .yearly import Stop
 
 MOST_TOLD = 5
-OF_REGISTER = 5  # bytes that a register reads and writes for each of parcels.csv
+LINEAGE = "lineage "  # begins a line of what became of an identifier
+# Bytes that a program moves beyond those of its tables, for each of parcels.csv: of a first year, of a later one, whose register has texts, and for marked rows.
+FIRST, LATER, MARKED = 5, 9, 4
 TOP_FILES = ("country.txt", "classes.csv")
 REGION_FILES = ("parcels.csv", "covers.csv", "classes.csv", "lineage.csv", "cert.txt")
 
@@ -27,13 +30,20 @@ def look_at_tables(folder, regions):
     return is_marked
 
 
+def by_kind(lines):
+    """How many lines of a publication are of each kind of lineage, in words; nothing where there are none."""
+    counts = Counter(" ".join(line.split()[2:]) for line in lines if line.startswith(LINEAGE))
+    return ", ".join(f"{count} {kind}" for kind, count in sorted(counts.items()))
+
+
 def answer(command, said, is_shown, shown):
-    """The lines of a command over a country, shown as they come or kept; a refusal is shown with its words, and stops. `shown`: its progress, by bytes."""
+    """The lines of a command over a country, shown as they come, but for those of lineage, or kept; a refusal is shown with its words, and stops. `shown`: its
+    progress, by bytes."""
     lines = []
     with ending.start([*command, *said], stdout=subprocess.PIPE, text=True) as run, watching.Watched(run.pid, shown):
         for line in run.stdout:
             lines.append(line)
-            if is_shown:
+            if is_shown and not line.startswith(LINEAGE):
                 print(line, end="", flush=True)
     if run.returncode != 0:
         last = lines[-1] if lines else ""
@@ -64,6 +74,7 @@ def compare(folder, lines):
 
 def publish(command, said, say):
     """Answers 0 where the country is published."""
+    progress.Quiet.tool = "country"
     yearly.look_at_places(said, "the certificates, and what is printed,")
     last, regions, kept = yearly.last_year(said), engines.regions_of(said.folder), Kept(said.folder, said.year)
     kept.look()
@@ -74,7 +85,7 @@ def publish(command, said, say):
         return yearly.STOPPED
     say("checking the country")
     files = [*TOP_FILES, *(os.path.join(region, name) for region in regions for name in REGION_FILES)]
-    size = size_of(said.folder, files)
+    size, size_of_parcels = size_of(said.folder, files), size_of(said.folder, [os.path.join(region, "parcels.csv") for region in regions])
     wanted = compare(said.folder, answer(command, ["country", said.folder], False, progress.Bytes("country", "checking", size)))
     print(f"the counts and the area are those of the source: {' '.join(wanted)}", flush=True)
     with ledger.held(said.register) as log:
@@ -85,16 +96,19 @@ def publish(command, said, say):
         if is_marked:
             cert = os.path.join(said.folder, "exact.txt")
             say("looking for the borders of marked splits and merges")
-            print(answer(command, ["exact-country", said.register, said.folder, cert], False, progress.Bytes("country", "marked rows", size))[-1], end="", flush=True)
+            print(answer(command, ["exact-country", said.register, said.folder, cert], False, progress.Bytes("country", "marked rows", size + MARKED * size_of_parcels))[-1], end="", flush=True)
             options = ["--exact", cert]
         say(f"keeping a copy of the country for {kept.place}")
         with kept.copied([*files, *(["exact.txt"] if cert else [])]):
             say("publishing the country")
-            lines = answer(command, ["publish-country", said.register, str(said.year), said.folder, *options], True, progress.Bytes("country", "publishing", size + OF_REGISTER * size_of(said.folder, [os.path.join(region, "parcels.csv") for region in regions])))
+            lines = answer(command, ["publish-country", said.register, str(said.year), said.folder, *options], True, progress.Bytes("country", "publishing", size + (LATER if last else FIRST) * size_of_parcels))
             printed = yearly.write(os.path.join(said.folder, f"published-{said.year}.txt"), "".join(lines).encode())
+            say("the line of the log: digests of what was published, and of the register")
             entry = yearly.entry_of(said, command, files, cert, printed, before)
             digest = ledger.add(log, said.register, entry)
             wrong = kept.settle(printed, said.register, entry)
+    if kinds := by_kind(lines):
+        print(f"dropped identifiers, a line each in {printed}: {kinds}")
     print(f"what was printed is in {printed}\nlog {ledger.path_of(said.register)} line sha256 {digest}\nthe year is kept in {kept.place}")
     if wrong:
         say(f"{kept.place} is not what was published, since files changed meanwhile: {' '.join(wrong[:MOST_TOLD])}")

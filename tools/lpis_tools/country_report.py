@@ -5,9 +5,10 @@ from __future__ import annotations
 
 import datetime
 import os
+import subprocess
 from dataclasses import dataclass, field
 
-from . import country_changes, differences, ending, origin, page, registers, release_page, report, streams, tiles
+from . import country_changes, differences, ending, origin, page, progress, registers, release_page, report, streams, tiles, watching
 from .areas import AREA, both, decimal, hectares
 from .explaining import Explained
 
@@ -47,10 +48,19 @@ def tiling_of(folder):
         raise report.Trouble(f"{folder}/country.txt: {error}") from None
 
 
-def read_region(folder, name, number, tiling):
+def answered(command, folder, size):
+    """What `lpis country` says of a folder with so many bytes."""
+    said = [*command, "country", folder]
+    with ending.start(said, stdout=subprocess.PIPE, stderr=subprocess.PIPE, text=True) as run, watching.Watched(run.pid, progress.Bytes("report", "checking the country", size)):
+        told = run.communicate()
+    return subprocess.CompletedProcess(said, run.returncode, *told)
+
+
+def read_region(folder, name, number, tiling, shown):
     region = Region()
     table = streams.Stream(streams.Folder(os.path.join(folder, name)), "parcels", ("wkt",))
-    for _, text, _ in table:
+    for _, text, raw in table:
+        shown.took(len(raw))
         found = streams.measured(text)
         if found is None:
             continue
@@ -84,17 +94,21 @@ def make(command, folder, register=None, old=None):
     began = datetime.datetime.now(datetime.timezone.utc)
     tiling = tiling_of(folder)
     files = files_of(folder, tiling)
-    run = ending.run([*command, "country", folder], capture_output=True, text=True, check=False)
+    run = answered(command, folder, sum(file["bytes"] for file in files.values()))
     if files_of(folder, tiling) != files:
         raise report.Trouble("a table or a certificate changed while it was read: make the report again")
     answer, (passed, totals) = report.answer_of(run), lines_of(run.stdout)
-    regions = {name: read_region(folder, name, number, tiling) for number, name in enumerate(tiling.folders) if os.path.isfile(os.path.join(folder, name, "parcels.csv"))}
+    shown, regions = progress.Bytes("report", "reading the parcels", sum(file["bytes"] for name, file in files.items() if name.endswith("/parcels.csv"))), {}
+    for number, name in enumerate(tiling.folders):
+        if os.path.isfile(os.path.join(folder, name, "parcels.csv")):
+            regions[name] = read_region(folder, name, number, tiling, shown)
+    shown.end()
     count, area = sum(len(region.corners) for region in regions.values()), decimal(sum(region.doubled for region in regions.values()), AREA)
     if answer == "yes" and ((totals.get("parcels"), totals.get("area")) != (count, area) or list(passed) != tiling.folders):
         raise report.Trouble(f"lpis reports {totals} of {len(passed)} regions, and the tables have {count} parcels with {area} m2 of {len(regions)} by this tool: one of the two is wrong")
     facts = {"date": began.strftime("%Y-%m-%dT%H:%M:%SZ"), "folder": os.path.abspath(folder), "program": report.of_program(command), "files": files, "answer": answer, "status": run.returncode,
              "country": totals, "origin": origin.facts(folder, None)}
-    tiles = country_changes.reported(folder, tiling)
+    tiles, facts["nowhere"] = country_changes.reported(folder, tiling)
     if old is not None:
         found, changed = country_changes.difference(old, folder, tiling)
         facts["difference"], tiles = {"old": os.path.abspath(old), **found}, {name: {**row, **changed[name]} for name, row in tiles.items()}
@@ -116,7 +130,7 @@ def lines(country):
     totals = facts["country"]
     return [facts["answer"], *(f"  {words}" for words in facts.get("refusal", {}).get("words", [])), *counted,
             *([f"country regions {totals['regions']} parcels {totals['parcels']} area {totals['area']} ({hectares(totals['area'])})"] if totals else []),
-            *(origin.lines(facts["origin"]) if facts["origin"] else []),
+            *(origin.lines(facts["origin"]) if facts["origin"] else []), *country_changes.without_place(facts["nowhere"]),
             *([f"since {facts['difference']['old']}: {differences.in_words(facts['difference'])}"] if "difference" in facts else []),
             *([f"register {registers.in_words(facts['register'])}"] if "register" in facts else [])]
 
@@ -151,10 +165,10 @@ def write(path, country):
     head += [("register", registers.in_words(facts["register"]))] if "register" in facts else []
     head += [("", words) for words in facts.get("refusal", {}).get("words", [])]
     heads = {3: f"in the country {hectares(totals['area'])}", 4: f"in the country {hectares(totals['eligible'])}"} if totals else {}
-    head += [("before the tables", words) for words in origin.lines(facts["origin"])]
+    head += [("before the tables", words) for words in (*origin.lines(facts["origin"]), *country_changes.without_place(facts["nowhere"]))]
     rows = [[row["region"], *(row.get(key, "") for key in KEYS)] for row in facts["regions"]]
     regions = page.Table("Regions (a parcel that meets several tiles counts in each of them, and once in the country)",
-                         ["region", "#parcels", "#pieces", "#area m\u00b2", "#eligible m\u00b2", *(f"#{key}" for key in KEYS[4:])], rows, [("tiles", number) for number in range(len(rows))], heads)
+                         ["region", "#parcels", "#pieces", "#area m\u00b2", "#eligible m\u00b2", *(f"#{key}" for key in KEYS[4:])], rows, [("tiles", number) for number in range(len(rows))], heads, is_mixed=True)
     files = page.Table("Files", ["file", "#bytes", "sha256"], [[name, file["bytes"], file["sha256"]] for name, file in facts["files"].items()])
     title = f"Country {os.path.basename(facts['folder'])}"
     release_page.write(path, page.page(title, facts["answer"], facts["answer"] == "yes", head, chart_of(country), [regions, *release_page.origin_tables(facts["origin"]), *release_page.changes_tables(facts), files]))

@@ -2,7 +2,7 @@
 
 import os
 
-from . import polygons, shapely_there, years
+from . import polygons, progress, shapely_there, years
 from .areas import AREA, decimal
 from .tables import Table, path_of, shown
 
@@ -35,7 +35,7 @@ def of_shapes(old, new, differing, rows):
     added = [{"parcel": name, "area": area_of(new[name]), "from": came.get(name, [])} for name in sorted(name for name in new if name not in old)]
     gone = [{"parcel": name, "area": area_of(old[name]), "to": [other for other in to.get(name, []) if other], "ended": "" in to.get(name, []),
              "explained": name in to} for name in sorted(name for name in old if name not in new)]
-    for name in differing:
+    for name in progress.over(differing, "comparing parcels that changed", "parcels"):
         before, after = polygons.doubled(old[name]), polygons.doubled(new[name])
         if before != after:
             changed.append({"parcel": name, "before": decimal(before, AREA), "after": decimal(after, AREA), "difference": decimal(after - before, AREA), "from": came.get(name, [])})

@@ -7,8 +7,10 @@
 """
 
 import contextlib
+import itertools
 import os
 import secrets
+import shutil
 import stat
 
 NEW = ".new"  # how the names of files end that are not whole
@@ -81,6 +83,16 @@ def settle(name, path, mode=None):
     if mode is not None:
         os.chmod(name, mode)
     os.replace(name, path)
+
+
+def aside(path):
+    """A copy of a file under its name with the first number that is free; its path, or nothing where there is no file."""
+    if mode_of(path) is None:
+        return ""
+    name, end = os.path.splitext(path)
+    copy = next(place for number in itertools.count(1) if not os.path.lexists(place := f"{name}-{number}{end}"))
+    shutil.copy2(path, copy, follow_symlinks=False)
+    return copy
 
 
 def remove(path):

@@ -7,8 +7,9 @@ import os
 
 import numpy
 
-from . import land, parts, polygons, previous, progress, streams, tables, years
+from . import land, noding, parts, polygons, previous, progress, store, streams, tables, years
 
+CORNERS = "lpis corners 1"  # what another rule gave is not taken
 THEN = "SELECT places, left, low, right, high FROM box_of_corner JOIN corner USING (id) WHERE left <= ? AND right >= ? AND low <= ? AND high >= ?"
 NUMBERS = bytes.maketrans(b"(),", b"   ")
 
@@ -24,14 +25,42 @@ def corners_of(text):
 def corners_in(box, found):
     """The corners of a box in metres, of pieces as a store has them."""
     left, low, right, high = (1000 * side for side in box)
-    for places in found:
-        corners = numpy.frombuffer(places, numpy.int64).reshape(-1, 2)
-        yield corners[((corners >= [left, low]) & (corners <= [right, high])).all(axis=1)]
+    x, y = numpy.frombuffer(b"".join(found), numpy.int64).reshape(-1, 2).T
+    is_in = (x >= left) & (x <= right) & (y >= low) & (y <= high)
+    return numpy.stack([x[is_in], y[is_in]], axis=1)
 
 
 def different(found):
     """Each corner once, in order."""
-    return numpy.unique(numpy.concatenate([numpy.zeros((0, 2), numpy.int64), *found]), axis=0)
+    return noding.Corners(numpy.concatenate([numpy.zeros((0, 2), numpy.int64), *found])).points
+
+
+def rows_of(folder, name, column):
+    """The place, the identifier and the text of each row of a table, and its lines."""
+    path = tables.path_of(folder, name)
+    try:
+        for row, (key, text), raw in streams.Stream(streams.Folder(folder), name, [column, "wkt"]):
+            yield f"{path} row {row}: {streams.shown(key)}", key, text, raw
+    except streams.Trouble as trouble:
+        raise land.Trouble(f"{path}: {trouble}") from None
+
+
+def shapes_of(folder):
+    """The corners of each piece of a release, or of a region."""
+    for place, _, text, _ in rows_of(folder, "covers", "piece"):
+        corners = corners_of(text.encode("latin-1"))
+        if corners is None:
+            raise land.Trouble(f"{place}: its wkt is no polygon in millimetres")
+        if len(corners):
+            yield corners
+
+
+def write_corners(path, folder):
+    """Writes the corners of a release, piece by piece, with their boxes in metres."""
+    base = store.new(path, "CREATE TABLE corner (id INTEGER PRIMARY KEY, left REAL, low REAL, right REAL, high REAL, places BLOB);")
+    base.executemany("INSERT INTO corner VALUES (?, ?, ?, ?, ?, ?)", ((number, *(corners.min(axis=0) / 1000).tolist(), *(corners.max(axis=0) / 1000).tolist(), corners.tobytes()) for number, corners in enumerate(shapes_of(folder))))
+    base.commit()
+    base.close()
 
 
 class LastYear:
@@ -62,40 +91,41 @@ class LastYear:
         """Identifiers and texts of a table; a row of several regions comes from each of them."""
         shown = progress.Bytes("country", f"reading last year's {name}", sum(streams.Folder(folder).size(name) for folder in self.folders))
         for folder in self.folders:
-            path = tables.path_of(folder, name)
-            try:
-                for row, (key, text), raw in streams.Stream(streams.Folder(folder), name, [column, "wkt"]):
-                    yield f"{path} row {row}: {streams.shown(key)}", key, text
-                    shown.took(len(raw))
-            except streams.Trouble as trouble:
-                raise land.Trouble(f"{path}: {trouble}") from None
+            for _, key, text, raw in rows_of(folder, name, column):
+                yield key, text
+                shown.took(len(raw))
         shown.end()
 
     def shapes(self):
         """The corners of each piece."""
-        for place, _, text in self.rows("covers", "piece"):
-            corners = corners_of(text.encode("latin-1"))
-            if corners is None:
-                raise land.Trouble(f"{place}: its wkt is no polygon in millimetres")
-            if len(corners):
-                yield corners
+        for folder in self.folders:
+            yield from shapes_of(folder)
 
-    def put(self, base):
-        """Writes the corners into a store, piece by piece. None of them where this year's land lies is trouble."""
-        land_box, is_near = base.execute("SELECT min(left), min(low), max(right), max(high) FROM row").fetchone(), False
-        for number, corners in enumerate(self.shapes()):
-            left, low, right, high = (corners.min(axis=0) / 1000).tolist() + (corners.max(axis=0) / 1000).tolist()
-            base.execute("INSERT INTO corner VALUES (?, ?)", (number, corners.tobytes()))
-            base.execute("INSERT INTO box_of_corner VALUES (?, ?, ?, ?, ?)", (number, left, right, low, high))
-            is_near |= left <= land_box[2] and right >= land_box[0] and low <= land_box[3] and high >= land_box[1]
+    def planned(self):
+        """The parts in which the corners are read, a region each, as parts of a source are."""
+        return [{"corners": os.path.abspath(folder), "file": parts.part_name([CORNERS, os.path.abspath(folder), parts.stamp(tables.path_of(folder, "covers"))])} for folder in self.folders]
+
+    def put(self, base, paths):
+        """Takes the corners into a store, piece by piece, from the files that the parts gave. None of them where this year's land lies is trouble."""
+        count, is_near, shown = 0, False, progress.Progress("country", "last year's corners by their places", len(paths), "parts")
+        land_box = base.execute("SELECT min(left), min(low), max(right), max(high) FROM row").fetchone()
+        for path in paths:
+            base.execute("ATTACH ? AS part", (path,))
+            base.execute("INSERT INTO corner SELECT id + ?, places FROM part.corner", (count,))
+            base.execute("INSERT INTO box_of_corner SELECT id + ?, left, right, low, high FROM part.corner", (count,))
+            left, low, right, high = land_box
+            is_near |= base.execute("SELECT EXISTS (SELECT 1 FROM part.corner WHERE left <= ? AND right >= ? AND low <= ? AND high >= ?)", (right, left, high, low)).fetchone()[0]
+            count += base.execute("SELECT count(*) FROM part.corner").fetchone()[0]
+            base.commit()
+            base.execute("DETACH part")
+            shown.add()
         if not is_near:
             raise land.Trouble(f"{self.folder}: no piece of its tables lies where this source does: is it of another place, or of another system?")
-        base.commit()
 
     def count(self, base, text_of):
         """How many parcels have the text that they had, and how many there were; `text_of` gives this year's by identifier. `base` is a database for it."""
         base.execute("CREATE TABLE last_year (name TEXT PRIMARY KEY, is_same INTEGER) WITHOUT ROWID")
-        base.executemany("INSERT OR IGNORE INTO last_year VALUES (?, ?)", ((name, text_of(name) == text) for _, name, text in self.rows("parcels", "parcel")))
+        base.executemany("INSERT OR IGNORE INTO last_year VALUES (?, ?)", ((name, text_of(name) == text) for name, text in self.rows("parcels", "parcel")))
         self.counts = base.execute("SELECT total(is_same), count(*) FROM last_year").fetchone()
 
     def words(self):

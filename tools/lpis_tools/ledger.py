@@ -6,9 +6,10 @@ import json
 import os
 from contextlib import contextmanager
 
-from . import registers
+from . import progress, registers
 
 FIRST = "0" * 64
+AT_ONCE = 1000  # rows between two looks at the clock
 ORDERED = {
     "lpis_format": "one, version", "lpis_release": "year", "lpis_span": "id, since, until", "lpis_row": "year, pos, old, new",
     "lpis_text": "id, wkt", "lpis_mark": "year, pos",
@@ -28,18 +29,32 @@ def digest_of(path):
     return digest.hexdigest()
 
 
+def digests_of(folder, names, what):
+    """The sha256 of files of a folder, by their names, with the progress of their bytes."""
+    shown, found = progress.Bytes(progress.Quiet.tool, what, sum(os.path.getsize(os.path.join(folder, name)) for name in names)), {}
+    for name in names:
+        found[name] = digest_of(os.path.join(folder, name))
+        shown.took(os.path.getsize(os.path.join(folder, name)))
+    shown.end()
+    return found
+
+
 def content_of(register):
     """The sha256 of each table's rows, in the order of their keys: the same for the same content, however the file is laid out."""
     base = registers.opened(register)
     try:
         there = {name for (name,) in base.execute("SELECT name FROM sqlite_schema WHERE type = 'table'")}
-        digests = {}
-        for table, columns in ORDERED.items():
-            if table in there:
-                digest = hashlib.sha256()
-                for row in base.execute(f"SELECT {columns} FROM {table} ORDER BY {columns}"):
-                    digest.update((json.dumps(row, ensure_ascii=True, default=bytes.hex) + "\n").encode())
-                digests[table] = digest.hexdigest()
+        digests, tables = {}, [table for table in ORDERED if table in there]
+        shown = progress.Progress(progress.Quiet.tool, "reading the register", sum(base.execute(f"SELECT count(*) FROM {table}").fetchone()[0] for table in tables), "rows")
+        for table in tables:
+            digest, number = hashlib.sha256(), 0
+            for number, row in enumerate(base.execute(f"SELECT {ORDERED[table]} FROM {table} ORDER BY {ORDERED[table]}"), 1):
+                digest.update((json.dumps(row, ensure_ascii=True, default=bytes.hex) + "\n").encode())
+                if number % AT_ONCE == 0:
+                    shown.add(AT_ONCE)
+            shown.add(number % AT_ONCE)
+            digests[table] = digest.hexdigest()
+        shown.end()
         return digests
     finally:
         base.close()

@@ -6,6 +6,7 @@ from __future__ import annotations
 import csv
 import os
 import re
+from collections import Counter
 
 from . import balance, cells
 from .printing import escaped
@@ -45,13 +46,14 @@ def number(text):
 
 
 def by_kind(rows, counted):
-    """Rows and area of each kind and layer; `counted` says which rows count beside."""
+    """Rows and area of each kind and layer; `counted` says which rows count beside, whose area comes last."""
     sums = {}
     for row in rows:
-        found = sums.setdefault((row.get("kind") or "", row.get("layer") or ""), [0, 0, 0.0])
+        found = sums.setdefault((row.get("kind") or "", row.get("layer") or ""), [0, 0, 0.0, 0.0])
         found[0] += 1
         found[1] += counted(row)
         found[2] += number(row.get("area_m2"))
+        found[3] += number(row.get("area_m2")) if counted(row) else 0.0
     return sums
 
 
@@ -61,8 +63,8 @@ def facts(folder, classes):
         return None
     prepared = by_kind(records(folder, "prepared.csv"), lambda row: bool(row.get("done")))
     report = by_kind(records(folder, "report.csv"), lambda row: row.get("stops") == "1")
-    found = {"prepared": [{"kind": kind, "layer": layer, "rows": rows, "done": done} for (kind, layer), (rows, done, _) in sorted(prepared.items())],
-             "report": [{"kind": kind, "layer": layer, "rows": rows, "stopping": stopping, "area": f"{area:.3f}"} for (kind, layer), (rows, stopping, area) in sorted(report.items())],
+    found = {"prepared": [{"kind": kind, "layer": layer, "rows": rows, "done": done} for (kind, layer), (rows, done, *_) in sorted(prepared.items())],
+             "report": [{"kind": kind, "layer": layer, "rows": rows, "stopping": stopping, "area": f"{area:.3f}", "area_of_stopping": f"{of_stopping:.3f}"} for (kind, layer), (rows, stopping, area, of_stopping) in sorted(report.items())],
              "balance": list(records(folder, "balance.csv"))}
     found["gone"] = [{"layer": layer, "rows": sum(report[kind, layer][0] for kind in GONE if (kind, layer) in report), "area": f"{sum(report[kind, layer][2] for kind in GONE if (kind, layer) in report):.3f}"}
                      for layer in LAYERS if any((kind, layer) in report for kind in GONE)]
@@ -93,13 +95,21 @@ def lines(found):
         return ["nothing is beside the tables of what was left out or changed before them (prepared.csv, report.csv, balance.csv)"]
     gone = [f"{one['rows']} {LAYERS[one['layer']]}, {hectares(number(one['area']))}" for one in found["gone"]]
     told = ["left out of the source: " + "; ".join(gone)] if gone else []
-    changed = [(row["rows"], row["area"]) for row in found["report"] if row["kind"] == "changed" and row["stopping"]]
+    changed = [f"{row['stopping']} {LAYERS[row['layer']]}, {hectares(number(row['area_of_stopping']))}" for row in found["report"] if row["kind"] == "changed" and row["stopping"] and row["layer"] in LAYERS]
     if changed:
-        told.append(f"changed by more than rounding: {sum(rows for rows, _ in changed)} parcels and pieces, {hectares(sum(number(area) for _, area in changed))}")
+        told.append(f"changed by more than rounding: {'; '.join(changed)}")
     accepted = sum(row["stopping"] for row in found["report"])
     if accepted:
-        told.append(f"accepted by --accept: {accepted} rows of report.csv")
+        told.append(f"accepted by --accept: {accepted} rows of report.csv: {kinds_of(found['report'])}")
     return [*told, *found["faults"]] or ["nothing of the source was left out or changed by more than rounding"]
+
+
+def kinds_of(report):
+    """How many rows stop, of each kind."""
+    counts = Counter()
+    for row in report:
+        counts[row["kind"]] += row["stopping"]
+    return ", ".join(f"{count} {kind}" for kind, count in sorted(counts.items()) if count)
 
 
 def brief(folder):

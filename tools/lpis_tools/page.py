@@ -41,6 +41,7 @@ class Table:
     rows: list
     keys: list = field(default_factory=list)
     heads: dict = field(default_factory=dict)  # what stands in a column's head in place of its sum
+    is_mixed: bool = False  # its rows are of several kinds, so that no column has a sum
 
     def key(self, number):
         return self.keys[number] if number < len(self.keys) else None
@@ -185,7 +186,7 @@ def table_text(table, number):
     heads = []
     for column, name in enumerate(table.columns):
         is_number = name.startswith("#")
-        areas = [Decimal(row[column]) for row in table.rows if row[column] not in ("", None)] if is_number and name.endswith("m\u00b2") else []
+        areas = [Decimal(row[column]) for row in table.rows if row[column] not in ("", None)] if is_number and not table.is_mixed and name.endswith("m\u00b2") else []
         more = table.heads.get(column) or (f"in all {hectares(sum(areas))}" if areas else "")
         more = f"<small>{escaped(more)}</small>" if more else ""
         heads.append(f'<th{" class=number" if is_number else ""}>{escaped(name.lstrip("#"))}{more}</th>')

@@ -55,7 +55,12 @@ def planned(origins, keys, options):
 def made(part, folder):
     """Makes the file of a part, where it is not there; answers its name."""
     path = os.path.join(folder, part["file"])
-    if not os.path.exists(path):
+    if "corners" in part and not os.path.exists(path):
+        from . import last_year
+
+        with files.beside(path) as new:
+            last_year.write_corners(new, part["corners"])
+    elif not os.path.exists(path):
         rows, key = read(part), part["key"]
         with files.beside(path) as new:
             write(new, part["layer"], rows, key, part)

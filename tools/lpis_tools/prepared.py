@@ -3,13 +3,15 @@
 from __future__ import annotations
 
 import csv
+import filecmp
 import os
 import shutil
 import tempfile
 
-from . import accepting, again, balance, causes, findings, land, losses, naming, preparing, previous, recipe, rounding
+from . import accepting, again, balance, causes, files, findings, land, losses, naming, preparing, previous, recipe, rounding
 
 TABLES = ("parcels.csv", "covers.csv", "classes.csv")
+FINDINGS = "prepared.csv"
 
 
 class Run:
@@ -18,7 +20,7 @@ class Run:
     NAME, LAST_YEAR = "prepare", previous.Previous
 
     def __init__(self, words, names, say):
-        self.words, self.names, self.say, self.previous = words, names, say, None
+        self.words, self.names, self.say, self.previous, self.before = words, names, say, None, None
         land.apart(words.land, words.out)
         self.accept = accepting.Accepting(words.accept, words.accept_from, ("left out", "made"))
         self.kept = again.Rounded(words.out, self.digest())
@@ -32,6 +34,8 @@ class Run:
         recipe.stop_at_once(self.NAME, self.made, self.spare)
 
     def close(self):
+        if self.before:
+            self.tell_before()
         for folder in (self.made, self.spare):
             shutil.rmtree(folder, ignore_errors=True)
 
@@ -118,8 +122,19 @@ class Run:
             print(line)
 
     def put_findings(self, work):
-        findings.write(work.findings, os.path.join(self.made, "prepared.csv"), self.accept)
-        recipe.put(self.made, self.words.out, ["prepared.csv"])
+        """Writes prepared.csv; that of a run before is kept under a name with a number."""
+        if self.before is None:
+            self.before = files.aside(self.path(FINDINGS))
+        findings.write(work.findings, os.path.join(self.made, FINDINGS), self.accept)
+        recipe.put(self.made, self.words.out, [FINDINGS])
+
+    def tell_before(self):
+        """Removes the table of the run before, where this one has the same, or says where it is."""
+        if self.before and filecmp.cmp(self.before, self.path(FINDINGS), shallow=False):
+            os.remove(self.before)
+        elif self.before:
+            self.say(f"{self.path(FINDINGS)} of the run before is {self.before} now")
+        self.before = None
 
     def refused(self, work, whole):
         """The end of a run whose findings are not accepted, or cannot be."""
@@ -131,10 +146,16 @@ class Run:
             print(*losses.first_lines(conflicts, "prepared.csv"), *whole.source_words(work.layers), sep="\n")
             work.conflicts(conflicts)
             self.put_findings(work)
+            if not work.hopeless():
+                print(self.what_follows(seen))
         remedy = "" if work.hopeless() else ", or mend and leave out by --accept"
         left = accepting.Left(finding for finding in work.grave() if finding.is_hopeless() or not self.accept.takes(finding))
         print(f"to look at: {left.words(sum(1 for _ in work.grave()))}, {recipe.unwritten(self.words.out)}; see {self.path('prepared.csv')}: mend the source{remedy}")
         return 1
+
+    def what_follows(self, _seen):
+        """What a run that accepts has to accept, in words."""
+        return "--accept takes what comes of these too, rows that it leaves out, makes or changes: report.csv of that run has them, and its last line how many there are"
 
     def go(self):
         work, whole, names, classes = self.tested()

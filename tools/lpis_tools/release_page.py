@@ -5,10 +5,11 @@ from __future__ import annotations
 import datetime
 import os
 from collections import Counter
+from decimal import Decimal
 
 from . import files, origin, page, polygons, registers
 from . import report as reports
-from .areas import AREA, both, decimal
+from .areas import AREA, both, decimal, hectares
 
 MOST_STRAYS = 20  # that are named
 
@@ -107,8 +108,8 @@ def origin_tables(found):
     """What was left out, mended and settled before the tables, and the balance of land."""
     if found is None:
         return []
-    tables = [page.Table("Before the tables", origin.COLUMNS, origin.rows(found))] if origin.rows(found) else []
-    return tables + ([page.Table("Balance of land", origin.BALANCE, origin.balance_rows(found))] if found["balance"] else [])
+    tables = [page.Table("Before the tables", origin.COLUMNS, origin.rows(found), is_mixed=True)] if origin.rows(found) else []
+    return tables + ([page.Table("Balance of land", origin.BALANCE, origin.balance_rows(found), is_mixed=True)] if found["balance"] else [])
 
 
 def classes_table(classes):
@@ -155,7 +156,14 @@ def changes_tables(facts, numbers=None):
     others, unlooked = found["other_shape_same_area"], "" if found["moved"] is not None else "; whether kept ones moved was not looked for: Shapely is not there"
     kept = f"{found['kept']} parcels are as they were" + (f", {len(others)} have another shape of the same area" if others else "") + unlooked
     keys = [numbers.get(row[1]) for row in rows] if numbers else []
-    return [page.Table(f"Since {found['old']}: {kept}", ["what", "parcel", "#area before m\u00b2", "#area after m\u00b2", "more"], rows, keys)]
+    return [page.Table(f"Since {found['old']}: {'; '.join([*sums_of(found), kept])}", ["what", "parcel", "#area before m\u00b2", "#area after m\u00b2", "more"], rows, keys, is_mixed=True)]
+
+
+def sums_of(found):
+    """The area of each kind of what differs, which no other kind is added to."""
+    for kind, columns in (("new", ("area",)), ("gone", ("area",)), ("changed", ("before", "after"))):
+        if found[kind]:
+            yield f"{len(found[kind])} {kind}, {' before and '.join(hectares(sum(Decimal(row[column]) for row in found[kind])) for column in columns)}{' after' if len(columns) > 1 else ''}"
 
 
 def became(row):

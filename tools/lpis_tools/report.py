@@ -8,7 +8,7 @@ import hashlib
 import os
 from dataclasses import dataclass, field
 
-from . import codes, differences, ending, explaining, finding, origin, polygons, program, registers
+from . import codes, differences, ending, explaining, finding, origin, polygons, program, progress, registers
 from .areas import AREA, ELIGIBLE, decimal
 from .tables import Table, path_of, shown
 
@@ -26,7 +26,13 @@ def digest(path):
 
 
 def digests(paths):
-    return {name: {"path": path, "bytes": os.path.getsize(path), "sha256": digest(path)} for name, path in paths.items() if os.path.isfile(path)}
+    there = {name: path for name, path in paths.items() if os.path.isfile(path)}
+    shown, found = progress.Bytes("report", "digests", sum(map(os.path.getsize, there.values()))), {}
+    for name, path in there.items():
+        found[name] = {"path": path, "bytes": os.path.getsize(path), "sha256": digest(path)}
+        shown.took(found[name]["bytes"])
+    shown.end()
+    return found
 
 
 @dataclass

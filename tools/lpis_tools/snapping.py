@@ -5,13 +5,16 @@
    source, or a proper crossing of two, lies in it.
 3. Each edge becomes the way over the middles of the hot pixels that it meets, in the order in which it meets them.
 4. A corner is needless where no end of an edge lies in its pixel and two edges of the result meet: the way goes straight over it.
+5. With last year's corners, which are hot too: a corner that is new between two of them is needless also where an end lies in its pixel, if two edges of
+   the result meet there and an edge of the source, on which all these ends lie, goes through. Overlays of a GIS put such corners on straight borders.
 
 One pass is enough. If an edge meets the pixels of two points, it meets that of each whole point between them, since pixels are one convex set moved
 about: so no edge of the result goes through a corner. No two cross, by the theorem of snap rounding. By the same convexity the hull of a way over
-needless corners holds no other corner, and the straight way crosses nothing.
+needless corners holds no other corner, and the straight way crosses nothing: of 5 too, since one edge goes over all corners between the two.
 
 It is local: what an edge becomes depends on the edges within `REACH` of it. A shape's text is that of the whole land wherever each row is read whose
-box comes within `REACH` of the shape's. No border moves by more than half a millimetre in x and in y, with step 1 by 0.708 mm in all."""
+box comes within `REACH` of the shape's. No border moves by more than half a millimetre in x and in y, with step 1 by 0.708 mm in all, and a corner that step
+5 takes away by 0.71 mm."""
 
 from __future__ import annotations
 
@@ -24,6 +27,7 @@ BITS = 10
 WHOLE, HALF = 1 << BITS, 1 << (BITS - 1)  # parts of a millimetre, and of half of one
 REACH = 0.003  # metres: half a millimetre for the move, one and a half for a pixel and those around it, a thousandth of one for step 1, and room
 LONG = 1 << 29  # parts: products of differences of shorter edges fit 64 bits
+ON = 2  # parts: what step 1 may move a point of an edge beside it, half of one for the point and for each end
 DOUBT = 1e-6  # pixels: crossings so near to a pixel's side are placed in whole numbers; doubles err by less than 1e-9
 
 
@@ -197,15 +201,46 @@ def drawn(edges):
     return hot, edge[kept], corner[kept], network if kept.all() else edges.network(hot, edge[kept], corner[kept])
 
 
-def are_beside(points, ends):
-    """Which of some pixels have no end of an edge, and one in a pixel around them."""
+def are_in(points, ends):
+    """Which of some pixels are among others, and which have one of these around them."""
     every = numpy.concatenate([points, ends])
     wide, high = (int(size) + 3 for size in numpy.ptp(every, axis=0))
     places = (every - every.min(axis=0)).astype(numpy.int64 if wide * high < 1 << 62 else object)
     key = places[:, 0] * high + places[:, 1]
     found, taken = key[: len(points)], numpy.unique(key[len(points) :])
     is_beside = [numpy.isin(found + (right * high + up), taken) for right in (-1, 0, 1) for up in (-1, 0, 1) if right or up]
-    return ~numpy.isin(found, taken) & numpy.any(is_beside, axis=0)
+    return numpy.isin(found, taken), numpy.any(is_beside, axis=0)
+
+
+def are_beside(points, ends):
+    """Which of some pixels have no end of an edge, and one in a pixel around them."""
+    is_in, is_beside = are_in(points, ends)
+    return is_beside & ~is_in
+
+
+def straightened(edges, then, hot, edge, corner, network):
+    """The network without new corners on a border that last year had straight, where this year's source has it straight too. Such a corner is none of `then`, nor beside
+    one; two edges of the network meet there, and each end in its pixel lies on an edge that goes through, which the corners of `then` bound on both sides."""
+    is_then, is_beside = are_in(hot.points, then)
+    degree = numpy.bincount(network.first, minlength=len(hot.points)) + numpy.bincount(network.last, minlength=len(hot.points))
+    is_free, ends = (degree == 2) & ~is_then & ~is_beside, edges.ends.reshape(-1, 2)
+    at = hot.numbers(pixel(ends))
+    through = numpy.nonzero(is_free[corner] & (corner != at[::2][edge]) & (corner != at[1::2][edge]))[0]
+    order = numpy.argsort(at, kind="stable")
+    begins = numpy.searchsorted(at[order], numpy.arange(len(hot.points) + 1))
+    over = {one for one in through.tolist() if are_on(edges.ends[edge[one]].tolist(), ends[order[begins[corner[one]] : begins[corner[one] + 1]]].tolist())}
+    moved = numpy.arange(len(hot.points))
+    for one in over:
+        before, behind = (next(place for place in range(one, one + step * len(edge), step) if place not in over) for step in (-1, 1))
+        if is_then[corner[before]] and is_then[corner[behind]]:
+            moved[corner[one]] = corner[before]  # all corners between the same two come to the lesser of these
+    return edges.network(hot, edge, moved[corner]) if (moved != numpy.arange(len(moved))).any() else network
+
+
+def are_on(edge, points):
+    """Whether all of some points lie on an edge, but for `ON` parts in x or in y; exact."""
+    x, y, dx, dy = edge[0], edge[1], edge[2] - edge[0], edge[3] - edge[1]
+    return all(abs(dx * (b - y) - dy * (a - x)) <= ON * max(abs(dx), abs(dy)) for a, b in points)
 
 
 def network_of(founds, say, previous=None, then=()):
@@ -216,4 +251,6 @@ def network_of(founds, say, previous=None, then=()):
     if len(then):
         edges.points = numpy.concatenate([edges.points, then[~are_beside(then, edges.pixels())]])
     *ways, network = drawn(edges)
+    if len(then):
+        return straightened(edges, then, *ways, network)
     return previous.network(edges, *ways, say) if previous else network

@@ -341,4 +341,4 @@ def split(source, out, most, anew, say, lineage=None):
     if others := strays(out, tiling):
         say(f"folders of a split before, which are no regions now: {' '.join(others[:MOST_TOLD])}")
     counts = f"parcels {len(land.boxes)} pieces {land.sums.rows['covers']}"
-    return [*whole.words(), f"regions {len(tiling.folders)} {counts} guests {len(places.several)} (parcels of several regions) rows {places.rows()} lineage {rows} files changed {changed}"]
+    return [*whole.words(), f"regions {len(tiling.folders)} {counts} guests {len(places.several)} (parcels of several regions) rows {places.rows()} lineage {rows} (rows dealt out) files changed {changed} (the others are as they were)"]

@@ -95,7 +95,7 @@ def entry_of(said, command, tables, cert, printed, before):
     return {
         "time": datetime.datetime.now(datetime.timezone.utc).isoformat(timespec="seconds"), "user": getpass.getuser(), "year": said.year,
         "program": {"commit": facts.get("commit", ""), "kit": facts.get("kit", ""), "sha256": ledger.digest_of(command[0])},
-        "tables": {name: ledger.digest_of(os.path.join(said.folder, name)) for name in tables},
+        "tables": ledger.digests_of(said.folder, tables, "digests of what was published"),
         "certificate": ledger.digest_of(cert) if cert else "", "printed": ledger.digest_of(printed),
         "content_before": before, "content": ledger.content_of(said.register), "register_anyway": said.register_anyway, "year_anyway": said.year_anyway,
     }

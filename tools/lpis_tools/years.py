@@ -6,7 +6,7 @@ import pathlib
 import sqlite3
 from dataclasses import dataclass, field
 
-from . import databases, polygons, registers, streams, tiles
+from . import databases, polygons, progress, registers, streams, tiles
 from .tables import Table, is_identifier, path_of, shown
 
 CACHED = 64_000  # kilobytes of a year
@@ -129,12 +129,13 @@ def regions_of(folder):
 def of_folder(folder, path="", parts_of=lambda folder, regions: None):
     """The parcels of a folder. `parts_of` may read regions by themselves: their files, or None."""
     year, regions = Year(folder, Shapes(path)), regions_of(folder)
-    parts = parts_of(folder, regions)
+    parts, shown = parts_of(folder, regions), progress.Progress(progress.Quiet.tool, f"reading {folder}", len(regions), "regions")
     for number, region in enumerate(regions):
         if parts:
             take_region(year, parts[number], path_of(os.path.join(folder, region), "parcels"))
         else:
             add_region(year, os.path.join(folder, region), region)
+        shown.add()
     return year
 
 

@@ -3,9 +3,9 @@ use Rattle.std.proofs.Common.{ℕ, ◌+◌, ◌<◌, List, length, fold, take, g
 use Rattle.std.proofs.lemmas.List.Sums.{fold_more}
 use Rattle.clap.specs.Words.{App}
 use Rattle.clap.specs.declared.builder.command.Command.{Command}
-use Rattle.lpis_command_line.specs.Commands.{program_app, with_command}
+use Rattle.lpis_command_line.specs.Commands.{program_app}
 use Rattle.lpis_command_line.specs.declared.arguments.Line.{Line}
-use Rattle.lpis_command_line.specs.private.Table.{IsCommandOf, line_app, with_line}
+use Rattle.lpis_command_line.specs.private.Table.{IsCommandOf, line_app, with_command, with_line}
 
 -- a program with a line of the table more, by what joins the two
 pub line-more : {E : Type 0} (program made joined : Result Command E) (lines : List Line) (i : ℕ) (d : Line) → i < length lines

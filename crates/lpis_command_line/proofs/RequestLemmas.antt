@@ -6,7 +6,6 @@ use Rattle.clap.specs.declared.parser.matches.ArgMatches.TheViews.{out-ArgMatche
 use Rattle.clap.specs.Matches.{first_value}
 use Rattle.clap.proofs.WalkLemmas.{first_value-rows, raw_values-rows}
 use Rattle.lpis_command_line.specs.Commands.{IsRequest, IsRequestNamed, command_line_app}
-use Rattle.lpis_command_line.specs.Words.{texts_of}
 use Rattle.lpis_command_line.specs.declared.commands.Request.{Request}
 use Rattle.lpis_command_line.specs.private.Found.{IsWord}
 use Rattle.clap.proofs.OnLiterals.{clap_on_literals}
@@ -34,7 +33,7 @@ word-found id rows (Some word) e = e
 -- all words of an argument, by the rows
 pub words-found : (m : ArgMatches) (id : Text) (o : Option (Bor (List (Bor Text))))
     → option_map (λ (s : Bor (List (Bor Text))). map (λ (v : Bor Text). v.now) s.now) o ≡ option_map raw_values (matched_of (found_of m) id)
-    → IfSome o (λ (words : Bor (List (Bor Text))). all_of id (rows_of (found_of m)) ≡ Some (texts_of words))
+    → IfSome o (λ (words : Bor (List (Bor Text))). all_of id (rows_of (found_of m)) ≡ Some (map (λ (w : Bor Text). w.now) words.now))
 words-found m id None e = tt
 words-found m id (Some words) e = sym (raw_values-rows (found_of m) id) ∙ sym e
 

@@ -1,13 +1,13 @@
 -- The commands: their arguments, and what the words of a command line ask for.
-use Rattle.std.specs.Prelude.{◌≡◌, ◌∷◌, [], List, Option, Some, None, codes, fold, true}
-use Rattle.clap.specs.Words.{App, Row, Rule, Text, all_of, first_of, new_app, with_rule}
-use Rattle.clap.specs.Words.{with_subcommand}
+use Rattle.std.specs.Prelude.{◌≡◌, ◌∷◌, [], List, Option, Some, None, codes, fold, map, true}
+use Rattle.clap.specs.Words.{App, Row, Rule, Text, all_of, first_of, new_app, new_rule}
+use Rattle.clap.specs.Words.{with_rule, with_subcommand}
+use Rattle.clap.specs.declared.builder.ArgAction.TheVariants.{Append, Set, SetTrue}
+use Rattle.clap.specs.declared.builder.value_parser.ValueParser.TheVariants.{Unsigned}
 use Rattle.lpis_run.specs.declared.failure.Name.TheVariants as named
-use Rattle.lpis_command_line.specs.Arguments.{flag_rule, option_rule, word_rule, words_rule}
-use Rattle.lpis_command_line.specs.Arguments.{year_rule}
 use Rattle.lpis_command_line.specs.Files.{AreTablesIn, IsCountryIn, IsFile}
 use Rattle.lpis_command_line.specs.Words.{HasWord, IsDetail, IsExact, IsRelease, IsSubmission}
-use Rattle.lpis_command_line.specs.Words.{IsYear, texts_of}
+use Rattle.lpis_command_line.specs.Words.{IsYear}
 use Rattle.lpis_command_line.specs.declared.commands.Job.{Job}
 use Rattle.lpis_command_line.specs.declared.commands.Job.TheVariants.{Exact, ExactCountry}
 use Rattle.lpis_command_line.specs.declared.commands.Job.TheVariants.{Publish, PublishCountry}
@@ -17,18 +17,26 @@ use Rattle.lpis_command_line.specs.declared.commands.Request.TheVariants.{Area, 
 use Rattle.lpis_command_line.specs.declared.commands.Request.TheVariants.{InRegister, Locate}
 use Rattle.lpis_command_line.specs.declared.commands.Request.TheVariants.{LocateCountry}
 
+-- a required argument of one word
+abbrev pub word_rule : Text → Rule
+word_rule id = record (new_rule id) { required = true; action = Some Set }
+
 -- a command by its name and its arguments, in their order
 abbrev pub command : Text → List Rule → App
 command name rules = fold with_rule (new_app name) rules
 
--- the commands
+-- the commands. A year is a number from 1 to 9999
 abbrev pub commands : List App
 commands =
     let dir = word_rule (codes "dir") in
     let cert = word_rule (codes "cert") in
     let db = word_rule (codes "db") in
-    let year = year_rule (codes "year") in
-    let parcels = flag_rule (codes "parcels") in
+    let year = record (word_rule (codes "year")) { parser = Some (Unsigned 1 9999) } in
+    let ids = record (new_rule (codes "id")) { required = true; action = Some Append } in
+    let parcels = record (new_rule (codes "parcels"))
+    { long = Some (codes "parcels"); action = Some SetTrue } in
+    let exact = record (new_rule (codes "exact"))
+    { long = Some (codes "exact"); action = Some Set; value_names = 1 } in
     command (codes "area") (word_rule (codes "file") ∷ [])
     ∷ command (codes "cut") (dir ∷ cert ∷ [])
     ∷ command (codes "check") (dir ∷ cert ∷ [])
@@ -38,26 +46,18 @@ commands =
     ∷ command (codes "exact") (db ∷ dir ∷ cert ∷ word_rule (codes "out") ∷ [])
     ∷ command (codes "exact-country") (db ∷ dir ∷ word_rule (codes "file") ∷ [])
     ∷ command (codes "publish") (db ∷ year ∷ dir ∷ cert ∷ [])
-    ∷ command (codes "publish-country") (db ∷ year ∷ dir ∷ option_rule (codes "exact")
-    ∷ parcels ∷ [])
-    ∷ command (codes "trace") (db ∷ words_rule (codes "id") ∷ []) ∷ []
+    ∷ command (codes "publish-country") (db ∷ year ∷ dir ∷ exact ∷ parcels ∷ [])
+    ∷ command (codes "trace") (db ∷ ids ∷ []) ∷ []
 
--- a program with a version, which wants a command
-abbrev pub wanting_command : App → App
-wanting_command a =
-    record a { top = record a.top { subcommand_required = true; has_version = true } }
-
--- the program before its commands
+-- the program, which has a version and wants a command
 abbrev pub program_app : App
-program_app = wanting_command (new_app (codes "lpis"))
-
--- a program with a command more
-abbrev pub with_command : App → App → App
-with_command whole one = with_subcommand whole one.top
+program_app =
+    let a = new_app (codes "lpis") in
+    record a { top = record a.top { subcommand_required = true; has_version = true } }
 
 -- the program with its commands
 abbrev pub command_line_app : App
-command_line_app = fold with_command program_app commands
+command_line_app = fold (λ whole one. with_subcommand whole one.top) program_app commands
 
 -- the job has this name, and its files and words are those of its arguments
 abbrev pub IsJobNamed : Job → Text → List Row → Type 0
@@ -72,7 +72,7 @@ IsJobNamed (PublishCountry year country exact detail) name rows = (name ≡ code
     × IsYear year rows × HasWord (codes "dir") (λ dir. IsCountryIn dir country) rows
     × IsExact exact rows × IsDetail detail rows
 IsJobNamed (Trace ids) name rows =
-    (name ≡ codes "trace") × (all_of (codes "id") rows ≡ Some (texts_of ids))
+    (name ≡ codes "trace") × (all_of (codes "id") rows ≡ Some (map (λ w. w.now) ids.now))
 
 -- the command has this name, and its files and words are those of its arguments
 abbrev pub IsRequestNamed : Request → Text → List Row → Type 0

@@ -1,10 +1,9 @@
 -- The files that a command names.
-use Rattle.std.specs.Prelude.{◌≡◌, ◌++◌, Option, Some, None, codes}
-use Rattle.std.specs.Borrow.{Bor}
+use Rattle.std.specs.Prelude.{◌≡◌, ◌++◌, codes, option_map, unwrap_or}
 use Rattle.clap.specs.Words.{Text}
 use Rattle.lpis_run.specs.declared.failure.Name.{Name}
 use Rattle.lpis_run.specs.declared.failure.Name.TheVariants.{Parcels, Covers, Classes, Cert}
-use Rattle.lpis_run.specs.declared.failure.Name.TheVariants.{Country, Lineage}
+use Rattle.lpis_run.specs.declared.failure.Name.TheVariants.{Country}
 use Rattle.lpis_run.specs.declared.folder.Folder.{Folder}
 use Rattle.lpis_run.specs.declared.folder.Tables.{Tables}
 use Rattle.lpis_command_line.specs.declared.files.CountryFolder.{CountryFolder}
@@ -14,14 +13,9 @@ use Rattle.lpis_command_line.specs.declared.files.NamedFile.{NamedFile}
 abbrev pub in_folder : Text → Text → Text
 in_folder folder path = folder ++ codes "/" ++ path
 
--- so where there is a folder
-abbrev pub in_any_folder : Option (Bor Text) → Text → Text
-in_any_folder None path = path
-in_any_folder (Some folder) path = in_folder folder.now path
-
--- the whole path of a file
+-- the whole path of a file, which lies in a folder, if there is one
 abbrev pub path_of : NamedFile → Text
-path_of i = in_any_folder i.folder i.path.now
+path_of i = unwrap_or (option_map (λ f. in_folder f.now i.path.now) i.folder) i.path.now
 
 -- the file has this path, and a failure reports it by this name
 abbrev pub IsFile : Name → Text → NamedFile → Type 0
@@ -37,10 +31,6 @@ AreTablesIn folder t = IsFile Parcels (in_folder folder (codes "parcels.csv")) t
 abbrev pub IsRegionIn : Text → Folder NamedFile → Type 0
 IsRegionIn folder f =
     AreTablesIn folder f.tables × IsFile Cert (in_folder folder (codes "cert.txt")) f.cert
-
--- the lineage table of the release in a folder
-abbrev pub IsLineageIn : Text → NamedFile → Type 0
-IsLineageIn folder i = IsFile Lineage (in_folder folder (codes "lineage.csv")) i
 
 -- the country in a folder: how it is cut into regions, and the classes of all
 abbrev pub IsCountryIn : Text → CountryFolder → Type 0

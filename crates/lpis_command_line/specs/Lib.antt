@@ -1,4 +1,3 @@
-pub mod Arguments
 pub mod Commands
 pub mod Files
 pub mod Usage

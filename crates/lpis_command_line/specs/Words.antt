@@ -1,14 +1,13 @@
 -- The words of a command, and its files, by its arguments.
-use Rattle.std.specs.Prelude.{◌≡◌, ◌≤◌, ℕ, List, Option, Some, None, codes, map}
-use Rattle.std.specs.Borrow.{Bor}
+use Rattle.std.specs.Prelude.{◌≡◌, ◌≤◌, ℕ, List, Option, Some, None, codes}
 use Rattle.std.specs.Str.Parse.{IsNumeral, digits_value, without_leading_plus}
 use Rattle.clap.specs.Words.{Row, Text, first_of}
 use Rattle.lpis_run.specs.declared.detail.Detail.{Detail}
 use Rattle.lpis_run.specs.declared.detail.Detail.TheVariants.{Parcels, Regions}
-use Rattle.lpis_run.specs.declared.failure.Name.TheVariants.{Cert}
+use Rattle.lpis_run.specs.declared.failure.Name.TheVariants.{Cert, Lineage}
 use Rattle.lpis_run.specs.declared.folder.Folder.{Folder}
 use Rattle.lpis_run.specs.declared.folder.Submission.{Submission}
-use Rattle.lpis_command_line.specs.Files.{AreTablesIn, IsFile, IsLineageIn}
+use Rattle.lpis_command_line.specs.Files.{AreTablesIn, IsFile, in_folder}
 use Rattle.lpis_command_line.specs.declared.files.NamedFile.{NamedFile}
 
 -- the argument has a word, of which this is so
@@ -21,22 +20,14 @@ IsExact None rows = first_of (codes "exact") rows ≡ None
 IsExact (Some i) rows = HasWord (codes "exact") (λ path. IsFile Cert path i) rows
 
 -- the word is a year's: decimal digits, after a plus or none, of a number from 1 to 9999
-abbrev pub IsYearWord : ℕ → Text → Type 0
-IsYearWord year word =
-    IsNumeral 10 (without_leading_plus word)
-    × (year ≡ digits_value 10 (without_leading_plus word)) × (1 ≤ year) × (year ≤ 9999)
-
 abbrev pub IsYear : ℕ → List Row → Type 0
-IsYear year = HasWord (codes "year") (IsYearWord year)
+IsYear year = HasWord (codes "year") (λ word. IsNumeral 10 (without_leading_plus word)
+    × (year ≡ digits_value 10 (without_leading_plus word)) × (1 ≤ year) × (year ≤ 9999))
 
 -- the parcels are asked for where their option is there: `clap` gives it this word, else the other
 abbrev pub IsDetail : Detail → List Row → Type 0
 IsDetail Parcels rows = first_of (codes "parcels") rows ≡ Some (codes "true")
 IsDetail Regions rows = first_of (codes "parcels") rows ≡ Some (codes "false")
-
--- the texts of words
-abbrev pub texts_of : Bor (List (Bor Text)) → List Text
-texts_of words = map (λ w. w.now) words.now
 
 -- the release in the folder `dir`, with the certificate `cert`
 abbrev pub IsRelease : Folder NamedFile → List Row → Type 0
@@ -46,4 +37,5 @@ IsRelease f rows = HasWord (codes "dir") (λ dir. AreTablesIn dir f.tables) rows
 -- the same with the lineage table of the folder
 abbrev pub IsSubmission : Submission NamedFile → List Row → Type 0
 IsSubmission s rows =
-    IsRelease s.folder rows × HasWord (codes "dir") (λ dir. IsLineageIn dir s.lineage) rows
+    IsRelease s.folder rows × HasWord (codes "dir")
+    (λ dir. IsFile Lineage (in_folder dir (codes "lineage.csv")) s.lineage) rows

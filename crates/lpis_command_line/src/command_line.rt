@@ -2,9 +2,9 @@
 
 ghost use Rattle.std.specs.Prelude.{◌≡◌, IfOk, false};
 ghost use Rattle.clap.specs.Words.{App, new_app, rule_of};
-ghost use Rattle.lpis_command_line.specs.Commands.{command_line_app, program_app, with_command};
+ghost use Rattle.lpis_command_line.specs.Commands.{command_line_app, program_app};
 ghost use Rattle.lpis_command_line.specs.private.Table.{IsCommandOf, line_app, rule_of_argument};
-ghost use Rattle.lpis_command_line.specs.private.Table.{with_argument};
+ghost use Rattle.lpis_command_line.specs.private.Table.{with_argument, with_command};
 
 use crate::arguments::{Argument, Line, Takes};
 use crate::commands::COMMANDS;

@@ -1,7 +1,8 @@
 //! The files that a command names.
 
-ghost use Rattle.std.specs.Prelude.{◌≡◌, IfOk, string_bytes};
-ghost use Rattle.lpis_command_line.specs.Files.{AreTablesIn, IsCountryIn, IsFile, IsLineageIn};
+ghost use Rattle.std.specs.Prelude.{◌≡◌, IfOk, codes, string_bytes};
+ghost use Rattle.lpis_run.specs.declared.failure.Name.{Name};
+ghost use Rattle.lpis_command_line.specs.Files.{AreTablesIn, IsCountryIn, IsFile};
 ghost use Rattle.lpis_command_line.specs.Files.{IsRegionIn, in_folder, path_of};
 
 use lpis_run::{Folder, Name, Tables, Top};
@@ -92,7 +93,7 @@ pub fn region_in(folder: &str) -> Folder<NamedFile<'_>>
 
 /// The lineage table of the release in a folder.
 pub fn lineage_in(folder: &str) -> NamedFile<'_>
-    ensures { IsLineageIn folder.now result }
+    ensures { IsFile Name.Lineage (in_folder folder.now (codes "lineage.csv")) result }
 {
     file_in(folder, "lineage.csv", Name::Lineage)
 }

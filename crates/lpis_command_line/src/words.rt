@@ -1,10 +1,10 @@
 //! The words of a command, and its files, by its arguments.
 
-ghost use Rattle.std.specs.Prelude.{◌≡◌, IfSome, Some, codes};
+ghost use Rattle.std.specs.Prelude.{◌≡◌, IfSome, Some, codes, map};
 ghost use Rattle.clap.specs.Words.{all_of, first_of, found_of, rows_of};
 ghost use Rattle.lpis_command_line.specs.Files.{AreTablesIn, IsCountryIn, IsFile};
 ghost use Rattle.lpis_command_line.specs.Words.{HasWord, IsDetail, IsExact, IsRelease};
-ghost use Rattle.lpis_command_line.specs.Words.{IsSubmission, IsYear, texts_of};
+ghost use Rattle.lpis_command_line.specs.Words.{IsSubmission, IsYear};
 ghost use Rattle.lpis_command_line.specs.private.Found.{IsWord};
 
 use crate::files::{CountryFolder, NamedFile, country_in, file_at, lineage_in, tables_in};
@@ -29,7 +29,7 @@ pub(crate) fn word_of<'a>(matches: &ArgMatches<'a>, id: &str) -> Option<&'a str>
 /// All words of an argument, in their order.
 pub(crate) fn words_of<'m, 'a>(matches: &'m ArgMatches<'a>, id: &str) -> Option<&'m [&'a str]>
     ensures { IfSome result (λ words. all_of id.now (rows_of (found_of matches.now)) ≡ Some
-        (texts_of words)) }
+        (map (λ w. w.now) words.now)) }
 {
     matches.get_strs(id)
 }

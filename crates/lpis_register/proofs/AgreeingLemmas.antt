@@ -12,7 +12,7 @@ use Rattle.lpis_register_sql.specs.Showing as showing
 use Rattle.lpis_register_sql.specs.Standing.{Fits}
 use Rattle.lpis_register_sql.specs.StoredTables.{Formats, Lines, Marks, Spans, StoredTable, Texts, Years, is_in, is_read, name_of, kinds_of, query_of}
 use Rattle.lpis_register_sql.specs.declared.found.Found.{Found}
-use Rattle.lpis_register_sql.specs.private.Shown.{format_shown, line_shown, mark_shown, span_shown, text_shown, year_shown}
+use Rattle.lpis_register_sql.specs.private.Shown.{format_shown, line_shown, live_shown, mark_shown, span_shown, text_shown, year_shown}
 use Rattle.lpis_register_sql.proofs.Shared.{tables_there}
 use Rattle.lpis_register_sql.proofs.Shared.{formats_shown, lines_shown, marks_shown, reads_back, spans_shown, texts_shown, years_shown}
 use Rattle.lpis_register.proofs.Common.{Content, Entry, HasHistory, HoldsRegister, IsStored, Shape, ShapesAre, State, Third, Version, Whole}
@@ -20,36 +20,48 @@ use Rattle.lpis_register.proofs.OneHistoryLemmas.{Lifeless, One, one_said, same_
 use Rattle.lpis_register.specs.Saying.{SaysRegister, SaysShapes, SaysTables}
 use Rattle.std.proofs.lemmas.List.Sorted.{IsPermutation-refl}
 
--- ---- rows whose columns are those of a content are read as it
+-- ---- rows whose columns are those of a content are read as it, since no column beyond is read
 
-format_cut : (r : Row) → format_shown (take 2 r) ≡ format_shown r
+-- of a row of `lpis_format`
+pub format_cut : (r : Row) → format_shown (take 2 r) ≡ format_shown r
 format_cut [] = refl
 format_cut (a ∷ []) = refl
 format_cut (a ∷ b ∷ r) = refl
 
-year_cut : (r : Row) → year_shown (take 1 r) ≡ year_shown r
+-- of a year
+pub year_cut : (r : Row) → year_shown (take 1 r) ≡ year_shown r
 year_cut [] = refl
 year_cut (a ∷ r) = refl
 
-span_cut : (r : Row) → span_shown (take 3 r) ≡ span_shown r
+-- of a span
+pub span_cut : (r : Row) → span_shown (take 3 r) ≡ span_shown r
 span_cut [] = refl
 span_cut (a ∷ []) = refl
 span_cut (a ∷ b ∷ []) = refl
 span_cut (a ∷ b ∷ c ∷ r) = refl
 
-line_cut : (r : Row) → line_shown (take 4 r) ≡ line_shown r
+-- of a row of lineage
+pub line_cut : (r : Row) → line_shown (take 4 r) ≡ line_shown r
 line_cut [] = refl
 line_cut (a ∷ []) = refl
 line_cut (a ∷ b ∷ []) = refl
 line_cut (a ∷ b ∷ c ∷ []) = refl
 line_cut (a ∷ b ∷ c ∷ d ∷ r) = refl
 
-text_cut : (r : Row) → text_shown (take 2 r) ≡ text_shown r
+-- of a live identifier
+pub live_cut : (r : Row) → live_shown (take 2 r) ≡ live_shown r
+live_cut [] = refl
+live_cut (a ∷ []) = refl
+live_cut (a ∷ b ∷ r) = refl
+
+-- of a text
+pub text_cut : (r : Row) → text_shown (take 2 r) ≡ text_shown r
 text_cut [] = refl
 text_cut (a ∷ []) = refl
 text_cut (a ∷ b ∷ r) = refl
 
-mark_cut : (r : Row) → mark_shown (take 2 r) ≡ mark_shown r
+-- of a mark
+pub mark_cut : (r : Row) → mark_shown (take 2 r) ≡ mark_shown r
 mark_cut [] = refl
 mark_cut (a ∷ []) = refl
 mark_cut (a ∷ b ∷ r) = refl
@@ -59,7 +71,8 @@ module _ {X : Type 0} (columns : X → Row) (shown : Row → X) (n : ℕ) (cut :
   all_cut [] = refl
   all_cut (r ∷ rows) = ap₂ ◌∷◌ (cut r) (all_cut rows)
 
-  rows_are : (rows : List Row) (xs : List X) → map (take n) rows ≡ map columns xs → map shown rows ≡ xs
+  -- so of all rows
+  pub rows_are : (rows : List Row) (xs : List X) → map (take n) rows ≡ map columns xs → map shown rows ≡ xs
   rows_are rows xs are = sym (all_cut rows) ∙ ap (map shown) are ∙ reads_back columns shown back xs
 
 there_shown : (A B : Type 0) (b : Bool) → b ≡ true → MatchBool b A B → A

@@ -22,9 +22,8 @@ use Rattle.lpis_register.specs.Holdings.{Candidate, Holdings, RegisterState, can
 use Rattle.lpis_register.specs.declared.accepting.Accepted.{Accepted}
 use Rattle.lpis_register.specs.declared.accepting.Writing.{Writing}
 use Rattle.lpis_register.specs.private.Writes.{Commits, IsToWrite, WritesRelease, written}
-use Rattle.lpis_register.proofs.FindingLemmas.{still_holds}
 use Rattle.lpis_register.proofs.HoldingLemmas.{holds_with, left_with, nothing_done, survives_with}
-use Rattle.lpis_register.proofs.ResultLemmas.{on_err, on_ok}
+use Rattle.lpis_register.proofs.ResultLemmas.{on_ok}
 
 -- ---- the laws of publishing
 
@@ -80,7 +79,7 @@ module _ (more : TellsMore) (put : PutsTexts) (lives : LivesOn) (steps : StepsWr
         let c = holds.content in
         on_ok r (holds_with o (whole c) now w.shapes.items (told c holds.tells) (spelled c holds.are) alive new)
         (wrote.ok clean (Whole o) c refl holds.stored);
-    err = λ clean up o holds. on_err r (still_holds o old new h kept holds) (wrote.err clean up (Whole o) holds.content refl holds.stored);
+    err = wrote.err;
     crash = λ o holds.
         let c = holds.content in
         survives_with o (whole c) now w.shapes.items (told c holds.tells) (spelled c holds.are) alive old new
@@ -114,7 +113,7 @@ not_begun c before after st same e = record {
   refused = same;
   writes = record {
     ok = λ clean o holds. tt;
-    err = λ clean up o holds. holds;
+    err = λ clean up was. (was, refl);
     crash = λ o holds. nothing_done (LeavesRelease c before.history o) st;
     durable = λ clean o holds. tt;
   };
@@ -133,7 +132,7 @@ module _ (w : Writing) (last : ℕ) (h now : List Entry) (kept : List Shape) (du
     refused = tt;
     writes = record {
       ok = λ clean o holds. wrote.ok clean o holds;
-      err = λ clean up o holds. tt;
+      err = λ clean up. tt;
       crash = λ o holds. crashed {E = E} (Ok x) wrote o holds;
       durable = λ clean o holds db may. wrote.durable clean o holds db may;
     };
@@ -145,7 +144,7 @@ module _ (w : Writing) (last : ℕ) (h now : List Entry) (kept : List Shape) (du
     refused = same;
     writes = record {
       ok = λ clean o holds. tt;
-      err = λ clean up o holds. wrote.err clean up o holds;
+      err = λ clean up. wrote.err clean up;
       crash = λ o holds. crashed (Err e) wrote o holds;
       durable = λ clean o holds. tt;
     };
@@ -159,7 +158,7 @@ module _ {S : Type 0} (g : store.Ghosts S) (c : Candidate) (old new : RegisterSt
       → Stores g c old new (Ok change)
   stored_ok after x change same m = record {
     ok = λ clean o holds. subst (λ (held : Holdings). HoldsRegister o (state g new.conn) held.history held.shapes) (sym same) (m.writes.ok clean o holds);
-    err = λ clean up o holds. tt;
+    err = λ clean up. tt;
     crash = λ o holds. m.writes.crash o holds;
     durable = λ clean o holds db may. subst (λ (held : Holdings). LeavesRegister o held.history held.shapes db) (sym same) (m.writes.durable clean o holds db may);
   }
@@ -168,7 +167,7 @@ module _ {S : Type 0} (g : store.Ghosts S) (c : Candidate) (old new : RegisterSt
   pub stored_err : (after : Holdings) (e : PublishFault) → new.held ≡ old.held → Commits c old.held after (state g old.conn) (state g new.conn) (Err e) → Stores g c old new (Err e)
   stored_err after e same m = record {
     ok = λ clean o holds. tt;
-    err = λ clean up o holds. subst (λ (held : Holdings). HoldsRegister o (state g new.conn) held.history held.shapes) (sym same) (m.writes.err clean up o holds);
+    err = λ clean up. m.writes.err clean up;
     crash = λ o holds. m.writes.crash o holds;
     durable = λ clean o holds. tt;
   }
@@ -177,7 +176,7 @@ module _ {S : Type 0} (g : store.Ghosts S) (c : Candidate) (old new : RegisterSt
 pub stored_not : {S : Type 0} (g : store.Ghosts S) (c : Candidate) (it : RegisterState S) (e : PublishFault) → Stores g c it it (Err e)
 stored_not g c it e = record {
   ok = λ clean o holds. tt;
-  err = λ clean up o holds. holds;
+  err = λ clean up was. (was, refl);
   crash = λ o holds. nothing_done (LeavesRelease c it.held.history o) (state g it.conn);
   durable = λ clean o holds. tt;
 }

@@ -11,8 +11,7 @@ pub use Rattle.lpis_register.specs.Faults.{IsFailure}
 pub use Rattle.lpis_register.specs.Histories.{HoldsRegister, LeavesRegister}
 pub use Rattle.lpis_register.specs.declared.fault.PublishFault.{PublishFault}
 pub use Rattle.lpis_register.specs.declared.fault.PublishFault.TheVariants.{Unlawful}
-pub use Rattle.lpis_register_sql.specs.Bare.{IsBare}
-pub use Rattle.lpis_register_sql.specs.Holding.{IsStored, Leaves}
+pub use Rattle.lpis_register_sql.specs.Holding.{IsStored}
 pub use Rattle.lpis_register_sql.specs.Layouts.{Layout, Whole}
 pub use Rattle.sqlite.proofs.StateLemmas.{survives_weaker}
 pub use Rattle.sqlite.specs.Held.{state}

@@ -108,7 +108,7 @@ not_settled g found version h spans old new r are = IfErr-weaker r _ _ (λ fault
 pub not_settled_after : {S : Type 0} (g : store.Ghosts S) (found : Found) (told : Loaded) (version : Version) (old mid new : Held S) (fault : PublishFault) {P Q : Trees → Type 0}
     → Survives (state g old) (state g mid) P → Survives (state g mid) (state g new) Q
     → (HasCleanDisk (state g mid) → (layout : Layout) → IsFound found layout → (c : Content) → IsStored layout (state g old) c
-    → HasRegister version c told.history told.shapes.items × IsStored layout (state g mid) c)
+    → HasRegister version c told.history told.shapes.items)
     → SeesLoaded found (state g old) (state g mid) (Ok (told, version))
     → (HasCleanDisk (state g mid) → IsTrue (state g old).is_open → IsUnchanged (state g old) (state g mid) ⊎ IsUnread found (state g old) (state g mid))
     → HasSettlingCause g found version told.history mid new (Err fault)
@@ -125,7 +125,7 @@ not_settled_after g found told version old mid new fault one two says sees tells
         history = told.history;
         shapes = told.shapes.items;
         said = (sees.shows.ok at_mid).0;
-        says = λ layout there c stored. (says at_mid layout there c stored).0.says;
+        says = λ layout there c stored. (says at_mid layout there c stored).says;
         fails = cause is clean same.0.is_open;
       })
     ]

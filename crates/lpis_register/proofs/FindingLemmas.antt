@@ -2,7 +2,7 @@
 use Rattle.std.proofs.Common.{◌≡◌, ◌≢◌, ◌↔◌, ◌⊎◌, arith, inl, inr, ℕ, List, Result, Ok, Err, IfErr, IsTrue, IsPermutation}
 use Rattle.std.proofs.lemmas.List.Sorted.{IsPermutation-sym}
 use Rattle.lpis_register.proofs.Common.{State, Trees, HasCleanDisk, Survives, Entry, AreLive, Content}
-use Rattle.lpis_register.proofs.Common.{HoldsRegister, IsStored, Layout, PublishFault, TablesHave, Shape, ShapesAre}
+use Rattle.lpis_register.proofs.Common.{HoldsRegister, Layout, PublishFault, TablesHave, Shape, ShapesAre}
 use Rattle.lpis_register.proofs.Common.{Unlawful, Version, Third, Whole}
 use Rattle.lpis_register_rows.specs.Content.{StoredText}
 use Rattle.std.proofs.lemmas.Result.{IfErr-weaker}
@@ -52,10 +52,6 @@ refused_texts moved texts more live r same none = IfErr-weaker r _ _ (λ e never
 
 -- ---- the history, read again
 
--- a state that stores the same rows as one that holds a history and shapes holds them too
-pub still_holds : (o : Origin) (old new : State) (h : List Entry) (shapes : List Shape) → (holds : HoldsRegister o old h shapes) → IsStored (Whole o) new holds.content → HoldsRegister o new h shapes
-still_holds o old new h shapes holds stored = record { content = holds.content; stored = stored; tells = holds.tells; are = holds.are; live = holds.live }
-
 module _ (old new : State) (h : List Entry) (shapes : List Shape) (found : Found) (laid_out : (layout : Layout) (trees : Trees) → Stands layout trees → old.now.schema ≡ schema_of layout
     → IsFound found layout) where
   abbrev pub Reads : Result (List Entry × Version) PublishFault → Type 0
@@ -64,21 +60,15 @@ module _ (old new : State) (h : List Entry) (shapes : List Shape) (found : Found
   there : (o : Origin) → HoldsRegister o old h shapes → IsFound found (Whole o)
   there o holds = laid_out (Whole o) old.now.trees holds.stored.holds.means.stands holds.stored.holds.schema
 
-  stays : (r : Result (List Entry × Version) PublishFault) → Reads r → HasCleanDisk new → IsTrue new.is_open → (o : Origin) → HoldsRegister o old h shapes → HoldsRegister o new h shapes
-  stays r finds clean up o holds = still_holds o old new h shapes holds (finds.reads.same clean up (Whole o) (there o holds) holds.content holds.stored)
-
-  quiet : (r : Result (List Entry × Version) PublishFault) → Reads r → (o : Origin) → HoldsRegister o old h shapes → Survives old new (λ _. ⊥)
-  quiet r finds o holds = finds.reads.survives
-
   pub read_again : ((c : Content) (k g : List Entry) (version other : Version) → TablesHave version c k → TablesHave other c g → IsSameHistory k g) → (k : List Entry) (version : Version)
       → AreThere old.now.schema found → SeesFound (SeesHistory found) (SeesNoHistory found) old new (Ok (k, version)) → Reads (Ok (k, version)) → ReadsHistory old new h shapes (Ok k)
   read_again one k version is sees finds = record {
     said = λ clean. let rows = (sees.shows.ok clean).0 in (found, is, rows.0, rows.1, version, rows.2);
     ok = λ clean o holds.
-        one holds.content h k Third version holds.tells (finds.reads.ok clean (Whole o) (there o holds) holds.content holds.stored).0;
+        one holds.content h k Third version holds.tells (finds.reads.ok clean (Whole o) (there o holds) holds.content holds.stored);
     lawful = λ clean o holds. tt;
-    same = stays _ finds;
-    crash = quiet _ finds;
+    same = λ clean up. finds.reads.kept clean;
+    crash = finds.reads.survives;
     kinds = tt;
   }
 
@@ -87,8 +77,8 @@ module _ (old new : State) (h : List Entry) (shapes : List Shape) (found : Found
     said = λ clean. tt;
     ok = λ clean o holds. tt;
     lawful = λ clean o holds is. finds.unlawful clean (Whole o) (there o holds) holds.content holds.stored is Third h holds.tells;
-    same = stays _ finds;
-    crash = quiet _ finds;
+    same = finds.reads.same;
+    crash = finds.reads.survives;
     kinds = finds.kinds;
   }
 

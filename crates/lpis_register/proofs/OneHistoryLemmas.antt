@@ -10,7 +10,7 @@ use Rattle.lpis_register.proofs.Common.{First, Third}
 use Rattle.lpis_register_rows.specs.declared.version.Version.TheVariants.{Second}
 use Rattle.lpis_register_rows.specs.Content.{StoredText}
 use Rattle.lpis_register_rows.specs.Histories.{IsSameContent, IsSameHistory, only_format}
-use Rattle.lpis_register.specs.Opening.{HasNoRegister}
+use Rattle.lpis_register.specs.private.Finding.{HasNoRegister}
 use Rattle.lpis_register_rows.specs.Shapes.{TextsStand}
 use Rattle.lpis_register_rows.specs.Content.{Format, without_live, without_texts}
 
@@ -28,7 +28,8 @@ all_live : (live more : List (List ℕ)) (shapes : List Shape) → ((q : List �
 all_live live more [] same all = tt
 all_live live more (s ∷ shapes) same all = ((all.0.0, same s.0 ∙ all.0.1), all_live live more shapes same all.1)
 
-same_live : (h k : List Entry) → IsSameHistory h k → (shapes : List Shape) → AreLive (last_live h) shapes → AreLive (last_live k) shapes
+-- shapes of live parcels of one are such of the other
+pub same_live : (h k : List Entry) → IsSameHistory h k → (shapes : List Shape) → AreLive (last_live h) shapes → AreLive (last_live k) shapes
 same_live h k same shapes all = all_live (last_live h) (last_live k) shapes (same_last h k same) all
 
 -- ---- the row of the version tells which it is

@@ -1,14 +1,18 @@
 -- What the steps of an opening do, joined.
-use Rattle.std.proofs.Common.{◌≡◌, ◌∙◌, refl, sym, true≢false, inl, inr, List, Result, Ok, Err, IfErr, IfOk, IsTrue, [], arith, false, true}
-use Rattle.lpis_register.proofs.Common.{Trees, State, HasCleanDisk, Survives, survives_weaker, Entry, Content, IsBare, IsFailure, IsStored, Layout, Leaves, LeavesRegister}
-use Rattle.lpis_register.proofs.Common.{PublishFault, Shape, ShapesAre, HasHistory, Unlawful, Version, Whole}
+use Rattle.std.proofs.Common.{◌≡◌, ◌∙◌, ap, refl, sym, true≢false, inl, inr, List, Result, Ok, Err, IfErr, IfOk, IsTrue, [], arith, false, true}
+use Rattle.lpis_register.proofs.Common.{Trees, State, HasCleanDisk, Survives, survives_weaker, Entry, Content, IsFailure, IsStored, Layout, LeavesRegister}
+use Rattle.lpis_register.proofs.Common.{PublishFault, Shape, ShapesAre, HasHistory, Version, Whole}
 use Rattle.lpis_register_rows.specs.Content.{no_content}
 use Rattle.lpis_register_sql.specs.declared.found.Found.{Found}
-use Rattle.lpis_register_sql.specs.Presence.{AreThere, is_any}
-use Rattle.lpis_register_sql.specs.Quiet.{IsFound}
-use Rattle.lpis_register.specs.Opening.{IsOpened, IsUnopened, HasNoRegister, HasRegister, LeavesOpened}
+use Rattle.lpis_register_sql.specs.Presence.{AreThere, has_table, is_any}
+use Rattle.lpis_register_sql.specs.StoredTables.{Formats, Lines, Lives, Marks, Spans, StoredTable, Texts, Years, is_read, name_of}
+use Rattle.lpis_register_sql.specs.Quiet.{IsFound, StaysSettled}
+use Rattle.lpis_register_sql.specs.Bare.{IsBare}
+use Rattle.lpis_register_sql.specs.Holding.{Leaves}
+use Rattle.lpis_register_sql.proofs.Shared.{settled_then, stored_still}
+use Rattle.lpis_register.specs.Opening.{IsOpened, IsUnopened, HasRegister, LeavesOpened}
 use Rattle.lpis_register.specs.Faults.{IsOpeningFault}
-use Rattle.lpis_register.specs.Saying.{IsWhole}
+use Rattle.lpis_register.specs.Saying.{IsWhole, SaysNone}
 use Rattle.lpis_register_sql.specs.Beside.{nothing}
 use Rattle.lpis_register_sql.specs.Hiding.{hides_table}
 use Rattle.lpis_register.specs.declared.fault.PublishFault.TheVariants.{Store}
@@ -24,13 +28,11 @@ use Rattle.lpis_register.proofs.ResultLemmas.{failure_lawful, opening_failure}
 -- ---- what is read first, and then settled as what was read
 
 module _ (found : Found) (old mid new : State) where
-  pub read_not : (e : PublishFault) → (HasCleanDisk mid → IsTrue mid.is_open → (layout : Layout) → IsFound found layout → (c : Content) → IsStored layout old c → IsStored layout mid c)
-      → (HasCleanDisk mid → (layout : Layout) → IsFound found layout → (c : Content) → IsStored layout old c → e ≡ Unlawful → HasNoRegister c)
-      → SeesLoaded found old mid (Err e) → Survives old mid (λ _. ⊥) → IsOpeningFault e → OpensFound found old mid (Err e)
-  read_not e same none sees crash kind = record {
+  pub read_not : (e : PublishFault) → (HasCleanDisk mid → IsTrue mid.is_open → StaysSettled old mid) → SeesLoaded found old mid (Err e) → Survives old mid (λ _. ⊥) → IsOpeningFault e
+      → OpensFound found old mid (Err e)
+  read_not e same sees crash kind = record {
     ok = λ up layout w c r. tt;
-    err = λ up on layout w c r. same up on layout w c r;
-    unlawful = none;
+    err = same;
     said = λ up. tt;
     refused = sees.refuses;
     untouched = λ is. crash;
@@ -40,19 +42,21 @@ module _ (found : Found) (old mid new : State) where
   }
 
   module _ (told : Loaded) (version : Version)
-      (says : HasCleanDisk mid → (layout : Layout) → IsFound found layout → (c : Content) → IsStored layout old c → HasRegister version c told.history told.shapes.items × IsStored layout mid c)
-      (sees : SeesLoaded found old mid (Ok (told, version))) (one : Survives old mid (λ _. ⊥)) where
+      (says : HasCleanDisk mid → (layout : Layout) → IsFound found layout → (c : Content) → IsStored layout old c → HasRegister version c told.history told.shapes.items)
+      (kept : HasCleanDisk mid → StaysSettled old mid) (sees : SeesLoaded found old mid (Ok (told, version))) (one : Survives old mid (λ _. ⊥)) where
     crashed : (r : Result (Unit {0}) PublishFault) → Settles found version told.history mid new r → Survives old new (LeavesFound found old)
     crashed r two = survives_then old mid new _ _ _ (λ _ db none. absurd none)
         (λ clean db left layout w c r.
-        let now = says (omega (arith, two.crash.clean)) layout w c r in
-        (told.history, told.shapes.items, version, now.0, left layout w c told.shapes.items now.0 now.1)) one two.crash
+        let late : HasCleanDisk mid = omega (arith, two.crash.clean) in
+        let now = says late layout w c r in
+        (told.history, told.shapes.items, version, now, left layout w c told.shapes.items now (stored_still layout old mid c (kept late) r))) one two.crash
 
     pub settled_opens : Settles found version told.history mid new (Ok tt) → OpensFound found old new (Ok told)
     settled_opens two = record {
-      ok = λ up layout w c r. let now = says (two.clean up) layout w c r in (version, now.0, two.ok up layout w c told.shapes.items now.0 now.1);
-      err = λ up on layout w c r. tt;
-      unlawful = λ up layout w c r. tt;
+      ok = λ up layout w c r.
+          let late = two.clean up in
+          let now = says late layout w c r in (version, now, two.ok up layout w c told.shapes.items now (stored_still layout old mid c (kept late) r));
+      err = λ up on. tt;
       said = λ up. let it = sees.shows.ok (two.clean up) in (version, it.0, λ third whole. two.idle third whole ∙ it.1.0);
       refused = λ up. tt;
       untouched = tt;
@@ -64,8 +68,7 @@ module _ (found : Found) (old mid new : State) where
     pub unsettled_fails : (e : PublishFault) → Settles found version told.history mid new (Err e) → OpensFound found old new (Err e)
     unsettled_fails e two = record {
       ok = λ up layout w c r. tt;
-      err = λ up on layout w c r. let now = says (two.clean up) layout w c r in two.err up on layout w c told.shapes.items now.0 now.1;
-      unlawful = λ up layout w c r is. absurd (failure_lawful e two.failure is);
+      err = λ up on. settled_then old mid new (kept (two.clean up)) (two.err up on);
       said = λ up. tt;
       refused = λ up is. absurd (failure_lawful e two.failure is);
       untouched = λ is. absurd (failure_lawful e two.failure is);
@@ -78,6 +81,13 @@ module _ (found : Found) (old mid new : State) where
 whole_any : (found : Found) → IsWhole found → is_any found ≡ true
 whole_any found whole = rw whole.format refl
 
+-- where there is no table, none is found
+pub nothing_there : (st : State) → IsBare st → SaysNone st.now → ⊥
+nothing_there st bare (found, there, any, none) = true≢false (sym any ∙ by (λ t. there t ∙ ap (λ s. has_table s (name_of t)) bare.schema))
+  where
+    by : ((t : StoredTable) → is_read found t ≡ false) → is_any found ≡ false
+    by each = rw (each Formats, each Years, each Spans, each Lines, each Lives, each Texts, each Marks) refl
+
 -- ---- what the calls promise
 
 -- what an opening promises: of Ok that it opened a register, of a fault that it opened none
@@ -89,10 +99,7 @@ pub unseen : (st : State) → Answer st st (Err Store)
 unseen st = (
   tt,
   record {
-    none = λ up on bare. inl bare;
-    same = λ up on layout c r. r;
-    unlawful = λ is. absurd (let e = is in cc);
-    lawful = λ is. absurd (let e = is in cc);
+    same = λ up on was. (was, refl);
     refused = λ is. absurd (let e = is in cc);
     seen = λ is. absurd (let e = is in cc);
     untouched = λ is. absurd (let e = is in cc);
@@ -125,10 +132,7 @@ opened_there found old new r with never seen there any o = by r o where
   by (Err e) o = (
     tt,
     record {
-      none = λ up on bare. absurd (never bare);
-      same = λ up on layout c r. o.err up on layout (with layout c r) c r;
-      unlawful = λ is up layout c r. o.unlawful up layout (with layout c r) c r is;
-      lawful = λ is up bare. absurd (never bare);
+      same = o.err;
       refused = λ is up. let no = o.refused up is in ((found, there, any, no.0), no.1);
       seen = λ is. seen;
       untouched = o.untouched;
@@ -148,12 +152,9 @@ module _ (told_empty : HasHistory no_content []) (no_shape : ShapesAre [] []) wh
     made_only = survives_weaker old new _ _ (λ _ db left. record { found = λ layout c r. absurd (never layout c r); bare = λ bare. made_left db (left bare) }) crash
 
     -- which fails
-    pub opened_unmade : (e : PublishFault) → (HasCleanDisk new → IsTrue new.is_open → IsBare old → IsBare new) → IsFailure e → IsUnopened old new e
+    pub opened_unmade : (e : PublishFault) → (HasCleanDisk new → IsTrue new.is_open → StaysSettled old new) → IsFailure e → IsUnopened old new e
     opened_unmade e err failure = record {
-      none = λ up on bare. inl (err up on bare);
-      same = λ up on layout c r. absurd (never layout c r);
-      unlawful = λ is up layout c r. absurd (never layout c r);
-      lawful = λ is up bare. failure_lawful e failure is;
+      same = err;
       refused = λ is. absurd (failure_lawful e failure is);
       seen = λ is. absurd (failure_lawful e failure is);
       untouched = λ is. absurd (failure_lawful e failure is);

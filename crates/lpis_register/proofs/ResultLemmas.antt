@@ -1,5 +1,5 @@
 -- Results, and the faults in them.
-use Rattle.std.proofs.Common.{◌≡◌, ◌⊎◌, inl, inr, Result, Ok, Err, OnOk, OnErr, refl, sym, subst}
+use Rattle.std.proofs.Common.{◌≡◌, ◌⊎◌, inl, inr, Result, Ok, Err, OnOk, refl, sym, subst}
 use Rattle.lpis_register.specs.Faults.{IsStoreFault, IsRefused, IsOpeningFault}
 use Rattle.lpis_register.specs.Holdings.{Candidate, Holdings}
 use Rattle.lpis_register.specs.declared.fault.PublishFault.TheVariants.{Memory, Year, Lineage, NotKept, Exact, Store, StoreMemory, Unknown}
@@ -9,11 +9,6 @@ use Rattle.lpis_register.proofs.Common.{IsFailure, PublishFault, Unlawful}
 pub on_ok : {A E : Type 0} (r : Result A E) {P Q : Type 0} → (P → Q) → OnOk r P → OnOk r Q
 on_ok (Ok x) f p = f p
 on_ok (Err e) f p = tt
-
--- what a promise of an error implies is a promise of an error
-pub on_err : {A E : Type 0} (r : Result A E) {P Q : Type 0} → (P → Q) → OnErr r P → OnErr r Q
-on_err (Ok x) f p = tt
-on_err (Err e) f p = f p
 
 -- a failure is no refusal
 pub opening_failure : (e : PublishFault) → IsFailure e → IsOpeningFault e

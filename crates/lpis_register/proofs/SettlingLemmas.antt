@@ -26,7 +26,7 @@ module _ (found : Found) (version : Version) (h : List Entry) (old new : State) 
   settled_by (Ok x) (Ok y) wrote is = record {
     ok = λ up layout there c shapes says r. holds_with (origin_of layout) (f c) h shapes (tells c says.says) (texts c shapes says.are) says.live new
         (wrote.ok up layout c (due layout c there says.says) r);
-    err = λ up on layout there c shapes says r. tt;
+    err = λ up on. tt;
     idle = λ third whole. absurd (busy third whole);
     clean = λ up. omega (arith, up, wrote.crash.clean);
     crash = crash (Ok x) wrote;
@@ -34,7 +34,7 @@ module _ (found : Found) (version : Version) (h : List Entry) (old new : State) 
   }
   settled_by (Err e) (Err fault) wrote is = record {
     ok = λ up layout there c shapes says r. tt;
-    err = λ up on layout there c shapes says r. wrote.err up on layout c (due layout c there says.says) r;
+    err = wrote.err;
     idle = λ third whole. absurd (busy third whole);
     clean = λ up. omega (arith, up, wrote.crash.clean);
     crash = crash (Err e) wrote;
@@ -46,7 +46,7 @@ module _ (found : Found) (version : Version) (h : List Entry) (old new : State) 
 pub settled_not : (found : Found) (version : Version) (h : List Entry) (st : State) (e : PublishFault) → IsFailure e → Settles found version h st st (Err e)
 settled_not found version h st e failure = record {
   ok = λ up layout w c shapes says r. tt;
-  err = λ up on layout w c shapes says r. r;
+  err = λ up on was. (was, refl);
   idle = λ third whole. refl;
   clean = λ up. up;
   crash = nothing_done (LeavesSettled found version h st) st;
@@ -58,7 +58,7 @@ pub settled_there : (found : Found) (h : List Entry) (st : State) → ((layout :
 settled_there found h st there x = record {
   ok = λ up layout w c shapes says r.
       holds_with (origin_of layout) c h shapes says.says says.are says.live st (subst (λ l. IsStored l st c) (sym (mark_there layout (there layout w))) r);
-  err = λ up on layout w c shapes says r. tt;
+  err = λ up on. tt;
   idle = λ third whole. refl;
   clean = λ up. up;
   crash = nothing_done (LeavesSettled found Third h st) st;

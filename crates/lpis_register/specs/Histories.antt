@@ -12,6 +12,7 @@ use Rattle.lpis_register_rows.specs.Histories.{IsSameHistory, HasHistory}
 use Rattle.lpis_register_rows.specs.Shapes.{AreLive, Shape, ShapesAre}
 use Rattle.lpis_register_sql.specs.Layouts.{Origin, Whole}
 use Rattle.lpis_register_sql.specs.Holding.{IsStored, Leaves}
+use Rattle.lpis_register_sql.specs.Quiet.{StaysSettled}
 use Rattle.lpis_register.specs.Faults.{IsOpeningFault}
 use Rattle.lpis_register.specs.Saying.{SaysHistory}
 use Rattle.lpis_register.specs.declared.fault.PublishFault.{PublishFault}
@@ -45,9 +46,9 @@ pub record ReadsHistory (old new : State) (h : List Entry) (shapes : List Shape)
       → IfErr r (λ e. e ≡ Unlawful → ⊥)
   -- it is one that the tables that are there say, whatever these are
   pub said : HasCleanDisk new → IfOk r (SaysHistory old.now)
-  pub same : HasCleanDisk new → IsTrue new.is_open → (o : Origin) → HoldsRegister o old h shapes
-      → HoldsRegister o new h shapes
-  pub crash : (o : Origin) → HoldsRegister o old h shapes → Survives old new (λ _. ⊥)
+  -- whatever the database holds stays, unless it is shut
+  pub same : HasCleanDisk new → IsTrue new.is_open → StaysSettled old new
+  pub crash : Survives old new (λ _. ⊥)
   pub kinds : IfErr r IsOpeningFault
 
 -- the live descendants of an identifier that some release holds, ascending, each once

@@ -1,5 +1,5 @@
 -- What an opening finds, and what it leaves.
-use Rattle.std.specs.Prelude.{◌≡◌, ◌⊎◌, [], false, List, IsTrue}
+use Rattle.std.specs.Prelude.{◌≡◌, [], false, List, IsTrue}
 use Rattle.sqlite.specs.Tree.{Trees}
 use Rattle.sqlite.specs.State.{HasCleanDisk, State, Survives}
 use Rattle.lpis_register_sql.specs.Showing.{StaysSame}
@@ -15,6 +15,7 @@ use Rattle.lpis_register_sql.specs.Beside.{nothing}
 use Rattle.lpis_register_sql.specs.Hiding.{hides_table}
 use Rattle.lpis_register_sql.specs.Layouts.{Layout, New, Origin, origin_of}
 use Rattle.lpis_register_sql.specs.Holding.{IsStored}
+use Rattle.lpis_register_sql.specs.Quiet.{StaysSettled}
 use Rattle.lpis_register.specs.Faults.{IsOpeningFault}
 use Rattle.lpis_register.specs.Histories.{HoldsRegister, LeavesRegister}
 use Rattle.lpis_register.specs.Saying.{SaysNone, SaysRegister, StaysWhole}
@@ -33,23 +34,6 @@ pub record HasRegister (version : Version) (c : Content) (h : List Entry) (shape
   pub says : TablesHave version c h
   pub are : ShapesAre (texts_at version c) shapes
   pub live : AreLive (last_live h) shapes
-
--- the rows say no history whose parcels' shapes they may keep
-abbrev pub HasNoRegister : Content → Type 0
-HasNoRegister c = (version : Version) (h : List Entry) (shapes : List Shape)
-    → HasRegister version c h shapes → ⊥
-
--- no transaction is open, and the tables of some version say this
-pub record FindsTables (st : State) (h : List Entry) (shapes : List Shape) : Type 0 where
-  pub layout : Layout
-  pub content : Content
-  pub stored : IsStored layout st content
-  pub version : Version
-  pub says : HasRegister version content h shapes
-
--- there is no table, or they are there and hold nothing
-abbrev pub FindsNothing : State → Type 0
-FindsNothing st = IsBare st ⊎ FindsTables st [] []
 
 -- a database is opened that held these rows: it holds the history and the shapes that they say
 abbrev pub IsOpenedAs : Origin → State → Content → List Entry → List Shape → Type 0
@@ -84,27 +68,14 @@ pub record IsOpened (old new : State) (h : List Entry) (shapes : List Shape) : T
   pub clean : HasCleanDisk new → HasCleanDisk old
   pub crash : Survives old new (LeavesOpened old)
 
--- an opening that failed: unless the database is shut, its tables hold what they held
+-- an opening that failed: unless the database is shut, it is as it was, whatever it holds
 pub record IsUnopened (old new : State) (fault : PublishFault) : Type 0 where
-  pub none : HasCleanDisk new → IsTrue new.is_open → IsBare old → FindsNothing new
-  pub same : HasCleanDisk new → IsTrue new.is_open → (layout : Layout) (c : Content)
-      → IsStored layout old c → IsStored layout new c
-  -- rows are refused only where they say nothing
-  pub unlawful : fault ≡ Unlawful → HasCleanDisk new → (layout : Layout) (c : Content)
-      → IsStored layout old c → HasNoRegister c
-  pub lawful : fault ≡ Unlawful → HasCleanDisk new → IsBare old → ⊥
-  -- and where the tables that are there say nothing, whatever these are; then nothing is changed,
-  -- and no table of the register is there unseen
+  pub same : HasCleanDisk new → IsTrue new.is_open → StaysSettled old new
+  -- rows are refused where the tables that are there say nothing, whatever these are; then nothing
+  -- is changed, and no table of the register is there unseen
   pub refused : fault ≡ Unlawful → HasCleanDisk new → SaysNone old.now × StaysSame old new
   pub seen : fault ≡ Unlawful → hides_table old.now.schema ≡ false
   pub untouched : fault ≡ Unlawful → Survives old new (λ _. ⊥)
   pub clean : HasCleanDisk new → HasCleanDisk old
   pub crash : Survives old new (LeavesOpened old)
   pub kind : IsOpeningFault fault
-
--- what an opening that failed leaves: a crash leaves what it left before, or what an opening
--- commits; where rows were refused, nothing new, and nothing is changed
-pub record LeavesUnopened (old new : State) (fault : PublishFault) : Type 0 where
-  pub crash : Survives old new (LeavesOpened old)
-  pub untouched : fault ≡ Unlawful → Survives old new (λ _. ⊥)
-  pub same : fault ≡ Unlawful → HasCleanDisk new → StaysSame old new

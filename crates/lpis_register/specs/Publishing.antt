@@ -13,6 +13,7 @@ use Rattle.lpis_lineage.specs.Lawful.{IsLawful, RowsFit}
 use Rattle.lpis_lineage.specs.Lineage.{last_live}
 use Rattle.lpis_register_rows.specs.Shapes.{AreShapesOf}
 use Rattle.lpis_register_sql.specs.Layouts.{Origin}
+use Rattle.lpis_register_sql.specs.Quiet.{StaysSettled}
 use Rattle.lpis_register.specs.Accepting.{HasExactLineage}
 use Rattle.lpis_register.specs.Faults.{PublishRefuses}
 use Rattle.lpis_register.specs.Histories.{HoldsRegister, LeavesRegister}
@@ -37,13 +38,14 @@ module _ {S : Type 0} (store : Ghosts S) where
   TablesHold o it = HoldsRegister o (state store it.conn) it.held.history it.held.shapes
 
   -- tables that held what the register held before hold what it holds after, and what stood behind
-  -- them. A crash leaves what it left before, or the candidate whole; right after Ok the candidate
+  -- them. With an error the database is as it was, whatever it holds, unless it is shut. A crash
+  -- leaves what it left before, or the candidate whole; right after Ok the candidate
   pub record Stores (c : Candidate) (old new : RegisterState S)
       (answer : Result Changes PublishFault) : Type 0 where
     pub ok : HasCleanDisk (state store new.conn) → (o : Origin) → TablesHold o old
         → OnOk answer (TablesHold o new)
     pub err : HasCleanDisk (state store new.conn) → IsTrue (state store new.conn).is_open
-        → (o : Origin) → TablesHold o old → OnErr answer (TablesHold o new)
+        → OnErr answer (StaysSettled (state store old.conn) (state store new.conn))
     pub crash : (o : Origin) → TablesHold o old
         → Survives (state store old.conn) (state store new.conn)
         (LeavesRelease c old.held.history o)

@@ -10,9 +10,10 @@ ghost use Rattle.lpis_register_rows.specs.Shapes.{AreLive, ShapesAre, TextsStand
 ghost use Rattle.lpis_register_rows.specs.Histories.{TablesHave};
 ghost use Rattle.lpis_register_sql.specs.Unread.{IsUnread};
 ghost use Rattle.lpis_register.specs.Faults.{IsOpeningFault};
-ghost use Rattle.lpis_register.specs.Opening.{HasNoRegister, HasRegister, texts_at};
+ghost use Rattle.lpis_register.specs.Opening.{HasRegister, texts_at};
 ghost use Rattle.lpis_register.specs.Saying.{SaysNoShapes, SaysNoTables, SaysShapes, SaysTables};
-ghost use Rattle.lpis_register.specs.private.Finding.{ReadsFound, SeesFound, SeesHistory};
+ghost use Rattle.lpis_register.specs.private.Finding.{HasNoRegister, ReadsFound, SeesFound};
+ghost use Rattle.lpis_register.specs.private.Finding.{SeesHistory};
 ghost use Rattle.lpis_register.specs.private.Finding.{SeesNoHistory, TellsFound};
 ghost use Rattle.lpis_register_rows.specs.declared.version.Version.TheVariants.{Third};
 ghost use Rattle.lpis_register.specs.declared.fault.PublishFault.TheVariants.{Store, Unlawful};

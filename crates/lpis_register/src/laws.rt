@@ -1,6 +1,7 @@
 //! Laws of the definitions: functions that do nothing, and whose contracts say them.
 
 ghost use Rattle.std.specs.Prelude.{◌≡◌, ◌++◌, [], List};
+ghost use Rattle.sqlite.specs.Effect.{Database};
 ghost use Rattle.sqlite.specs.Held.{state};
 ghost use Rattle.sqlite.specs.Tree.{Trees};
 ghost use Rattle.lpis_lineage_exact.specs.ExactLineage.{ShapesTurnOnce};
@@ -12,14 +13,14 @@ ghost use Rattle.lpis_register_sql.specs.Layouts.{Origin};
 ghost use Rattle.lpis_register.specs.Calls.{AllLead, AreReleasesOf, Call, accepted};
 ghost use Rattle.lpis_register.specs.Histories.{HoldsRegister, LeavesRegister};
 ghost use Rattle.lpis_register.specs.Holdings.{Holdings, holdings};
-ghost use Rattle.lpis_register.specs.Saying.{SaysRegister};
+ghost use Rattle.lpis_register.specs.Saying.{SaysHistory, SaysNone, SaysRegister};
 ghost use Rattle.lpis_register_rows.specs.Shapes.{Shape};
 ghost use Rattle.lpis_register_rows.specs.declared.version.Version.{Version};
 
 use lpis_register_rows::{
     order_of_rows_is_free, tables_have_one_history, texts_keep_one_list_of_shapes,
 };
-use lpis_register_sql::a_database_holds_one_content;
+use lpis_register_sql::{a_database_holds_one_content, a_table_has_one_answer};
 use sqlite::{Alter, Connection};
 
 /// After any list of calls of `publish` the history is the one before them with the accepted
@@ -83,6 +84,24 @@ pub fn a_register_says_what_it_holds<S: Alter>(conn: &Connection<S>)
         → HoldsRegister o (state S.Store conn.now) h shapes
         → SaysRegister (state S.Store conn.now).now k others → shapes ≡ others }
 {
+    order_of_rows_is_free();
+    texts_keep_one_list_of_shapes();
+    tables_have_one_history();
+}
+
+/// Whatever tables a database has, and in whatever order, they say one history and one list of
+/// shapes: where they say some, they do not say none.
+pub fn a_database_says_one_register()
+    ensures history { (db : Database) (h k : List Entry) (shapes others : List Shape)
+        → SaysRegister db h shapes → SaysRegister db k others → IsSameHistory h k }
+    ensures shapes { (db : Database) (h k : List Entry) (shapes others : List Shape)
+        → SaysRegister db h shapes → SaysRegister db k others → shapes ≡ others }
+    ensures read { (db : Database) (h k : List Entry) (shapes : List Shape)
+        → SaysHistory db h → SaysRegister db k shapes → IsSameHistory h k }
+    ensures some { (db : Database) (h : List Entry) (shapes : List Shape)
+        → SaysRegister db h shapes → SaysNone db → ⊥ }
+{
+    a_table_has_one_answer();
     order_of_rows_is_free();
     texts_keep_one_list_of_shapes();
     tables_have_one_history();

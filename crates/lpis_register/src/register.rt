@@ -81,13 +81,6 @@ impl<S: Alter> Register<S> {
         }
     }
 
-    /// The database, lent.
-    pub(crate) fn database(&self) -> &Connection<S>
-        ensures { result.now ≡ self.now.conn }
-    {
-        &self.conn
-    }
-
     /// The history, lent. Nothing is read, and it takes no memory.
     pub fn current(&self) -> &History
         ensures { result.now ≡ self.now.held.history }

@@ -1,4 +1,4 @@
--- How a register in files that were opened is not opened.
+-- How a register in files is opened, and how it is not.
 use Rattle.std.specs.Prelude.{◌≡◌}
 use Rattle.sqlite_trees.specs.declared.store.Store.{Ghosts}
 use Rattle.sqlite_wal.specs.Recovery.{Image}
@@ -6,8 +6,8 @@ use Rattle.sqlite.specs.Held.{Held, IsNew, state}
 use Rattle.sqlite.specs.Start.{FindsIn}
 use Rattle.sqlite.specs.State.{HasCleanDisk, IsLive, Opens}
 use Rattle.lpis_register.specs.FailingToOpen.{HasOpeningCause}
-use Rattle.lpis_register.specs.FileOpening.{IsFileUnopened}
-use Rattle.lpis_register.specs.Opening.{LeavesUnopened}
+use Rattle.lpis_register.specs.Holdings.{RegisterState}
+use Rattle.lpis_register.specs.Opening.{IsOpened, IsUnopened}
 use Rattle.lpis_register.specs.declared.fault.PublishFault.{PublishFault}
 use Rattle.lpis_register.specs.declared.fault.PublishFault.TheVariants.{Store}
 
@@ -20,11 +20,16 @@ module _ {S : Type 0} (store : Ghosts S) where
         × IsLive (state store conn)
     pub finds : HasCleanDisk (state store conn) → FindsIn image (state store conn)
 
-  -- the files were opened, and the register in them was not: what is left of their connection, and
-  -- where the database failed there is a cause
+  -- the files were opened, and the register in them was
+  pub record OpensInFiles (image : Image) (it : RegisterState S) : Type 0 where
+    pub opened : Held S
+    pub over : IsOver image opened
+    pub opens : IsOpened (state store opened) (state store it.conn) it.held.history it.held.shapes
+
+  -- they were, and the register in them was not: what is left of their connection, and where the
+  -- database failed there is a cause
   pub record FailsInFiles (image : Image) (left : Held S) (fault : PublishFault) : Type 0 where
     pub opened : Held S
     pub over : IsOver image opened
-    pub unopened : IsFileUnopened image (state store left) fault
-    pub leaves : LeavesUnopened (state store opened) (state store left) fault
+    pub unopened : IsUnopened (state store opened) (state store left) fault
     pub cause : HasOpeningCause store opened left (fault ≡ Store)

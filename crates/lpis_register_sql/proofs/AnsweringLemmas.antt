@@ -33,19 +33,21 @@ use Rattle.lpis_register_sql.proofs.NamedLemmas.{each_table}
 use Rattle.lpis_register_sql.proofs.Common.{read_format, read_line_text, read_live, read_mark, read_release, read_span, read_text}
 
 -- a text that is a SELECT
-record IsSelect (sql : List ℕ) (s : Select) (p : Parsed) : Type 0 where
-  parsed : first sql ≡ Ok p
-  statement : p.statement ≡ written.Select s
-  timeless : p.formats ≡ []
+pub record IsSelect (sql : List ℕ) (s : Select) (p : Parsed) : Type 0 where
+  pub parsed : first sql ≡ Ok p
+  pub statement : p.statement ≡ written.Select s
+  pub timeless : p.formats ≡ []
 
 -- a compiled text that changes nothing and reads no clock
 abbrev IsBare : Compiled → Type 0
 IsBare c = (c.returning ≡ None) × (c.formats ≡ [])
 
-abbrev with_plan : Parsed → Command → Compiled
+-- a text compiled to a command that returns nothing
+abbrev pub with_plan : Parsed → Command → Compiled
 with_plan p k = record { command = k; returning = None; names = p.names; formats = []; start = p.start; end = p.end; tail = p.tail }
 
-compiled_select : (s : Schema) (sql : List ℕ) (sel : Select) (p : Parsed) → IsSelect sql sel p → compiled s sql ≡ and_then (read s sel) (λ k. Ok (with_plan p k))
+-- what it compiles to
+pub compiled_select : (s : Schema) (sql : List ℕ) (sel : Select) (p : Parsed) → IsSelect sql sel p → compiled s sql ≡ and_then (read s sel) (λ k. Ok (with_plan p k))
 unfolding compiled planned meaning returning timed command
 compiled_select s sql sel p is = rw (is.parsed, is.statement, is.timeless) (same (read s sel))
   where
@@ -61,8 +63,8 @@ bare_of p (Ok k) c is = let e : with_plan p k ≡ c = cc in (ap (λ (d : Compile
 bare_of p (Err e) c is = absurd cc
 
 -- a SELECT that does not name sqlite_schema: where it is understood, it is the text of the schema's own tables, and bare
-record IsPlainIn (s : Schema) (sql : List ℕ) (c : Compiled) : Type 0 where
-  unlisted : reads_listing s sql ≡ false
+pub record IsPlainIn (s : Schema) (sql : List ℕ) (c : Compiled) : Type 0 where
+  pub unlisted : reads_listing s sql ≡ false
   bare : IsBare c
 
 plain_select : (s : Schema) (sql : List ℕ) (sel : Select) (p : Parsed) → IsSelect sql sel p → if_select (compiled listing_schema sql) ≡ Err NoSuchTable → (c : Compiled)
@@ -73,7 +75,8 @@ plain_select s sql sel p is none c known = elim (cases_Bool (reads_listing s sql
   | inr own ↦ record { unlisted = own; bare = bare_of p (read s sel) c (sym (compiled_select s sql sel p is) ∙ (rw own at known)) }
 ]
 
-plain_in : (t : StoredTable) (s : Schema) (c : Compiled) → understood s (query_of t) ≡ Ok c → IsPlainIn s (query_of t) c
+-- so are the queries of the tables
+pub plain_in : (t : StoredTable) (s : Schema) (c : Compiled) → understood s (query_of t) ≡ Ok c → IsPlainIn s (query_of t) c
 unfolding everything listing_schema
 plain_in t s = each_table (λ t. (c : Compiled) → understood s (query_of t) ≡ Ok c → IsPlainIn s (query_of t) c)
     (plain_select s read_format _ _ (record { parsed = refl; statement = refl; timeless = refl }) refl)

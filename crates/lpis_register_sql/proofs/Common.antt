@@ -6,7 +6,7 @@ pub use Rattle.lpis_register_sql.specs.Layouts.{origin_of, schema_of, span_tree,
 pub use Rattle.lpis_register_sql.specs.Tables.{format_table, mark_table, span_table, text_table}
 pub use Rattle.lpis_register_sql.specs.private.Inside.{Inside}
 pub use Rattle.lpis_register_sql.specs.private.Indices.{mark_place, span_place, text_place}
-pub use Rattle.lpis_register_sql.specs.Statements.{read_format, read_line_text, read_live, read_mark, read_release, read_span, read_text}
+pub use Rattle.lpis_register_sql.specs.private.Shown.{read_format, read_line_text, read_live, read_mark, read_release, read_span, read_text}
 pub use Rattle.sqlite.proofs.Callers.{statement_of}
 pub use Rattle.sqlite.specs.Command.TheVariants.{Update}
 pub use Rattle.sqlite.specs.Compile.{table_defined_by}

@@ -1,5 +1,5 @@
 -- Reading row by row: what was shown of a database, and what a failed query leaves of it.
-use Rattle.std.proofs.Common.{◌≡◌, ◌⊎◌, inl, inr, ◌∷◌, [], ◌++◌, List, ℕ, None, Ok, Err, Result, OnErr, map, take, sym, subst, ap, ◌∙◌}
+use Rattle.std.proofs.Common.{◌≡◌, ◌⊎◌, inl, inr, ◌∷◌, [], ◌++◌, List, ℕ, None, Ok, Err, Result, OnErr, OnOk, map, take, sym, subst, ap, ◌∙◌}
 use Rattle.std.proofs.lemmas.List.{map-append}
 use Rattle.sqlite_value.specs.Order.{Row}
 use Rattle.sqlite.specs.Effect.{Database}
@@ -39,9 +39,14 @@ one_read shown all next rows row it pushed read so_far =
     pushed ∙ ap (λ l. l ++ it ∷ []) so_far ∙ ap (λ i. map shown rows ++ i ∷ []) (sym read) ∙ sym (map-append shown rows (row ∷ []))
 
 -- what is known anyway is known where there is an error
-pub on_err : {A E P : Type 0} (r : Result A E) → P → OnErr r P
-on_err (Ok _) p = tt
-on_err (Err _) p = p
+pub where_err : {A E P : Type 0} (r : Result A E) → P → OnErr r P
+where_err (Ok _) p = tt
+where_err (Err _) p = p
+
+-- and where there is an answer
+pub where_ok : {A E P : Type 0} (r : Result A E) → P → OnOk r P
+where_ok (Ok _) p = p
+where_ok (Err _) p = tt
 
 -- and so are its columns
 pub one_shown : {X : Type 0} (columns : X → Row) (n : ℕ) (all next : List X) (rows : List Row) (row : Row) (it : X) → next ≡ all ++ it ∷ [] → take n row ≡ columns it

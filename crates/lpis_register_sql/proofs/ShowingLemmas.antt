@@ -3,7 +3,7 @@ use Rattle.std.proofs.Common.{◌≡◌, ◌⊎◌, inl, inr, ℕ, List, [], ◌
 use Rattle.lpis_register_sql.proofs.Common.{IsPermutation-map, IsPermutation-trans, Database, HoldsRows, Null, Row, Term, overlay, understood, Error, State}
 use Rattle.lpis_register_sql.proofs.Common.{HasCleanDisk, Survives, Content, Format, Layout, schema_of, origin_of, has_spans, has_live, has_texts, has_marks, span_tree, text_tree, mark_tree}
 use Rattle.lpis_register_sql.proofs.Common.{read_format, read_release, read_span, read_line_text, read_live, read_text, read_mark}
-use Rattle.lpis_register_sql.proofs.Common.{IsStored, format_row, year_row, span_row, line_row, live_row, text_row, mark_row}
+use Rattle.lpis_register_sql.proofs.Common.{format_row, year_row, span_row, line_row, live_row, text_row, mark_row}
 use Rattle.sqlite.specs.Order.{column}
 use Rattle.sqlite.specs.Query.{IsAnswer, Output, output}
 use Rattle.std.proofs.lemmas.List.Concat.{flat_map_single}
@@ -21,7 +21,7 @@ use Rattle.lpis_register_sql.specs.private.Shown.{year_shown, format_shown, span
 use Rattle.lpis_register_sql.proofs.MeaningLemmas.{Asks, from_all, read_format_means, read_release_means, read_span_means, read_line_means, read_live_means, span_query, line_query}
 use Rattle.lpis_register_sql.proofs.MeaningLemmas.{live_query, text_query, mark_query, read_text_means, read_mark_means}
 use Rattle.lpis_register_sql.proofs.PartLemmas.{keeps_there, own_tree}
-use Rattle.lpis_register_sql.proofs.StepLemmas.{stored_back, unchanged_back, undone_back}
+use Rattle.lpis_register_sql.proofs.StepLemmas.{undone_settled, unchanged_settled}
 use Rattle.lpis_register_sql.proofs.UnreadLemmas.{shown_same}
 
 -- what the terms of a query over one table see: no parameter, and a row of it
@@ -135,19 +135,18 @@ by_query {X = X} {P = P} {rows = rows} {old = old} {new = new} {r = r} t shown c
 
     read : (r : Result (Vec X Global) Error) → (HasCleanDisk new → IfOk r (λ all. IsRead t shown columns old new all.items)) → (HasCleanDisk new → OnErr r (IsUnchanged old new ⊎ IsRolledBack old new))
         → ReadsRows P (λ c all. IsPermutation (rows c) all.items) old new r
-    read (Ok all) ok err =
-        let stays : HasCleanDisk new → (s : Layout) → P s → (c : Content) → IsStored s old c → IsStored s new c = λ clean s p c h.
-        let it = ok clean in stored_back s old new c (unchanged_back s old new c h (shown_same (query_of t) old new it.0 plain it.1)) h in
-        record {
-          ok = λ clean s p c h. let it = ok clean in (subst (IsPermutation (rows c)) (sym it.2) (says s p old.now c it.0 h.holds (answered_by t old new it.0 it.1).0), stays clean s p c h);
-          same = λ clean up. stays clean;
-          survives = quiet;
-        }
+    read (Ok all) ok err = record {
+      ok = λ clean s p c h. let it = ok clean in subst (IsPermutation (rows c)) (sym it.2) (says s p old.now c it.0 h.holds (answered_by t old new it.0 it.1).0);
+      kept = λ clean. let it = ok clean in unchanged_settled old new (shown_same (query_of t) old new it.0 plain it.1);
+      same = λ clean up. tt;
+      survives = quiet;
+    }
     read (Err e) ok err = record {
       ok = λ clean s p c h. tt;
-      same = λ clean up s p c h. elim (err clean) [
-        | inl same ↦ stored_back s old new c (unchanged_back s old new c h same) h
-        | inr undo ↦ stored_back s old new c (undone_back old old new (sym h.settled) undo up) h
+      kept = λ clean. tt;
+      same = λ clean up. elim (err clean) [
+        | inl same ↦ unchanged_settled old new same
+        | inr undo ↦ undone_settled old old new (λ was. sym was.settled) undo up
       ];
       survives = quiet;
     }

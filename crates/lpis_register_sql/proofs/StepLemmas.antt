@@ -1,5 +1,5 @@
 -- How the steps of a publication join.
-use Rattle.std.proofs.Common.{◌≡◌, List, [], arith, refl, sym, ap, subst, ◌∙◌, false, true, Ok, Err, Result, OnOk, inl, inr, IsTrue, IfErr, OnErr}
+use Rattle.std.proofs.Common.{◌≡◌, List, [], ◌∷◌, arith, refl, sym, ap, subst, ◌∙◌, false, true, Ok, Err, Result, OnOk, inl, inr, IsTrue, IfErr, OnErr, IsErrAnd}
 use Rattle.lpis_register_sql.proofs.Common.{Trees, Database, State, HasCleanDisk, Survives, state, Error, Content, Layout, Whole, New, no_schema}
 use Rattle.lpis_register_sql.proofs.Common.{Inside, IsStored, HoldsRows}
 use Rattle.lpis_register_sql.specs.private.Inside.{IsQuiet}
@@ -14,7 +14,8 @@ use Rattle.lpis_register_rows.specs.Content.{no_content}
 use Rattle.lpis_register_sql.specs.Bare.{IsBare}
 use Rattle.lpis_register_sql.specs.Beside.{nothing}
 use Rattle.lpis_register_sql.specs.Commits.{Creates, Rewrites}
-use Rattle.lpis_register_sql.specs.Stopping.{BoundStatement}
+use Rattle.lpis_register_sql.specs.Quiet.{IsSettled, StaysSettled}
+use Rattle.lpis_register_sql.specs.Stopping.{BoundStatement, Ran}
 use Rattle.lpis_register_sql.specs.private.Inside.{Makes}
 use Rattle.lpis_register_sql.specs.private.Stages.{Stage}
 use Rattle.lpis_register_sql.proofs.TurnLemmas.{Holds, Leads}
@@ -38,43 +39,45 @@ quiet_none a = record {
 
 -- ---- a database that is what it was
 
--- it is open, no transaction is, and it is what it was
-pub record Back (old new : State) : Type 0 where
-  is_open : IsTrue new.is_open
-  autocommit : new.in_transaction ≡ false
-  settled : new.now ≡ new.committed
-  now : new.now ≡ old.now
+-- one that stores rows is settled
+pub settled_of : (s : Layout) (st : State) (c : Content) → IsStored s st c → IsSettled st
+settled_of s st c r = record { is_open = r.is_open; autocommit = r.autocommit; settled = r.settled }
 
 -- it stores what it stored
-pub stored_back : (s : Layout) (old new : State) (c : Content) → Back old new → IsStored s old c → IsStored s new c
-stored_back s old new c back r = record {
-  is_open = back.is_open;
-  autocommit = back.autocommit;
-  settled = back.settled;
-  holds = subst (λ (d : Database). HoldsRows s d c) (sym back.now) r.holds;
-}
-
-bare_back : (old new : State) → Back old new → IsBare old → IsBare new
-bare_back old new back r = record { is_open = back.is_open; autocommit = back.autocommit; settled = back.settled; schema = ap (λ (d : Database). d.schema) back.now ∙ r.schema }
+pub stored_still : (s : Layout) (old new : State) (c : Content) → StaysSettled old new → IsStored s old c → IsStored s new c
+stored_still s old new c stays r =
+    let it = stays (settled_of s old c r) in
+    record { is_open = it.0.is_open; autocommit = it.0.autocommit; settled = it.0.settled; holds = subst (λ (d : Database). HoldsRows s d c) (sym it.1) r.holds }
 
 -- a call left it as it was
-pub unchanged_back : (s : Layout) (old new : State) (c : Content) → IsStored s old c → IsUnchanged old new → Back old new
-unchanged_back s old new c r h =
-    record { is_open = h.0.is_open; autocommit = h.0.mode ∙ r.autocommit; settled = h.0.now_is ∙ r.settled ∙ sym h.0.committed_is; now = h.0.now_is }
+pub unchanged_settled : (old new : State) → IsUnchanged old new → StaysSettled old new
+unchanged_settled old new h was =
+    (record { is_open = h.0.is_open; autocommit = h.0.mode ∙ was.autocommit; settled = h.0.now_is ∙ was.settled ∙ sym h.0.committed_is }, h.0.now_is)
 
 -- a transaction over it was undone
-pub undone_back : (old last new : State) → last.committed ≡ old.now → IsRolledBack last new → IsTrue new.is_open → Back old new
-undone_back old last new same back up = let it = back.undone up in record { is_open = up; autocommit = back.autocommit; settled = it.0 ∙ sym it.1; now = it.0 ∙ same }
+pub undone_settled : (old last new : State) → (IsSettled old → last.committed ≡ old.now) → IsRolledBack last new → IsTrue new.is_open → StaysSettled old new
+undone_settled old last new same back up was =
+    let it = back.undone up in (record { is_open = up; autocommit = back.autocommit; settled = it.0 ∙ sym it.1 }, it.0 ∙ same was)
 
-commit_fails : (t : Layout) (old last new : State) (d : Content) → Inside t old.now last d → IsTrue new.is_open → (r : Result (Unit {0}) Error) → IfErr r (FailsToCommit last new)
-    → OnErr r (Back old new)
-commit_fails t old last new d inside up (Ok _) h = tt
-commit_fails t old last new d inside up (Err e) (inl failed) = undone_back old last new inside.base_is failed.3 up
-commit_fails t old last new d inside up (Err e) (inr late) = absurd (let t = inside.in_transaction in let f = late.1 in cc)
+-- statements that were run leave the transaction open
+pub ran_open : {S : Type 0} (g : store.Ghosts S) (xs : List BoundStatement) (a b : Held S) → Ran g xs a b → IsTrue (state g a).is_open → IsTrue a.in_transaction
+    → IsTrue (state g b).is_open × IsTrue b.in_transaction
+ran_open g [] a b r up within = subst (λ h. IsTrue (state g h).is_open × IsTrue h.in_transaction) r (up, within)
+ran_open g (x ∷ xs) a b (mid, count, ran, same, more) up within = ran_open g xs mid b more ran.1.is_open ran.1.mode
 
-where_fails : {A E P Q : Type 0} (r : Result A E) → (P → Q) → OnErr r P → OnErr r Q
-where_fails (Ok _) f p = tt
-where_fails (Err _) f p = f p
+-- a transaction in which nothing was committed, begun over what was shown
+begun_over : {S : Type 0} (g : store.Ghosts S) (held first last : Held S) → first ≡ record held { in_transaction = true } → IsQuiet (state g first) (state g last) → HasCleanDisk (state g last)
+    → IsTrue (state g last).is_open → IsSettled (state g held) → (state g last).committed ≡ (state g held).now
+begun_over g held first last begun quiet clean up was = (quiet.kept clean).committed up ∙ ap (λ h. (state g h).committed) begun ∙ sym was.settled
+
+-- one that is dropped
+dropped_settled : {S : Type 0} (g : store.Ghosts S) (held first last end : Held S) → first ≡ record held { in_transaction = true } → IsQuiet (state g first) (state g last)
+    → Survives (state g last) (state g end) (λ _. ⊥) → (HasCleanDisk (state g end) → IsRolledBack (state g last) (state g end)) → HasCleanDisk (state g end) → IsTrue (state g end).is_open
+    → StaysSettled (state g held) (state g end)
+dropped_settled g held first last end begun quiet drops undone clean up =
+    let back = undone clean in
+    undone_settled (state g held) (state g last) (state g end)
+    (λ was. begun_over g held first last begun quiet (omega (arith, clean, drops.clean)) (back.was_open up) was) back up
 
 -- ---- the beginning of a transaction
 
@@ -120,6 +123,25 @@ module _ {S : Type 0} {g : store.Ghosts S} (held : Held S) {first last : Held S}
   crash Q turn = survives_then (state g held) (state g last) (state g end) (λ _. ⊥) (λ db. db ≡ (state g last).now.trees) Q (λ _ db none. absurd none) turn
       (survives_begin g held (state g last) _ (rw begun at made.quiet.survives)) ends
 
+  uncommitted : (r : Result (Unit {0}) Error) → (HasCleanDisk (state g end) → IfErr r (FailsToCommit (state g last) (state g end))) → HasCleanDisk (state g end) → IsTrue (state g end).is_open
+      → OnErr r (StaysSettled (state g held) (state g end))
+  uncommitted r err clean up = by r (err clean)
+    where
+      late : HasCleanDisk (state g last)
+      late = omega (arith, clean, ends.clean)
+
+      opened : IsSettled (state g held) → IsTrue (state g first).is_open
+      opened was = subst (λ h. IsTrue (state g h).is_open) (sym begun) was.is_open
+
+      by : (r : Result (Unit {0}) Error) → IfErr r (FailsToCommit (state g last) (state g end)) → OnErr r (StaysSettled (state g held) (state g end))
+      by (Ok _) h = tt
+      by (Err e) (inl failed) = undone_settled (state g held) (state g last) (state g end)
+          (λ was. begun_over g held first last begun made.quiet late (failed.3.was_open up) was) failed.3 up
+      by (Err e) (inr closed) = λ was.
+          let within : IsTrue first.in_transaction = subst (λ h. IsTrue h.in_transaction) (sym begun) refl in
+          let on = (ran_open g xs first last (made.ends late (opened was) within) (opened was) within).1 in
+          absurd (let off = closed.1 in cc)
+
   module _ {r : Result (Unit {0}) Error} (ok : HasCleanDisk (state g end) → IsCommitted (state g last) (state g end) r)
       (err : HasCleanDisk (state g end) → IfErr r (FailsToCommit (state g last) (state g end))) where
     -- tables that were made, and are committed
@@ -127,8 +149,7 @@ module _ {S : Type 0} {g : store.Ghosts S} (held : Held S) {first last : Held S}
         → Creates (state g held) (state g end) r
     created_at_commit does = record {
       ok = λ clean bare. committed (Whole (New nothing)) _ (state g last) (state g end) _ (inside clean bare) r (ok clean);
-      err = λ clean up bare. where_fails r (λ back. bare_back (state g held) (state g end) back bare)
-          (commit_fails (Whole (New nothing)) (state g held) (state g last) (state g end) _ (inside clean bare) up r (err clean));
+      err = uncommitted r err;
       crash = crash _ (λ clean db is bare. subst (Leaves (Whole (New nothing)) no_content) (sym is) (held_is_left (Whole (New nothing)) (state g last).now _ (inside clean bare).holds));
     } where
       inside : HasCleanDisk (state g end) → IsBare (state g held) → Inside (Whole (New nothing)) (state g held).now (state g last) no_content
@@ -140,8 +161,7 @@ module _ {S : Type 0} {g : store.Ghosts S} (held : Held S) {first last : Held S}
         → (IsTrue (state g end).is_open → (db : Trees) → (state g end).may_leave db → db ≡ (state g end).committed.trees) → Rewrites IsSuch turn (state g held) (state g end) r
     written_at_commit {IsSuch = IsSuch} {turn = turn} does law = record {
       ok = kept;
-      err = λ clean up s c such before. where_fails r (λ back. stored_back s (state g held) (state g end) c back before)
-          (commit_fails (made_whole s) (state g held) (state g last) (state g end) _ (inside clean s c such before) up r (err clean));
+      err = uncommitted r err;
       crash = crash _ (λ clean db is s c such before. subst (Leaves (made_whole s) (turn c)) (sym is) (held_is_left (made_whole s) (state g last).now _ (inside clean s c such before).holds));
       durable = λ clean s c such before. durable (made_whole s) (state g end) _ law r (kept clean s c such before);
     } where
@@ -150,3 +170,27 @@ module _ {S : Type 0} {g : store.Ghosts S} (held : Held S) {first last : Held S}
 
       kept : HasCleanDisk (state g end) → (s : Layout) (c : Content) → IsSuch s c → IsStored s (state g held) c → OnOk r (IsStored (made_whole s) (state g end) (turn c))
       kept clean s c such before = committed (made_whole s) _ (state g last) (state g end) _ (inside clean s c such before) r (ok clean)
+
+-- ---- one whose statements failed, and that is dropped
+
+module _ {S : Type 0} {g : store.Ghosts S} (held : Held S) {first last : Held S} (end : Held S) {xs : List BoundStatement} {e : Error} (begun : first ≡ record held { in_transaction = true })
+    (made : Makes g xs first last (Err e)) (drops : Survives (state g last) (state g end) (λ _. ⊥)) (undone : HasCleanDisk (state g end) → IsRolledBack (state g last) (state g end)) where
+  nothing_left : (Q : Trees → Type 0) → Survives (state g held) (state g end) Q
+  nothing_left Q = survives_then (state g held) (state g last) (state g end) (λ _. ⊥) (λ _. ⊥) Q (λ _ db none. absurd none) (λ _ db none. absurd none)
+      (survives_begin g held (state g last) _ (rw begun at made.quiet.survives)) drops
+
+  -- no row is written
+  pub written_not : {IsSuch : Layout → Content → Type 0} {turn : Content → Content} (r : Result (Unit {0}) Error) → IsErrAnd r (λ x. x ≡ e)
+      → Rewrites IsSuch turn (state g held) (state g end) r
+  written_not (Ok _) is = absurd is
+  written_not (Err y) is = record {
+    ok = λ clean s c such before. tt;
+    err = dropped_settled g held first last end begun made.quiet drops undone;
+    crash = nothing_left _;
+    durable = λ clean s c such before. tt;
+  }
+
+  -- and no table is made
+  pub created_not : (r : Result (Unit {0}) Error) → IsErrAnd r (λ x. x ≡ e) → Creates (state g held) (state g end) r
+  created_not (Ok _) is = absurd is
+  created_not (Err y) is = record { ok = λ clean bare. tt; err = dropped_settled g held first last end begun made.quiet drops undone; crash = nothing_left _ }

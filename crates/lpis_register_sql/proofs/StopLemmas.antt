@@ -16,7 +16,7 @@ use Rattle.sqlite.specs.declared.error.ErrorCode.TheVariants as code
 use Rattle.lpis_register_sql.specs.private.Inside.{Ends, Makes}
 use Rattle.lpis_register_sql.proofs.Common.{Does, Error, State, mode_of, state}
 use Rattle.sqlite.specs.State.{ExecutesInside}
-use Rattle.lpis_register_sql.proofs.StepLemmas.{quiet_none, quiet_on}
+use Rattle.lpis_register_sql.proofs.StepLemmas.{quiet_none, quiet_on, ran_open}
 use Rattle.lpis_register_sql.specs.Stopping.{BoundStatement, IsRefusedIn, Ran, StopsWithin}
 
 -- ---- one statement
@@ -104,11 +104,6 @@ module _ {S : Type 0} (g : store.Ghosts S) where
   ran_then [] ys a b c r s = subst (λ h. Ran g ys h c) (sym r) s
   ran_then (x ∷ xs) ys a b c (mid, count, ran, same, more) s = (mid, count, ran, same, ran_then xs ys mid b c more s)
 
-  -- statements that were run leave the transaction open
-  ran_open : (xs : List BoundStatement) (a b : Held S) → Ran g xs a b → IsTrue (state g a).is_open → IsTrue a.in_transaction → IsTrue (state g b).is_open × IsTrue b.in_transaction
-  ran_open [] a b r up within = subst (λ h. IsTrue (state g h).is_open × IsTrue h.in_transaction) r (up, within)
-  ran_open (x ∷ xs) a b (mid, count, ran, same, more) up within = ran_open xs mid b more ran.1.is_open ran.1.mode
-
   -- where the first of two lists stops, both do
   stops_before : (xs ys : List BoundStatement) (a b : Held S) (e : Error) → StopsWithin g xs a b e → StopsWithin g (xs ++ ys) a b e
   stops_before xs ys a b e (inl memory) = inl memory
@@ -145,11 +140,11 @@ module _ {S : Type 0} (g : store.Ghosts S) where
   -- a transaction whose statements were run, and that is not committed
   pub failed_commit : (xs : List BoundStatement) (a b c : Held S) (e : Error) → (state g a).faults ≤ (state g b).faults → Ran g xs a b → IsTrue (state g a).is_open → IsTrue a.in_transaction
       → FailsToCommit (state g b) (state g c) e → StopsWithin g xs a c e
-  failed_commit xs a b c e low ran up within (inl failed) = elim (failing ⊥ (state g b) (state g c) e (ran_open xs a b ran up within).0 failed) [
+  failed_commit xs a b c e low ran up within (inl failed) = elim (failing ⊥ (state g b) (state g c) e (ran_open g xs a b ran up within).0 failed) [
     | inl memory ↦ inl memory
     | inr disk ↦ inr (elim disk [ inl more ↦ inl (more_faults (state g a).faults (state g b).faults (state g c).faults low more) | inr never ↦ absurd never ])
   ]
-  failed_commit xs a b c e low ran up within (inr late) = absurd (let on = (ran_open xs a b ran up within).1 in let off = late.1 in cc)
+  failed_commit xs a b c e low ran up within (inr late) = absurd (let on = (ran_open g xs a b ran up within).1 in let off = late.1 in cc)
 
   -- no later call takes a cause away
   pub stops_still : (xs : List BoundStatement) (a b c : Held S) (e : Error) → (state g b).faults ≤ (state g c).faults → StopsWithin g xs a b e → StopsWithin g xs a c e

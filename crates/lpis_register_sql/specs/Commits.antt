@@ -9,18 +9,18 @@ use Rattle.lpis_register_sql.specs.Bare.{IsBare}
 use Rattle.lpis_register_sql.specs.Beside.{nothing}
 use Rattle.lpis_register_sql.specs.Layouts.{Layout, New, Whole, has_marks, made_whole}
 use Rattle.lpis_register_sql.specs.Holding.{IsStored, Leaves}
-use Rattle.lpis_register_sql.specs.Quiet.{IsFound}
+use Rattle.lpis_register_sql.specs.Quiet.{IsFound, StaysSettled}
 use Rattle.lpis_register_sql.specs.declared.found.Found.{Found}
 
 -- the tables of a new register, where there was none
 abbrev pub LeavesMade : State → Trees → Type 0
 LeavesMade old trees = IsBare old → Leaves (Whole (New nothing)) no_content trees
 
--- making the tables of a new register, where there was none; with an error there is none
--- afterwards, unless the database is shut
+-- making the tables of a new register, where there was none; with an error the database is as it
+-- was, whatever it holds, unless it is shut
 pub record Creates (old new : State) (r : Result (Unit {0}) Error) : Type 0 where
   pub ok : HasCleanDisk new → IsBare old → OnOk r (IsStored (Whole (New nothing)) new no_content)
-  pub err : HasCleanDisk new → IsTrue new.is_open → IsBare old → OnErr r (IsBare new)
+  pub err : HasCleanDisk new → IsTrue new.is_open → OnErr r (StaysSettled old new)
   pub crash : Survives old new (LeavesMade old)
 
 -- rows of a version, in the tables that were found
@@ -38,13 +38,12 @@ module _ (IsSuch : Layout → Content → Type 0) (turn : Content → Content) w
       → Leaves (made_whole layout) (turn c) trees
 
   -- a database that holds such rows, its tables in such an order, holds them turned afterwards, and
-  -- has all tables of version 3; with an error it holds what it held, unless it is shut. A crash
-  -- leaves either, and right after Ok the turned rows
+  -- has all tables of version 3; with an error it is as it was, whatever it holds, unless it is
+  -- shut. A crash leaves either, and right after Ok the turned rows
   pub record Rewrites (old new : State) (r : Result (Unit {0}) Error) : Type 0 where
     pub ok : HasCleanDisk new → (layout : Layout) (c : Content) → IsSuch layout c
         → IsStored layout old c → OnOk r (IsStored (made_whole layout) new (turn c))
-    pub err : HasCleanDisk new → IsTrue new.is_open → (layout : Layout) (c : Content)
-        → IsSuch layout c → IsStored layout old c → OnErr r (IsStored layout new c)
+    pub err : HasCleanDisk new → IsTrue new.is_open → OnErr r (StaysSettled old new)
     pub crash : Survives old new (LeavesTurned old)
     pub durable : HasCleanDisk new → (layout : Layout) (c : Content) → IsSuch layout c
         → IsStored layout old c

@@ -7,8 +7,7 @@ use Rattle.lpis_register_sql.specs.Beside.{Beside, nothing}
 use Rattle.lpis_register_sql.specs.Tables.{format_table, release_table, live_table, span_table}
 use Rattle.lpis_register_sql.specs.Tables.{row_table}
 use Rattle.lpis_register_sql.specs.Tables.{text_table, mark_table}
-use Rattle.lpis_register_sql.specs.Tables.{live_index, span_index, row_index, text_index}
-use Rattle.lpis_register_sql.specs.Tables.{mark_index}
+use Rattle.lpis_register_sql.specs.Tables.{own_index}
 
 -- where a register comes from, with what other people have put behind its tables
 pub data Origin : Type 0 where
@@ -53,38 +52,35 @@ mark_tree (Moved beside) = 10
 
 -- ---- the tables in their order
 
+abbrev pub first_tables : List Table
+first_tables = format_table 0 ∷ release_table 1 ∷ live_table 2 ∷ row_table 4 ∷ []
+
+abbrev pub first_indexes : List Index
+first_indexes = own_index live_table 2 ∷ own_index row_table 4 ∷ []
+
 abbrev pub older_tables : Origin → List Table
 older_tables (New beside) = format_table 0 ∷ release_table 1 ∷ span_table 2 ∷ row_table 4 ∷ []
-older_tables (Moved beside) = format_table 0 ∷ release_table 1 ∷ live_table 2 ∷ row_table 4
-    ∷ span_table 6 ∷ []
+older_tables (Moved beside) = first_tables ++ span_table 6 ∷ []
 
 abbrev pub older_indexes : Origin → List Index
-older_indexes (New beside) = span_index 2 ∷ row_index 4 ∷ []
-older_indexes (Moved beside) = live_index 2 ∷ row_index 4 ∷ span_index 6 ∷ []
+older_indexes (New beside) = own_index span_table 2 ∷ own_index row_table 4 ∷ []
+older_indexes (Moved beside) = first_indexes ++ own_index span_table 6 ∷ []
+
+abbrev pub alone : List Table → List Index → Schema
+alone tables indexes = record { tables = tables; indexes = indexes; views = [] }
 
 abbrev pub schema_of : Layout → Schema
 schema_of (Whole origin) = record {
   tables = older_tables origin ++ text_table (text_tree origin) ∷ mark_table (mark_tree origin)
       ∷ (beside_of origin).tables;
-  indexes = older_indexes origin ++ text_index (text_tree origin) ∷ mark_index (mark_tree origin)
-      ∷ (beside_of origin).indexes;
+  indexes = older_indexes origin ++ own_index text_table (text_tree origin)
+      ∷ own_index mark_table (mark_tree origin) ∷ (beside_of origin).indexes;
   views = (beside_of origin).views;
 }
-schema_of (LessMarks origin) = record {
-  tables = older_tables origin ++ text_table (text_tree origin) ∷ [];
-  indexes = older_indexes origin ++ text_index (text_tree origin) ∷ [];
-  views = [];
-}
-schema_of (LessTexts origin) = record {
-  tables = older_tables origin;
-  indexes = older_indexes origin;
-  views = [];
-}
-schema_of First = record {
-  tables = format_table 0 ∷ release_table 1 ∷ live_table 2 ∷ row_table 4 ∷ [];
-  indexes = live_index 2 ∷ row_index 4 ∷ [];
-  views = [];
-}
+schema_of (LessMarks origin) = alone (older_tables origin ++ text_table (text_tree origin) ∷ [])
+    (older_indexes origin ++ own_index text_table (text_tree origin) ∷ [])
+schema_of (LessTexts origin) = alone (older_tables origin) (older_indexes origin)
+schema_of First = alone first_tables first_indexes
 
 -- ---- which tables there are
 
@@ -102,14 +98,11 @@ has_spans _ = true
 abbrev pub has_texts : Layout → Bool
 has_texts (Whole origin) = true
 has_texts (LessMarks origin) = true
-has_texts (LessTexts origin) = false
-has_texts First = false
+has_texts _ = false
 
 abbrev pub has_marks : Layout → Bool
 has_marks (Whole origin) = true
-has_marks (LessMarks origin) = false
-has_marks (LessTexts origin) = false
-has_marks First = false
+has_marks _ = false
 
 -- the tables once those that are not there are made
 abbrev pub made_whole : Layout → Layout
@@ -118,4 +111,4 @@ made_whole layout = Whole (origin_of layout)
 -- ---- before there is a table
 
 abbrev pub no_schema : Schema
-no_schema = record { tables = []; indexes = []; views = [] }
+no_schema = alone [] []

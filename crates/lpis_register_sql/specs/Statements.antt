@@ -1,4 +1,4 @@
--- The texts of the statements.
+-- The texts of the statements that write.
 use Rattle.std.specs.Prelude.{ℕ, List, codes}
 
 -- ---- that write a release
@@ -80,26 +80,3 @@ clear_mark = codes "DELETE FROM lpis_mark"
 
 abbrev pub set_version : List ℕ
 set_version = codes "UPDATE lpis_format SET version = 3"
-
--- ---- that read them
-
-abbrev pub read_format : List ℕ
-read_format = codes "SELECT one, version FROM lpis_format"
-
-abbrev pub read_release : List ℕ
-read_release = codes "SELECT year FROM lpis_release"
-
-abbrev pub read_span : List ℕ
-read_span = codes "SELECT id, since, until FROM lpis_span"
-
-abbrev pub read_line_text : List ℕ
-read_line_text = codes "SELECT year, pos, old, new FROM lpis_row"
-
-abbrev pub read_live : List ℕ
-read_live = codes "SELECT year, id FROM lpis_live"
-
-abbrev pub read_text : List ℕ
-read_text = codes "SELECT id, wkt FROM lpis_text"
-
-abbrev pub read_mark : List ℕ
-read_mark = codes "SELECT year, pos FROM lpis_mark"

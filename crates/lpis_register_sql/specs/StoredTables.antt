@@ -5,8 +5,6 @@ use Rattle.sqlite.specs.Values.{IsInt}
 use Rattle.sqlite.specs.declared.types.Value.{Value}
 use Rattle.sqlite.specs.declared.types.Value.TheVariants.{Text}
 use Rattle.lpis_register_sql.specs.Layouts.{Layout, has_live, has_marks, has_spans, has_texts}
-use Rattle.lpis_register_sql.specs.Statements.{read_format, read_line_text, read_live, read_mark}
-use Rattle.lpis_register_sql.specs.Statements.{read_release, read_span, read_text}
 use Rattle.lpis_register_sql.specs.declared.found.Found.{Found}
 
 -- a table of the register, of any version
@@ -31,13 +29,13 @@ name_of Marks = codes "lpis_mark"
 
 -- the query that reads it
 abbrev pub query_of : StoredTable → List ℕ
-query_of Formats = read_format
-query_of Years = read_release
-query_of Spans = read_span
-query_of Lines = read_line_text
-query_of Lives = read_live
-query_of Texts = read_text
-query_of Marks = read_mark
+query_of Formats = codes "SELECT one, version FROM lpis_format"
+query_of Years = codes "SELECT year FROM lpis_release"
+query_of Spans = codes "SELECT id, since, until FROM lpis_span"
+query_of Lines = codes "SELECT year, pos, old, new FROM lpis_row"
+query_of Lives = codes "SELECT year, id FROM lpis_live"
+query_of Texts = codes "SELECT id, wkt FROM lpis_text"
+query_of Marks = codes "SELECT year, pos FROM lpis_mark"
 
 -- what a column is read as
 pub data ColumnKind : Type 0 where

@@ -5,7 +5,7 @@ use Rattle.std.proofs.lemmas.Result.{IfErr-weaker, IfOk-weaker}
 use Rattle.lpis_run.specs.CheckAnswer.{Answer}
 use Rattle.lpis_run.specs.Outputs.{BreaksOff, Held, Outputs, Writes}
 use Rattle.lpis_run.specs.Run.{BreaksOffIn, Runs, RunsBoth, RunsOn}
-use Rattle.lpis_run.specs.Failures.{AreUnread, IsFirstUnread}
+use Rattle.lpis_run.specs.Failures.{AreUnread}
 use Rattle.lpis_run.specs.Streams.{Begins, Known}
 use Rattle.lpis_run.specs.declared.failure.Failure.{Failure}
 use Rattle.lpis_run.specs.declared.failure.Failure.TheVariants.{Memory, Read, Write}
@@ -15,15 +15,11 @@ use Rattle.lpis_run.proofs.Common.{Appends}
 use Rattle.std.specs.Io.KnownBytes.{Keeps}
 
 -- where an input is not read, or memory runs out, the failure says no more
-first-unread : (inputs : List (Name × Known)) (f : Failure) → IsFirstUnread inputs f → (name : Name) × (f ≡ Read name)
-first-unread [] f never = absurd never
-first-unread (input ∷ inputs) f (inl is) = (input.0, is)
-first-unread (input ∷ inputs) f (inr (within, unread)) = first-unread inputs f unread
-
--- so it is where some input is not read
 pub some_unread : (inputs : List (Name × Known)) (f : Failure) → AreUnread inputs f → (f ≡ Memory) ⊎ ((name : Name) × (f ≡ Read name))
-some_unread inputs f (inl memory) = inl memory
-some_unread inputs f (inr unread) = inr (first-unread inputs f unread)
+some_unread [] f never = absurd never
+some_unread (input ∷ inputs) f (inl (inl memory)) = inl memory
+some_unread (input ∷ inputs) f (inl (inr is)) = inr (input.0, is)
+some_unread (input ∷ inputs) f (inr (within, unread)) = some_unread inputs f unread
 
 -- a run that was stopped wrote nothing
 pub runs_stopped : (Stops : Failure → Type 0) (Answers : Answer → Type 0) (out : Option (List ℕ)) (failure : Failure) → Stops failure → Runs Stops Answers out out (Err failure)

@@ -1,5 +1,5 @@
 -- What stands for a run that gave no answer.
-use Rattle.std.specs.Prelude.{◌≡◌, ◌⊎◌, ◌∷◌, [], ℕ, List, ◌++◌, codes}
+use Rattle.std.specs.Prelude.{◌≡◌, ◌≤◌, ◌⊎◌, ◌∷◌, [], ℕ, List, ◌++◌, IfSome, codes, length}
 use Rattle.std.specs.String.{string_bytes}
 use Rattle.lpis_run.specs.declared.failure.Name.{Name}
 use Rattle.lpis_run.specs.declared.failure.Name.TheVariants.{Area, Parcels, Covers, Classes}
@@ -9,7 +9,7 @@ use Rattle.lpis_run.specs.declared.failure.Failure.{Failure}
 use Rattle.lpis_run.specs.declared.failure.Failure.TheVariants.{Memory, Read, ReadOf}
 use Rattle.lpis_run.specs.declared.failure.Failure.TheVariants.{Store, StoreMemory, Write}
 use Rattle.lpis_run.specs.Refusals.{region_end}
-use Rattle.lpis_run.specs.Streams.{IsWithin, Known}
+use Rattle.lpis_run.specs.Streams.{Known, most_bytes}
 
 -- an input or an output by its name
 abbrev pub name_text : Name → List ℕ
@@ -37,15 +37,12 @@ failure_text StoreMemory = codes "failed store\n"
 abbrev pub IsUnread : Name → Failure → Type 0
 IsUnread name failure = (failure ≡ Memory) ⊎ (failure ≡ Read name)
 
--- of inputs that are read in this order, each by its name: one was not read, those before it were
-abbrev pub IsFirstUnread : List (Name × Known) → Failure → Type 0
-IsFirstUnread [] failure = ⊥
-IsFirstUnread (input ∷ inputs) failure =
-    (failure ≡ Read input.0) ⊎ (IsWithin input.1 × IsFirstUnread inputs failure)
-
--- so it is, or memory ran out
+-- so it is of one of these inputs, which are read in this order, each by its name; those before it
+-- are within the limit, as far as they are known
 abbrev pub AreUnread : List (Name × Known) → Failure → Type 0
-AreUnread inputs failure = (failure ≡ Memory) ⊎ IsFirstUnread inputs failure
+AreUnread [] failure = ⊥
+AreUnread (input ∷ inputs) failure = IsUnread input.0 failure
+    ⊎ (IfSome input.1 (λ bytes. length bytes ≤ most_bytes) × AreUnread inputs failure)
 
 -- of readers in this order: where the failure names one, those behind it are as they were, and no
 -- byte was asked of them

@@ -1,5 +1,5 @@
 -- What a run that writes a certificate has decided, and what its two writers got of it.
-use Rattle.std.specs.Prelude.{◌≡◌, ◌⊎◌, ◌++◌, ℕ, List, Option, MatchOption}
+use Rattle.std.specs.Prelude.{◌≡◌, ◌⊎◌, ℕ, List, Option, MatchOption}
 use Rattle.std.specs.Option.{option_map}
 use Rattle.std.specs.Io.KnownBytes.{Appends, Keeps}
 use Rattle.lpis_run.specs.declared.failure.Failure.{Failure}
@@ -49,7 +49,3 @@ abbrev pub BreaksOff : Outputs → Failure → Held → Held → Type 0
 BreaksOff a failure old new =
     ((failure ≡ Write Cert) × GetsPart old.cert new.cert a.cert × Keeps old.out new.out)
     ⊎ ((failure ≡ Write Out) × Gets old.cert new.cert a.cert × Begins old.out new.out a.line)
-
--- the outputs with these lines before their own
-abbrev pub behind : List ℕ → Outputs → Outputs
-behind lines a = record a { line = lines ++ a.line }

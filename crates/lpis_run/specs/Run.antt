@@ -3,11 +3,15 @@
 use Rattle.std.specs.Prelude.{◌≡◌, ◌⊎◌, ℕ, List, IfErr, IfOk, Result}
 use Rattle.std.specs.Io.KnownBytes.{Appends, Keeps}
 use Rattle.lpis_run.specs.CheckAnswer.{Answer}
-use Rattle.lpis_run.specs.Outputs.{BreaksOff, Held, Outputs, Writes, behind}
+use Rattle.lpis_run.specs.Outputs.{BreaksOff, Held, Outputs, Writes}
 use Rattle.lpis_run.specs.Streams.{Begins, Known}
 use Rattle.lpis_run.specs.declared.failure.Failure.{Failure}
 use Rattle.lpis_run.specs.declared.failure.Failure.TheVariants.{Write}
 use Rattle.lpis_run.specs.declared.failure.Name.TheVariants.{Out}
+
+-- of what readers reported: there are inputs that are that, in this sense, and this holds of them
+abbrev pub OfRead : {X G : Type 0} → (X → G → Type 0) → G → (X → Type 0) → Type 0
+OfRead {X} AreRead given Holds = (x : X) × AreRead x given × Holds x
 
 -- a run that prints, over what its output held before and holds after
 pub record Runs (Stops : Failure → Type 0) (Answers : Answer → Type 0)
@@ -49,33 +53,17 @@ pub record RunsOn (Stops : Failure → Type 0) (StopsBehind : List ℕ → Failu
   pub failure : IfErr result (λ failure. (Stops failure × Keeps old new)
       ⊎ BreaksOffIn StopsBehind Answers old new failure)
 
--- behind these lines, which were written, the certificate's file failed; or the output did, behind
--- the certificate where there is one, after a beginning of what follows the lines
-pub record BreaksOffBehind (Answers : List ℕ → Outputs → Type 0) (old new : Held) (f : Failure)
-    : Type 0 where
-  pub lines : List ℕ
-  pub end : Outputs
-  pub answer : Answers lines end
-  pub passed : Known
-  pub written : Appends old.out passed lines
-  pub broken : BreaksOff end f (record old { out = passed }) new
-
--- how a run that writes lines as it goes on, and then a certificate, breaks off: in its lines, and
--- there is no certificate yet, or behind them
-abbrev pub BreaksOffInBoth : (List ℕ → Failure → Type 0) → (List ℕ → Outputs → Type 0) → Held → Held
-    → Failure → Type 0
-BreaksOffInBoth StopsBehind Answers old new f =
-    (BreaksOffIn StopsBehind (λ a. ⊥) old.out new.out f × Keeps old.cert new.cert)
-    ⊎ BreaksOffBehind Answers old new f
-
 -- a run that writes lines as it goes on, and at its end a certificate, if there is one, and the
 -- rest of its answer, over what its two outputs hold
 pub record RunsOnBoth (Stops : Failure → Type 0) (StopsBehind : List ℕ → Failure → Type 0)
     (Answers : List ℕ → Outputs → Type 0) (old new : Held) (result : Result ℕ Failure)
     : Type 0 where
-  -- it ended with the status of an answer, and wrote all of it
-  pub answer : IfOk result (λ status. (lines : List ℕ) × (end : Outputs) × Answers lines end
-      × Writes (behind lines end) status old new)
-  -- it was stopped, and wrote nothing; or it broke off
+  -- it ended with the status of an answer: it wrote the lines, and then the rest
+  pub answer : IfOk result (λ s. (lines : List ℕ) × (end : Outputs) × Answers lines end
+      × (mid : Known) × Appends old.out mid lines × Writes end s (record old { out = mid }) new)
+  -- it was stopped, and wrote nothing; or it broke off in its lines, with no certificate yet; or it
+  -- wrote the lines of an answer, and an output failed after a beginning of the rest
   pub failure : IfErr result (λ f. (Stops f × Keeps old.cert new.cert × Keeps old.out new.out)
-      ⊎ BreaksOffInBoth StopsBehind Answers old new f)
+      ⊎ (BreaksOffIn StopsBehind (λ a. ⊥) old.out new.out f × Keeps old.cert new.cert)
+      ⊎ ((lines : List ℕ) × (end : Outputs) × Answers lines end × (mid : Known)
+      × Appends old.out mid lines × BreaksOff end f (record old { out = mid }) new))

@@ -24,31 +24,18 @@ counts_text c =
     codes "triangles " ++ decimal (sum_by (λ (t : PiecePart). length t.triangles) c.pieces)
     ++ codes " pairs " ++ decimal (length c.pairs) ++ codes "\n"
 
--- a certificate was cut
-pub record CertIsCut (a : Outputs) : Type 0 where
-  pub certificate : Cert
-  pub text : a.cert ≡ Some (cert_text certificate)
-  pub line : a.line ≡ counts_text certificate
-  pub status : a.status ≡ done
+-- no certificate, and a line with this status
+abbrev pub line_alone : List ℕ → ℕ → Outputs
+line_alone line status = record { cert = None; line = line; status = status }
 
--- the release is refused, and what the refusal says of it holds
-pub record IsCutRefused (r : Contents) (a : Outputs) : Type 0 where
-  pub refusal : Refusal
-  pub says : RefusalReports r refusal
-  pub no_text : a.cert ≡ None
-  pub line : a.line ≡ cut_refusal_text refusal
-  pub status : a.status ≡ refused
-
--- the tables are those of no release
-pub record IsUnreadable (fault : TableFault) (a : Outputs) : Type 0 where
-  pub no_text : a.cert ≡ None
-  pub line : a.line ≡ refusal_text fault
-  pub status : a.status ≡ unreadable
-
--- of a release, or of the tables' first fault
+-- of a release: a certificate that was cut, and its counts; or the line of a refusal, and what the
+-- refusal says of the release holds. Of no release: the line of the tables' first fault
 abbrev pub IsCutAnswer : Result Contents TableFault → Outputs → Type 0
-IsCutAnswer (Ok r) a = CertIsCut a ⊎ IsCutRefused r a
-IsCutAnswer (Err fault) a = IsUnreadable fault a
+IsCutAnswer (Ok r) a =
+    ((c : Cert) × (a ≡ record { cert = Some (cert_text c); line = counts_text c; status = done }))
+    ⊎ ((refusal : Refusal) × RefusalReports r refusal
+    × (a ≡ line_alone (cut_refusal_text refusal) refused))
+IsCutAnswer (Err fault) a = a ≡ line_alone (refusal_text fault) unreadable
 
 -- a run that cuts: these tables are what three readers reported, as far as it is known, and this is
 -- an answer to them

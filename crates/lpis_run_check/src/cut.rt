@@ -1,9 +1,11 @@
 //! The run of `cut`, over any readers and writers.
 
-ghost use Rattle.std.specs.Prelude.{◌≡◌, IfErr, IfOk, Ok};
+ghost use Rattle.std.specs.Prelude.{◌≡◌, IfErr, IfOk, Ok, Some};
+ghost use Rattle.lpis_cert.specs.Contents.{cert_text};
+ghost use Rattle.lpis_cert.specs.declared.cert.Cert.{Cert};
 ghost use Rattle.lpis_cutter.specs.Refusals.{RefusesRightly};
 ghost use Rattle.lpis_run.specs.CheckAnswer.{release_in};
-ghost use Rattle.lpis_run_check.specs.CutAnswer.{CertIsCut, Cuts, IsCutAnswer, counts_text};
+ghost use Rattle.lpis_run_check.specs.CutAnswer.{Cuts, IsCutAnswer, counts_text};
 ghost use Rattle.lpis_run_check.specs.CutRefusals.{cut_refusal_text};
 ghost use Rattle.lpis_run.specs.Failures.{AreUnread, AreUntouched};
 ghost use Rattle.lpis_run.specs.Folders.{tables_by, tables_named};
@@ -41,7 +43,11 @@ fn count_cert(alloc: Global, cert: &Cert) -> Result<Answer, AllocError>
 
 /// The outcome of a certificate that was cut.
 fn outcome_of(alloc: Global, cert: &Cert) -> Result<Outcome, AllocError>
-    ensures { IfOk result (λ o. CertIsCut (outputs_of o)) }
+    ensures { IfOk result (λ o. (c : Cert) × (outputs_of o ≡ record {
+      cert = Some (cert_text c);
+      line = counts_text c;
+      status = done;
+    })) }
 {
     let printed = count_cert(alloc, cert)?;
     Outcome::with_cert(alloc, cert, printed)
@@ -49,7 +55,11 @@ fn outcome_of(alloc: Global, cert: &Cert) -> Result<Outcome, AllocError>
 
 /// The outcome of what a release was cut into.
 fn outcome_of_cut(alloc: Global, cut: ReleaseCut) -> Result<Outcome, AllocError>
-    ensures { IfOk result (λ o. CertIsCut (outputs_of o)) }
+    ensures { IfOk result (λ o. (c : Cert) × (outputs_of o ≡ record {
+      cert = Some (cert_text c);
+      line = counts_text c;
+      status = done;
+    })) }
 {
     let cert = cut.into_cert()?;
     outcome_of(alloc, &cert)

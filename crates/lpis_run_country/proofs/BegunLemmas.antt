@@ -26,11 +26,12 @@ use Rattle.lpis_run_country.specs.declared.beginning.Begun.{Begun}
 use Rattle.lpis_run.specs.declared.failure.Failure.{Failure}
 use Rattle.lpis_run_country.specs.declared.progress.Progress.{Progress}
 use Rattle.lpis_run_country.specs.CountryAnswer.{AnswersCountry, IsCountryAnswer, IsRegionsAnswer, Setting, setting_of}
-use Rattle.lpis_run_country.specs.CountryFailures.{StopsCountry}
-use Rattle.lpis_run_country.specs.CountryRun.{OfTop, RunsCountry}
+use Rattle.lpis_run_country.specs.CountryFailures.{StopsCountry, StopsRegions}
+use Rattle.lpis_run_country.specs.CountryRun.{RunsCountry}
+use Rattle.lpis_run.specs.Run.{OfRead}
 use Rattle.lpis_run_country.specs.Regions.{AreCountryRead, CountryInputs, IsCountry, Texts}
 use Rattle.lpis_run_country.specs.Beginning.{IsBegun, IsUnbegun}
-use Rattle.lpis_run_country.specs.RegionsOutcome.{IsSettingOf, StopsRegions}
+use Rattle.lpis_run_country.specs.RegionsOutcome.{IsSettingOf}
 use Rattle.lpis_run_country.specs.private.Progressing.{AnswersRegions, RunsBegun, RunsRegions}
 use Rattle.lpis_run_country.specs.private.Progressing.{HasGathered, HaveAllPassed, IsStart}
 use Rattle.lpis_run_country.specs.private.Totals.{AreTotalsOf}
@@ -110,10 +111,12 @@ all-country texts detail x b begun all law unites ((text, passed), joined) =
       classes = b.classes.items;
       table = begun.table;
       regions = all;
-      of_folders = passed_regions s (folders begun.plan) all text passed;
-      same = joined.classes_are;
-      union = unites (rectangles tiling frame) b.classes.items all joined;
-      sound = law tiling b.classes.items all joined (passed_sound s (folders begun.plan) all text passed) long;
+      united = record {
+        of_folders = passed_regions s (folders begun.plan) all text passed;
+        same = joined.classes_are;
+        union = unites (rectangles tiling frame) b.classes.items all joined;
+        sound = law tiling b.classes.items all joined (passed_sound s (folders begun.plan) all text passed) long;
+      };
     }
 
 -- the answer to the regions is that to the country
@@ -130,8 +133,7 @@ whole-answer texts detail x b begun a h = inr (
 country-stops : (texts : List ℕ → Texts) (detail : Detail) (x : CountryInputs) (b : Begun) (begun : IsBegun x b) (lines : List ℕ) (f : Failure)
     → StopsRegions (begun_setting texts detail x b begun) lines f → StopsCountry texts detail x lines f
 unfolding begun_setting
-country-stops texts detail x b begun lines f (regions, left, reached, stopped) =
-    (left, record { plan = begun.plan; planned = begun.text; classes = b.classes.items; table = begun.table; regions = regions; reached = reached }, stopped)
+country-stops texts detail x b begun lines f stopped = (begun.plan, b.classes.items, begun.text, begun.table, stopped)
 
 -- the answer to the regions, with a yes only where all passed, is that to the country
 answers-country : (texts : List ℕ → Texts) (detail : Detail) (x : CountryInputs) (b : Begun) (begun : IsBegun x b) → JoinedCountryIsSound → JoinedCountryIsUnion → (a : Answer)
@@ -159,11 +161,11 @@ unbegun_run texts detail x a old new r unbegun =
 pub read_run : (texts : List ℕ → Texts) (detail : Detail) (given : Top Known) (x : CountryInputs) (old new : Known) (r : Result ℕ Failure) → AreCountryRead x given
     → RunsBegun texts detail x old new r → RunsCountry texts detail given old new r
 read_run texts detail given x old new r read =
-    runs_on_more (λ f. ⊥) (AreUnread (top_named given)) (StopsCountry texts detail x) (λ lines f. OfTop given (λ y. StopsCountry texts detail y lines f))
-    (AnswersCountry texts detail x) (λ a. OfTop given (λ y. AnswersCountry texts detail y a)) old new r (λ f no. absurd no) (λ lines f stops. (x, read, stops))
+    runs_on_more (λ f. ⊥) (AreUnread (top_named given)) (StopsCountry texts detail x) (λ lines f. OfRead AreCountryRead given (λ y. StopsCountry texts detail y lines f))
+    (AnswersCountry texts detail x) (λ a. OfRead AreCountryRead given (λ y. AnswersCountry texts detail y a)) old new r (λ f no. absurd no) (λ lines f stops. (x, read, stops))
     (λ a answers. (x, read, answers))
 
 -- where a file at the top is not read, nothing was written
 pub stopped_before : (texts : List ℕ → Texts) (detail : Detail) (given : Top Known) (out : Known) (f : Failure) → AreUnread (top_named given) f → RunsCountry texts detail given out out (Err f)
-stopped_before texts detail given out f unread = runs_on_stopped (AreUnread (top_named given)) (λ lines g. OfTop given (λ y. StopsCountry texts detail y lines g))
-    (λ a. OfTop given (λ y. AnswersCountry texts detail y a)) out f unread
+stopped_before texts detail given out f unread = runs_on_stopped (AreUnread (top_named given)) (λ lines g. OfRead AreCountryRead given (λ y. StopsCountry texts detail y lines g))
+    (λ a. OfRead AreCountryRead given (λ y. AnswersCountry texts detail y a)) out f unread

@@ -43,12 +43,14 @@ reached_by s n before text h = record { passed = take n s.names; all = sym (take
 pub refused_next : (s : Setting) (n : ℕ) (before : List Contents) (lines name text : List ℕ) (status : ℕ) → n < length s.names → name ≡ get_or s.names n []
     → HavePassed s (take n s.names) before lines → IsRefusedRegion s before name (text, status) → IsRegionsAnswer s (lines ++ text, status)
 refused_next s n before lines name text status lt is h refusal = record {
-  regions = before;
   text = lines;
-  left = name ∷ drop (n + 1) s.names;
-  reached = subst (IsReachedBy s before lines) (drop_more s.names n [] lt ∙ ap (λ (x : List ℕ). x ∷ drop (n + 1) s.names) (sym is)) (reached_by s n before lines h);
   end = (text, status);
-  follows = refusal;
+  behind = record {
+    regions = before;
+    left = name ∷ drop (n + 1) s.names;
+    reached = subst (IsReachedBy s before lines) (drop_more s.names n [] lt ∙ ap (λ (x : List ℕ). x ∷ drop (n + 1) s.names) (sym is)) (reached_by s n before lines h);
+    follows = refusal;
+  };
   is = refl;
 }
 

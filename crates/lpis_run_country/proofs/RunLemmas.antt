@@ -13,6 +13,7 @@ use Rattle.lpis_run.specs.declared.failure.Failure.TheVariants.{Memory, Read, Re
 use Rattle.lpis_run.specs.declared.failure.Name.{Name}
 use Rattle.lpis_run.specs.declared.failure.Name.TheVariants.{Cert, Classes, Covers, Out, Parcels}
 use Rattle.lpis_run.specs.CheckAnswer.{Answer, AreRead, Inputs, IsProvedOf, IsRefusal}
+use Rattle.lpis_run.specs.Refusals.{line_in_region}
 use Rattle.lpis_run.specs.declared.answer.Answer.{Answer as Printed}
 use Rattle.lpis_run.specs.Folders.{folder_named}
 use Rattle.lpis_run.specs.Status.{done}
@@ -30,13 +31,14 @@ use Rattle.lpis_country_seam.specs.declared.fault.SeamFault.{SeamFault}
 use Rattle.lpis_country_seam.specs.declared.fault.SeamFault.TheVariants.{Memory as NoMemory}
 use Rattle.lpis_run_country.specs.declared.progress.Progress.{Progress}
 use Rattle.lpis_run_country.specs.declared.totals.Totals.{Totals}
-use Rattle.lpis_run_country.specs.CountryAnswer.{IsRefusedByCheck, HavePassed, None as NonePassed, IsReachedBy, IsRefusedRegion, Setting}
+use Rattle.lpis_run_country.specs.CountryAnswer.{HavePassed, IsMisfit, None as NonePassed, IsReachedBy, IsRefusedRegion, Setting}
 use Rattle.lpis_run_country.specs.CountryFailures.{IsStoppedBefore, IsUnreadFolder}
 use Rattle.lpis_run_country.specs.CountryLines.{country_lines, region_report}
 use Rattle.lpis_run_country.specs.Regions.{Texts}
-use Rattle.lpis_run_country.specs.RegionsOutcome.{IsRegionsRefusal, RegionsEnd, RegionsStop, StopsRegions}
+use Rattle.lpis_run_country.specs.RegionsOutcome.{IsRegionsRefusal, RegionsEnd, RegionsStop}
+use Rattle.lpis_run_country.specs.CountryFailures.{StopsRegions}
 use Rattle.lpis_run_country.specs.private.Progressing.{AnswersRegions, RunsRegions}
-use Rattle.lpis_run_country.specs.private.Progressing.{AreOfRun, FollowsAs, HasGathered, HasPassedAll, IsAt, IsFailureOf, IsFinished, IsHere, IsMisfit, IsReady, IsStart, IsUnfinished}
+use Rattle.lpis_run_country.specs.private.Progressing.{AreOfRun, FollowsAs, HasGathered, HasPassedAll, IsAt, IsFailureOf, IsFinished, IsHere, IsReady, IsStart, IsUnfinished}
 use Rattle.lpis_run_country.specs.private.Progressing.{IsUnwritten, IsVerdict, IsVerdictText, IsWritten, RegionsPass}
 use Rattle.lpis_run_country.specs.private.Totals.{AreTotalsOf, IsPrintable, last_lines}
 use Rattle.lpis_run_country.proofs.PassedLemmas.{passed_length, passed_more, reached_by, refused_next}
@@ -91,13 +93,14 @@ pub judged : (r : Result (Vec ℕ Global) Stop) (s : Setting) (before : List Con
 judged (Ok text) s before name x region p told said (fits, is, at) = (region, record { inputs = x; told = told; said = said; fits = fits }, is, at)
 judged (Err stop) s before name x region p told said h =
     refused-more (IsMisfit s before name region) (IsRefusedRegion s before name) stop
-    (λ a misfit. (x, told, inr (record { region = region; said = said; fault = misfit.0; first = misfit.1; is = misfit.2 }))) h
+    (λ a misfit. (x, told, inr (region, said, misfit))) h
 
 -- on inputs that `check` refuses
 pub check_refused : (s : Setting) (before : List Contents) (name : List ℕ) (x : Inputs) (stop in_it : Stop) → AreRead x (s.texts name).given → IsRefusedAs (IsRefusal x) stop
     → IsInRegion stop name in_it → IsRefusedAs (IsRefusedRegion s before name) in_it
 check_refused s before name x stop in_it told refusal of =
-    refused-more (IsRefusedByCheck x name) (IsRefusedRegion s before name) in_it (λ a refused. (x, told, inl refused)) (stopped-in-region (IsRefusal x) name stop in_it refusal of)
+    refused-more (λ a. (b : Answer) × IsRefusal x b × (a ≡ (line_in_region b.0 name, b.1))) (IsRefusedRegion s before name) in_it (λ a refused. (x, told, inl refused))
+    (stopped-in-region (IsRefusal x) name stop in_it refusal of)
 
 -- the first fault, which is none of memory
 pub first_of : (faults : List SeamFault) (fault : SeamFault) → (fault ≡ NoMemory) ⊎ IsFirstSeamFault faults fault → (fault ≡ NoMemory → ⊥) → IsFirstSeamFault faults fault
@@ -130,7 +133,7 @@ goes_on s names p q n old now new name here are lt is (r, passes, written, at) =
 -- a region that is refused is no yes
 refused-no : (s : Setting) (before : List Contents) (name text : List ℕ) (status : ℕ) → IsRefusedRegion s before name (text, status) → status ≢ done
 refused-no s before name text status (x, told, inl (b, refusal, is)) = λ e. refusal.1 (sym (ap (λ (a : Answer). a.1) is) ∙ e)
-refused-no s before name text status (x, told, inr at) = one-is-not-done status (ap (λ (a : Answer). a.1) at.is)
+refused-no s before name text status (x, told, inr (r, said, (fault, first, is))) = one-is-not-done status (ap (λ (a : Answer). a.1) is)
   where
     one-is-not-done : (n : ℕ) → n ≡ 1 → n ≡ 0 → ⊥
     one-is-not-done n one zero = omega arith
@@ -322,12 +325,9 @@ whole-answer : (s : Setting) (p : Progress) (old now : Option (List ℕ)) (h : H
     → AnswersRegions s (h.lines ++ country_lines (length h.regions) (country_of s.classes h.regions), done)
 whole-answer s p old now h = record {
   answer = record {
-    regions = h.regions;
     text = h.lines;
-    left = [];
-    reached = all_left s h.regions h.lines h.have_passed;
     end = (country_lines (length h.regions) (country_of s.classes h.regions), done);
-    follows = refl;
+    behind = record { regions = h.regions; left = []; reached = all_left s h.regions h.lines h.have_passed; follows = refl };
     is = refl;
   };
   all = λ e. (h.regions, ((h.lines, h.have_passed), h.at.seam.joined));

@@ -48,25 +48,19 @@ pub record Passes (s : Setting) (before : List Contents) (name : List ℕ) (r : 
     pub said : IsProvedOf inputs r
     pub fits : seam_faults s.tiles s.classes before r ≡ []
 
--- they are refused by `check`: its line with the region at the end, and its status
-abbrev pub IsRefusedByCheck : Inputs → List ℕ → Answer → Type 0
-IsRefusedByCheck x name a = (b : Answer) × IsRefusal x b × (a ≡ (line_in_region b.0 name, b.1))
+-- a region does not fit those before it: the line of its first fault
+abbrev pub IsMisfit : Setting → List Contents → List ℕ → Contents → Answer → Type 0
+IsMisfit s before name r a =
+    (fault : SeamFault) × IsFirstSeamFault (seam_faults s.tiles s.classes before r) fault
+    × (a ≡ (seam_refusal_text s.names name fault, refused))
 
--- they say a region that does not fit those before it: the line of its first fault
-pub record IsRefusedAtSeam (s : Setting) (before : List Contents) (x : Inputs) (name : List ℕ)
-    (a : Answer) : Type 0 where
-  pub region : Contents
-  pub said : IsProvedOf x region
-  pub fault : SeamFault
-  pub first : IsFirstSeamFault (seam_faults s.tiles s.classes before region) fault
-  pub is : a ≡ (seam_refusal_text s.names name fault, refused)
-
--- the region of a folder is refused
+-- the region of a folder is refused by `check`: its line with the region at the end, and its
+-- status; or it is a sound map, and does not fit those before it
 abbrev pub IsRefusedRegion : Setting → List Contents → List ℕ → Answer → Type 0
 IsRefusedRegion s before name a = (x : Inputs) × AreRead x (s.texts name).given
-    × (IsRefusedByCheck x name a ⊎ IsRefusedAtSeam s before x name a)
+    × (((b : Answer) × IsRefusal x b × (a ≡ (line_in_region b.0 name, b.1)))
+    ⊎ ((r : Contents) × IsProvedOf x r × IsMisfit s before name r a))
 
--- ---- the regions
 -- the regions of these folders passed one after the other, and this was printed of them
 pub data HavePassed (s : Setting) : List (List ℕ) → List Contents → List ℕ → Type 0 where
   None : HavePassed s [] [] []
@@ -89,15 +83,20 @@ pub record IsReachedBy (s : Setting) (regions : List Contents) (text : List ℕ)
   pub all : s.names ≡ passed ++ left
   pub have_passed : HavePassed s passed regions text
 
+-- regions passed, with these lines, and this is what follows them
+pub record BehindRegions (s : Setting) (IsEnd : List Contents → Answer → Type 0)
+    (lines : List ℕ) (a : Answer) : Type 0 where
+  pub regions : List Contents
+  pub left : List (List ℕ)
+  pub reached : IsReachedBy s regions lines left
+  pub follows : IsBehind s IsEnd regions left a
+
 -- the lines of the regions up to the first that is refused, and what follows them
 pub record AfterRegions (s : Setting) (IsEnd : List Contents → Answer → Type 0) (a : Answer)
     : Type 0 where
-  pub regions : List Contents
   pub text : List ℕ
-  pub left : List (List ℕ)
-  pub reached : IsReachedBy s regions text left
   pub end : Answer
-  pub follows : IsBehind s IsEnd regions left end
+  pub behind : BehindRegions s IsEnd text end
   pub is : a ≡ (text ++ end.0, end.1)
 
 -- at the end the country's line and the yes

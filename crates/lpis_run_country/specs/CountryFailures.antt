@@ -16,7 +16,7 @@ use Rattle.lpis_run.specs.Failures.{AreUnread}
 use Rattle.lpis_run.specs.Folders.{folder_named}
 use Rattle.lpis_country.specs.CountryText.{IsCountryText}
 use Rattle.lpis_country.specs.Tree.{Tree}
-use Rattle.lpis_run_country.specs.CountryAnswer.{IsReachedBy, setting_of}
+use Rattle.lpis_run_country.specs.CountryAnswer.{IsReachedBy, Setting, setting_of}
 use Rattle.lpis_run_country.specs.Regions.{CountryInputs, Texts}
 
 -- a file of this name, which may be missing, was not opened
@@ -43,17 +43,17 @@ IsStoppedBefore texts [] f = (f ≡ Memory)
 IsStoppedBefore texts (name ∷ left) f = (f ≡ Memory)
     ⊎ ((file : Name) × IsUnreadFolder (texts name) (Read file) × IsReadOf file name f)
 
--- the regions before these folders passed, and this was printed of them
-pub record IsCountryPart (texts : List ℕ → Texts) (detail : Detail) (x : CountryInputs)
-    (text : List ℕ) (left : List (List ℕ)) : Type 0 where
-  pub plan : Tree
-  pub planned : IsCountryText x.plan plan
-  pub classes : List Class
-  pub table : rows_of classes_table x.classes ≡ Ok classes
-  pub regions : List Contents
-  pub reached : IsReachedBy (setting_of texts detail plan classes) regions text left
-
 -- behind these lines, of the regions that passed, the next folder was not read, or memory ran out
+abbrev pub StopsRegions : Setting → List ℕ → Failure → Type 0
+StopsRegions s lines f = (regions : List Contents) × (left : List (List ℕ))
+    × IsReachedBy s regions lines left × IsStoppedBefore s.texts left f
+
+-- the files at the top say a plan and classes for which this holds
+abbrev pub OfPlan : CountryInputs → (Tree → List Class → Type 0) → Type 0
+OfPlan x Holds = (plan : Tree) × (classes : List Class) × IsCountryText x.plan plan
+    × (rows_of classes_table x.classes ≡ Ok classes) × Holds plan classes
+
+-- so it is of the regions of a country
 abbrev pub StopsCountry : (List ℕ → Texts) → Detail → CountryInputs → List ℕ → Failure → Type 0
 StopsCountry texts detail x lines f =
-    (left : List (List ℕ)) × IsCountryPart texts detail x lines left × IsStoppedBefore texts left f
+    OfPlan x (λ plan classes. StopsRegions (setting_of texts detail plan classes) lines f)

@@ -42,16 +42,21 @@ AreRegionsOf texts (name ∷ names) (r ∷ rs) = IsRegionOf (texts name) r
     × AreRegionsOf texts names rs
 AreRegionsOf texts _ _ = ⊥
 
--- `country.txt` is the text of a plan, and `classes.csv` a table of classes. Each folder of the
--- plan has a region with these classes. The country is the union of the regions, in which no parcel
--- of a region is missing, and it is a sound map
+-- a region of each folder of a plan has these classes. Their country is the union of the regions,
+-- in which no parcel of a region is missing, and it is a sound map
+pub record AreUnited (texts : List ℕ → Texts) (plan : Tree) (classes : List Class)
+    (regions : List Contents) : Type 0 where
+  pub of_folders : AreRegionsOf texts (folders plan) regions
+  pub same : All (λ (r : Contents). r.classes ≡ classes) regions
+  pub union : IsUnion regions (country_of classes regions)
+  pub sound : IsSoundMap (country_of classes regions)
+
+-- `country.txt` is the text of a plan, and `classes.csv` a table of classes, and there are such
+-- regions
 pub record IsCountry (texts : List ℕ → Texts) (x : CountryInputs) : Type 0 where
   pub plan : Tree
   pub text : IsCountryText x.plan plan
   pub classes : List Class
   pub table : rows_of classes_table x.classes ≡ Ok classes
   pub regions : List Contents
-  pub of_folders : AreRegionsOf texts (folders plan) regions
-  pub same : All (λ (r : Contents). r.classes ≡ classes) regions
-  pub union : IsUnion regions (country_of classes regions)
-  pub sound : IsSoundMap (country_of classes regions)
+  pub united : AreUnited texts plan classes regions

@@ -19,8 +19,8 @@ use Rattle.lpis_run.specs.declared.failure.Failure.{Failure}
 use Rattle.lpis_run_country.specs.declared.joining.JoinedCountry.{JoinedCountry}
 use Rattle.lpis_run_country.specs.declared.joining.Joining.{Joining}
 use Rattle.lpis_run_country.specs.declared.joining.Joining.TheVariants.{Joined, Refused}
-use Rattle.lpis_run_country.specs.CountryAnswer.{HavePassed, IsReachedBy, IsRegionsAnswer, Setting}
-use Rattle.lpis_run_country.specs.CountryFailures.{IsStoppedBefore}
+use Rattle.lpis_run_country.specs.CountryAnswer.{HavePassed, IsRegionsAnswer, Setting}
+use Rattle.lpis_run_country.specs.CountryFailures.{StopsRegions}
 use Rattle.lpis_run_country.specs.CountryLines.{country_lines}
 use Rattle.lpis_run_country.specs.Regions.{Texts}
 
@@ -68,11 +68,6 @@ RegionsJoin s old new (Joined j) =
 RegionsJoin s old new (Refused status) = RegionsEnd s old new status × (status ≢ done)
 
 -- ---- no end
--- behind these lines, of the regions that passed, the next one was not read, or memory ran out
-abbrev pub StopsRegions : Setting → List ℕ → Failure → Type 0
-StopsRegions s lines f = (regions : List Contents) × (left : List (List ℕ))
-    × IsReachedBy s regions lines left × IsStoppedBefore s.texts left f
-
 -- the lines up to that of the first region that is refused
 abbrev pub IsRegionsRefusal : Setting → Answer → Type 0
 IsRegionsRefusal s a = IsRegionsAnswer s a × (a.1 ≢ done)

@@ -1,5 +1,5 @@
 -- The search through the regions of a plan, as that in a country.
-use Rattle.std.proofs.Common.{◌≡◌, ◌⊎◌, ◌∙◌, ◌∷◌, [], refl, sym, ap, subst, arith, inl, inr, IfErr, IfOk, OnOk, ℕ, List, Option, None, Some, Result, Ok, Err, length, map}
+use Rattle.std.proofs.Common.{◌≡◌, ◌⊎◌, ◌∙◌, ◌∷◌, [], refl, sym, ap, subst, arith, inl, inr, IfErr, IfOk, OnOk, ℕ, List, None, Some, Result, Err, length, map}
 use Rattle.std.proofs.lemmas.List.{append-nil, length-map}
 use Rattle.std.specs.Io.KnownBytes.{Appends}
 use Rattle.std.specs.String.{string_bytes}
@@ -31,16 +31,17 @@ use Rattle.lpis_country_seam.specs.Open.{IsSeamOf}
 use Rattle.lpis_run_country.specs.Beginning.{IsBegun, IsUnbegun}
 use Rattle.lpis_run_country.specs.declared.beginning.Begun.{Begun}
 use Rattle.lpis_run.specs.declared.failure.Failure.{Failure}
-use Rattle.lpis_run_country.specs.CountryAnswer.{IsRefusedRegion, Setting, setting_of}
-use Rattle.lpis_run_country.specs.Regions.{AreCountryRead, IsCountry, Texts}
-use Rattle.lpis_run_country.proofs.Shared.{passed_length, passed_regions, passed_sound, two_is_not_done, unbegun_no}
-use Rattle.lpis_places.specs.declared.fault.PointsFault.{PointsFault}
-use Rattle.lpis_places.specs.Points.{Given, points_of}
+use Rattle.lpis_run_country.specs.CountryAnswer.{BehindRegions, IsRefusedRegion, Setting, setting_of}
+use Rattle.lpis_run_country.specs.CountryFailures.{StopsCountry}
+use Rattle.lpis_run_country.specs.Regions.{AreCountryRead, AreUnited, Texts}
+use Rattle.lpis_run_country.proofs.Shared.{passed_length, passed_regions, passed_sound, unbegun_no}
+use Rattle.lpis_places.specs.Points.{points_of}
 use Rattle.lpis_run_locate.specs.LocateAnswer.{ArePointsRead, IsPointsAnswer, points_named}
 use Rattle.lpis_run_locate.specs.declared.points_in.PointsIn.{PointsIn}
 use Rattle.lpis_run_locate.specs.declared.progress.Progress.{Progress}
-use Rattle.lpis_run_locate.specs.LocateCountryAnswer.{IsLocateCountryAnswer, IsLocatedInCountry, IsRegionsPointsAnswer, IsStoppedIn}
-use Rattle.lpis_run_locate.specs.LocateCountryAnswer.{LocateCountryInputs, OfInputs, RunsLocateCountry}
+use Rattle.lpis_run_locate.specs.LocateCountryAnswer.{AnswersLocateCountry, IsLocateCountryAnswer, RunsLocateCountry}
+use Rattle.lpis_run_locate.specs.private.LocateRuns.{LocateCountryInputs}
+use Rattle.lpis_run.specs.Run.{OfRead}
 use Rattle.lpis_run_locate.specs.private.Found.{IsSearched}
 use Rattle.lpis_run_locate.specs.private.Searching.{IsOutcome, IsStart, IsStopped, IsUnanswered}
 
@@ -61,28 +62,31 @@ starts texts x b p begun seam search = record {
 
 -- ---- the answer
 -- the answer to the regions is that to the country
-whole-answer : (texts : List ℕ → Texts) (x : LocateCountryInputs) (b : Begun) (begun : IsBegun x.files b) (a : TextStatus) → IsRegionsPointsAnswer x.points (begun_setting texts x b begun) a
-    → IsLocateCountryAnswer texts x a
+whole-answer : (texts : List ℕ → Texts) (x : LocateCountryInputs) (b : Begun) (begun : IsBegun x.files b) (lines : List ℕ) (a : TextStatus)
+    → BehindRegions (begun_setting texts x b begun) (λ regions. IsPointsAnswer (country_of b.classes.items regions) (points_of x.points)) lines a → IsLocateCountryAnswer texts x a
 unfolding begun_setting
-whole-answer texts x b begun a h = inr (
+whole-answer texts x b begun lines a h = inr (
   begun.plan,
   begun.text,
-  subst (λ (said : Result (List Class) TableFault). IsTableAnswer (λ classes. IsRegionsPointsAnswer x.points (setting_of texts Regions begun.plan classes)) said a) (sym begun.table) h,
+  subst (λ (said : Result (List Class) TableFault). IsTableAnswer (λ classes c. (ls : List ℕ)
+      × BehindRegions (setting_of texts Regions begun.plan classes) (λ regions. IsPointsAnswer (country_of classes regions) (points_of x.points)) ls c) said a) (sym begun.table) (lines, h),
 )
 
--- the answer to a region that is refused is that to the country
-pub refused_answer : (texts : List ℕ → Texts) (x : LocateCountryInputs) (b : Begun) (begun : IsBegun x.files b) (p : Progress) (a : Answer)
-    → IsOutcome (begun_setting texts x b begun) x.points p (Some a) → IsLocateCountryAnswer texts x (a.text.items, a.status)
-refused_answer texts x b begun p a (regions, lines, name, left, reached, refusal) =
-    whole-answer texts x b begun (a.text.items, a.status) (record { regions = regions; lines = lines; left = name ∷ left; reached = reached; follows = refusal })
-
--- and no yes
-pub refused_no : (s : Setting) (before : List Contents) (name text : List ℕ) (status : ℕ) → IsRefusedRegion s before name (text, status) → status ≡ done → ⊥
-refused_no s before name text status (x, told, inl (b, refusal, is)) e = refusal.1 (sym (ap (λ (a : TextStatus). a.1) is) ∙ e)
-refused_no s before name text status (x, told, inr seam) e = one-is-not-done status (ap (λ (a : TextStatus). a.1) seam.is) e
+-- a region that is refused has no yes
+refused-no : (s : Setting) (before : List Contents) (name text : List ℕ) (status : ℕ) → IsRefusedRegion s before name (text, status) → status ≡ done → ⊥
+refused-no s before name text status (x, told, inl (b, refusal, is)) e = refusal.1 (sym (ap (λ (a : TextStatus). a.1) is) ∙ e)
+refused-no s before name text status (x, told, inr (r, said, (fault, first, is))) e = one-is-not-done status (ap (λ (a : TextStatus). a.1) is) e
   where
     one-is-not-done : (n : ℕ) → n ≡ 1 → n ≡ 0 → ⊥
     one-is-not-done n one zero = omega arith
+
+-- the answer to a region that is refused is that to the country
+pub refused_answer : (texts : List ℕ → Texts) (x : LocateCountryInputs) (b : Begun) (begun : IsBegun x.files b) (p : Progress) (a : Answer)
+    → IsOutcome (begun_setting texts x b begun) x.points p (Some a) → AnswersLocateCountry texts x (a.text.items, a.status)
+refused_answer texts x b begun p a (regions, lines, name, left, reached, refusal) = record {
+  answer = whole-answer texts x b begun lines (a.text.items, a.status) (record { regions = regions; left = name ∷ left; reached = reached; follows = refusal });
+  located = λ e. absurd (refused-no (begun_setting texts x b begun) regions name a.text.items a.status refusal e);
+}
 
 -- all regions make up their union
 pub all_unite : (texts : List ℕ → Texts) (x : LocateCountryInputs) (b : Begun) (begun : IsBegun x.files b) (p : Progress) → JoinedCountryIsUnion
@@ -90,60 +94,49 @@ pub all_unite : (texts : List ℕ → Texts) (x : LocateCountryInputs) (b : Begu
 unfolding begun_setting
 all_unite texts x b begun p unites (all, passed, at) = unites (rectangles begun.plan frame) b.classes.items all at.seam.joined
 
+-- and a country that is a sound map
+all-country : (texts : List ℕ → Texts) (x : LocateCountryInputs) (b : Begun) (begun : IsBegun x.files b) (p : Progress) → JoinedCountryIsSound → JoinedCountryIsUnion
+    → (out : IsOutcome (begun_setting texts x b begun) x.points p None) → AreUnited texts begun.plan b.classes.items out.0
+unfolding begun_setting
+all-country texts x b begun p law unites (all, (lines, passed), at) =
+    let s = setting_of texts Regions begun.plan b.classes.items in
+    let tiling = begun.plan in
+    let long = sym (passed_length s (folders begun.plan) all lines passed) ∙ ap length (sym begun.names_are) ∙ length-map b.names.items string_bytes ∙ begun.as_many ∙ ap length begun.tiles_are in
+    record {
+      of_folders = passed_regions s (folders begun.plan) all lines passed;
+      same = at.seam.joined.classes_are;
+      union = unites (rectangles tiling frame) b.classes.items all at.seam.joined;
+      sound = law tiling b.classes.items all at.seam.joined (passed_sound s (folders begun.plan) all lines passed) long;
+    }
+
 -- the answer to the points in their union is that to the country
-pub points_answer : (texts : List ℕ → Texts) (x : LocateCountryInputs) (b : Begun) (begun : IsBegun x.files b) (p : Progress) (a : TextStatus)
+points-answer : (texts : List ℕ → Texts) (x : LocateCountryInputs) (b : Begun) (begun : IsBegun x.files b) (p : Progress) (a : TextStatus)
     → (out : IsOutcome (begun_setting texts x b begun) x.points p None) → IsPointsAnswer (country_of b.classes.items out.0) (points_of x.points) a → IsLocateCountryAnswer texts x a
 unfolding begun_setting
-points_answer texts x b begun p a (all, (lines, passed), at) said =
-    whole-answer texts x b begun a (record {
+points-answer texts x b begun p a (all, (lines, passed), at) said =
+    whole-answer texts x b begun lines a (record {
       regions = all;
-      lines = lines;
       left = [];
       reached = record { passed = folders begun.plan; all = sym (append-nil (folders begun.plan)); have_passed = passed };
       follows = said;
     })
 
--- ---- a yes
--- points in the country of all regions, which is a sound map
-located-by : (texts : List ℕ → Texts) (x : LocateCountryInputs) (country : IsCountry texts x.files) (said : Result (List Given) PointsFault) (text : List ℕ) (status : ℕ) → points_of x.points ≡ said
-    → IsPointsAnswer (country_of country.classes country.regions) said (text, status) → status ≡ done → IsLocatedInCountry texts x text
-located-by texts x country (Err fault) text status table a e = absurd (two_is_not_done status (ap (λ (p : TextStatus). p.1) a) e)
-located-by texts x country (Ok points) text status table a e = record {
-  country = country;
-  points = points;
-  table = table;
-  lines = a.0;
-  are = a.1;
-  is = ap (λ (p : TextStatus). p.0) a.2;
-}
-
 -- where it is a yes, each point has the line of its own place in that country
-pub located : (texts : List ℕ → Texts) (x : LocateCountryInputs) (b : Begun) (begun : IsBegun x.files b) (p : Progress) (text : List ℕ) (status : ℕ) → JoinedCountryIsSound → JoinedCountryIsUnion
-    → (out : IsOutcome (begun_setting texts x b begun) x.points p None) → IsPointsAnswer (country_of b.classes.items out.0) (points_of x.points) (text, status) → status ≡ done
-    → IsLocatedInCountry texts x text
-unfolding begun_setting
-located texts x b begun p text status law unites (all, (lines, passed), at) said e =
-    let s = setting_of texts Regions begun.plan b.classes.items in
-    let tiling = begun.plan in
-    let long = sym (passed_length s (folders begun.plan) all lines passed) ∙ ap length (sym begun.names_are) ∙ length-map b.names.items string_bytes ∙ begun.as_many ∙ ap length begun.tiles_are in
-    located-by texts x (record {
-      plan = begun.plan;
-      text = begun.text;
-      classes = b.classes.items;
-      table = begun.table;
-      regions = all;
-      of_folders = passed_regions s (folders begun.plan) all lines passed;
-      same = at.seam.joined.classes_are;
-      union = unites (rectangles tiling frame) b.classes.items all at.seam.joined;
-      sound = law tiling b.classes.items all at.seam.joined (passed_sound s (folders begun.plan) all lines passed) long;
-    }) (points_of x.points) text status refl said e
+pub located : (texts : List ℕ → Texts) (x : LocateCountryInputs) (b : Begun) (begun : IsBegun x.files b) (p : Progress) (a : TextStatus) → JoinedCountryIsSound → JoinedCountryIsUnion
+    → (out : IsOutcome (begun_setting texts x b begun) x.points p None) → IsPointsAnswer (country_of b.classes.items out.0) (points_of x.points) a → AnswersLocateCountry texts x a
+located texts x b begun p a law unites out said = record {
+  answer = points-answer texts x b begun p a out said;
+  located = λ e. (
+    record { plan = begun.plan; text = begun.text; classes = b.classes.items; table = begun.table; regions = out.0; united = all-country texts x b begun p law unites out },
+    said,
+  );
+}
 
 -- ---- no answer
 -- a search that is stopped gives no answer to the country
 pub stopped : (texts : List ℕ → Texts) (x : LocateCountryInputs) (b : Begun) (begun : IsBegun x.files b) (f : Failure) → IsStopped (begun_setting texts x b begun) f → IsUnanswered texts x f
 unfolding begun_setting
-stopped texts x b begun f (regions, lines, left, reached, stop) =
-    inr (lines, left, record { plan = begun.plan; planned = begun.text; classes = b.classes.items; table = begun.table; regions = regions; reached = reached }, stop)
+stopped texts x b begun f (regions, lines, left, reached, stop) = inr (lines, (begun.plan, b.classes.items, begun.text, begun.table, (regions, left, reached, stop)))
 
 -- ---- before the first region
 -- an answer to inputs that have a fault before the first region is one to the country
@@ -152,18 +145,20 @@ unbegun-answer texts x a (inl refused) = inl refused
 unbegun-answer texts x a (inr (plan, planned, refused)) = inr (
   plan,
   planned,
-  table-more (λ (classes : List Class) (b : TextStatus). ⊥) (λ (classes : List Class). IsRegionsPointsAnswer x.points (setting_of texts Regions plan classes))
+  table-more (λ (classes : List Class) (b : TextStatus). ⊥) (λ (classes : List Class) (b : TextStatus). (lines : List ℕ)
+      × BehindRegions (setting_of texts Regions plan classes) (λ regions. IsPointsAnswer (country_of classes regions) (points_of x.points)) lines b)
       (rows_of classes_table x.files.classes) a (λ classes never. absurd never) refused,
 )
 
--- so it is of a step that stops
+-- so it is of a step that stops, and no yes
 pub unbegun_is_answer : (texts : List ℕ → Texts) (x : LocateCountryInputs) (stop : Stop) (a : Answer) → stop ≡ Refused a → IsRefusedAs (IsUnbegun x.files) stop
-    → IsLocateCountryAnswer texts x (a.text.items, a.status)
-unbegun_is_answer texts x stop a is may = unbegun-answer texts x (a.text.items, a.status) (subst (IsRefusedAs (IsUnbegun x.files)) is may)
-
--- and no yes
-pub unbegun_is_no : (x : LocateCountryInputs) (stop : Stop) (a : Answer) → stop ≡ Refused a → IsRefusedAs (IsUnbegun x.files) stop → a.status ≡ done → ⊥
-unbegun_is_no x stop a is may = unbegun_no x.files (a.text.items, a.status) (subst (IsRefusedAs (IsUnbegun x.files)) is may)
+    → AnswersLocateCountry texts x (a.text.items, a.status)
+unbegun_is_answer texts x stop a is may =
+    let unbegun = subst (IsRefusedAs (IsUnbegun x.files)) is may in
+    record {
+      answer = unbegun-answer texts x (a.text.items, a.status) unbegun;
+      located = λ e. absurd (unbegun_no x.files (a.text.items, a.status) unbegun e);
+    }
 
 -- ---- the run
 -- where there is no answer, nothing was written
@@ -171,12 +166,13 @@ pub unanswered_run : (texts : List ℕ → Texts) (given : PointsIn (Top Known) 
     → IsUnanswered texts x f → RunsLocateCountry texts given out out (Err f)
 unanswered_run texts given x out f told h = runs_stopped _ _ out f (stops h)
   where
-    stops : IsUnanswered texts x f → AreUnread (points_named top_named given) f ⊎ OfInputs given (λ y. IsStoppedIn texts y f)
-    stops (inl memory) = inl (inl memory)
+    stops : IsUnanswered texts x f
+        → AreUnread (points_named top_named given) f ⊎ OfRead (ArePointsRead AreCountryRead) given (λ y. (lines : List ℕ) × StopsCountry texts Regions y.files lines f)
+    stops (inl memory) = inl (inl (inl memory))
     stops (inr stopped) = inr (x, told, stopped)
 
 -- an answer is written, or a beginning of it
 pub answered_run : (texts : List ℕ → Texts) (given : PointsIn (Top Known) Known) (x : LocateCountryInputs) (text : List ℕ) (status : ℕ) (old new : Known) (r : Result ℕ Failure)
-    → ArePointsRead AreCountryRead x given → IsLocateCountryAnswer texts x (text, status) → (status ≡ done → IsLocatedInCountry texts x text)
+    → ArePointsRead AreCountryRead x given → AnswersLocateCountry texts x (text, status)
     → IfOk r (λ s. s ≡ status) → OnOk r (Appends old new text) → IfErr r (λ f. (f ≡ Write Out) × Begins old new text) → RunsLocateCountry texts given old new r
-answered_run texts given x text status old new r told answer located = runs_written _ _ text status old new r (x, told, record { answer = answer; located = located })
+answered_run texts given x text status old new r told answer = runs_written _ _ text status old new r (x, told, answer)

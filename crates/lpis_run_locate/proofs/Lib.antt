@@ -1,5 +1,4 @@
 pub mod LineLemmas
-pub mod AnswerLemmas
 pub mod FaultLemmas
 pub mod FoundLemmas
 pub mod PassingLemmas

@@ -9,14 +9,14 @@ use Rattle.lpis_run.specs.declared.answer.Answer.{Answer as Printed}
 use Rattle.lpis_run.specs.declared.stop.Stop.{Stop}
 use Rattle.lpis_run.specs.declared.stop.Stop.TheVariants.{Refused}
 use Rattle.lpis_run.specs.declared.failure.Failure.{Failure}
-use Rattle.lpis_run_country.specs.CountryAnswer.{HavePassed, None as NonePassed, IsReachedBy, IsRefusedRegion, Setting}
+use Rattle.lpis_run_country.specs.CountryAnswer.{HavePassed, IsMisfit, None as NonePassed, IsReachedBy, IsRefusedRegion, Setting}
 use Rattle.lpis_run_country.specs.CountryFailures.{IsStoppedBefore}
 use Rattle.lpis_run_country.specs.CountryLines.{region_report}
 use Rattle.lpis_run_country.specs.Regions.{Texts}
 use Rattle.lpis_run_country.proofs.Shared.{passed_more, reached_by}
 use Rattle.lpis_country.specs.Country.{country_of}
 use Rattle.lpis_run_locate.specs.declared.progress.Progress.{Progress}
-use Rattle.lpis_run_locate.specs.private.Searching.{Follows, HasPassed, IsHere, IsOutcome, IsReady, IsSeamRefusal, IsStart, IsStopped, IsVerdict}
+use Rattle.lpis_run_locate.specs.private.Searching.{Follows, HasPassed, IsHere, IsOutcome, IsReady, IsStart, IsStopped, IsVerdict}
 
 -- ---- the verdict
 -- on a region that is a sound map and fits those before it
@@ -26,10 +26,10 @@ judged s table before name x region p told said (fits, at) = (region, record { i
 
 -- on one that does not fit them
 pub seam_refused : (s : Setting) (before : List Contents) (name : List ℕ) (x : Inputs) (region : Contents) (stop : Stop) → AreRead x (s.texts name).given → IsProvedOf x region
-    → IsRefusedAs (IsSeamRefusal s before name region) stop → IsRefusedAs (IsRefusedRegion s before name) stop
+    → IsRefusedAs (IsMisfit s before name region) stop → IsRefusedAs (IsRefusedRegion s before name) stop
 seam_refused s before name x region stop told said h =
-    refused-more (IsSeamRefusal s before name region) (IsRefusedRegion s before name) stop
-    (λ a misfit. (x, told, inr (record { region = region; said = said; fault = misfit.0; first = misfit.1; is = misfit.2 }))) h
+    refused-more (IsMisfit s before name region) (IsRefusedRegion s before name) stop
+    (λ a misfit. (x, told, inr (region, said, misfit))) h
 
 -- the answer of a step that stopped
 pub stopped_with : (s : Setting) (before : List Contents) (name : List ℕ) (stop : Stop) (a : Printed) → stop ≡ Refused a → IsRefusedAs (IsRefusedRegion s before name) stop

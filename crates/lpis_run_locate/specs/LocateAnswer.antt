@@ -3,8 +3,12 @@
 use Rattle.std.specs.Prelude.{◌≡◌, ◌⊎◌, ◌++◌, ◌∷◌, [], ℕ, List, Result, Ok, Err, codes}
 use Rattle.lpis_release.specs.Release.{Contents}
 use Rattle.lpis_run.specs.CheckAnswer.{Answer, AreRead, Inputs, IsProvedOf, IsRefusal}
+use Rattle.lpis_run.specs.Failures.{AreUnread}
+use Rattle.lpis_run.specs.Folders.{folder_named}
+use Rattle.lpis_run.specs.Run.{OfRead, Runs}
 use Rattle.lpis_run.specs.Status.{done, unreadable}
 use Rattle.lpis_run.specs.Streams.{IsRead, Known}
+use Rattle.lpis_run.specs.declared.failure.Failure.{Failure}
 use Rattle.lpis_run.specs.declared.failure.Name.{Name}
 use Rattle.lpis_run.specs.declared.failure.Name.TheVariants.{Points}
 use Rattle.lpis_run.specs.declared.folder.Folder.{Folder}
@@ -13,10 +17,6 @@ use Rattle.lpis_places.specs.Points.{Given, points_of}
 use Rattle.lpis_run_locate.specs.LocateLines.{AreLines, points_refusal_text}
 use Rattle.lpis_run_locate.specs.declared.points_in.PointsIn.{PointsIn}
 
--- the bytes of a release's files, and of a table of points
-abbrev pub LocateInputs : Type 0
-LocateInputs = PointsIn Inputs (List ℕ)
-
 -- of a release and what the table of points says: the line of its first fault, or the line of each
 -- point in the order of the rows, and a yes
 abbrev pub IsPointsAnswer : Contents → Result (List Given) PointsFault → Answer → Type 0
@@ -24,9 +24,9 @@ IsPointsAnswer r (Err fault) a = a ≡ (points_refusal_text fault, unreadable)
 IsPointsAnswer r (Ok points) a =
     (lines : List ℕ) × AreLines r points lines × (a ≡ (lines ++ codes "yes\n", done))
 
--- the answer: what `check` refuses comes first, with its line; then, of a release that is a sound
--- map, the points
-abbrev pub IsLocateAnswer : LocateInputs → Answer → Type 0
+-- the answer to the bytes of a release's files and of a table of points: what `check` refuses comes
+-- first, with its line; then, of a release that is a sound map, the points
+abbrev pub IsLocateAnswer : PointsIn Inputs (List ℕ) → Answer → Type 0
 IsLocateAnswer x a =
     IsRefusal x.files a
     ⊎ ((r : Contents) × IsProvedOf x.files r × IsPointsAnswer r (points_of x.points) a)
@@ -45,22 +45,7 @@ abbrev pub ArePointsRead : {F G : Type 0} → (F → G → Type 0) → PointsIn 
 ArePointsRead AreFilesRead x given = AreFilesRead x.files given.files
     × IsRead x.points given.points
 
--- the release is a sound map, the points are those of the table, and each has the line of its own
--- place
-pub record IsLocatedText (x : LocateInputs) (text : List ℕ) : Type 0 where
-  pub release : Contents
-  pub proved : IsProvedOf x.files release
-  pub points : List Given
-  pub table : points_of x.points ≡ Ok points
-  pub lines : List ℕ
-  pub are : AreLines release points lines
-  pub is : text ≡ lines ++ codes "yes\n"
-
--- a run that locates: these inputs are what five readers reported, as far as it is known, and this
--- is an answer to them; where it is done, the release is a sound map, and each point has the line
--- of its own place
-pub record Locates (given : PointsIn (Folder Known) Known) (a : Answer) : Type 0 where
-  pub inputs : LocateInputs
-  pub read : ArePointsRead AreRead inputs given
-  pub answer : IsLocateAnswer inputs a
-  pub located : a.1 ≡ done → IsLocatedText inputs a.0
+-- how a run that locates ends: it has an answer to what five readers reported
+abbrev pub RunsLocate : PointsIn (Folder Known) Known → Known → Known → Result ℕ Failure → Type 0
+RunsLocate given = Runs (AreUnread (points_named folder_named given))
+    (λ a. OfRead (ArePointsRead AreRead) given (λ x. IsLocateAnswer x a))

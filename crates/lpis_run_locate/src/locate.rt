@@ -5,12 +5,10 @@ ghost use Rattle.lpis_checker.specs.SoundMap.{IsSoundMap};
 ghost use Rattle.lpis_run.specs.CheckAnswer.{AreRead};
 ghost use Rattle.lpis_run.specs.Failures.{AreUnread, AreUntouched};
 ghost use Rattle.lpis_run.specs.Folders.{folder_by, folder_named};
-ghost use Rattle.lpis_run.specs.Run.{Runs};
-ghost use Rattle.lpis_run.specs.Status.{done};
 ghost use Rattle.lpis_places.specs.Points.{points_of};
 ghost use Rattle.lpis_places.specs.declared.place.Place.{Place};
 ghost use Rattle.lpis_run_locate.specs.LocateAnswer.{ArePointsRead, IsLocateAnswer};
-ghost use Rattle.lpis_run_locate.specs.LocateAnswer.{IsLocatedText, IsPointsAnswer, Locates};
+ghost use Rattle.lpis_run_locate.specs.LocateAnswer.{IsPointsAnswer, RunsLocate};
 ghost use Rattle.lpis_run_locate.specs.LocateAnswer.{points_by, points_named};
 ghost use Rattle.lpis_run_locate.specs.private.LocateRuns.{locate_inputs_of};
 
@@ -68,10 +66,8 @@ fn answer_to(
     alloc: Global,
     inputs: PointsIn<Folder<Vec<u8>>, Vec<u8>>,
 ) -> Result<Answer, AllocError>
-    ensures answer { IfOk result (λ a. IsLocateAnswer (locate_inputs_of inputs)
+    ensures { IfOk result (λ a. IsLocateAnswer (locate_inputs_of inputs)
         (a.text.items, a.status)) }
-    ensures located { IfOk result (λ a. a.status ≡ done → IsLocatedText (locate_inputs_of inputs)
-        a.text.items) }
 {
     let PointsIn { files, points } = inputs;
     match checked_release(alloc, files) {
@@ -111,9 +107,7 @@ pub fn run_locate<R: Read + Drop, W: Write>(
     asked: &mut PointsIn<Folder<R>, R>,
     out: &mut W,
 ) -> Result<u8, Failure>
-    ensures runs { Runs (AreUnread (points_named folder_named
-        (points_by (folder_by R.remaining) R.remaining asked.old)))
-        (Locates (points_by (folder_by R.remaining) R.remaining asked.old))
+    ensures runs { RunsLocate (points_by (folder_by R.remaining) R.remaining asked.old)
         (W.contents out.old) (W.contents out.new) result }
     ensures untouched { IfErr result (AreUntouched (points_named folder_named asked.old)
         (points_named folder_named asked.new)) }

@@ -1,13 +1,12 @@
 //! The run of `locate-country`, over any readers, folders and writer.
 
-ghost use Rattle.std.specs.Prelude.{◌≡◌, IfErr, IfOk};
-ghost use Rattle.lpis_run.specs.Status.{done};
+ghost use Rattle.std.specs.Prelude.{IfErr, IfOk};
 ghost use Rattle.lpis_run.specs.Failures.{AreUnread};
 ghost use Rattle.lpis_run.specs.Folders.{top_by, top_named};
 ghost use Rattle.lpis_run_country.specs.Regions.{AreCountryRead};
 ghost use Rattle.lpis_run_locate.specs.LocateAnswer.{ArePointsRead, points_by, points_named};
-ghost use Rattle.lpis_run_locate.specs.LocateCountryAnswer.{IsLocateCountryAnswer};
-ghost use Rattle.lpis_run_locate.specs.LocateCountryAnswer.{IsLocatedInCountry, RunsLocateCountry};
+ghost use Rattle.lpis_run_locate.specs.LocateCountryAnswer.{AnswersLocateCountry};
+ghost use Rattle.lpis_run_locate.specs.LocateCountryAnswer.{RunsLocateCountry};
 ghost use Rattle.lpis_run_locate.specs.private.LocateRuns.{locate_country_inputs_of};
 ghost use Rattle.lpis_run_locate.specs.private.Searching.{IsUnanswered};
 
@@ -41,10 +40,8 @@ fn answer_to<G: Regions>(
     regions: &G,
     inputs: PointsIn<Top<Vec<u8>>, Vec<u8>>,
 ) -> Result<Answer, Failure>
-    ensures answer { IfOk result (λ a. IsLocateCountryAnswer (G.texts regions.now)
+    ensures answer { IfOk result (λ a. AnswersLocateCountry (G.texts regions.now)
         (locate_country_inputs_of inputs) (a.text.items, a.status)) }
-    ensures located { IfOk result (λ a. a.status ≡ done → IsLocatedInCountry (G.texts regions.now)
-        (locate_country_inputs_of inputs) a.text.items) }
     ensures failure { IfErr result (IsUnanswered (G.texts regions.now)
         (locate_country_inputs_of inputs)) }
 {

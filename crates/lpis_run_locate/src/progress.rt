@@ -6,10 +6,9 @@ ghost use Rattle.lpis_checker.specs.SoundMap.{IsSoundMap};
 ghost use Rattle.lpis_run.specs.CheckAnswer.{AreRead};
 ghost use Rattle.lpis_run.specs.Inputs.{inputs_of};
 ghost use Rattle.lpis_run.specs.Stops.{IsRefusedAs};
-ghost use Rattle.lpis_run_country.specs.CountryAnswer.{IsRefusedRegion, Setting};
+ghost use Rattle.lpis_run_country.specs.CountryAnswer.{IsMisfit, IsRefusedRegion, Setting};
 ghost use Rattle.lpis_release.specs.Release.{Contents};
 ghost use Rattle.lpis_run_locate.specs.private.Searching.{Follows, HasPassed, IsAt, IsReady};
-ghost use Rattle.lpis_run_locate.specs.private.Searching.{IsSeamRefusal};
 
 use crate::search::{Sought, search_in};
 use lpis_country_seam::OpenSeam;
@@ -41,7 +40,7 @@ fn follow(
         → IfOk result (λ _. Follows s table before release.now progress.new) }
     ensures refused { (s : Setting) (table : List ℕ) (before : List Contents)
         → IsAt s table before progress.old → s.names ≡ map string_bytes names.now
-        → IfErr result (IsRefusedAs (IsSeamRefusal s before name.now release.now)) }
+        → IfErr result (IsRefusedAs (IsMisfit s before name.now release.now)) }
 {
     match progress.seam.step(alloc, release) {
         Ok(_places) => {

@@ -3,14 +3,12 @@
 ghost use Rattle.std.specs.Prelude.{◌≡◌, ◌<◌, ◌∷◌, [], IfErr, IfOk, List, OnOk, get_or, length};
 ghost use Rattle.std.specs.Prelude.{map, ℕ};
 ghost use Rattle.std.specs.String.{string_bytes};
-ghost use Rattle.lpis_run.specs.Status.{done};
 ghost use Rattle.lpis_run_country.specs.Beginning.{IsBegun};
 ghost use Rattle.lpis_run_country.specs.CountryAnswer.{Setting};
 ghost use Rattle.lpis_run_country.specs.CountryFailures.{IsStoppedBefore};
 ghost use Rattle.lpis_release.specs.Release.{Contents};
-ghost use Rattle.lpis_run_locate.specs.LocateCountryAnswer.{IsLocateCountryAnswer};
-ghost use Rattle.lpis_run_locate.specs.LocateCountryAnswer.{IsLocatedInCountry};
-ghost use Rattle.lpis_run_locate.specs.LocateCountryAnswer.{LocateCountryInputs};
+ghost use Rattle.lpis_run_locate.specs.LocateCountryAnswer.{AnswersLocateCountry};
+ghost use Rattle.lpis_run_locate.specs.private.LocateRuns.{LocateCountryInputs};
 ghost use Rattle.lpis_run_locate.specs.private.Found.{IsSearched};
 ghost use Rattle.lpis_run_locate.specs.private.Searching.{IsAt, IsOutcome, IsReady, IsStart};
 ghost use Rattle.lpis_run_locate.specs.private.Searching.{IsStopped, IsUnanswered, IsVerdict};
@@ -91,10 +89,7 @@ pub(crate) fn search_regions<G: Regions>(
     requires { (x : LocateCountryInputs) × IsBegun x.files begun × IsSearched x.points [] sought }
     ensures answer { (x : LocateCountryInputs) → IsBegun x.files begun
         → IsSearched x.points [] sought → IfOk result (λ a.
-        IsLocateCountryAnswer (G.texts regions.now) x (a.text.items, a.status)) }
-    ensures located { (x : LocateCountryInputs) → IsBegun x.files begun
-        → IsSearched x.points [] sought → IfOk result (λ a. a.status ≡ done
-        → IsLocatedInCountry (G.texts regions.now) x a.text.items) }
+        AnswersLocateCountry (G.texts regions.now) x (a.text.items, a.status)) }
     ensures failure { (x : LocateCountryInputs) → IsBegun x.files begun
         → IsSearched x.points [] sought
         → IfErr result (IsUnanswered (G.texts regions.now) x) }

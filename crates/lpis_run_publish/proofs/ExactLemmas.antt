@@ -12,7 +12,8 @@ use Rattle.lpis_lineage.specs.ExactGroups.{group_name}
 use Rattle.lpis_rings.specs.declared.polygon.Member.{Member}
 use Rattle.lpis_run.specs.Outputs.{Outputs}
 use Rattle.lpis_run.specs.Status.{done}
-use Rattle.lpis_run_publish.specs.ExactAnswer.{HasBlocks, IsBlocksAnswer, IsBlocksOutcome, IsExactAnswer, blocks_line, unfilled_line}
+use Rattle.lpis_run_publish.specs.ExactAnswer.{HasParts, IsBlocksAnswer, IsBlocksOutcome, IsExactAnswer, blocks_line, unfilled_line}
+use Rattle.lpis_run_publish.specs.LineageLines.{publish_refusal_text}
 use Rattle.lpis_register.specs.Holdings.{Holdings}
 use Rattle.lpis_run_publish.specs.Submission.{IsSubmitted, SubmissionInputs, Submitted}
 use Rattle.lpis_run_publish.specs.private.ExactRuns.{filled_with, refused_with}
@@ -46,7 +47,7 @@ pub outcome-unfilled : (before : Holdings) (said : Submitted) (gs : List Group) 
 outcome-unfilled before said gs xs id o asks one e =
     let names = names-of (shape_named before.shapes) (shape_named (shapes_in said.release)) gs xs asks.parts in
     let is_one : has_id (map (λ (g : Group). g.id) gs) id ≡ true = rw (sym (ids-of gs xs names)) one in
-    rw e (record { answer = inr (inr (inl (record { gs = gs; xs = xs; asks = asks; id = id; is_one = is_one; line = refl }))); no_text = λ _. refl })
+    rw e (record { answer = inr (inr (record { gs = gs; xs = xs; asks = asks; answer = inl (id, is_one, refl) })); no_text = λ _. refl })
 
 filled-line : (n m : ℕ) → n ≡ m → ◌≡◌ {A = Answer} (blocks_line n, done) (blocks_line m, done)
 filled-line n m e = ap (λ (k : ℕ). (blocks_line k, done)) e
@@ -57,28 +58,27 @@ length-map f (x ∷ xs) = ap suc (length-map f xs)
 
 -- the certificate with blocks of the parts asked for in place of its own is an outcome of the run for blocks
 pub outcome-filled : (before : Holdings) (said : Submitted) (made : Cert) (gs : List Group) (xs : List ExactPart) (o : Outputs)
-    → AsksFor before.history before.shapes said.release said.rows gs xs → HasBlocks (map part_name xs) said.cert made → o ≡ filled_with made → IsBlocksOutcome said before o
+    → AsksFor before.history before.shapes said.release said.rows gs xs → HasParts said.cert made × (map block_name made.exact ≡ map part_name xs)
+    → o ≡ filled_with made → IsBlocksOutcome said before o
 outcome-filled before said made gs xs o asks has e =
     let names = names-of (shape_named before.shapes) (shape_named (shapes_in said.release)) gs xs asks.parts in
-    let blocks : map block_name made.exact ≡ map group_name gs = has.blocks ∙ names in
+    let blocks : map block_name made.exact ≡ map group_name gs = has.1 ∙ names in
     let many : length made.exact ≡ length gs = sym (length-map block_name made.exact) ∙ ap (λ (ns : List (Bool × List ℕ)). length ns) blocks ∙ length-map group_name gs in
     rw e (record {
-      answer = inr (inr (inr (record {
-        gs = gs;
-        xs = xs;
-        asks = asks;
-        made = made;
-        has = record { pieces = has.pieces; parcels = has.parcels; pairs = has.pairs; blocks = blocks };
-        written = refl;
-        line = filled-line (length made.exact) (length gs) many;
-      })));
+      answer = inr (inr (record { gs = gs; xs = xs; asks = asks; answer = inr (made, has.0, blocks, refl, filled-line (length made.exact) (length gs) many) }));
       no_text = λ no. absurd (no refl);
     })
 
 -- ---- answers
 pub answered-said : (x : SubmissionInputs) (said : Submitted) (before : Holdings) (o : Outputs) → IsSubmitted x said → IsBlocksOutcome said before o → IsExactAnswer x before o
-answered-said x said before o submitted is = record { answer = submission-said (λ s. IsBlocksAnswer s before o.cert) x said (o.line, o.status) submitted is.answer; no_text = is.no_text }
+answered-said x said before o submitted is = record {
+  answer = submission-said (λ s. IsBlocksAnswer publish_refusal_text s.release s.rows (HasParts s.cert) before o.cert) x said (o.line, o.status) submitted is.answer;
+  no_text = is.no_text;
+}
 
 -- the line of the first fault, without a certificate, answers a submission that asks for blocks
 pub answered-refused : (x : SubmissionInputs) (before : Holdings) (o : Outputs) → IsFaultAnswer x (o.line, o.status) → o.cert ≡ None → IsExactAnswer x before o
-answered-refused x before o is none = record { answer = submission-more (λ s. IsBlocksAnswer s before o.cert) x (o.line, o.status) is; no_text = λ _. none }
+answered-refused x before o is none = record {
+  answer = submission-more (λ s. IsBlocksAnswer publish_refusal_text s.release s.rows (HasParts s.cert) before o.cert) x (o.line, o.status) is;
+  no_text = λ _. none;
+}

@@ -9,6 +9,7 @@ use Rattle.std.specs.Prelude.{IsTrue}
 use Rattle.std.proofs.lemmas.Bool.{and_parts}
 use Rattle.std.proofs.lemmas.List.Concat.{flat_map-cons}
 use Rattle.lpis_tables.specs.Ids.{has_id}
+use Rattle.lpis_register.proofs.Shared.{IsLeftAlone, holds_still}
 use Rattle.lpis_lineage_exact.specs.ExactLineage.{ShapesTurnOnce}
 use Rattle.lpis_lineage_exact.specs.Shapes.{shape_named}
 use Rattle.lpis_lineage.specs.declared.kind.Kind.{Kind}
@@ -124,10 +125,14 @@ module _ {S : Type 0} (g : Ghosts S) (old new : RegisterState S) where
 
   -- or what it held
   pub leaves-kept : (failure : Failure) → IsMemoryOrStore failure → new.held ≡ old.held
-      → (HasCleanDisk (state g new.conn) → IsTrue (state g new.conn).is_open → (o : _) → TablesHold g o old → TablesHold g o new)
+      → (HasCleanDisk (state g new.conn) → IsTrue (state g new.conn).is_open → IsLeftAlone g old new)
       → ((IsStoreFailure failure → ⊥) → (o : _) → TablesHold g o old → TablesHold g o new) → PublishLeaves g old new (Err failure)
   leaves-kept failure stopped kept opened served =
-      record { same = tt; failure = (stopped, kept); stored = record { holds = opened; served = λ other clean. served other } }
+      record {
+        same = tt;
+        failure = (stopped, kept);
+        stored = record { holds = λ clean up o held. holds_still g o old new kept (opened clean up) held; served = λ other clean. served other };
+      }
 
   -- a database left as it was holds what the register does, where that is left too
   pub still-held : new.conn ≡ old.conn → new.held ≡ old.held → (o : _) → TablesHold g o old → TablesHold g o new

@@ -30,7 +30,7 @@ write-no-store failure is (inl e) = absurd (cc (is, e))
 write-no-store failure is (inr e) = absurd (cc (is, e))
 
 no-answer-of : (given : Submission Known) (failure : Failure) → IsMemoryOrStore failure → AreUnread (submission_named given) failure ⊎ IsStoreFailure failure
-no-answer-of given failure (inl is) = inl (inl is)
+no-answer-of given failure (inl is) = inl (inl (inl is))
 no-answer-of given failure (inr of) = inr of
 
 -- ---- how the run ends

@@ -1,6 +1,6 @@
 -- The answer to a release that is to be published: text and status, of the year, the bytes of the
 -- five inputs, and what the register holds before; and what it holds after.
-use Rattle.std.specs.Prelude.{◌≡◌, ◌≢◌, ◌⊎◌, ℕ, IfErr, Result}
+use Rattle.std.specs.Prelude.{◌≡◌, ◌≢◌, ◌⊎◌, ℕ, IfErr, List, Result}
 use Rattle.sqlite_trees.specs.declared.store.Store.{Ghosts}
 use Rattle.lpis_checker.specs.GoodCertificate.{IsGood}
 use Rattle.lpis_checker.specs.SoundMap.{IsSoundMap}
@@ -25,13 +25,14 @@ use Rattle.lpis_run_publish.specs.Submission.{AreAllRead, IsSubmissionAnswer, Is
 use Rattle.lpis_run_publish.specs.Submission.{SubmissionInputs, Submitted}
 
 -- ---- text and status
--- of a release with a good certificate, and what a register holds: the line of what the register
--- refuses, in its order, or what is printed of a release that was published
-abbrev pub IsHistoryAnswer : Candidate → Holdings → Answer → Type 0
-IsHistoryAnswer c before a =
+-- of what is to be published, and what a register holds: the line of what the register refuses, in
+-- its order, or what is printed, behind this text, of a release that was published
+abbrev pub IsHistoryAnswer : (PublishFault → List ℕ) → List ℕ → Candidate → Holdings → Answer
+    → Type 0
+IsHistoryAnswer refusal_of head c before a =
     ((fault : PublishFault) × IsRefused c before fault × (IsSetAside fault → ⊥)
-    × (a ≡ (publish_refusal_text fault, refused)))
-    ⊎ IsPublicationAnswer (report_text c.release) c before a
+    × (a ≡ (refusal_of fault, refused)))
+    ⊎ IsPublicationAnswer head c before a
 
 -- what is to be published in a year, of what was handed in
 abbrev pub candidate_of : ℕ → Submitted → Candidate
@@ -41,8 +42,8 @@ candidate_of year said = candidate year said.release said.cert.exact said.rows
 -- those of the certificate
 abbrev pub IsPublishAnswer : ℕ → SubmissionInputs → Holdings → Answer → Type 0
 IsPublishAnswer year x before =
-    IsSubmissionAnswer (λ said. IsCheckAnswer said.release said.cert
-    (IsHistoryAnswer (candidate_of year said) before)) x
+    IsSubmissionAnswer (λ said. IsCheckAnswer said.release said.cert (IsHistoryAnswer
+    publish_refusal_text (report_text said.release) (candidate_of year said) before)) x
 
 -- ---- the register after
 -- what was handed in says this, which is a sound map with a good certificate

@@ -2,7 +2,7 @@
 
 ghost use Rattle.std.specs.Prelude.{◌≡◌, ◌≤◌, ◌+◌, ◌∷◌, [], IfErr, IfOk, length, map, sum_by};
 ghost use Rattle.lpis_checker.specs.ExactBlocks.{block_name, part_name};
-ghost use Rattle.lpis_run_publish.specs.ExactAnswer.{HasBlocks};
+ghost use Rattle.lpis_run_publish.specs.ExactAnswer.{HasParts};
 ghost use Rattle.lpis_run_publish.specs.private.Blocks.{IsOf};
 ghost use Rattle.lpis_run_publish.specs.declared.blocks.BlockFault.{BlockFault};
 
@@ -95,7 +95,8 @@ pub(crate) fn with_blocks(
     cert: Cert,
     parts: &[ExactPart],
 ) -> Result<Cert, BlockFault>
-    ensures made { IfOk result (HasBlocks (map part_name parts.now) cert) }
+    ensures made { IfOk result (λ made. HasParts cert made
+        × (map block_name made.exact ≡ map part_name parts.now)) }
     ensures fault { IfErr result (IsOf parts.now) }
 {
     let taken = count_flats(&cert);

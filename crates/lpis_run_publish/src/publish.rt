@@ -20,13 +20,14 @@ ghost use Rattle.lpis_run.specs.Status.{done};
 ghost use Rattle.lpis_run_publish.specs.LineageLines.{lineage_line, published_line};
 ghost use Rattle.lpis_run_publish.specs.Publication.{IsPublicationAnswer, IsReleasePublished};
 ghost use Rattle.lpis_run_publish.specs.Publication.{PublishLeaves};
-ghost use Rattle.lpis_run_publish.specs.PublishAnswer.{IsHistoryAnswer, IsPublishAnswer};
+ghost use Rattle.lpis_run_publish.specs.PublishAnswer.{IsPublishAnswer};
 ghost use Rattle.lpis_run_publish.specs.PublishAnswer.{IsSoundSubmission, MovesRegister};
 ghost use Rattle.lpis_run_publish.specs.PublishAnswer.{RunsPublish, candidate_of};
 ghost use Rattle.lpis_run_publish.specs.Stored.{IsStoreFailure};
 ghost use Rattle.lpis_run_publish.specs.Submission.{Submitted, submitted};
 ghost use Rattle.lpis_run_publish.specs.private.Marked.{is_marked};
-ghost use Rattle.lpis_run_publish.specs.private.Submitting.{submission_of, submitted_of};
+ghost use Rattle.lpis_run_publish.specs.private.Submitting.{IsGoodAnswer, submission_of};
+ghost use Rattle.lpis_run_publish.specs.private.Submitting.{submitted_of};
 
 use crate::inputs::read_submission;
 use crate::lineage_lines::{marked_ids, print_lineage, print_published, refuse};
@@ -141,8 +142,8 @@ fn publish_checked<S: Alter>(
     cert: &Cert,
     rows: &[Row],
 ) -> Result<Answer, Failure>
-    ensures answer { IfOk result (λ a. IsHistoryAnswer (candidate_of year
-        (submitted yes.now cert.now rows.now)) register.old.held (a.text.items, a.status)) }
+    ensures answer { IfOk result (λ a. IsGoodAnswer year (submitted yes.now cert.now rows.now)
+        register.old.held (a.text.items, a.status)) }
     ensures published { IfOk result (λ a. a.status ≡ done → IsReleasePublished (candidate_of year
         (submitted yes.now cert.now rows.now)) register.old.held register.new.held) }
     ensures leaves { PublishLeaves S.Store register.old register.new result }
@@ -165,7 +166,7 @@ fn answer_to_submission<S: Alter>(
     said: &ReadSubmission,
 ) -> Result<Answer, Failure>
     ensures answer { IfOk result (λ a. IsCheckAnswer said.now.release said.now.cert
-        (IsHistoryAnswer (candidate_of year (submitted_of said.now)) register.old.held)
+        (IsGoodAnswer year (submitted_of said.now) register.old.held)
         (a.text.items, a.status)) }
     ensures published { IfOk result (λ a. a.status ≡ done → IsSoundMap said.now.release
         × IsGood said.now.release said.now.cert × IsReleasePublished

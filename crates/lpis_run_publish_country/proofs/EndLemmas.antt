@@ -17,21 +17,21 @@ use Rattle.lpis_run.specs.Status.{done}
 use Rattle.lpis_run.specs.Streams.{Begins}
 use Rattle.lpis_run.specs.declared.answer.Answer.{Answer as Printed}
 use Rattle.lpis_run.specs.declared.failure.Failure.{Failure}
-use Rattle.lpis_run.specs.declared.failure.Failure.TheVariants.{Memory, Read, ReadOf, Store, Write}
+use Rattle.lpis_run.specs.declared.failure.Failure.TheVariants.{Memory, Read, Store, Write}
 use Rattle.lpis_run.specs.declared.failure.Name.{Name}
 use Rattle.lpis_run.specs.declared.failure.Name.TheVariants.{Out}
 use Rattle.lpis_run_country.specs.CountryAnswer.{HavePassed, IsBehind, IsReachedBy, IsRegionsAnswer, Setting}
 use Rattle.lpis_run_country.specs.CountryLines.{country_lines}
-use Rattle.lpis_run_country.specs.CountryFailures.{IsReadOf, IsStoppedBefore}
+use Rattle.lpis_run_country.specs.CountryFailures.{IsReadOf, IsStoppedBefore, StopsRegions}
 use Rattle.lpis_run_country.specs.Regions.{Texts}
-use Rattle.lpis_run_country.specs.RegionsOutcome.{IsRegionsRefusal, RegionsEnd, RegionsStop, StopsRegions}
+use Rattle.lpis_run_country.specs.RegionsOutcome.{IsRegionsRefusal, RegionsEnd, RegionsStop}
 use Rattle.lpis_run_country.proofs.Shared.{all_left}
 use Rattle.lpis_run_publish.specs.Publication.{IsMemoryOrStore, PublishLeaves}
 use Rattle.lpis_run_publish.specs.Stored.{IsStoreFailure, Stays}
-use Rattle.lpis_run_publish_country.specs.PublishCountryAnswer.{AreSaid, CountryCandidate, CountryRequest, CountrySaid, IsPublishCountryAnswer, IsUnionAnswer, PublishCountryInputs}
-use Rattle.lpis_run_publish_country.specs.PublishCountryAnswer.{country_asked, setting_said, union_of}
-use Rattle.lpis_run_publish_country.specs.PublishCountryRuns.{FailsToPublishCountry, IsPublishPart, PublishesCountry, StopsBehind}
-use Rattle.lpis_run_publish_country.specs.private.Deciding.{DecidesUnion, EndsUnion, RunsPrepared, StopsUnion}
+use Rattle.lpis_run_publish_country.specs.PublishCountryAnswer.{AreSaid, CountryRequest, CountrySaid, IsPublishCountryAnswer, IsUnionAnswer, PublishCountryInputs}
+use Rattle.lpis_run_publish_country.specs.PublishCountryAnswer.{setting_said, union_of}
+use Rattle.lpis_run_publish_country.specs.PublishCountryRuns.{FailsToPublishCountry, StopsBehind}
+use Rattle.lpis_run_publish_country.specs.private.Deciding.{DecidesUnion, EndsUnion, PublishesCountry, RunsPrepared, StopsUnion}
 
 -- ---- writers
 -- a beginning of what follows a text
@@ -75,10 +75,10 @@ pub leaves_same : {S : Type 0} (store : Ghosts S) (old : RegisterState S) (a : P
 leaves_same store old a = record { same = λ other. refl; failure = tt; stored = record { holds = λ clean opened o held. held; served = λ other clean o held. held } }
 
 -- ---- the union
-module _ {S : Type 0} (store : Ghosts S) (c : CountryCandidate) (regions : List Contents) (old new : RegisterState S) where
+module _ {S : Type 0} (store : Ghosts S) (asked : CountryRequest) (said : CountrySaid) (regions : List Contents) (old new : RegisterState S) where
   -- memory runs out, or the database fails
   pub union_stopped : (out : Option (List ℕ)) (failure : Failure) → IsMemoryOrStore failure × (new.held ≡ old.held) → Stays {A = Printed} store old new (Err failure)
-      → (IsStoreFailure failure → FailsToStore store (union_of c regions) old new (failure ≡ Store)) → EndsUnion store c regions old new out out (Err failure)
+      → (IsStoreFailure failure → FailsToStore store (union_of asked.year said regions) old new (failure ≡ Store)) → EndsUnion store asked said regions old new out out (Err failure)
   union_stopped out failure why stays cause = record {
     runs = runs_stopped _ _ out failure why;
     stored = record { holds = stays.holds; served = stays.served };
@@ -86,9 +86,9 @@ module _ {S : Type 0} (store : Ghosts S) (c : CountryCandidate) (regions : List 
   }
 
   -- the answer is written, or a beginning of it
-  pub union_written : (before after : Option (List ℕ)) (a : Printed) (r : Result ℕ Failure) → IsUnionAnswer c regions old.held new.held (a.text.items, a.status)
+  pub union_written : (before after : Option (List ℕ)) (a : Printed) (r : Result ℕ Failure) → IsUnionAnswer asked said regions old.held new.held (a.text.items, a.status)
       → PublishLeaves store old new (Ok a) → IfOk r (λ s. s ≡ a.status) → OnOk r (Appends before after a.text.items)
-      → IfErr r (λ failure. (failure ≡ Write Out) × Begins before after a.text.items) → EndsUnion store c regions old new before after r
+      → IfErr r (λ failure. (failure ≡ Write Out) × Begins before after a.text.items) → EndsUnion store asked said regions old new before after r
   union_written before after a r answer leaves is written begun = record {
     runs = runs_written _ _ a.text.items a.status before after r (answer, leaves.same) is written begun;
     stored = record { holds = leaves.stored.holds; served = λ other. leaves.stored.served tt };
@@ -102,12 +102,8 @@ module _ {S : Type 0} (store : Ghosts S) (asked : CountryRequest) (x : PublishCo
   abbrev here : Setting
   here = setting_said asked.given asked.detail said
 
-  -- the regions of these folders passed
-  part : (regions : List Contents) (lines : List ℕ) (left : List (List ℕ)) → IsReachedBy here regions lines left → IsPublishPart asked.given asked.detail x lines left
-  part regions lines left reached = record { said = said; are_said = are_said; regions = regions; reached = reached }
-
   ends-at : (regions : List Contents) (left : List (List ℕ)) (end : Answer) → end.1 ≢ done → IsBehind here (λ rs a. a ≡ (country_lines (length rs) (country_of here.classes rs), done)) regions left end
-      → IsBehind here (λ rs. IsUnionAnswer (country_asked asked said) rs old.held new.held) regions left end
+      → IsBehind here (λ rs. IsUnionAnswer asked said rs old.held new.held) regions left end
   ends-at regions [] end not_done is = absurd (not_done (ap (λ (a : Answer). a.1) is))
   ends-at regions (name ∷ left) end not_done is = is
 
@@ -117,53 +113,55 @@ module _ {S : Type 0} (store : Ghosts S) (asked : CountryRequest) (x : PublishCo
     said,
     are_said,
     record {
-      regions = a.regions;
       text = a.text;
-      left = a.left;
-      reached = a.reached;
       end = a.end;
-      follows = ends-at a.regions a.left a.end (λ e. not_done (ap (λ (b : Answer). b.1) a.is ∙ e)) a.follows;
+      behind = record {
+        regions = a.behind.regions;
+        left = a.behind.left;
+        reached = a.behind.reached;
+        follows = ends-at a.behind.regions a.behind.left a.end (λ e. not_done (ap (λ (b : Answer). b.1) a.is ∙ e)) a.behind.follows;
+      };
       is = a.is;
     },
   )
 
   -- and the register is as it was
   publishes-none : new.held ≡ old.held → (a : Answer) → IsRegionsRefusal here a → PublishesCountry asked x old.held new.held a
-  publishes-none same a (answer, not_done) = record { answer = refused-answer a not_done answer; same = λ other. same }
+  publishes-none same a (answer, not_done) = (refused-answer a not_done answer, λ other. same)
 
   -- the run stops behind these lines
   stops-in-regions : new.held ≡ old.held → (lines : List ℕ) (f : Failure) → StopsRegions here lines f → StopsBehind asked x old.held new.held lines f
-  stops-in-regions same lines f (regions, left, reached, stopped) = record { left = left; part = part regions lines left reached; stopped = inl stopped; same = same }
+  stops-in-regions same lines f stopped = record { said = said; are_said = are_said; stopped = inl stopped; same = same }
 
   -- behind the last region
   module _ (regions : List Contents) (lines : List ℕ) (now : Option (List ℕ)) (passed : HavePassed here (folders said.plan) regions lines) (printed : Appends before now lines) where
     reached-all : IsReachedBy here regions lines []
     reached-all = all_left here regions lines passed
 
-    publishes-union : (a : Answer) → DecidesUnion (country_asked asked said) regions old.held new.held a → PublishesCountry asked x old.held new.held (lines ++ a.0, a.1)
-    publishes-union a is = record {
-      answer = inr (said, are_said, record { regions = regions; text = lines; left = []; reached = reached-all; end = a; follows = is.0; is = refl });
-      same = is.1;
-    }
+    publishes-union : (a : Answer) → DecidesUnion asked said regions old.held new.held a → PublishesCountry asked x old.held new.held (lines ++ a.0, a.1)
+    publishes-union a is = (
+      inr (said, are_said, record { text = lines; end = a; behind = record { regions = regions; left = []; reached = reached-all; follows = is.0 }; is = refl }),
+      is.1,
+    )
 
     -- memory ran out or the database failed
     stops-union : (f : Failure) → IsMemoryOrStore f → new.held ≡ old.held → StopsBehind asked x old.held new.held lines f
-    stops-union f (inl memory) same = record { left = []; part = part regions lines [] reached-all; stopped = inl memory; same = same }
-    stops-union f (inr failed) same = record { left = []; part = part regions lines [] reached-all; stopped = inr (refl, failed); same = same }
+    stops-union f (inl memory) same = record { said = said; are_said = are_said; stopped = inl (regions, [], reached-all, memory); same = same }
+    stops-union f (inr failed) same = record { said = said; are_said = are_said; stopped = inr (regions, passed, failed); same = same }
 
     union-breaks-off : (f : Failure) → (StopsUnion old.held new.held f × Keeps now after)
-        ⊎ ((f ≡ Write Out) × (a : Answer) × DecidesUnion (country_asked asked said) regions old.held new.held a × Begins now after a.0)
+        ⊎ ((f ≡ Write Out) × (a : Answer) × DecidesUnion asked said regions old.held new.held a × Begins now after a.0)
         → BreaksOffIn (StopsBehind asked x old.held new.held) (PublishesCountry asked x old.held new.held) before after f
     union-breaks-off f (inl (why, keeps)) = inl (lines, stops-union f why.0 why.1, Appends-kept before now after lines printed keeps)
     union-breaks-off f (inr (write, a, is, begins)) =
         inr (write, (lines ++ a.0, inr (a.1, publishes-union a is), begins_behind before now after lines a.0 printed begins))
 
-    cause-union : (f : Failure) → (IsStoreFailure f → FailsToStore store (union_of (country_asked asked said) regions) old new (f ≡ Store))
+    cause-union : (f : Failure) → (IsStoreFailure f → FailsToStore store (union_of asked.year said regions) old new (f ≡ Store))
         → IsStoreFailure f → FailsToPublishCountry store asked x old new (f ≡ Store)
     cause-union f told is = record { said = said; are_said = are_said; regions = regions; lines = lines; have_passed = passed; fails = told is }
 
     -- all of it
-    pub runs_union : (r : Result ℕ Failure) → EndsUnion store (country_asked asked said) regions old new now after r
+    pub runs_union : (r : Result ℕ Failure) → EndsUnion store asked said regions old new now after r
         → RunsPrepared store asked x old new before after r
     runs_union (Ok status) e =
         let (text, answer, written) = e.runs.answer in

@@ -1,7 +1,7 @@
 -- What a run that asks for the blocks of a country has decided, and how it ends.
 use Rattle.std.proofs.Common.{◌≡◌, ◌≢◌, ◌⊎◌, ◌<◌, ◌+◌, ◌-◌, ◌∙◌, ◌++◌, ◌∷◌, [], refl, sym, ap, ap₂, subst, arith, inl, inr, IfErr, IfOk, OnOk, ℕ, List, Option, None, Some, Result, Ok, Err}
 use Rattle.std.proofs.Common.{length, take}
-use Rattle.std.proofs.KnownBytes.{Appends-trans, Keeps-refl}
+use Rattle.std.proofs.KnownBytes.{Keeps-refl}
 use Rattle.std.proofs.Math.Seq.{take-append-add}
 use Rattle.std.proofs.lemmas.Bool.{cases_lt}
 use Rattle.std.proofs.lemmas.List.{append-nil, append_assoc, take-append-le}
@@ -24,8 +24,7 @@ use Rattle.lpis_run.proofs.Shared.{breaks_off_more}
 use Rattle.lpis_run.specs.CheckAnswer.{Answer}
 use Rattle.lpis_run.specs.Outputs.{BreaksOff, Held, Outputs, Writes, held, outputs_of}
 use Rattle.lpis_run.specs.Failures.{AreUnread}
-use Rattle.lpis_run.specs.Folders.{top_named}
-use Rattle.lpis_run.specs.Run.{BreaksOffInBoth, RunsOnBoth}
+use Rattle.lpis_run.specs.Run.{BreaksOffIn, RunsOnBoth}
 use Rattle.lpis_run.specs.Status.{done, refused}
 use Rattle.lpis_run.specs.Streams.{Begins, Known}
 use Rattle.lpis_run.specs.declared.folder.Top.{Top}
@@ -37,19 +36,19 @@ use Rattle.lpis_run.specs.declared.failure.Name.TheVariants.{Out}
 use Rattle.lpis_run.specs.declared.outcome.Outcome.{Outcome}
 use Rattle.lpis_run_country.proofs.Shared.{setting_begun}
 use Rattle.lpis_run_country.specs.CountryAnswer.{IsBehind, IsReachedBy, IsRegionsAnswer, Setting}
-use Rattle.lpis_run_country.specs.CountryFailures.{IsStoppedBefore}
+use Rattle.lpis_run_country.specs.CountryFailures.{IsStoppedBefore, StopsRegions}
 use Rattle.lpis_run_country.specs.CountryLines.{country_lines}
 use Rattle.lpis_run_country.specs.Regions.{Texts}
-use Rattle.lpis_run_country.specs.RegionsOutcome.{IsSettingOf, JoinsAll, RegionsEnd, RegionsStop, StopsRegions}
-use Rattle.lpis_run_publish.specs.ExactAnswer.{IsBlocksAnswer, IsBlocksOutcome}
+use Rattle.lpis_run_country.specs.RegionsOutcome.{IsSettingOf, JoinsAll, RegionsEnd, RegionsStop}
+use Rattle.lpis_run_publish.specs.ExactAnswer.{AreAsked, HasParts, IsBlocksAnswer, IsBlocksOutcome}
+use Rattle.lpis_run_publish.specs.LineageLines.{publish_refusal_text}
 use Rattle.lpis_run_publish.specs.Submission.{submitted}
 use Rattle.lpis_run_publish_country.specs.CountryLineage.{country_refusal_text, rows_in}
-use Rattle.lpis_run_publish_country.specs.ExactCountryAnswer.{FillsRegions, HasNoParts, IsFillAnswer, IsFillEnd, IsFillOutcome}
-use Rattle.lpis_run_publish_country.specs.ExactCountryAnswer.{RunsExactCountry, StopsFillBehind}
+use Rattle.lpis_run_publish_country.specs.ExactCountryAnswer.{HasNoParts, RunsExactCountry}
 use Rattle.lpis_run_publish_country.specs.PublishCountryAnswer.{AreTopRead, CountryFiles, CountrySaid, IsRefusedBefore, PublishCountryInputs, setting_said}
-use Rattle.lpis_run_publish_country.specs.PublishCountryRuns.{IsPublishPart, StopsAtLineage}
+use Rattle.lpis_run_publish_country.specs.PublishCountryRuns.{StopsAtLineage, files_named}
 use Rattle.lpis_run_publish_country.specs.declared.inputs.Prepared.{Prepared}
-use Rattle.lpis_run_publish_country.specs.private.Filling.{FillsPrepared}
+use Rattle.lpis_run_publish_country.specs.private.Filling.{FillsPrepared, FillsWhole, IsEmpty, IsFillOutcome, StopsFillBehind}
 use Rattle.lpis_run_publish_country.specs.private.Preparing.{IsPrepared, said_of}
 
 -- ---- the union
@@ -61,17 +60,36 @@ no-first fs fault none is = nothing (sym (ap first none) ∙ is)
     nothing e = cc
 
 module _ (g : Setting) (tables : List (List Row)) (regions : List Contents) (before : Holdings) where
+  -- a certificate with the parts of one that has none
+  no-parts : (c made : Cert) → IsEmpty c → HasParts c made → HasNoParts made
+  no-parts c made none has = record { pieces = has.pieces ∙ none.rest.pieces; parcels = has.parcels ∙ none.rest.parcels; pairs = has.pairs ∙ none.rest.pairs }
+
+  -- the blocks that were found
+  fill-asked : (c : Cert) (text : Option (List ℕ)) (a : Answer) → IsEmpty c
+      → AreAsked publish_refusal_text (country_of g.classes regions) (rows_in tables) (HasParts c) before text a
+      → AreAsked (country_refusal_text g.names tables) (country_of g.classes regions) (rows_in tables) HasNoParts before text a
+  fill-asked c text a none asked = record {
+    gs = asked.gs;
+    xs = asked.xs;
+    asks = asked.asks;
+    answer = elim asked.answer [
+      | inl unfilled ↦ inl unfilled
+      | inr filled ↦ inr (filled.0, no-parts c filled.0 none filled.1, filled.2, filled.3, filled.4)
+    ];
+  }
+
   -- the answer to a union that may follow
-  fill-answer : (c : Cert) (text : Option (List ℕ)) (a : Answer) → HasNoParts c → faults before.history (parcel_ids (country_of g.classes regions).parcels) (rows_in tables) ≡ []
-      → IsBlocksAnswer (submitted (country_of g.classes regions) c (rows_in tables)) before text a → IsFillAnswer g tables regions before text a
+  fill-answer : (c : Cert) (text : Option (List ℕ)) (a : Answer) → IsEmpty c → faults before.history (parcel_ids (country_of g.classes regions).parcels) (rows_in tables) ≡ []
+      → IsBlocksAnswer publish_refusal_text (country_of g.classes regions) (rows_in tables) (HasParts c) before text a
+      → IsBlocksAnswer (country_refusal_text g.names tables) (country_of g.classes regions) (rows_in tables) HasNoParts before text a
   fill-answer c text a none clean (inl (fault, is, told)) = absurd (no-first _ fault clean is)
   fill-answer c text a none clean (inr (inl unkept)) = inr (inl unkept)
-  fill-answer c text a none clean (inr (inr filled)) = inr (inr (c, none, filled))
+  fill-answer c text a none clean (inr (inr asked)) = inr (inr (fill-asked c text a none asked))
 
   -- with what was found of a change
   pub fill_change_ends : {E : Type 0} (c : Cert) (rows : List Row) (parcels : List Parcel) (change : Changes) (r : Result Outcome E)
       → parcels ≡ (country_of g.classes regions).parcels → rows ≡ rows_in tables
-      → HasNoParts c → faults before.history (parcel_ids parcels) rows ≡ [] → IsChange (last_live before.history) (parcel_ids parcels) rows change
+      → IsEmpty c → faults before.history (parcel_ids parcels) rows ≡ [] → IsChange (last_live before.history) (parcel_ids parcels) rows change
       → ((u : Contents) (h : List Entry) (ls : List Row) → u.parcels ≡ parcels → faults h (parcel_ids u.parcels) ls ≡ [] → IsChange (last_live h) (parcel_ids u.parcels) ls change
       → IfOk r (λ o. IsBlocksOutcome (submitted u c ls) (holdings h before.shapes) (outputs_of o)))
       → IfOk r (λ o. IsFillOutcome g tables regions before (outputs_of o))
@@ -114,36 +132,32 @@ is_fill_setting given x p h texts told =
     subst (λ (t : List ℕ → Texts). IsSettingOf (fill_setting given x p h) t Regions p.begun) told (setting_begun given.texts Regions x.country p.begun h.begun)
 
 -- ---- the regions
--- the lines of the regions that passed
-fill-part : (given : CountryFiles) (x : PublishCountryInputs) (p : Prepared) (h : IsPrepared given x p) (regions : List Contents) (text : List ℕ) (left : List (List ℕ))
-    → IsReachedBy (fill_setting given x p h) regions text left → IsPublishPart given Regions x text left
-fill-part given x p h regions text left reached = record { said = fill-said given x p h; are_said = h.said; regions = regions; reached = reached }
-
 -- all of them
 all-reached : (s : Setting) (regions : List Contents) (lines : List ℕ) → JoinsAll s regions lines → IsReachedBy s regions lines []
 all-reached s regions lines joins = record { passed = s.names; all = sym (append-nil s.names); have_passed = joins.have_passed }
 
+-- all of the first of two texts, and the rest
+known-all : (o : Option (List ℕ)) (a : List ℕ) → Appends o (append_known o a) a
+known-all None a = tt
+known-all (Some xs) a = refl
+
+known-rest : (o q : Option (List ℕ)) (a b : List ℕ) → Appends o q (a ++ b) → Appends (append_known o a) q b
+known-rest None q a b e = tt
+known-rest (Some xs) None a b e = e
+known-rest (Some xs) (Some ys) a b e = e ∙ sym (append_assoc xs a b)
+
 -- a beginning of two texts is one of the first, or all of it and one of the second
 begins-split : (old new : Option (List ℕ)) (a b text : List ℕ) → text ≡ a ++ b → Begins old new text → Begins old new a ⊎ ((mid : Option (List ℕ)) × Appends old mid a × Begins mid new b)
 begins-split old new a b text is (n, got) = elim (cases_lt (length a) n) [
-  | inl more ↦ inr (append_known old a, all old, (n - length a, rest old new (subst (Appends old new) (takes more) got)))
+  | inl more ↦ inr (append_known old a, known-all old a, (n - length a, known-rest old new a (take (n - length a) b) (subst (Appends old new) (takes more) got)))
   | inr few ↦ inl (n, subst (Appends old new) (ap (take n) is ∙ take-append-le n a b few) got)
 ]
   where
-    all : (o : Option (List ℕ)) → Appends o (append_known o a) a
-    all None = tt
-    all (Some xs) = refl
-
     back : length a < n → n ≡ length a + (n - length a)
     back lt = omega arith
 
     takes : length a < n → take n text ≡ a ++ take (n - length a) b
     takes lt = ap (take n) is ∙ ap (λ (m : ℕ). take m (a ++ b)) (back lt) ∙ take-append-add a b (n - length a)
-
-    rest : (o q : Option (List ℕ)) → Appends o q (a ++ take (n - length a) b) → Appends (append_known o a) q (take (n - length a) b)
-    rest None q e = tt
-    rest (Some xs) None e = e
-    rest (Some xs) (Some ys) e = e ∙ sym (append_assoc xs a (take (n - length a) b))
 
 -- memory may run out before any folder
 stops-memory : (texts : List ℕ → Texts) (left : List (List ℕ)) → IsStoppedBefore texts left Memory
@@ -159,22 +173,28 @@ module _ (given : CountryFiles) (x : PublishCountryInputs) (p : Prepared) (h : I
   -- its line ends the run
   refused-end : (g : Setting) (regions : List Contents) (left : List (List ℕ)) (end : Answer)
       → IsBehind g (λ rs a. a ≡ (country_lines (length rs) (country_of g.classes rs), done)) regions left end → end.1 ≢ done
-      → IsFillEnd g h.tables regions left before (record { cert = None; line = end.0; status = end.1 })
+      → IsBehind g (λ rs. IsBlocksAnswer (country_refusal_text g.names h.tables) (country_of g.classes rs) (rows_in h.tables) HasNoParts before None) regions left (end.0, end.1)
   refused-end g regions [] end is other = absurd (other (ap (λ (a : Answer). a.1) is))
-  refused-end g regions (name ∷ left) end is other = (is, refl)
+  refused-end g regions (name ∷ left) end is other = is
 
   -- it and the lines before it
   abbrev refusal_of : {a : Answer} → IsRegionsAnswer (fill_setting given x p h) a → Outputs
   refusal_of answer = record { cert = None; line = answer.end.0; status = answer.end.1 }
 
-  fills-refusal : (text : List ℕ) (status : ℕ) (answer : IsRegionsAnswer (fill_setting given x p h) (text, status)) → status ≢ done → FillsRegions given x before answer.text (refusal_of answer)
+  fills-refusal : (text : List ℕ) (status : ℕ) (answer : IsRegionsAnswer (fill_setting given x p h) (text, status)) → status ≢ done → FillsWhole given x before answer.text (refusal_of answer)
   fills-refusal text status answer other = record {
-    said = fill-said given x p h;
-    are_said = h.said;
-    regions = answer.regions;
-    left = answer.left;
-    reached = answer.reached;
-    follows = refused-end (fill_setting given x p h) answer.regions answer.left answer.end answer.follows (λ e. other (ap (λ (a : Answer). a.1) answer.is ∙ e));
+    fills = record {
+      said = fill-said given x p h;
+      are_said = h.said;
+      behind = record {
+        regions = answer.behind.regions;
+        left = answer.behind.left;
+        reached = answer.behind.reached;
+        follows = refused-end (fill_setting given x p h) answer.behind.regions answer.behind.left answer.end answer.behind.follows
+            (λ e. other (ap (λ (a : Answer). a.1) answer.is ∙ e));
+      };
+    };
+    no_text = λ _. refl;
   }
 
   -- where it was written
@@ -185,10 +205,12 @@ module _ (given : CountryFiles) (x : PublishCountryInputs) (p : Prepared) (h : I
       answer.text,
       refusal_of answer,
       fills-refusal text status answer other,
+      append_known old answer.text,
+      known-all old answer.text,
       record {
         status_told = ap (λ (a : Answer). a.1) answer.is;
         certificate = Keeps-refl file;
-        line = subst (Appends old new) (ap (λ (a : Answer). a.0) answer.is) written;
+        line = known-rest old new answer.text answer.end.0 (subst (Appends old new) (ap (λ (a : Answer). a.0) answer.is) written);
       },
     );
     failure = tt;
@@ -197,25 +219,20 @@ module _ (given : CountryFiles) (x : PublishCountryInputs) (p : Prepared) (h : I
   -- ---- no end of the regions
   -- a run that broke off so
   abbrev Broken : (file old new : Option (List ℕ)) → Failure → Type 0
-  Broken file old new f = BreaksOffInBoth (StopsFillBehind given x) (FillsRegions given x before) (held file old) (held file new) f
+  Broken file old new f = (BreaksOffIn (StopsFillBehind given x) (λ a. ⊥) old new f × Keeps file file)
+      ⊎ ((lines : List ℕ) × (end : Outputs) × FillsWhole given x before lines end × (mid : Known) × Appends old mid lines × BreaksOff end f (held file mid) (held file new))
 
   stops-behind : (lines : List ℕ) (f : Failure) → StopsRegions (fill_setting given x p h) lines f → StopsFillBehind given x lines f
-  stops-behind lines f (regions, left, reached, stopped) = (left, fill-part given x p h regions lines left reached, stopped)
+  stops-behind lines f stopped = (fill-said given x p h, h.said, stopped)
 
   -- where a beginning of a refusal was written
   refusal-broken : (file old new : Option (List ℕ)) (f : Failure) (text : List ℕ) (status : ℕ) (answer : IsRegionsAnswer (fill_setting given x p h) (text, status)) → status ≢ done
       → (f ≡ Write Out) → Begins old new answer.text ⊎ ((mid : Option (List ℕ)) × Appends old mid answer.text × Begins mid new answer.end.0) → Broken file old new f
   refusal-broken file old new f text status answer other write (inl begins) =
-      let part = fill-part given x p h answer.regions answer.text answer.left answer.reached in
-      inl (inr (write, (answer.text, inl (Memory, (answer.left, part, stops-memory given.texts answer.left)), begins)), Keeps-refl file)
-  refusal-broken file old new f text status answer other write (inr (mid, written, begins)) = inr (record {
-    lines = answer.text;
-    end = refusal_of answer;
-    answer = fills-refusal text status answer other;
-    passed = mid;
-    written = written;
-    broken = inr (write, Keeps-refl file, begins);
-  })
+      let stopped = stops-behind answer.text Memory (answer.behind.regions, answer.behind.left, answer.behind.reached, stops-memory given.texts answer.behind.left) in
+      inl (inr (write, (answer.text, inl (Memory, stopped), begins)), Keeps-refl file)
+  refusal-broken file old new f text status answer other write (inr (mid, written, begins)) =
+      inr (answer.text, refusal_of answer, fills-refusal text status answer other, mid, written, inr (write, Keeps-refl file, begins))
 
   breaks-in-regions : (file old new : Option (List ℕ)) (f : Failure) → RegionsStop (fill_setting given x p h) old new f → Broken file old new f
   breaks-in-regions file old new f (inl (lines, stopped, written)) = inl (inl (lines, stops-behind lines f stopped, written), Keeps-refl file)
@@ -230,53 +247,45 @@ module _ (given : CountryFiles) (x : PublishCountryInputs) (p : Prepared) (h : I
 
   -- ---- behind the regions, which all passed
   module _ (regions : List Contents) (lines : List ℕ) (joins : JoinsAll (fill_setting given x p h) regions lines) (file old now : Option (List ℕ)) (written : Appends old now lines) where
-    fills-all : (o : Outputs) → IsFillOutcome (fill_setting given x p h) h.tables regions before o → FillsRegions given x before lines o
+    fills-all : (o : Outputs) → IsFillOutcome (fill_setting given x p h) h.tables regions before o → FillsWhole given x before lines o
     fills-all o out = record {
-      said = fill-said given x p h;
-      are_said = h.said;
-      regions = regions;
-      left = [];
-      reached = all-reached (fill_setting given x p h) regions lines joins;
-      follows = out;
+      fills = record {
+        said = fill-said given x p h;
+        are_said = h.said;
+        behind = record { regions = regions; left = []; reached = all-reached (fill_setting given x p h) regions lines joins; follows = out.answer };
+      };
+      no_text = out.no_text;
     }
 
     -- the outcome was written, or a part of it
     pub fill_writes : (o : Outputs) (cert out : Option (List ℕ)) (r : Result ℕ Failure) → IsFillOutcome (fill_setting given x p h) h.tables regions before o
         → IfOk r (λ status. Writes o status (held file now) (held cert out)) → IfErr r (λ f. BreaksOff o f (held file now) (held cert out))
         → FillsPrepared given x before (held file old) (held cert out) r
-    fill_writes o cert out (Ok status) decided w broken = record {
-      answer = (
-        lines,
-        o,
-        fills-all o decided,
-        record { status_told = w.status_told; certificate = w.certificate; line = Appends-trans old now out lines o.line written w.line },
-      );
-      failure = tt;
-    }
-    fill_writes o cert out (Err f) decided w broken = record {
-      answer = tt;
-      failure = inr (inr (record { lines = lines; end = o; answer = fills-all o decided; passed = now; written = written; broken = broken }));
-    }
+    fill_writes o cert out (Ok status) decided w broken = record { answer = (lines, o, fills-all o decided, now, written, w); failure = tt }
+    fill_writes o cert out (Err f) decided w broken = record { answer = tt; failure = inr (inr (lines, o, fills-all o decided, now, written, broken)) }
 
     -- memory ran out before
     pub fill_spent : FillsPrepared given x before (held file old) (held file now) (Err Memory)
     fill_spent =
-        let part = fill-part given x p h regions lines [] (all-reached (fill_setting given x p h) regions lines joins) in
-        record { answer = tt; failure = inr (inl (inl (lines, ([], part, refl), written), Keeps-refl file)) }
+        let stopped = stops-behind lines Memory (regions, [], all-reached (fill_setting given x p h) regions lines joins, refl) in
+        record { answer = tt; failure = inr (inl (inl (lines, stopped, written), Keeps-refl file)) }
 
 -- ---- a run that writes a certificate behind its lines
 -- what ends so ends as a run that more stops, and that has more answers
 both-more : (P Q : Failure → Type 0) (S T : List ℕ → Failure → Type 0) (A B : List ℕ → Outputs → Type 0) (old new : Held) (r : Result ℕ Failure) → ((f : Failure) → P f → Q f)
     → ((lines : List ℕ) (f : Failure) → S lines f → T lines f) → ((lines : List ℕ) (end : Outputs) → A lines end → B lines end) → RunsOnBoth P S A old new r → RunsOnBoth Q T B old new r
 both-more P Q S T A B old new (Ok status) before behind answers runs =
-    let (lines, end, answer, written) = runs.answer in
-    record { answer = (lines, end, answers lines end answer, written); failure = tt }
+    let (lines, end, answer, mid, wrote, rest) = runs.answer in
+    record { answer = (lines, end, answers lines end answer, mid, wrote, rest); failure = tt }
 both-more P Q S T A B old new (Err f) before behind answers runs = record { answer = tt; failure = more runs.failure }
   where
-    more : (P f × Keeps old.cert new.cert × Keeps old.out new.out) ⊎ BreaksOffInBoth S A old new f → (Q f × Keeps old.cert new.cert × Keeps old.out new.out) ⊎ BreaksOffInBoth T B old new f
+    more : (P f × Keeps old.cert new.cert × Keeps old.out new.out) ⊎ (BreaksOffIn S (λ a. ⊥) old.out new.out f × Keeps old.cert new.cert)
+        ⊎ ((lines : List ℕ) × (end : Outputs) × A lines end × (mid : Known) × Appends old.out mid lines × BreaksOff end f (record old { out = mid }) new)
+        → (Q f × Keeps old.cert new.cert × Keeps old.out new.out) ⊎ (BreaksOffIn T (λ a. ⊥) old.out new.out f × Keeps old.cert new.cert)
+        ⊎ ((lines : List ℕ) × (end : Outputs) × B lines end × (mid : Known) × Appends old.out mid lines × BreaksOff end f (record old { out = mid }) new)
     more (inl (stopped, file, out)) = inl (before f stopped, file, out)
     more (inr (inl (broken, file))) = inr (inl (breaks_off_more S T (λ a. ⊥) (λ a. ⊥) old.out new.out f behind (λ a never. never) broken, file))
-    more (inr (inr b)) = inr (inr (record { lines = b.lines; end = b.end; answer = answers b.lines b.end b.answer; passed = b.passed; written = b.written; broken = b.broken }))
+    more (inr (inr (lines, end, answer, mid, wrote, rest))) = inr (inr (lines, end, answers lines end answer, mid, wrote, rest))
 
 -- ---- the run
 -- the files of a run that names no certificate
@@ -285,10 +294,10 @@ files_without top texts lineages = record { top = top; exact = None; texts = tex
 
 module _ (given : CountryFiles) (before : Holdings) (file out : Option (List ℕ)) where
   -- a file was not read
-  pub runs_unread : (f : Failure) → AreUnread (top_named given.top) f → RunsExactCountry given before (held file out) (held file out) (Err f)
+  pub runs_unread : (f : Failure) → AreUnread (files_named given) f → RunsExactCountry given before (held file out) (held file out) (Err f)
   runs_unread f unread = record { answer = tt; failure = inl (inl unread, Keeps-refl file, Keeps-refl out) }
 
-  module _ (x : PublishCountryInputs) (read : AreTopRead given x) where
+  module _ (x : PublishCountryInputs) (read : AreTopRead x given) where
     -- nor a lineage table
     pub runs_earlier : (f : Failure) → StopsAtLineage given x f → RunsExactCountry given before (held file out) (held file out) (Err f)
     runs_earlier f stopped = record { answer = tt; failure = inl (inr (x, read, stopped), Keeps-refl file, Keeps-refl out) }
@@ -301,25 +310,27 @@ module _ (given : CountryFiles) (before : Holdings) (file out : Option (List ℕ
       answer = (
         [],
         record { cert = None; line = a.text.items; status = a.status },
-        (x, read, inl (refl, refl, refusal)),
+        ((x, read, inl (refl, refusal)), λ _. refl),
+        out,
+        appends-nothing out,
         record { status_told = same; certificate = Keeps-refl file; line = written },
       );
       failure = tt;
     }
     runs_refused new a (Err f) refusal same written begun = record {
       answer = tt;
-      failure = inr (inr (record {
-        lines = [];
-        end = record { cert = None; line = a.text.items; status = a.status };
-        answer = (x, read, inl (refl, refl, refusal));
-        passed = out;
-        written = appends-nothing out;
-        broken = inr (begun.0, Keeps-refl file, begun.1);
-      }));
+      failure = inr (inr (
+        [],
+        record { cert = None; line = a.text.items; status = a.status },
+        ((x, read, inl (refl, refusal)), λ _. refl),
+        out,
+        appends-nothing out,
+        inr (begun.0, Keeps-refl file, begun.1),
+      ));
     }
 
     -- it has none
     pub runs_prepared : (cert new : Option (List ℕ)) (r : Result ℕ Failure) → FillsPrepared given x before (held file out) (held cert new) r
         → RunsExactCountry given before (held file out) (held cert new) r
     runs_prepared cert new r h =
-        both-more _ _ _ _ _ _ (held file out) (held cert new) r (λ f never. absurd never) (λ lines f why. (x, read, why)) (λ lines end is. (x, read, inr is)) h
+        both-more _ _ _ _ _ _ (held file out) (held cert new) r (λ f never. absurd never) (λ lines f why. (x, read, why)) (λ lines end is. ((x, read, inr is.fills), is.no_text)) h

@@ -1,5 +1,5 @@
 -- What the files before the regions say, or the answer to the first of them that has a fault.
-use Rattle.std.proofs.Common.{◌≡◌, ◌⊎◌, ◌∙◌, refl, sym, ap, subst, inl, inr, IfErr, IfOk, ℕ, List, Option, None, Some, Result, Ok, Err, Vec, length, map}
+use Rattle.std.proofs.Common.{◌≡◌, ◌∙◌, refl, sym, ap, subst, inl, inr, IfErr, IfOk, ℕ, List, Option, None, Some, Result, Ok, Err, Vec, length, map}
 use Rattle.std.specs.Option.{option_map}
 use Rattle.std.specs.declared.alloc.Global.{Global}
 use Rattle.std.specs.String.{string_bytes}
@@ -13,7 +13,6 @@ use Rattle.lpis_cert.specs.declared.cert.Cert.{Cert}
 use Rattle.lpis_cert.specs.declared.part.ExactBlock.{ExactBlock}
 use Rattle.lpis_run.specs.CheckAnswer.{Answer, IsCertAnswer, IsTableAnswer}
 use Rattle.lpis_run.specs.Stops.{IsRefusedAs}
-use Rattle.lpis_run.specs.declared.failure.Failure.TheVariants.{Memory}
 use Rattle.lpis_run.specs.declared.stop.Stop.{Stop}
 use Rattle.lpis_run.proofs.Shared.{answer-of-text, cert-more, refused-more, table-more}
 use Rattle.lpis_country.specs.Tree.{folders}
@@ -22,7 +21,7 @@ use Rattle.lpis_run_country.specs.declared.beginning.Begun.{Begun}
 use Rattle.lpis_run.specs.declared.failure.Failure.{Failure}
 use Rattle.lpis_run_publish_country.specs.CountryLineage.{AreTablesOf}
 use Rattle.lpis_run_publish_country.specs.PublishCountryAnswer.{AreBlocksOf, CountryFiles, IsExactTextAnswer, IsRefusedBefore, PublishCountryInputs}
-use Rattle.lpis_run_publish_country.specs.PublishCountryRuns.{IsUnreadLineage}
+use Rattle.lpis_run_publish_country.specs.PublishCountryRuns.{StopsAtLineage}
 use Rattle.lpis_run_publish_country.specs.declared.inputs.Prepared.{Prepared}
 use Rattle.lpis_run_publish_country.specs.declared.unprepared.Unprepared.{Unprepared}
 use Rattle.lpis_run_publish_country.specs.declared.unprepared.Unprepared.TheVariants.{Failed, Refused}
@@ -93,24 +92,26 @@ tables-refused given x told b blocks a same begun of h = begun-refused given x b
 
 -- or was not read
 tables-unread : (given : CountryFiles) (x : PublishCountryInputs) (told : List ℕ → Option (List ℕ)) (b : Begun) (blocks : List ExactBlock) (f : Failure)
-    → given.lineages ≡ told → IsBegun x.country b → AreBlocksOf x.exact blocks → AreTablesUnread told (map string_bytes b.names.items) f → IsUnreadLineage given x f
-tables-unread given x told b blocks f same begun of h = record {
-  plan = begun.plan;
-  planned = begun.text;
-  classes = b.classes.items;
-  table = begun.table;
-  blocks = blocks;
-  of_exact = of;
-  unread = subst (λ (l : List (List ℕ)). AreTablesUnread given.lineages l f) begun.names_are
-      (subst (λ (t : List ℕ → Option (List ℕ)). AreTablesUnread t (map string_bytes b.names.items) f) (sym same) h);
-}
+    → given.lineages ≡ told → IsBegun x.country b → AreBlocksOf x.exact blocks → AreTablesUnread told (map string_bytes b.names.items) f → StopsAtLineage given x f
+tables-unread given x told b blocks f same begun of h = inr (
+  begun.plan,
+  b.classes.items,
+  begun.text,
+  begun.table,
+  (
+    blocks,
+    of,
+    subst (λ (l : List (List ℕ)). AreTablesUnread given.lineages l f) begun.names_are
+        (subst (λ (t : List ℕ → Option (List ℕ)). AreTablesUnread t (map string_bytes b.names.items) f) (sym same) h),
+  ),
+)
 
 -- so it is of tables that give no rows
 pub tables_unprepared : (given : CountryFiles) (x : PublishCountryInputs) (told : List ℕ → Option (List ℕ)) (b : Begun) (blocks : List ExactBlock) (e : Unprepared)
     → given.lineages ≡ told → IsBegun x.country b → AreBlocksOf x.exact blocks
     → IsUnprepared (AreTablesUnread told (map string_bytes b.names.items)) (AreTablesRefused told (map string_bytes b.names.items)) e
-    → IsUnprepared (λ f. (f ≡ Memory) ⊎ IsUnreadLineage given x f) (IsRefusedBefore given x) e
-tables_unprepared given x told b blocks (Failed f) same begun of h = inr (tables-unread given x told b blocks f same begun of h)
+    → IsUnprepared (StopsAtLineage given x) (IsRefusedBefore given x) e
+tables_unprepared given x told b blocks (Failed f) same begun of h = tables-unread given x told b blocks f same begun of h
 tables_unprepared given x told b blocks (Refused a) same begun of h = tables-refused given x told b blocks (a.text.items, a.status) same begun of h
 
 -- ---- no fault

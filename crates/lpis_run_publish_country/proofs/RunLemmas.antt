@@ -1,5 +1,5 @@
 -- How a run over a country begins, and how it ends before its regions.
-use Rattle.std.proofs.Common.{◌≡◌, ◌≤◌, ◌<◌, ◌⊎◌, ◌∙◌, inl, inr, refl, ap, subst, ℕ, List, Option, Result, Ok, Err, IfErr, IfOk, OnOk}
+use Rattle.std.proofs.Common.{◌≡◌, ◌≤◌, ◌<◌, ◌⊎◌, inl, inr, refl, subst, ℕ, List, Option, Result, Ok, Err, IfErr, IfOk, OnOk}
 use Rattle.std.proofs.lemmas.Result.{IfErr-weaker}
 use Rattle.std.specs.Io.KnownBytes.{Appends, Keeps}
 use Rattle.sqlite_trees.specs.declared.store.Store.{Ghosts}
@@ -9,26 +9,27 @@ use Rattle.lpis_register.specs.declared.fault.PublishFault.TheVariants.{Year}
 use Rattle.lpis_run.proofs.Shared.{runs_on_more, runs_on_stopped, runs_on_written, some_unread}
 use Rattle.lpis_run.specs.CheckAnswer.{Answer}
 use Rattle.lpis_run.specs.Failures.{AreUnread}
+use Rattle.lpis_run.specs.Run.{OfRead}
 use Rattle.lpis_run.specs.Status.{refused}
 use Rattle.lpis_run.specs.Streams.{Begins}
 use Rattle.lpis_run.specs.declared.answer.Answer.{Answer as Printed}
 use Rattle.lpis_run.specs.declared.failure.Failure.{Failure}
-use Rattle.lpis_run.specs.declared.failure.Failure.TheVariants.{Memory, Read, Write}
+use Rattle.lpis_run.specs.declared.failure.Failure.TheVariants.{Memory, Read, Store, Write}
 use Rattle.lpis_run.specs.declared.failure.Name.{Name}
 use Rattle.lpis_run.specs.declared.failure.Name.TheVariants.{Lineage, Out}
 use Rattle.lpis_run_publish.specs.LineageLines.{publish_refusal_text}
 use Rattle.lpis_run_publish.specs.Stored.{IsStoreFailure}
 use Rattle.lpis_run_publish_country.specs.CountryLineage.{IsUnreadTable}
 use Rattle.lpis_run_publish_country.specs.PublishCountryAnswer.{AreTopRead, CountryFiles, CountryRequest, IsRefusedBefore, PublishCountryInputs}
-use Rattle.lpis_run_publish_country.specs.PublishCountryRuns.{EndsPublishCountry, IsUnreadLineage, RefusesEarly, RunsPublishCountry, files_named}
+use Rattle.lpis_run_publish_country.specs.PublishCountryRuns.{FailsToPublishCountry, RunsPublishCountry, StopsAtLineage, files_named}
 use Rattle.lpis_run_publish_country.specs.private.Deciding.{RunsEarly, RunsPrepared}
 use Rattle.lpis_run_publish_country.proofs.EndLemmas.{none_of_store, read_no_store, stays_same}
 
 -- ---- failures
 -- the database did not fail where a lineage table was not read
-lineage-no-store : (given : CountryFiles) (x : PublishCountryInputs) (f : Failure) → (f ≡ Memory) ⊎ IsUnreadLineage given x f → IsStoreFailure f → ⊥
+lineage-no-store : (given : CountryFiles) (x : PublishCountryInputs) (f : Failure) → StopsAtLineage given x f → IsStoreFailure f → ⊥
 lineage-no-store given x f (inl memory) = none_of_store f (inl memory)
-lineage-no-store given x f (inr u) = table-no-store u.unread.name u.unread.is
+lineage-no-store given x f (inr (plan, classes, planned, table, (blocks, of_exact, at))) = table-no-store at.name at.is
   where
     table-no-store : (name : List ℕ) → IsUnreadTable name f → IsStoreFailure f → ⊥
     table-no-store name (inl memory) = none_of_store f (inl memory)
@@ -46,7 +47,7 @@ module _ {S : Type 0} (store : Ghosts S) (asked : CountryRequest) where
   -- ---- before the regions
   module _ (old : RegisterState S) (x : PublishCountryInputs) where
     -- a lineage table is not read, or memory runs out
-    pub runs_unprepared : (out : Option (List ℕ)) (f : Failure) → (f ≡ Memory) ⊎ IsUnreadLineage asked.given x f → RunsPrepared store asked x old old out out (Err f)
+    pub runs_unprepared : (out : Option (List ℕ)) (f : Failure) → StopsAtLineage asked.given x f → RunsPrepared store asked x old old out out (Err f)
     runs_unprepared out f stopped = record {
       runs = runs_on_stopped _ _ _ out f (refl, stopped);
       stored = stays_same store old (Err f);
@@ -58,7 +59,7 @@ module _ {S : Type 0} (store : Ghosts S) (asked : CountryRequest) where
         → OnOk r (Appends before after a.text.items) → IfErr r (λ failure. (failure ≡ Write Out) × Begins before after a.text.items)
         → RunsPrepared store asked x old old before after r
     runs_faulty before after a r refusal is written begun = record {
-      runs = runs_on_written _ _ _ a.text.items a.status before after r (record { answer = inl refusal; same = λ other. refl }) is written begun;
+      runs = runs_on_written _ _ _ a.text.items a.status before after r (inl refusal, λ other. refl) is written begun;
       stored = stays_same store old r;
       cause = IfErr-weaker r _ _ (λ failure part of. absurd (none_of_store failure (inr (inr part.0)) of)) begun;
     }
@@ -69,15 +70,6 @@ module _ {S : Type 0} (store : Ghosts S) (asked : CountryRequest) where
     not-above : asked.year ≤ last_year old.held.history
     not-above = subst (λ (n : ℕ). asked.year ≤ n) is_last early
 
-    refuses-early : (a : Answer) → a ≡ (publish_refusal_text (Year last), refused) → RefusesEarly asked old.held old.held a
-    refuses-early a told = (refl, not-above, told ∙ ap (λ (n : ℕ). (publish_refusal_text (Year n), refused)) is_last)
-
-    early-halts : (f : Failure) → ((f ≡ Memory) × Keeps before after)
-        ⊎ ((f ≡ Write Out) × (a : Answer) × (a ≡ (publish_refusal_text (Year last), refused)) × Begins before after a.0)
-        → EndsPublishCountry asked old.held old.held before after (Err f)
-    early-halts f (inl (memory, keeps)) = record { answer = tt; failure = inl ((refl, inl (not-above, memory)), keeps) }
-    early-halts f (inr (write, a, told, begins)) = record { answer = tt; failure = inr (inr (write, (a.0, inr (a.1, inl (refuses-early a told)), begins))) }
-
     -- the database did not fail then
     early-no-store : (f : Failure) → ((f ≡ Memory) × Keeps before after)
         ⊎ ((f ≡ Write Out) × (a : Answer) × (a ≡ (publish_refusal_text (Year last), refused)) × Begins before after a.0)
@@ -85,34 +77,35 @@ module _ {S : Type 0} (store : Ghosts S) (asked : CountryRequest) where
     early-no-store f (inl (memory, keeps)) = none_of_store f (inl memory)
     early-no-store f (inr (write, a, told, begins)) = none_of_store f (inr (inr write))
 
+    early-cause : (r : Result ℕ Failure) → RunsEarly last before after r
+        → IfErr r (λ f. IsStoreFailure f → OfRead AreTopRead asked.given (λ x. FailsToPublishCountry store asked x old old (f ≡ Store)))
+    early-cause (Ok status) ran = tt
+    early-cause (Err f) ran = λ of. absurd (early-no-store f ran.failure of)
+
     pub runs_early : (r : Result ℕ Failure) → RunsEarly last before after r → RunsPublishCountry store asked old old before after r
-    runs_early (Ok status) ran =
-        let (text, told, written) = ran.answer in
-        record {
-          runs = record { answer = (text, inl (refuses-early (text, status) told), written); failure = tt };
-          stored = stays_same store old (Ok status);
-          cause = tt;
-        }
-    runs_early (Err f) ran = record {
-      runs = early-halts f ran.failure;
-      stored = stays_same store old (Err f);
-      cause = λ of. absurd (early-no-store f ran.failure of);
+    runs_early r ran = record {
+      runs = inl (not-above, refl, subst (λ (n : ℕ). RunsEarly n before after r) is_last ran);
+      stored = stays_same store old r;
+      cause = early-cause r ran;
     }
 
   -- where a file that is no region's is not read
   pub runs_unread : (old : RegisterState S) (out : Option (List ℕ)) (f : Failure) → last_year old.held.history < asked.year → AreUnread (files_named asked.given) f
       → RunsPublishCountry store asked old old out out (Err f)
   runs_unread old out f later unread = record {
-    runs = runs_on_stopped _ _ _ out f (refl, inr (inl (later, unread)));
+    runs = inr (later, runs_on_stopped _ _ _ out f (refl, inl unread));
     stored = stays_same store old (Err f);
     cause = λ of. absurd (input-no-store asked.given f unread of);
   }
 
   -- what was read is that of the whole run
   pub runs_later : (old new : RegisterState S) (before after : Option (List ℕ)) (x : PublishCountryInputs) (r : Result ℕ Failure) → last_year old.held.history < asked.year
-      → AreTopRead asked.given x → RunsPrepared store asked x old new before after r → RunsPublishCountry store asked old new before after r
+      → AreTopRead x asked.given → RunsPrepared store asked x old new before after r → RunsPublishCountry store asked old new before after r
   runs_later old new before after x r later read ran = record {
-    runs = runs_on_more _ _ _ _ _ _ before after r (λ f why. (why.0, inr (inr (x, (later, read), why.1)))) (λ lines f why. (x, (later, read), why)) (λ a is. inr (x, (later, read), is)) ran.runs;
+    runs = inr (
+      later,
+      runs_on_more _ _ _ _ _ _ before after r (λ f why. (why.0, inr (x, read, why.1))) (λ lines f why. (x, read, why)) (λ a is. ((x, read, is.0), is.1)) ran.runs,
+    );
     stored = ran.stored;
-    cause = IfErr-weaker r _ _ (λ f told of. (x, (later, read), told of)) ran.cause;
+    cause = IfErr-weaker r _ _ (λ f told of. (x, read, told of)) ran.cause;
   }

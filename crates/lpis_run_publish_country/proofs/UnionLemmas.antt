@@ -1,56 +1,80 @@
 -- What the register answers to the union of regions that all passed.
-use Rattle.std.proofs.Common.{◌≡◌, ◌≢◌, inl, inr, refl, subst, ℕ, List, IfErr, IfOk, Result, Ok, Err, length}
+use Rattle.std.proofs.Common.{◌≡◌, ◌≢◌, inl, inr, refl, sym, subst, arith, ℕ, List, IfErr, IfOk, Result, Ok, Err, length}
 use Rattle.sqlite_trees.specs.declared.store.Store.{Ghosts}
 use Rattle.lpis_release.specs.Release.{Contents}
+use Rattle.lpis_cert.specs.declared.part.ExactBlock.{ExactBlock}
+use Rattle.lpis_country.specs.Country.{country_of}
+use Rattle.lpis_country.specs.Tree.{folders}
+use Rattle.lpis_lineage.specs.declared.row.Row.{Row}
 use Rattle.lpis_register.specs.Accepting.{IsAccepted}
 use Rattle.lpis_register.specs.Failing.{FailsToStore, HasStoreCause}
 use Rattle.lpis_register.specs.Faults.{IsRefused, IsSetAside}
-use Rattle.lpis_register.specs.Holdings.{Candidate, Holdings, RegisterState}
+use Rattle.lpis_register.specs.Holdings.{Candidate, Holdings, RegisterState, candidate}
 use Rattle.lpis_register.specs.declared.accepting.Accepted.{Accepted}
 use Rattle.lpis_register.specs.declared.fault.PublishFault.{PublishFault}
 use Rattle.lpis_register.specs.declared.fault.PublishFault.TheVariants as publish
 use Rattle.lpis_run.specs.CheckAnswer.{Answer}
 use Rattle.lpis_run.specs.declared.answer.Answer.{Answer as Printed}
-use Rattle.lpis_run.specs.Status.{done, refused}
+use Rattle.lpis_run.specs.Status.{refused}
 use Rattle.lpis_run.specs.declared.failure.Failure.{Failure}
 use Rattle.lpis_run.specs.declared.failure.Failure.TheVariants.{Store}
 use Rattle.lpis_run_country.specs.CountryLines.{country_lines}
 use Rattle.lpis_run_country.specs.RegionsOutcome.{JoinsAll}
 use Rattle.lpis_run_country.proofs.Shared.{passed_regions}
-use Rattle.lpis_run_publish.specs.Publication.{IsPublicationAnswer, IsReleasePublished, publication_text}
+use Rattle.lpis_run_publish.specs.Publication.{IsPublicationAnswer, IsReleasePublished}
 use Rattle.lpis_run_publish.specs.Stored.{IsStoreFailure}
 use Rattle.lpis_run_publish_country.specs.CountryLineage.{country_refusal_text}
-use Rattle.lpis_run_publish_country.specs.PublishCountryAnswer.{CountryCandidate, IsUnionAnswer, union_of}
+use Rattle.lpis_run_publish_country.specs.PublishCountryAnswer.{CountryRequest, CountrySaid, IsUnionAnswer, union_of}
+use Rattle.lpis_run_publish_country.specs.private.Deciding.{setting_asked}
 
-module _ (c : CountryCandidate) (regions : List Contents) (before after : Holdings) where
+no-yes : (n : ℕ) → n ≡ 1 → n ≡ 0 → ⊥
+no-yes n one zero = omega arith
+
+module _ (asked : CountryRequest) (said : CountrySaid) (regions : List Contents) (before after : Holdings) where
   -- the union was published
-  pub union_published : (lines head : List ℕ) (a : Answer) → JoinsAll c.setting regions lines → head ≡ country_lines (length regions) (union_of c regions).release
-      → IsPublicationAnswer head (union_of c regions) before a → IsReleasePublished (union_of c regions) before after → IsUnionAnswer c regions before after a
-  union_published lines head a all is told published =
-      inr (
-        record {
-          of_folders = passed_regions c.setting c.setting.names regions lines all.have_passed;
-          same = all.joined.classes_are;
-          union = all.union;
-          sound = all.sound;
-          shown = told.shown;
-          published = published;
-        },
-        subst (λ (x : List ℕ). a ≡ (publication_text x (union_of c regions) before, done)) is told.told,
-      )
+  pub union_published : (lines head : List ℕ) (a : Answer) → JoinsAll (setting_asked asked said) regions lines → head ≡ country_lines (length regions) (country_of said.classes regions)
+      → IsPublicationAnswer head (union_of asked.year said regions) before a → IsReleasePublished (union_of asked.year said regions) before after → IsUnionAnswer asked said regions before after a
+  union_published lines head a all is told published = record {
+    answer = inr (subst (λ (x : List ℕ). IsPublicationAnswer x (union_of asked.year said regions) before a) is told);
+    united = λ _. record {
+      of_folders = passed_regions (setting_asked asked said) (folders said.plan) regions lines all.have_passed;
+      same = all.joined.classes_are;
+      union = all.union;
+      sound = all.sound;
+    };
+    published = λ _. published;
+  }
 
   -- the register refuses it
-  pub union_refused : (fault : PublishFault) (names : List (List ℕ)) (text : List ℕ) (status : ℕ) → names ≡ c.setting.names → IsRefused (union_of c regions) before fault
-      → (IsSetAside fault → ⊥) → text ≡ country_refusal_text names c.tables fault → status ≡ refused → IsUnionAnswer c regions before after (text, status)
-  union_refused fault names text status are why other is refused_is =
-      inl (fault, why, other, cc (is, refused_is, are))
+  pub union_refused : (fault : PublishFault) (names : List (List ℕ)) (text : List ℕ) (status : ℕ) → names ≡ folders said.plan → IsRefused (union_of asked.year said regions) before fault
+      → (IsSetAside fault → ⊥) → text ≡ country_refusal_text names said.tables fault → status ≡ refused → IsUnionAnswer asked said regions before after (text, status)
+  union_refused fault names text status are why other is refused_is = record {
+    answer = inl (fault, why, other, cc (is, refused_is, are));
+    united = λ e. absurd (no-yes status refused_is e);
+    published = λ e. absurd (no-yes status refused_is e);
+  }
 
   -- the answer of the register is that of the union
-  pub union_answered : (lines head : List ℕ) (r : Result Printed Failure) → JoinsAll c.setting regions lines → head ≡ country_lines (length regions) (union_of c regions).release
-      → IfOk r (λ a. IsPublicationAnswer head (union_of c regions) before (a.text.items, a.status)) → IfOk r (λ a. IsReleasePublished (union_of c regions) before after)
-      → IfOk r (λ a. IsUnionAnswer c regions before after (a.text.items, a.status))
+  pub union_answered : (lines head : List ℕ) (r : Result Printed Failure) → JoinsAll (setting_asked asked said) regions lines
+      → head ≡ country_lines (length regions) (country_of said.classes regions)
+      → IfOk r (λ a. IsPublicationAnswer head (union_of asked.year said regions) before (a.text.items, a.status))
+      → IfOk r (λ a. IsReleasePublished (union_of asked.year said regions) before after) → IfOk r (λ a. IsUnionAnswer asked said regions before after (a.text.items, a.status))
   union_answered lines head (Ok a) all is told published = union_published lines head (a.text.items, a.status) all is told published
   union_answered lines head (Err failure) all is told published = tt
+
+-- a candidate that was accepted, by its parts
+pub accepted_by : (u : Contents) (before : Holdings) (a : Accepted) (year y : ℕ) (blocks bs : List ExactBlock) (rows ls : List Row) → year ≡ y → blocks ≡ bs → ls ≡ rows
+    → IsAccepted (candidate y u bs ls) before a → IsAccepted (candidate year u blocks rows) before a
+accepted_by u before a year y blocks bs rows ls of_year of_blocks of_rows made =
+    subst (λ (n : ℕ). IsAccepted (candidate n u blocks rows) before a) (sym of_year)
+    (subst (λ (ks : List ExactBlock). IsAccepted (candidate y u ks rows) before a) (sym of_blocks) (subst (λ (xs : List Row). IsAccepted (candidate y u bs xs) before a) of_rows made))
+
+-- and one that is refused
+pub refused_by : (u : Contents) (before : Holdings) (fault : PublishFault) (year y : ℕ) (blocks bs : List ExactBlock) (rows ls : List Row) → year ≡ y → blocks ≡ bs → ls ≡ rows
+    → IsRefused (candidate y u bs ls) before fault → IsRefused (candidate year u blocks rows) before fault
+refused_by u before fault year y blocks bs rows ls of_year of_blocks of_rows why =
+    subst (λ (n : ℕ). IsRefused (candidate n u blocks rows) before fault) (sym of_year)
+    (subst (λ (ks : List ExactBlock). IsRefused (candidate y u ks rows) before fault) (sym of_blocks) (subst (λ (xs : List Row). IsRefused (candidate y u bs xs) before fault) of_rows why))
 
 -- what the register sets aside is no refusal
 pub not_set_aside : (fault : PublishFault) → (fault ≡ publish.Memory → ⊥) → (fault ≢ publish.Store) × (fault ≢ publish.StoreMemory) → IsSetAside fault → ⊥

@@ -1,6 +1,6 @@
 -- The answer to a country that is to be published: text and status, of the bytes of its files, the
 -- year, and what the register holds before; and what it holds after.
-use Rattle.std.specs.Prelude.{◌≡◌, ◌⊎◌, [], ℕ, List, Option, None, Some, Ok, All, length}
+use Rattle.std.specs.Prelude.{◌≡◌, ◌⊎◌, [], ℕ, List, Option, None, Some, Ok, length}
 use Rattle.lpis_tables.specs.declared.class.Class.{Class}
 use Rattle.lpis_tables.specs.Classes.{classes_table}
 use Rattle.lpis_tables.specs.Faults.{rows_of}
@@ -9,26 +9,22 @@ use Rattle.lpis_cert.specs.declared.cert.Cert.{Cert}
 use Rattle.lpis_cert.specs.declared.part.ExactBlock.{ExactBlock}
 use Rattle.lpis_cert.specs.Contents.{IsCertText}
 use Rattle.lpis_cert.specs.Faults.{verdict}
-use Rattle.lpis_checker.specs.SoundMap.{IsSoundMap}
 use Rattle.lpis_country.specs.Country.{country_of}
-use Rattle.lpis_country.specs.Union.{IsUnion}
 use Rattle.lpis_country.specs.CountryText.{IsCountryText}
 use Rattle.lpis_country.specs.Tree.{Tree, folders}
 use Rattle.lpis_lineage.specs.declared.row.Row.{Row}
-use Rattle.lpis_lineage_exact.specs.Asking.{IsShown}
-use Rattle.lpis_register.specs.Faults.{IsRefused, IsSetAside}
 use Rattle.lpis_register.specs.Holdings.{Candidate, Holdings, candidate}
-use Rattle.lpis_register.specs.declared.fault.PublishFault.{PublishFault}
 use Rattle.lpis_run.specs.CheckAnswer.{Answer, IsCertAnswer}
-use Rattle.lpis_run.specs.Status.{done, refused}
+use Rattle.lpis_run.specs.Status.{done}
 use Rattle.lpis_run.specs.Streams.{IsRead, Known}
 use Rattle.lpis_run.specs.declared.detail.Detail.{Detail}
 use Rattle.lpis_run.specs.declared.folder.Top.{Top}
 use Rattle.lpis_run_country.specs.CountryAnswer.{AfterRegions, IsTopAnswer, Setting}
 use Rattle.lpis_run_country.specs.CountryAnswer.{setting_of}
 use Rattle.lpis_run_country.specs.CountryLines.{country_lines}
-use Rattle.lpis_run_country.specs.Regions.{AreCountryRead, AreRegionsOf, CountryInputs, Texts}
-use Rattle.lpis_run_publish.specs.Publication.{IsReleasePublished, publication_text}
+use Rattle.lpis_run_country.specs.Regions.{AreCountryRead, AreUnited, CountryInputs, Texts}
+use Rattle.lpis_run_publish.specs.Publication.{IsReleasePublished}
+use Rattle.lpis_run_publish.specs.PublishAnswer.{IsHistoryAnswer}
 use Rattle.lpis_run_publish_country.specs.CountryLineage.{AreTablesOf, AtTable, IsTableRefused}
 use Rattle.lpis_run_publish_country.specs.CountryLineage.{country_refusal_text, rows_in}
 
@@ -50,11 +46,10 @@ pub record PublishCountryInputs : Type 0 where
 abbrev pub IsExactRead : Option (List ℕ) → Option Known → Type 0
 IsExactRead None None = Unit {0}
 IsExactRead (Some bytes) (Some told) = IsRead bytes told
-IsExactRead None (Some told) = ⊥
-IsExactRead (Some bytes) None = ⊥
+IsExactRead _ _ = ⊥
 
 -- these are the bytes of those files, as far as they are known
-pub record AreTopRead (given : CountryFiles) (x : PublishCountryInputs) : Type 0 where
+pub record AreTopRead (x : PublishCountryInputs) (given : CountryFiles) : Type 0 where
   pub of_country : AreCountryRead x.country given.top
   pub of_exact : IsExactRead x.exact given.exact
 
@@ -98,64 +93,30 @@ abbrev pub setting_said : CountryFiles → Detail → CountrySaid → Setting
 setting_said given detail said = setting_of given.texts detail said.plan said.classes
 
 -- ---- the union
--- a country that is to be published: its year, the setting of its regions, the blocks of its
--- certificate, and its tables of lineage
-pub record CountryCandidate : Type 0 where
-  pub year : ℕ
-  pub setting : Setting
-  pub blocks : List ExactBlock
-  pub tables : List (List Row)
+-- as a release that is to be published in a year, the union of these regions with the rows of all
+-- tables
+abbrev pub union_of : ℕ → CountrySaid → List Contents → Candidate
+union_of year said regions =
+    candidate year (country_of said.classes regions) said.blocks (rows_in said.tables)
 
-abbrev pub country_candidate : ℕ → Setting → List ExactBlock → List (List Row) → CountryCandidate
-country_candidate year setting blocks tables =
-    record { year = year; setting = setting; blocks = blocks; tables = tables }
-
--- as a release that is to be published, the union of these regions with the rows of all tables
-abbrev pub union_of : CountryCandidate → List Contents → Candidate
-union_of c regions =
-    candidate c.year (country_of c.setting.classes regions) c.blocks (rows_in c.tables)
-
--- the regions, one of each folder, have the same classes; their union is a sound map, of which the
--- blocks show what its marked rows ask for; and it was published
-pub record IsCountryPublished (c : CountryCandidate) (regions : List Contents)
-    (before after : Holdings) : Type 0 where
-  pub of_folders : AreRegionsOf c.setting.texts c.setting.names regions
-  pub same : All (λ (r : Contents). r.classes ≡ c.setting.classes) regions
-  pub union : IsUnion regions (union_of c regions).release
-  pub sound : IsSoundMap (union_of c regions).release
-  pub shown : IsShown before.history before.shapes (union_of c regions).release c.blocks
-      (rows_in c.tables)
-  pub published : IsReleasePublished (union_of c regions) before after
-
--- what is printed of it behind the lines of its regions: as of a release, behind the line of the
--- country and the yes
-abbrev pub country_publication_text : CountryCandidate → List Contents → Holdings → List ℕ
-country_publication_text c regions before =
-    publication_text (country_lines (length regions) (union_of c regions).release)
-    (union_of c regions) before
-
--- of the regions of all folders: the line of what the register refuses, in its order; or what is
--- printed of their union, which was published
-abbrev pub IsUnionAnswer : CountryCandidate → List Contents → Holdings → Holdings → Answer → Type 0
-IsUnionAnswer c regions before after a =
-    ((fault : PublishFault) × IsRefused (union_of c regions) before fault
-    × (IsSetAside fault → ⊥)
-    × (a ≡ (country_refusal_text c.setting.names c.tables fault, refused)))
-    ⊎ (IsCountryPublished c regions before after
-    × (a ≡ (country_publication_text c regions before, done)))
-
--- ---- the answer
 -- what is asked for: a year, the files of a country, and what is to be printed of its regions
 pub record CountryRequest : Type 0 where
   pub year : ℕ
   pub given : CountryFiles
   pub detail : Detail
 
--- the country that is to be published where the files before the regions say this
-abbrev pub country_asked : CountryRequest → CountrySaid → CountryCandidate
-country_asked asked said = country_candidate asked.year (setting_said asked.given asked.detail said)
-    said.blocks said.tables
+-- of the regions of all folders: the line of what the register refuses, in its order; or what is
+-- printed of their union, behind the line of the country and the yes. Then they are united, and it
+-- was published
+pub record IsUnionAnswer (asked : CountryRequest) (said : CountrySaid) (regions : List Contents)
+    (before after : Holdings) (a : Answer) : Type 0 where
+  pub answer : IsHistoryAnswer (country_refusal_text (folders said.plan) said.tables)
+      (country_lines (length regions) (country_of said.classes regions))
+      (union_of asked.year said regions) before a
+  pub united : a.1 ≡ done → AreUnited asked.given.texts said.plan said.classes regions
+  pub published : a.1 ≡ done → IsReleasePublished (union_of asked.year said regions) before after
 
+-- ---- the answer
 -- the answer in a year above the last one: faults of the files before the regions come first; then
 -- the lines of the regions up to the first that is refused, at the end the answer to their union
 abbrev pub IsPublishCountryAnswer : CountryRequest → PublishCountryInputs → Holdings → Holdings
@@ -163,5 +124,5 @@ abbrev pub IsPublishCountryAnswer : CountryRequest → PublishCountryInputs → 
 IsPublishCountryAnswer asked x before after a =
     IsRefusedBefore asked.given x a
     ⊎ ((said : CountrySaid) × AreSaid asked.given x said
-    × AfterRegions (country_asked asked said).setting
-    (λ regions. IsUnionAnswer (country_asked asked said) regions before after) a)
+    × AfterRegions (setting_said asked.given asked.detail said)
+    (λ regions. IsUnionAnswer asked said regions before after) a)

@@ -7,11 +7,10 @@ ghost use Rattle.lpis_lineage.specs.declared.row.Row.{Row};
 ghost use Rattle.lpis_release.specs.Release.{Contents};
 ghost use Rattle.lpis_run.specs.Folders.{top_by};
 ghost use Rattle.lpis_run.specs.Outputs.{held, outputs_of};
-ghost use Rattle.lpis_run_publish_country.specs.ExactCountryAnswer.{IsFillOutcome};
 ghost use Rattle.lpis_run_publish_country.specs.ExactCountryAnswer.{RunsExactCountry};
 ghost use Rattle.lpis_run_publish_country.specs.PublishCountryAnswer.{CountryFiles};
 ghost use Rattle.lpis_run_publish_country.specs.PublishCountryAnswer.{PublishCountryInputs};
-ghost use Rattle.lpis_run_publish_country.specs.private.Filling.{FillsPrepared};
+ghost use Rattle.lpis_run_publish_country.specs.private.Filling.{FillsPrepared, IsFillOutcome};
 ghost use Rattle.lpis_run_publish_country.specs.private.Preparing.{HasTables, IsPrepared};
 
 use crate::inputs::{Prepared, PublishCountryBytes, no_parts, prepare, read_country};

@@ -1,19 +1,18 @@
 //! The files of a country that come before its regions.
 
-ghost use Rattle.std.specs.Prelude.{◌≡◌, ◌⊎◌, IfErr, IfOk, None};
+ghost use Rattle.std.specs.Prelude.{◌≡◌, IfErr, IfOk, None};
 ghost use Rattle.std.specs.Option.{option_map};
 ghost use Rattle.lpis_run.specs.Failures.{AreUnread};
 ghost use Rattle.lpis_run.specs.Folders.{top_by, top_named};
 ghost use Rattle.lpis_run.specs.Stops.{IsRefusedAs};
-ghost use Rattle.lpis_run.specs.declared.failure.Failure.TheVariants.{Memory};
 ghost use Rattle.lpis_run_country.specs.Beginning.{IsBegun};
-ghost use Rattle.lpis_run_publish_country.specs.ExactCountryAnswer.{HasNoParts};
 ghost use Rattle.lpis_run_publish_country.specs.PublishCountryAnswer.{AreBlocksOf, AreTopRead};
 ghost use Rattle.lpis_run_publish_country.specs.PublishCountryAnswer.{CountryFiles};
 ghost use Rattle.lpis_run_publish_country.specs.PublishCountryAnswer.{IsExactTextAnswer};
 ghost use Rattle.lpis_run_publish_country.specs.PublishCountryAnswer.{IsExactRead, IsRefusedBefore};
-ghost use Rattle.lpis_run_publish_country.specs.PublishCountryRuns.{IsUnreadLineage, exact_named};
+ghost use Rattle.lpis_run_publish_country.specs.PublishCountryRuns.{StopsAtLineage, exact_named};
 ghost use Rattle.lpis_run_publish_country.specs.PublishCountryRuns.{files_named};
+ghost use Rattle.lpis_run_publish_country.specs.private.Filling.{IsEmpty};
 ghost use Rattle.lpis_run_publish_country.specs.private.Preparing.{IsPrepared, inputs_of};
 ghost use Rattle.lpis_run_publish_country.specs.private.Unprepared.{IsUnprepared};
 
@@ -66,7 +65,7 @@ pub(crate) fn read_inputs<R: Read + Drop>(
 ) -> Result<PublishCountryBytes, Failure>
     ensures bytes { (given : CountryFiles) → given.top ≡ top_by R.remaining top
         → given.exact ≡ option_map R.remaining exact
-        → IfOk result (λ b. AreTopRead given (inputs_of b)) }
+        → IfOk result (λ b. AreTopRead (inputs_of b) given) }
     ensures failure { (given : CountryFiles) → given.top ≡ top_by R.remaining top
         → given.exact ≡ option_map R.remaining exact
         → IfErr result (AreUnread (files_named given)) }
@@ -82,7 +81,7 @@ pub(crate) fn read_country<R: Read + Drop>(
     top: Top<R>,
 ) -> Result<PublishCountryBytes, Failure>
     ensures bytes { (given : CountryFiles) → given.top ≡ top_by R.remaining top
-        → given.exact ≡ None → IfOk result (λ b. AreTopRead given (inputs_of b)) }
+        → given.exact ≡ None → IfOk result (λ b. AreTopRead (inputs_of b) given) }
     ensures failure { IfErr result (AreUnread (top_named (top_by R.remaining top))) }
 {
     let country = read_top(alloc, top)?;
@@ -94,7 +93,7 @@ pub(crate) fn read_country<R: Read + Drop>(
 
 /// A certificate without parts.
 pub(crate) fn no_parts(alloc: Global) -> Cert
-    ensures { HasNoParts result }
+    ensures { IsEmpty result }
 {
     Cert {
         pieces: Sequence::new(Vec::new(alloc)),
@@ -141,8 +140,7 @@ pub(crate) fn prepare<L: Lineages>(
     ensures prepared { (given : CountryFiles) → given.lineages ≡ L.lineages lineages.now
         → IfOk result (IsPrepared given (inputs_of inputs)) }
     ensures unprepared { (given : CountryFiles) → given.lineages ≡ L.lineages lineages.now
-        → IfErr result (IsUnprepared (λ f. (f ≡ Memory)
-        ⊎ IsUnreadLineage given (inputs_of inputs) f)
+        → IfErr result (IsUnprepared (StopsAtLineage given (inputs_of inputs))
         (IsRefusedBefore given (inputs_of inputs))) }
 {
     let (mut begun, cert) = understand(alloc, inputs)?;

@@ -2,21 +2,21 @@
 
 ghost use Rattle.std.specs.Prelude.{◌≡◌, ℕ, IfErr, IfOk, List};
 ghost use Rattle.std.specs.Option.{option_map};
-ghost use Rattle.lpis_run_country.specs.CountryAnswer.{Setting};
 ghost use Rattle.lpis_run_country.specs.RegionsOutcome.{IsCountryJoined, JoinsAll};
-ghost use Rattle.lpis_lineage.specs.declared.row.Row.{Row};
 ghost use Rattle.lpis_release.specs.Release.{Contents};
 ghost use Rattle.lpis_register.specs.Failing.{FailsToStore};
 ghost use Rattle.lpis_run.specs.Folders.{top_by};
 ghost use Rattle.lpis_run.specs.declared.failure.Failure.TheVariants.{Store};
 ghost use Rattle.lpis_run_publish.specs.Publication.{PublishLeaves};
 ghost use Rattle.lpis_run_publish.specs.Stored.{IsStoreFailure};
-ghost use Rattle.lpis_run_publish_country.specs.PublishCountryAnswer.{CountryFiles, IsUnionAnswer};
+ghost use Rattle.lpis_run_publish_country.specs.PublishCountryAnswer.{CountryFiles, CountryRequest};
+ghost use Rattle.lpis_run_publish_country.specs.PublishCountryAnswer.{CountrySaid, IsUnionAnswer};
 ghost use Rattle.lpis_run_publish_country.specs.PublishCountryAnswer.{PublishCountryInputs};
-ghost use Rattle.lpis_run_publish_country.specs.PublishCountryAnswer.{country_candidate, union_of};
+ghost use Rattle.lpis_run_publish_country.specs.PublishCountryAnswer.{union_of};
 ghost use Rattle.lpis_run_publish_country.specs.PublishCountryRuns.{RunsPublishCountry};
-ghost use Rattle.lpis_run_publish_country.specs.private.Deciding.{EndsUnion, RunsEarly};
-ghost use Rattle.lpis_run_publish_country.specs.private.Deciding.{RunsPrepared};
+ghost use Rattle.lpis_run_publish_country.specs.private.Deciding.{EndsUnion, IsToPublish};
+ghost use Rattle.lpis_run_publish_country.specs.private.Deciding.{RunsEarly, RunsPrepared};
+ghost use Rattle.lpis_run_publish_country.specs.private.Deciding.{setting_asked};
 ghost use Rattle.lpis_run_publish_country.specs.private.Preparing.{HasTables, IsPrepared};
 ghost use Rattle.lpis_run_publish_country.specs.private.Preparing.{inputs_of};
 
@@ -43,17 +43,19 @@ fn publish_union<S: Alter>(
     cert: &Cert,
     lineage: &CountryLineage,
 ) -> Result<Answer, Failure>
-    ensures answer { (g : Setting) (regions : List Contents) (lines : List ℕ)
-        (tables : List (List Row)) → JoinsAll g regions lines → IsCountryJoined g regions country
-        → HasTables lineage.now tables → IfOk result (λ a. IsUnionAnswer
-        (country_candidate year g cert.now.exact tables) regions register.old.held
-        register.new.held (a.text.items, a.status)) }
+    ensures answer { (asked : CountryRequest) (said : CountrySaid) (regions : List Contents)
+        (lines : List ℕ) → IsToPublish asked said year cert.now
+        → JoinsAll (setting_asked asked said) regions lines
+        → IsCountryJoined (setting_asked asked said) regions country
+        → HasTables lineage.now said.tables → IfOk result (λ a. IsUnionAnswer asked said regions
+        register.old.held register.new.held (a.text.items, a.status)) }
     ensures leaves { PublishLeaves S.Store register.old register.new result }
-    ensures cause { (g : Setting) (regions : List Contents) (tables : List (List Row))
-        → IsCountryJoined g regions country → HasTables lineage.now tables
-        → IfErr result (λ failure. IsStoreFailure failure → FailsToStore S.Store
-        (union_of (country_candidate year g cert.now.exact tables) regions) register.old
-        register.new (failure ≡ Store)) }
+    ensures cause { (asked : CountryRequest) (said : CountrySaid) (regions : List Contents)
+        → IsToPublish asked said year cert.now
+        → IsCountryJoined (setting_asked asked said) regions country
+        → HasTables lineage.now said.tables → IfErr result (λ failure. IsStoreFailure failure
+        → FailsToStore S.Store (union_of asked.year said regions) register.old register.new
+        (failure ≡ Store)) }
 {
     let JoinedCountry {
         names,
@@ -81,11 +83,12 @@ fn end_union<S: Alter, W: Write>(
     lineage: &CountryLineage,
     out: &mut W,
 ) -> Result<u8, Failure>
-    ensures { (g : Setting) (regions : List Contents) (lines : List ℕ) (tables : List (List Row))
-        → JoinsAll g regions lines → IsCountryJoined g regions country
-        → HasTables lineage.now tables → EndsUnion S.Store
-        (country_candidate year g cert.now.exact tables) regions register.old register.new
-        (W.contents out.old) (W.contents out.new) result }
+    ensures { (asked : CountryRequest) (said : CountrySaid) (regions : List Contents)
+        (lines : List ℕ) → IsToPublish asked said year cert.now
+        → JoinsAll (setting_asked asked said) regions lines
+        → IsCountryJoined (setting_asked asked said) regions country
+        → HasTables lineage.now said.tables → EndsUnion S.Store asked said regions register.old
+        register.new (W.contents out.old) (W.contents out.new) result }
 {
     let answer = publish_union(alloc, register, year, country, cert, lineage)?;
     answer.write_to(out)

@@ -13,12 +13,12 @@ use Rattle.lpis_register_rows.specs.declared.version.Version.TheVariants.{Third}
 use Rattle.lpis_register_sql.specs.declared.found.Found.{Found}
 use Rattle.lpis_register_sql.specs.Layouts.{Layout, origin_of}
 use Rattle.lpis_register_sql.specs.Holding.{IsStored}
-use Rattle.lpis_register_sql.specs.Quiet.{IsFound}
+use Rattle.lpis_register_sql.specs.Quiet.{IsFound, StaysSettled}
 use Rattle.lpis_register_sql.specs.Showing.{StaysSame}
 use Rattle.lpis_register.specs.FailingToOpen.{FailsToSettle}
 use Rattle.lpis_register.specs.Faults.{IsFailure, IsOpeningFault}
 use Rattle.lpis_register.specs.Histories.{HoldsRegister, LeavesRegister}
-use Rattle.lpis_register.specs.Opening.{IsOpenedAs, LeavesKept, HasNoRegister, HasRegister}
+use Rattle.lpis_register.specs.Opening.{IsOpenedAs, LeavesKept, HasRegister}
 use Rattle.lpis_register.specs.Saying.{IsWhole, SaysNoTables, SaysTables}
 use Rattle.lpis_register.specs.declared.fault.PublishFault.{PublishFault}
 use Rattle.lpis_register.specs.declared.fault.PublishFault.TheVariants.{Store, Unlawful}
@@ -43,9 +43,7 @@ pub record Settles (found : Found) (version : Version) (h : List Entry) (old new
   pub ok : HasCleanDisk new → (layout : Layout) → IsFound found layout → (c : Content)
       (shapes : List Shape) → HasRegister version c h shapes → IsStored layout old c
       → OnOk r (HoldsRegister (origin_of layout) new h shapes)
-  pub err : HasCleanDisk new → IsTrue new.is_open → (layout : Layout) → IsFound found layout
-      → (c : Content) (shapes : List Shape) → HasRegister version c h shapes
-      → IsStored layout old c → OnErr r (IsStored layout new c)
+  pub err : HasCleanDisk new → IsTrue new.is_open → OnErr r (StaysSettled old new)
   -- where all of them were there, nothing is done
   pub idle : version ≡ Third → IsWhole found → new.now ≡ old.now
   pub clean : HasCleanDisk new → HasCleanDisk old
@@ -66,10 +64,7 @@ pub record OpensFound (found : Found) (old new : State) (r : Result Loaded Publi
         → IsStored layout old c
         → IfOk r (λ (told : Loaded). IsOpenedAs (origin_of layout) new c told.history
         told.shapes.items)
-    pub err : HasCleanDisk new → IsTrue new.is_open → (layout : Layout) → IsFound found layout
-        → (c : Content) → IsStored layout old c → OnErr r (IsStored layout new c)
-    pub unlawful : HasCleanDisk new → (layout : Layout) → IsFound found layout → (c : Content)
-        → IsStored layout old c → IfErr r (λ e. e ≡ Unlawful → HasNoRegister c)
+    pub err : HasCleanDisk new → IsTrue new.is_open → OnErr r (StaysSettled old new)
     pub said : HasCleanDisk new → IfOk r (λ (told : Loaded). (version : Version)
         × SaysTables found old.now version told.history told.shapes.items
         × (version ≡ Third → IsWhole found → new.now ≡ old.now))

@@ -13,8 +13,15 @@ use Rattle.lpis_register_sql.specs.Quiet.{IsFound, ReadsRows}
 use Rattle.lpis_register_sql.specs.Showing.{Shows, ShowsRows, StaysSame}
 use Rattle.lpis_register_sql.specs.Unread.{IsUnread}
 use Rattle.lpis_register.specs.Faults.{IsOpeningFault}
+use Rattle.lpis_register.specs.Opening.{HasRegister}
+use Rattle.lpis_register_rows.specs.Shapes.{Shape}
 use Rattle.lpis_register.specs.declared.fault.PublishFault.{PublishFault}
 use Rattle.lpis_register.specs.declared.fault.PublishFault.TheVariants.{Store, Unlawful}
+
+-- the rows say no history whose parcels' shapes they may keep
+abbrev pub HasNoRegister : Content → Type 0
+HasNoRegister c = (version : Version) (h : List Entry) (shapes : List Shape)
+    → HasRegister version c h shapes → ⊥
 
 -- what their rows say is answered, and only rows that say none of it are refused
 pub record ReadsFound {X : Type 0} (found : Found) (Says : Content → X → Type 0)

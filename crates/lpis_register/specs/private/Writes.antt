@@ -7,6 +7,7 @@ use Rattle.sqlite_trees.specs.declared.store.Store.{Ghosts}
 use Rattle.lpis_lineage.specs.declared.row.Entry.{Entry}
 use Rattle.lpis_lineage.specs.Lineage.{last_year}
 use Rattle.lpis_register_sql.specs.Layouts.{Origin}
+use Rattle.lpis_register_sql.specs.Quiet.{StaysSettled}
 use Rattle.lpis_register_sql.specs.Stopping.{BoundStatement}
 use Rattle.lpis_register.specs.Accepting.{IsPrepared}
 use Rattle.lpis_register.specs.Failing.{FailsToRun}
@@ -31,15 +32,14 @@ pub record IsToWrite (w : Writing) (last : ℕ) (before after : List Entry) : Ty
   pub follows : FollowsHistory candidate before (written w after)
   pub last_is : last ≡ last_year before
 
--- tables that hold what was held before hold what is held after; with an error what they held. A
--- crash leaves what it left before, or such tables; right after the call what is held after
+-- tables that hold what was held before hold what is held after; with an error the database is as
+-- it was. A crash leaves what it left before, or such tables; right after the call what is held
+-- after
 pub record WritesRelease {E : Type 0} (before after : Holdings) (IsLeft : Origin → Trees → Type 0)
     (old new : State) (r : Result (Unit {0}) E) : Type 0 where
   pub ok : HasCleanDisk new → (o : Origin) → HoldsRegister o old before.history before.shapes
       → OnOk r (HoldsRegister o new after.history after.shapes)
-  pub err : HasCleanDisk new → IsTrue new.is_open → (o : Origin)
-      → HoldsRegister o old before.history before.shapes
-      → OnErr r (HoldsRegister o new before.history before.shapes)
+  pub err : HasCleanDisk new → IsTrue new.is_open → OnErr r (StaysSettled old new)
   pub crash : (o : Origin) → HoldsRegister o old before.history before.shapes
       → Survives old new (IsLeft o)
   pub durable : HasCleanDisk new → (o : Origin)

@@ -5,6 +5,8 @@ use Rattle.sqlite.specs.declared.types.Value.TheVariants.{Null, Int, Real, Text,
 use Rattle.sqlite.specs.Order.{Row, column}
 use Rattle.sqlite.specs.Edit.{id_in}
 use Rattle.lpis_register_rows.specs.Content.{Format, StoredSpan, Line, Live, StoredText, Mark}
+use Rattle.lpis_register_sql.specs.StoredTables.{Formats, Lines, Lives, Marks, Spans, Texts, Years}
+use Rattle.lpis_register_sql.specs.StoredTables.{query_of}
 
 abbrev pub text_in : Value → List ℕ
 text_in Null = []
@@ -42,3 +44,26 @@ text_shown row = record { id = text_in (column row 0); wkt = text_in (column row
 
 abbrev pub mark_shown : Row → Mark
 mark_shown row = record { year = id_in (column row 0); position = id_in (column row 1) }
+
+-- ---- the queries
+
+abbrev pub read_format : List ℕ
+read_format = query_of Formats
+
+abbrev pub read_release : List ℕ
+read_release = query_of Years
+
+abbrev pub read_span : List ℕ
+read_span = query_of Spans
+
+abbrev pub read_line_text : List ℕ
+read_line_text = query_of Lines
+
+abbrev pub read_live : List ℕ
+read_live = query_of Lives
+
+abbrev pub read_text : List ℕ
+read_text = query_of Texts
+
+abbrev pub read_mark : List ℕ
+read_mark = query_of Marks

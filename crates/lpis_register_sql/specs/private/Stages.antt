@@ -4,7 +4,7 @@ use Rattle.std.specs.List.{AllByRecursion}
 use Rattle.sqlite.specs.Effect.{Database}
 use Rattle.sqlite.specs.Schema.{Schema}
 use Rattle.sqlite.specs.State.{State}
-use Rattle.lpis_register_sql.specs.Tables.{format_table, release_table, span_table, span_index}
+use Rattle.lpis_register_sql.specs.Tables.{format_table, own_index, release_table, span_table}
 
 abbrev pub one_table : Schema
 one_table = record { tables = format_table 0 ∷ []; indexes = []; views = [] }
@@ -15,7 +15,7 @@ two_tables = record { tables = format_table 0 ∷ release_table 1 ∷ []; indexe
 abbrev pub three_tables : Schema
 three_tables = record {
   tables = format_table 0 ∷ release_table 1 ∷ span_table 2 ∷ [];
-  indexes = span_index 2 ∷ [];
+  indexes = own_index span_table 2 ∷ [];
   views = [];
 }
 

@@ -13,7 +13,7 @@ use Rattle.lpis_run.specs.declared.detail.Detail.{Detail}
 use Rattle.lpis_run.specs.declared.failure.Failure.{Failure}
 use Rattle.lpis_run.specs.declared.failure.Failure.TheVariants.{Memory, Read, Write}
 use Rattle.lpis_run.specs.declared.failure.Name.TheVariants.{Out}
-use Rattle.lpis_run.specs.Status.{done, refused}
+use Rattle.lpis_run.specs.Status.{done}
 use Rattle.lpis_run.specs.Stops.{IsRefusedAs}
 use Rattle.lpis_run.specs.Streams.{Begins}
 use Rattle.lpis_run.specs.declared.stop.Stop.{Stop}
@@ -21,18 +21,19 @@ use Rattle.lpis_country.specs.Country.{country_of}
 use Rattle.lpis_country.specs.Tiling.{frame, rectangles}
 use Rattle.lpis_country.specs.Tree.{Tree}
 use Rattle.lpis_country.specs.Limits.{most_regions}
-use Rattle.lpis_country_seam.specs.declared.fault.SeamFault.{SeamFault}
-use Rattle.lpis_country_seam.specs.Faults.{IsFirstSeamFault, seam_faults}
+use Rattle.lpis_country_seam.specs.Faults.{seam_faults}
 use Rattle.lpis_country_seam.specs.Open.{AreJoined, HasNext, IsSeamOf}
 use Rattle.lpis_run_country.specs.declared.gathering.Gathered.{Gathered}
 use Rattle.lpis_run_country.specs.declared.gathering.Gathered.TheVariants.{Nothing, Parcels}
 use Rattle.lpis_run_country.specs.declared.progress.Progress.{Progress}
-use Rattle.lpis_run_country.specs.CountryAnswer.{AnswersCountry, HavePassed, IsRefusedRegion}
-use Rattle.lpis_run_country.specs.CountryAnswer.{IsRegionsAnswer, Passes, Setting}
+use Rattle.lpis_run_country.specs.CountryAnswer.{AnswersCountry, HavePassed, IsMisfit}
+use Rattle.lpis_run_country.specs.CountryAnswer.{IsRefusedRegion, IsRegionsAnswer}
+use Rattle.lpis_run_country.specs.CountryAnswer.{Passes, Setting}
 use Rattle.lpis_run_country.specs.CountryFailures.{IsReadOf, IsUnreadFolder, StopsCountry}
-use Rattle.lpis_run_country.specs.CountryLines.{country_lines, region_report, seam_refusal_text}
+use Rattle.lpis_run_country.specs.CountryFailures.{StopsRegions}
+use Rattle.lpis_run_country.specs.CountryLines.{country_lines, region_report}
 use Rattle.lpis_run_country.specs.Regions.{CountryInputs, Texts}
-use Rattle.lpis_run_country.specs.RegionsOutcome.{RegionsEnd, StopsRegions}
+use Rattle.lpis_run_country.specs.RegionsOutcome.{RegionsEnd}
 use Rattle.lpis_run_country.specs.private.Totals.{AreTotalsOf, most_parcels}
 
 -- the names and the detail are those of the setting
@@ -71,12 +72,6 @@ pub record IsReady (p : Progress) : Type 0 where
   pub at : IsAt setting before p
   pub next : HasNext p.seam
   pub room : p.totals.parcels + most_rows ≤ most_parcels
-
--- the answer to the first fault of a region that is a sound map
-abbrev pub IsMisfit : Setting → List Contents → List ℕ → Contents → Answer → Type 0
-IsMisfit s before name r a =
-    (fault : SeamFault) × IsFirstSeamFault (seam_faults s.tiles s.classes before r) fault
-    × (a ≡ (seam_refusal_text s.names name fault, refused))
 
 -- such a region came to this: the text of one that passes, or this answer
 abbrev pub FollowsAs : Setting → List Contents → List ℕ → Contents → Progress

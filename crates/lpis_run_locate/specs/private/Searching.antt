@@ -1,22 +1,19 @@
 -- How far a search through regions has come, and what the next region came to.
 use Rattle.std.specs.Prelude.{◌≡◌, ◌⊎◌, ◌++◌, ◌∷◌, [], ℕ, List, Option, Some, None, length, take}
 use Rattle.lpis_release.specs.Release.{Contents}
-use Rattle.lpis_run.specs.CheckAnswer.{Answer}
 use Rattle.lpis_run.specs.declared.answer.Answer.{Answer as Printed}
 use Rattle.lpis_run.specs.declared.failure.Failure.TheVariants.{Memory}
-use Rattle.lpis_run.specs.Status.{refused}
-use Rattle.lpis_country_seam.specs.declared.fault.SeamFault.{SeamFault}
-use Rattle.lpis_country_seam.specs.Faults.{IsFirstSeamFault, seam_faults}
+use Rattle.lpis_run.specs.declared.detail.Detail.TheVariants.{Regions}
+use Rattle.lpis_country_seam.specs.Faults.{seam_faults}
 use Rattle.lpis_country_seam.specs.Open.{HasNext, IsSeamOf}
 use Rattle.lpis_run_country.specs.CountryAnswer.{HavePassed, IsReachedBy, IsRefusedRegion, Passes}
 use Rattle.lpis_run_country.specs.CountryAnswer.{Setting}
-use Rattle.lpis_run_country.specs.CountryFailures.{IsStoppedBefore}
-use Rattle.lpis_run_country.specs.CountryLines.{seam_refusal_text}
+use Rattle.lpis_run_country.specs.CountryFailures.{IsStoppedBefore, StopsCountry}
 use Rattle.lpis_run_country.specs.Regions.{Texts}
 use Rattle.lpis_run.specs.declared.failure.Failure.{Failure}
 use Rattle.lpis_run_locate.specs.declared.progress.Progress.{Progress}
-use Rattle.lpis_run_locate.specs.LocateCountryAnswer.{IsStoppedIn, LocateCountryInputs}
 use Rattle.lpis_run_locate.specs.private.Found.{IsSearched}
+use Rattle.lpis_run_locate.specs.private.LocateRuns.{LocateCountryInputs}
 
 -- these regions passed, and the points of the table were looked for in them
 pub record IsAt (s : Setting) (table : List ℕ) (before : List Contents) (p : Progress) : Type 0
@@ -36,12 +33,6 @@ pub record IsReady (p : Progress) : Type 0 where
 abbrev pub Follows : Setting → List ℕ → List Contents → Contents → Progress → Type 0
 Follows s table before r p =
     (seam_faults s.tiles s.classes before r ≡ []) × IsAt s table (before ++ r ∷ []) p
-
--- it does not fit them: the answer to its first fault
-abbrev pub IsSeamRefusal : Setting → List Contents → List ℕ → Contents → Answer → Type 0
-IsSeamRefusal s before name r a =
-    (fault : SeamFault) × IsFirstSeamFault (seam_faults s.tiles s.classes before r) fault
-    × (a ≡ (seam_refusal_text s.names name fault, refused))
 
 -- the region of a folder passed, and the points were looked for in it
 abbrev pub HasPassed : Setting → List ℕ → List Contents → List ℕ → Progress → Type 0
@@ -89,4 +80,4 @@ IsStopped s f =
 -- so it is in a country; or memory ran out
 abbrev pub IsUnanswered : (List ℕ → Texts) → LocateCountryInputs → Failure → Type 0
 IsUnanswered texts x f =
-    (f ≡ Memory) ⊎ IsStoppedIn texts x f
+    (f ≡ Memory) ⊎ ((lines : List ℕ) × StopsCountry texts Regions x.files lines f)

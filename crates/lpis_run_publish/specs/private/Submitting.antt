@@ -1,9 +1,13 @@
 -- What a submission says, or the answer where it says nothing.
 use Rattle.std.specs.Prelude.{ℕ, Vec}
 use Rattle.std.specs.declared.alloc.Global.{Global}
+use Rattle.lpis_register.specs.Holdings.{Holdings}
 use Rattle.lpis_run.specs.CheckAnswer.{Answer}
 use Rattle.lpis_run.specs.Folders.{submission_by}
+use Rattle.lpis_run.specs.Report.{report_text}
 use Rattle.lpis_run.specs.declared.folder.Submission.{Submission}
+use Rattle.lpis_run_publish.specs.LineageLines.{publish_refusal_text}
+use Rattle.lpis_run_publish.specs.PublishAnswer.{IsHistoryAnswer, candidate_of}
 use Rattle.lpis_run_publish.specs.Submission.{IsSubmissionAnswer, SubmissionInputs, Submitted}
 use Rattle.lpis_run_publish.specs.Submission.{submitted}
 use Rattle.lpis_run_publish.specs.declared.submission.ReadSubmission.{ReadSubmission}
@@ -17,3 +21,9 @@ submitted_of s = submitted s.release s.cert s.rows.items
 -- the answer to a submission that says nothing
 abbrev pub IsFaultAnswer : SubmissionInputs → Answer → Type 0
 IsFaultAnswer = IsSubmissionAnswer (λ said a. ⊥)
+
+-- the answer to one that says this, which is to be published in a year, where its certificate is
+-- good
+abbrev pub IsGoodAnswer : ℕ → Submitted → Holdings → Answer → Type 0
+IsGoodAnswer year said before = IsHistoryAnswer publish_refusal_text (report_text said.release)
+    (candidate_of year said) before

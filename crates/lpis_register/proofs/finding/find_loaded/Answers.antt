@@ -1,6 +1,6 @@
 use Rattle.std.proofs.Common.{arith, refl}
 use Rattle.std.proofs.lemmas.Result.{err_from_is_err_and}
-use Rattle.lpis_register_sql.proofs.Shared.{answered, nothing_yet, then, then_fails}
+use Rattle.lpis_register_sql.proofs.Shared.{answered, nothing_yet, stored_still, then, then_fails}
 use Rattle.lpis_register.proofs.Common.{HasCleanDisk, state}
 use Rattle.lpis_register.proofs.FindingLemmas.{told_then, told_then_not}
 use Rattle.lpis_register.proofs.OneHistoryLemmas.{none_kept}
@@ -17,8 +17,9 @@ returns-in_err-shapes-clause-finds g c =
       reads = then_fails p (λ s p. p) told shapes.reads;
       unlawful = λ clean layout found content r.
           let mid : HasCleanDisk (state g.S.Store c.find_rows.new.conn) = omega (arith, shapes.reads.survives.clean) in
-          let it = rows.ok mid layout found content r in
-          rw (p.1, p.2) (λ e. none_kept c.tables_have_one_history.ensures content c.in_ok-history.history c.in_ok-history.version it.0 (shapes.unlawful clean layout found content it.1 e));
+          let stored = stored_still layout _ _ content (rows.kept mid) r in
+          rw (p.1, p.2) (λ e. none_kept c.tables_have_one_history.ensures content c.in_ok-history.history c.in_ok-history.version (rows.ok mid layout found content r)
+          (shapes.unlawful clean layout found content stored e));
       kinds = rw (p.1, p.2) shapes.kinds;
     }
 

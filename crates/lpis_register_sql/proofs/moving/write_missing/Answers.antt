@@ -1,7 +1,7 @@
 use Rattle.std.proofs.Common.{◌≡◌, rules}
 use Rattle.lpis_register_sql.proofs.MakingLemmas.{commit_stops, undone_stops}
 use Rattle.lpis_register_sql.proofs.CompletingLemmas.{completes}
-use Rattle.lpis_register_sql.proofs.StepLemmas.{written_at_commit}
+use Rattle.lpis_register_sql.proofs.StepLemmas.{written_at_commit, written_not}
 use Rattle.lpis_register_sql.proofs.moving.write_missing.Goals as goal
 
 pub returns-clause-writes : goal.returns-clause-writes
@@ -19,3 +19,9 @@ pub returns-in_err-complete-clause-stops : goal.returns-in_err-complete-clause-s
 returns-in_err-complete-clause-stops g c =
     let same : c.drop-tx.new.self.0 ≡ c.conn-1.given.0 = search rules in
     undone_stops c.args.conn.now c.transaction-tx.ensures.begun same c.from_residual.result c.from_residual.ensures.1 c.in_err-complete.ensures.makes c.drop-tx.ensures.survives
+
+pub returns-in_err-complete-clause-writes : goal.returns-in_err-complete-clause-writes
+returns-in_err-complete-clause-writes g c =
+    let same : c.drop-tx.new.self.0 ≡ c.conn-1.given.0 = search rules in
+    rw (← same) (written_not c.args.conn.now c.drop-tx.new.self.0 c.transaction-tx.ensures.begun c.in_err-complete.ensures.makes c.drop-tx.ensures.survives
+    c.drop-tx.ensures.undone c.from_residual.result c.from_residual.ensures.1)

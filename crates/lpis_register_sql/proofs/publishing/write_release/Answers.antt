@@ -2,7 +2,7 @@ use Rattle.std.proofs.Common.{◌≡◌, pos, rules}
 use Rattle.lpis_register_rows.specs.Shapes.{text_edits}
 use Rattle.lpis_register_sql.proofs.MakingLemmas.{commit_stops, undone_stops}
 use Rattle.lpis_register_sql.proofs.ReleaseLemmas.{releases}
-use Rattle.lpis_register_sql.proofs.StepLemmas.{written_at_commit}
+use Rattle.lpis_register_sql.proofs.StepLemmas.{written_at_commit, written_not}
 use Rattle.lpis_register_sql.proofs.publishing.write_release.Goals as goal
 
 pub returns-clause-writes : goal.returns-clause-writes
@@ -23,3 +23,9 @@ returns-in_err-write_steps-clause-stops g c =
     let same : c.drop-tx.new.self.0 ≡ c.conn-1.given.0 = search rules in
     undone_stops c.args.conn.now c.transaction-tx.ensures.begun same c.from_residual.result c.from_residual.ensures.1
     (rw c.steps_of-steps.ensures at c.in_err-write_steps.ensures.makes) c.drop-tx.ensures.survives
+
+pub returns-in_err-write_steps-clause-writes : goal.returns-in_err-write_steps-clause-writes
+returns-in_err-write_steps-clause-writes g c =
+    let same : c.drop-tx.new.self.0 ≡ c.conn-1.given.0 = search rules in
+    rw (← same) (written_not c.args.conn.now c.drop-tx.new.self.0 c.transaction-tx.ensures.begun (rw c.steps_of-steps.ensures at c.in_err-write_steps.ensures.makes) c.drop-tx.ensures.survives
+    c.drop-tx.ensures.undone c.from_residual.result c.from_residual.ensures.1)

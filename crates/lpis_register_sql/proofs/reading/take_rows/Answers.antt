@@ -3,7 +3,7 @@ use Rattle.sqlite.specs.State.{HasCleanDisk}
 use Rattle.sqlite.specs.Held.{state}
 use Rattle.sqlite.proofs.Callers.{unchanged_then}
 use Rattle.lpis_register_sql.proofs.AnsweringLemmas.{begun_where, where_of}
-use Rattle.lpis_register_sql.proofs.ReadingLemmas.{fails_same, on_err, one_read, one_shown, shown_since}
+use Rattle.lpis_register_sql.proofs.ReadingLemmas.{fails_same, where_err, one_read, one_shown, shown_since}
 use Rattle.sqlite.proofs.Callers.{given_begin}
 use Rattle.lpis_register_sql.proofs.UnreadLemmas.{misfit_stops, plain_now, query_stops, stops_before, told_err_rows, told_ok_rows}
 use Rattle.lpis_register_sql.specs.StoredTables.{kinds_of}
@@ -12,7 +12,7 @@ use Rattle.lpis_register_sql.proofs.reading.take_rows.Goals as goal
 pub returns-in_err-rows-clause-same : goal.returns-in_err-rows-clause-same
 returns-in_err-rows-clause-same g c plain clean =
     let held = rw c.in_err-rows.was at c.query.follows.holds-at-none in
-    on_err c.from_residual.result (fails_same c.args.sql.now [] (state g.S.Store c.args.conn.now) (state g.S.Store c.query.follows.lender-at-none) _ plain (held.err clean))
+    where_err c.from_residual.result (fails_same c.args.sql.now [] (state g.S.Store c.args.conn.now) (state g.S.Store c.query.follows.lender-at-none) _ plain (held.err clean))
 
 pub rows-init : goal.rows-init
 rows-init g c =

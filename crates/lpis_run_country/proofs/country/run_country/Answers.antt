@@ -21,7 +21,7 @@ returns-in-Ok g c =
 pub returns-in_err-answer-in-Err : goal.returns-in_err-answer-in-Err
 returns-in_err-answer-in-Err g c =
     let p = err_from_is_err_and c.from_residual-in_err-answer-in-Err.result c.from_residual-in_err-answer-in-Err.ensures.1 in
-    rw (p.1, p.2) (stopped_before (g.G.Regions.texts c.args.regions.now) c.args.detail (top_by g.R.Read.remaining c.args.top) (g.W.Write.contents c.args.out.now) _ (inl refl))
+    rw (p.1, p.2) (stopped_before (g.G.Regions.texts c.args.regions.now) c.args.detail (top_by g.R.Read.remaining c.args.top) (g.W.Write.contents c.args.out.now) _ (inl (inl refl)))
 
 pub returns-in_ok-answer-in-Err : goal.returns-in_ok-answer-in-Err
 returns-in_ok-answer-in-Err g c =

@@ -19,4 +19,4 @@ returns g c =
     let texts = g.G.Regions.texts c.args.regions.now in
     let given = points_by (top_by g.R.Read.remaining) g.R.Read.remaining c.args.asked in
     answered_run texts given x c.in_ok-answer.answer.text.items c.in_ok-answer.answer.status (g.W.Write.contents c.args.out.now) (g.W.Write.contents c.write_to.new.out) c.write_to.result
-    c.in_ok-inputs.ensures.bytes c.in_ok-answer.ensures.answer c.in_ok-answer.ensures.located c.write_to.ensures.status c.write_to.ensures.text c.write_to.ensures.failure
+    c.in_ok-inputs.ensures.bytes c.in_ok-answer.ensures.answer c.write_to.ensures.status c.write_to.ensures.text c.write_to.ensures.failure

@@ -2,7 +2,7 @@ use Rattle.std.proofs.Common.{subst, sym}
 use Rattle.lpis_country.specs.Country.{country_of}
 use Rattle.lpis_run_country.proofs.Shared.{err_is}
 use Rattle.lpis_run_locate.specs.private.Searching.{IsOutcome, IsUnanswered}
-use Rattle.lpis_run_locate.proofs.CountryLemmas.{all_unite, begun_setting, located, points_answer, refused_answer, refused_no, starts, stopped}
+use Rattle.lpis_run_locate.proofs.CountryLemmas.{all_unite, begun_setting, located, refused_answer, starts, stopped}
 use Rattle.lpis_run_locate.proofs.searching.search_regions.Goals as goal
 
 pub judge_regions-requires : goal.judge_regions-requires
@@ -21,14 +21,6 @@ returns-in-Some-clause-answer g c = λ x begun searched.
     let start = starts texts x c.args.begun (record { seam = c.new.result; sought = c.args.sought }) begun c.new.ensures searched in
     refused_answer texts x c.args.begun begun c.judge_regions.new.progress c.in-Some.answer
     (subst (λ o. IsOutcome s x.points c.judge_regions.new.progress o) c.in-Some.is (c.in_ok-answer.ensures.outcome s x.points start))
-
-pub returns-in-Some-clause-located : goal.returns-in-Some-clause-located
-returns-in-Some-clause-located g c = λ x begun searched e.
-    let texts = g.G.Regions.texts c.args.regions.now in
-    let s = begun_setting texts x c.args.begun begun in
-    let start = starts texts x c.args.begun (record { seam = c.new.result; sought = c.args.sought }) begun c.new.ensures searched in
-    let (regions, lines, name, left, reached, refusal) = subst (λ o. IsOutcome s x.points c.judge_regions.new.progress o) c.in-Some.is (c.in_ok-answer.ensures.outcome s x.points start) in
-    absurd (refused_no s regions name c.in-Some.answer.text.items c.in-Some.answer.status refusal e)
 
 pub returns-in_err-answer-clause-failure : goal.returns-in_err-answer-clause-failure
 returns-in_err-answer-clause-failure g c = λ x begun searched.
@@ -55,15 +47,5 @@ returns-clause-answer g c = λ x begun searched.
     let out = subst (λ o. IsOutcome s x.points c.judge_regions.new.progress o) c.in-None.is (c.in_ok-answer.ensures.outcome s x.points start) in
     let union = country_of c.args.begun.classes.items out.0 in
     let unite = all_unite texts x c.args.begun begun c.judge_regions.new.progress c.a_country_of_joined_regions_is_sound.ensures.union out in
-    points_answer texts x c.args.begun begun c.judge_regions.new.progress _ out (c.in_ok-report_search-in-None.ensures x.points out.0 union out.2.sought unite)
-
-pub returns-clause-located : goal.returns-clause-located
-returns-clause-located g c = λ x begun searched e.
-    let texts = g.G.Regions.texts c.args.regions.now in
-    let s = begun_setting texts x c.args.begun begun in
-    let start = starts texts x c.args.begun (record { seam = c.new.result; sought = c.args.sought }) begun c.new.ensures searched in
-    let out = subst (λ o. IsOutcome s x.points c.judge_regions.new.progress o) c.in-None.is (c.in_ok-answer.ensures.outcome s x.points start) in
-    let union = country_of c.args.begun.classes.items out.0 in
-    let unite = all_unite texts x c.args.begun begun c.judge_regions.new.progress c.a_country_of_joined_regions_is_sound.ensures.union out in
-    located texts x c.args.begun begun c.judge_regions.new.progress _ _ c.a_country_of_joined_regions_is_sound.ensures.sound c.a_country_of_joined_regions_is_sound.ensures.union out
-    (c.in_ok-report_search-in-None.ensures x.points out.0 union out.2.sought unite) e
+    located texts x c.args.begun begun c.judge_regions.new.progress _ c.a_country_of_joined_regions_is_sound.ensures.sound c.a_country_of_joined_regions_is_sound.ensures.union out
+    (c.in_ok-report_search-in-None.ensures x.points out.0 union out.2.sought unite)

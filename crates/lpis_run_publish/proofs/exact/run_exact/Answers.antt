@@ -14,7 +14,7 @@ returns-in_err-bytes-clause-runs g c =
 pub returns-in_err-outcome-clause-runs : goal.returns-in_err-outcome-clause-runs
 returns-in_err-outcome-clause-runs g c =
     let p = err_from_is_err_and c.from_residual-in_err-outcome.result c.from_residual-in_err-outcome.ensures.1 in
-    rw (p.1, p.2) (both_stopped _ _ (held (g.V.Write.contents c.args.cert_out.now) (g.W.Write.contents c.args.out.now)) _ (inl refl))
+    rw (p.1, p.2) (both_stopped _ _ (held (g.V.Write.contents c.args.cert_out.now) (g.W.Write.contents c.args.out.now)) _ (inl (inl refl)))
 
 pub returns-clause-runs : goal.returns-clause-runs
 returns-clause-runs g c =

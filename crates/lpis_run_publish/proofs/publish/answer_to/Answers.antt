@@ -2,17 +2,16 @@ use Rattle.std.proofs.Common.{◌∙◌, ℕ, refl, subst, sym}
 use Rattle.lpis_run_publish.proofs.Common.{IfOk-weaker}
 use Rattle.lpis_run_publish.proofs.PublishLemmas.{both-ok, fails-submitted}
 use Rattle.lpis_run_publish.proofs.SubmissionLemmas.{submission-more, submission-said, submission-status}
-use Rattle.lpis_run_publish.specs.private.Submitting.{IsFaultAnswer, submission_of, submitted_of}
+use Rattle.lpis_run_publish.specs.private.Submitting.{IsFaultAnswer, IsGoodAnswer, submission_of, submitted_of}
 use Rattle.lpis_run.specs.CheckAnswer.{Answer, IsCheckAnswer}
 use Rattle.lpis_run.specs.Stops.{IsRefusedAs}
 use Rattle.lpis_register.specs.Holdings.{Holdings}
-use Rattle.lpis_run_publish.specs.PublishAnswer.{IsHistoryAnswer, candidate_of}
 use Rattle.lpis_run_publish.specs.Submission.{Submitted}
 use Rattle.lpis_run_publish.proofs.publish.answer_to.Goals as goal
 
 -- the answer to what a submission says
 abbrev next : ℕ → Holdings → Submitted → Answer → Type 0
-next year before said = IsCheckAnswer said.release said.cert (IsHistoryAnswer (candidate_of year said) before)
+next year before said = IsCheckAnswer said.release said.cert (IsGoodAnswer year said before)
 
 pub returns-in-Ok-clause-answer : goal.returns-in-Ok-clause-answer
 returns-in-Ok-clause-answer g c =

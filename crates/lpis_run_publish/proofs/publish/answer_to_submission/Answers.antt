@@ -6,9 +6,9 @@ use Rattle.lpis_run.specs.Stops.{IsRefusedAs}
 use Rattle.lpis_run_publish.proofs.Common.{IfOk-weaker}
 use Rattle.lpis_run_publish.proofs.PublishLemmas.{fails-said}
 use Rattle.lpis_run_publish.proofs.SubmissionLemmas.{check-more, refused-is-not-done}
-use Rattle.lpis_run_publish.specs.PublishAnswer.{IsHistoryAnswer, candidate_of}
+use Rattle.lpis_run_publish.specs.PublishAnswer.{candidate_of}
 use Rattle.lpis_run_publish.specs.Submission.{submitted}
-use Rattle.lpis_run_publish.specs.private.Submitting.{submitted_of}
+use Rattle.lpis_run_publish.specs.private.Submitting.{IsGoodAnswer, submitted_of}
 use Rattle.lpis_run_publish.proofs.publish.answer_to_submission.Goals as goal
 
 pub returns-in-Ok-clause-answer : goal.returns-in-Ok-clause-answer
@@ -26,7 +26,7 @@ pub returns-in_ok-into_answer-in-Err-clause-answer : goal.returns-in_ok-into_ans
 returns-in_ok-into_answer-in-Err-clause-answer g c =
     let r = c.args.said.now.release in
     let k = c.args.said.now.cert in
-    check-more r k (IsHistoryAnswer (candidate_of c.args.year (submitted_of c.args.said.now)) c.args.register.now.held) _
+    check-more r k (IsGoodAnswer c.args.year (submitted_of c.args.said.now) c.args.register.now.held) _
     (subst (IsRefusedAs (IsCheckAnswer r k (λ _. ⊥))) c.in_ok-into_answer-in-Err.ensures c.in-Err.ensures.refused)
 
 pub returns-in_ok-into_answer-in-Err-clause-published : goal.returns-in_ok-into_answer-in-Err-clause-published

@@ -33,7 +33,7 @@ returns-in-Joined g c = λ given x texts p.
     let now = g.W.Write.contents c.join_regions.new.out in
     let (regions, lines, all, written, joined) = subst (λ r. RegionsJoin s start now r) c.in-Joined.is (c.in_ok-country.ensures.joins s is) in
     runs_union g.S.Store asked x c.args.register.now c.end_union.new.register start (g.W.Write.contents c.end_union.new.out) said p.said regions lines now all.have_passed written
-    c.end_union.result (c.end_union.ensures s regions lines p.tables all joined p.has)
+    c.end_union.result (c.end_union.ensures asked said regions lines (record { of_year = refl; of_blocks = refl }) all joined p.has)
 
 pub returns : goal.returns
 returns g c = λ given x texts p.
