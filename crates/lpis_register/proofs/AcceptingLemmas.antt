@@ -1,6 +1,7 @@
 -- What a release that may follow needs, and why one is refused.
 use Rattle.std.proofs.Common.{◌≢◌, ◌≡◌, ◌∙◌, ◌<◌, ◌⊎◌, inl, inr, ℕ, List, [], Some, map, refl, sym, subst, IsPermutation}
-use Rattle.lpis_register.proofs.Common.{Row, last_live}
+use Rattle.lpis_register.proofs.Common.{last_live}
+use Rattle.lpis_lineage.specs.declared.row.Row.{Row}
 use Rattle.lpis_cert.specs.declared.part.ExactBlock.{ExactBlock}
 use Rattle.lpis_lineage_exact.specs.declared.asking.AskFault.{AskFault}
 use Rattle.lpis_lineage_exact.specs.declared.asking.AskFault.TheVariants as ask

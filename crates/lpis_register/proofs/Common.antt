@@ -1,6 +1,5 @@
 -- The names that most proofs of this crate cite, passed on from one place. Declares nothing.
 pub use Rattle.lpis_lineage.specs.declared.row.Entry.{Entry}
-pub use Rattle.lpis_lineage.specs.declared.row.Row.{Row}
 pub use Rattle.lpis_lineage.specs.Lineage.{last_live}
 pub use Rattle.lpis_register_rows.specs.Content.{Content}
 pub use Rattle.lpis_register_rows.specs.Shapes.{AreLive, Shape, ShapesAre}
@@ -8,7 +7,7 @@ pub use Rattle.lpis_register_rows.specs.Histories.{TablesHave, HasHistory}
 pub use Rattle.lpis_register_rows.specs.declared.version.Version.{Version}
 pub use Rattle.lpis_register_rows.specs.declared.version.Version.TheVariants.{First, Third}
 pub use Rattle.lpis_register.specs.Faults.{IsFailure}
-pub use Rattle.lpis_register.specs.Histories.{HoldsRegister, LeavesRegister}
+pub use Rattle.lpis_register.specs.Histories.{HoldsRegister}
 pub use Rattle.lpis_register.specs.declared.fault.PublishFault.{PublishFault}
 pub use Rattle.lpis_register.specs.declared.fault.PublishFault.TheVariants.{Unlawful}
 pub use Rattle.lpis_register_sql.specs.Holding.{IsStored}

@@ -1,5 +1,5 @@
 -- Why the database fails when a release is published.
-use Rattle.std.proofs.Common.{◌≡◌, ◌⊎◌, inl, inr, Bool, true, false, List, IsTrue, Result, Ok, Err, IfErr, ℕ, ap, arith, pos, refl, subst, subst₂}
+use Rattle.std.proofs.Common.{◌≡◌, ◌⊎◌, inl, inr, Bool, true, false, List, IsTrue, Result, Ok, Err, IfErr, ap, arith, refl, subst}
 use Rattle.std.proofs.lemmas.Result.{IfErr-weaker}
 use Rattle.sqlite.specs.Held.{Held}
 use Rattle.sqlite.specs.State.{IsUnchanged}
@@ -11,41 +11,31 @@ use Rattle.lpis_register_sql.specs.Making.{making_statements}
 use Rattle.lpis_register_sql.specs.Presence.{AreThere, is_any}
 use Rattle.lpis_register_sql.specs.Quiet.{IsFound}
 use Rattle.lpis_register.proofs.SayingLemmas.{SeesLoaded}
-use Rattle.lpis_register_sql.specs.Stopping.{BoundStatement, IsStopped, StopsWithin, release_statements}
+use Rattle.lpis_register_sql.specs.Stopping.{BoundStatement, IsStopped, StopsWithin}
 use Rattle.lpis_register_sql.specs.Unread.{IsUnread}
 use Rattle.lpis_register_sql.specs.declared.found.Found.{Found}
-use Rattle.lpis_lineage.specs.Lineage.{last_year}
-use Rattle.lpis_register_rows.specs.Shapes.{text_edits}
 use Rattle.lpis_register_rows.specs.Content.{StoredSpan}
 use Rattle.lpis_register_rows.specs.Histories.{AreSpansOf}
 use Rattle.lpis_register_sql.proofs.Shared.{unread_still}
-use Rattle.lpis_register.proofs.Common.{Content, Entry, First, HasCleanDisk, IsStored, Layout, PublishFault, Row, Shape, State, Survives, Trees, Version, state}
+use Rattle.lpis_register.proofs.Common.{Content, Entry, First, HasCleanDisk, IsStored, Layout, PublishFault, State, Survives, Trees, Version, state}
 use Rattle.lpis_register.specs.FailingToOpen.{FailsWith, HasOpeningCause, settling_statements}
 use Rattle.lpis_register.specs.Opening.{HasRegister}
 use Rattle.lpis_register.specs.private.Commits.{HasSettlingCause, IsReported}
 use Rattle.lpis_register.specs.declared.opening.Loaded.{Loaded}
 use Rattle.lpis_register.specs.Accepting.{IsAccepted}
 use Rattle.lpis_register.specs.Faults.{IsStoreFault}
-use Rattle.lpis_register.specs.Failing.{FailsToRead, FailsToRun, FailsToStore, HasStoreCause, writing_statements}
+use Rattle.lpis_register.specs.Failing.{FailsToRead, FailsToStore, FailsToWrite, HasStoreCause}
 use Rattle.lpis_register.specs.Holdings.{Candidate, Holdings, RegisterState}
 use Rattle.lpis_register.specs.private.Writes.{FailsToCommit}
 use Rattle.lpis_register.specs.declared.accepting.Accepted.{Accepted}
 use Rattle.lpis_register.specs.declared.accepting.Writing.{Writing}
-use Rattle.lpis_register.specs.declared.fault.PublishFault.TheVariants.{Memory, Store, StoreMemory}
+use Rattle.lpis_register.specs.declared.fault.PublishFault.TheVariants.{Memory, Store}
 
 or_shut : {X : Type 0} (b : Bool) → (b ≡ true → X) → (b ≡ false) ⊎ X
 or_shut true f = inr (f refl)
 or_shut false f = inl refl
 
--- where the failure is reported as the store's, memory was not what was refused
-pub fails_to_run : {S : Type 0} (g : store.Ghosts S) (xs : List BoundStatement) (old new : Held S) (e : Error) (fault : PublishFault) → (e ≡ SqliteFailure OutOfMemory → fault ≡ StoreMemory)
-    → fault ≡ Store → (IsTrue (state g old).is_open → StopsWithin g xs (record old { in_transaction = true }) new e) → FailsToRun g xs old new
-fails_to_run g xs old new e fault memory is stops = or_shut (state g old).is_open (λ up. elim (stops up) [
-  | inl refused ↦ absurd (let m = memory refused in cc)
-  | inr stopped ↦ stopped
-])
-
--- the same of a reading
+-- where the failure of a reading is reported as the store's, memory was not what was refused
 pub unread_cause : (found : Found) (old new : State) (e : Error) (fault : PublishFault) → (e ≡ SqliteFailure OutOfMemory → fault ≡ Memory) → fault ≡ Store
     → (e ≡ SqliteFailure OutOfMemory) ⊎ IsUnread found old new → IsUnread found old new
 unread_cause found old new e fault memory is (inl refused) = absurd (let m = memory refused in cc)
@@ -55,27 +45,17 @@ unread_cause found old new e fault memory is (inr unread) = unread
 pub fails_to_read : (found : Found) (old new : State) → AreThere old.now.schema found → (IsTrue old.is_open → IsUnread found old new) → FailsToRead old new
 fails_to_read found old new there unread = or_shut old.is_open (λ up. (found, there, unread up))
 
--- the statements are those of the release that is written
-pub stops_as : {S : Type 0} (g : store.Ghosts S) (before : Holdings) (w : Writing) (y l : ℕ) (gone fresh : List (List ℕ)) (rows : List Row) (shapes : List Shape) → y ≡ w.year
-    → l ≡ last_year before.history → gone ≡ w.change.dropped_ids → fresh ≡ w.fresh.items → rows ≡ w.change.rows → shapes ≡ w.shapes.items → (old new : Held S) (r : Result (Unit {0}) Error)
-    → IfErr r (StopsWithin g (release_statements (pos y) (pos l) gone fresh rows (text_edits before.shapes shapes)) old new) → IfErr r (StopsWithin g (writing_statements w before) old new)
-stops_as g before w y l gone fresh rows shapes ey el eg ef er es old new r h =
-    let last = last_year before.history in
-    let one = subst₂ (λ v k. IfErr r (StopsWithin g (release_statements (pos v) (pos k) gone fresh rows (text_edits before.shapes shapes)) old new)) ey el h in
-    let two = subst₂ (λ v k. IfErr r (StopsWithin g (release_statements (pos w.year) (pos last) v k rows (text_edits before.shapes shapes)) old new)) eg ef one in
-    subst₂ (λ v k. IfErr r (StopsWithin g (release_statements (pos w.year) (pos last) w.change.dropped_ids w.fresh.items v (text_edits before.shapes k)) old new)) er es two
-
 -- the database failed to run the statements of a release
-pub fails_to_commit : {S : Type 0} (g : store.Ghosts S) (xs : List BoundStatement) (old new : Held S) (r : Result (Unit {0}) PublishFault) → IfErr r IsStoreFault
-    → (HasCleanDisk (state g new) → IfErr r (λ fault. fault ≡ Store → FailsToRun g xs old new)) → IfErr r (FailsToCommit g xs old new)
-fails_to_commit g xs old new (Ok x) either cause = tt
-fails_to_commit g xs old new (Err e) either cause = record { untouched = inl either; cause = cause }
+pub fails_to_commit : {S : Type 0} (g : store.Ghosts S) (w : Writing) (before : Holdings) (old new : Held S) (r : Result (Unit {0}) PublishFault) → IfErr r IsStoreFault
+    → (HasCleanDisk (state g new) → IfErr r (λ fault. fault ≡ Store → FailsToWrite g w before old new)) → IfErr r (FailsToCommit g w before old new)
+fails_to_commit g w before old new (Ok x) either cause = tt
+fails_to_commit g w before old new (Err e) either cause = record { untouched = inl either; cause = cause }
 
 -- a release that failed to be written has its cause in the register as it was
 pub fails_as : {S : Type 0} (g : store.Ghosts S) (w : Writing) (it old : RegisterState S) (conn : Held S) (fault : PublishFault) → it ≡ old
-    → FailsToCommit g (writing_statements w it.held) it.conn conn fault → HasCleanDisk (state g conn) → fault ≡ Store → FailsToRun g (writing_statements w old.held) old.conn conn
+    → FailsToCommit g w it.held it.conn conn fault → HasCleanDisk (state g conn) → fault ≡ Store → FailsToWrite g w old.held old.conn conn
 fails_as g w it old conn fault same fails =
-    subst (λ s. HasCleanDisk (state g conn) → fault ≡ Store → FailsToRun g (writing_statements w s.held) s.conn conn) same fails.cause
+    subst (λ s. HasCleanDisk (state g conn) → fault ≡ Store → FailsToWrite g w s.held s.conn conn) same fails.cause
 
 -- a candidate that was accepted is one that could not be stored
 pub fails_to_store : {S X : Type 0} (g : store.Ghosts S) (c : Candidate) (a : Accepted) (old new : RegisterState S) (answer : Result X PublishFault) → IsAccepted c old.held a

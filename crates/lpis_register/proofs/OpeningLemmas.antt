@@ -1,6 +1,7 @@
 -- What the steps of an opening do, joined.
 use Rattle.std.proofs.Common.{◌≡◌, ◌∙◌, ap, refl, sym, true≢false, inl, inr, List, Result, Ok, Err, IfErr, IfOk, IsTrue, [], arith, false, true}
-use Rattle.lpis_register.proofs.Common.{Trees, State, HasCleanDisk, Survives, survives_weaker, Entry, Content, IsFailure, IsStored, Layout, LeavesRegister}
+use Rattle.lpis_register.proofs.Common.{Trees, State, HasCleanDisk, Survives, survives_weaker, Entry, Content, IsFailure, IsStored, Layout}
+use Rattle.lpis_register.specs.Histories.{LeavesRegister}
 use Rattle.lpis_register.proofs.Common.{PublishFault, Shape, ShapesAre, HasHistory, Version, Whole}
 use Rattle.lpis_register_rows.specs.Content.{no_content}
 use Rattle.lpis_register_sql.specs.declared.found.Found.{Found}

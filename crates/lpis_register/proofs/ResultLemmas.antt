@@ -1,14 +1,9 @@
 -- Results, and the faults in them.
-use Rattle.std.proofs.Common.{◌≡◌, ◌⊎◌, inl, inr, Result, Ok, Err, OnOk, refl, sym, subst}
+use Rattle.std.proofs.Common.{◌≡◌, ◌⊎◌, inl, inr, refl, sym, subst}
 use Rattle.lpis_register.specs.Faults.{IsStoreFault, IsRefused, IsOpeningFault}
 use Rattle.lpis_register.specs.Holdings.{Candidate, Holdings}
 use Rattle.lpis_register.specs.declared.fault.PublishFault.TheVariants.{Memory, Year, Lineage, NotKept, Exact, Store, StoreMemory, Unknown}
 use Rattle.lpis_register.proofs.Common.{IsFailure, PublishFault, Unlawful}
-
--- what a promise of Ok implies is a promise of Ok
-pub on_ok : {A E : Type 0} (r : Result A E) {P Q : Type 0} → (P → Q) → OnOk r P → OnOk r Q
-on_ok (Ok x) f p = f p
-on_ok (Err e) f p = tt
 
 -- a failure is no refusal
 pub opening_failure : (e : PublishFault) → IsFailure e → IsOpeningFault e

@@ -12,11 +12,10 @@ use Rattle.lpis_lineage.specs.Changes.{Changes, IsChange}
 use Rattle.lpis_lineage.specs.Lawful.{IsLawful, RowsFit}
 use Rattle.lpis_lineage.specs.Lineage.{last_live}
 use Rattle.lpis_register_rows.specs.Shapes.{AreShapesOf}
-use Rattle.lpis_register_sql.specs.Layouts.{Origin}
 use Rattle.lpis_register_sql.specs.Quiet.{StaysSettled}
 use Rattle.lpis_register.specs.Accepting.{HasExactLineage}
 use Rattle.lpis_register.specs.Faults.{PublishRefuses}
-use Rattle.lpis_register.specs.Histories.{HoldsRegister, LeavesRegister}
+use Rattle.lpis_register.specs.Saying.{IsSaid, LeavesSaid}
 use Rattle.lpis_register.specs.Holdings.{Candidate, Holdings, RegisterState, candidate_ids}
 use Rattle.lpis_register.specs.declared.fault.PublishFault.{PublishFault}
 
@@ -28,30 +27,31 @@ pub record FollowsHistory (c : Candidate) (before : List Entry) (after : Holding
   pub keeps : AreShapesOf c.release.parcels after.shapes
 
 -- a crash leaves tables that say such a history and keep its shapes
-abbrev pub LeavesRelease : Candidate → List Entry → Origin → Trees → Type 0
-LeavesRelease c before o trees = (after : Holdings) × FollowsHistory c before after
-    × LeavesRegister o after.history after.shapes trees
+abbrev pub LeavesRelease : Candidate → List Entry → Trees → Type 0
+LeavesRelease c before trees = (after : Holdings) × FollowsHistory c before after
+    × LeavesSaid after.history after.shapes trees
 
 module _ {S : Type 0} (store : Ghosts S) where
-  -- the tables of a register, of this origin, hold what it holds
-  abbrev pub TablesHold : Origin → RegisterState S → Type 0
-  TablesHold o it = HoldsRegister o (state store it.conn) it.held.history it.held.shapes
+  -- the tables of a register say what it holds
+  abbrev pub TablesSay : RegisterState S → Type 0
+  TablesSay it = IsSaid (state store it.conn) it.held.history it.held.shapes
 
-  -- tables that held what the register held before hold what it holds after, and what stood behind
-  -- them. With an error the database is as it was, whatever it holds, unless it is shut. A crash
-  -- leaves what it left before, or the candidate whole; right after Ok the candidate
+  -- its database is as it was, where no transaction was open, whatever it holds
+  abbrev pub IsLeftAlone : RegisterState S → RegisterState S → Type 0
+  IsLeftAlone old new = StaysSettled (state store old.conn) (state store new.conn)
+
+  -- with Ok the tables say what the register holds after, whatever tables the database has, and a
+  -- crash leaves that. With an error the database is as it was, unless it is shut. A crash on the
+  -- way leaves what it left before, or the candidate whole
   pub record Stores (c : Candidate) (old new : RegisterState S)
       (answer : Result Changes PublishFault) : Type 0 where
-    pub ok : HasCleanDisk (state store new.conn) → (o : Origin) → TablesHold o old
-        → OnOk answer (TablesHold o new)
+    pub ok : HasCleanDisk (state store new.conn) → OnOk answer (TablesSay new)
     pub err : HasCleanDisk (state store new.conn) → IsTrue (state store new.conn).is_open
-        → OnErr answer (StaysSettled (state store old.conn) (state store new.conn))
-    pub crash : (o : Origin) → TablesHold o old
-        → Survives (state store old.conn) (state store new.conn)
-        (LeavesRelease c old.held.history o)
-    pub durable : HasCleanDisk (state store new.conn) → (o : Origin) → TablesHold o old
-        → OnOk answer ((db : Trees) → (state store new.conn).may_leave db
-        → LeavesRegister o new.held.history new.held.shapes db)
+        → OnErr answer (IsLeftAlone old new)
+    pub crash : Survives (state store old.conn) (state store new.conn)
+        (LeavesRelease c old.held.history)
+    pub durable : HasCleanDisk (state store new.conn) → OnOk answer ((db : Trees)
+        → (state store new.conn).may_leave db → LeavesSaid new.held.history new.held.shapes db)
 
 -- publishing the candidate makes what is held after of what was held before, and this is answered
 pub record Publishes (c : Candidate) (before after : Holdings)

@@ -1,7 +1,10 @@
 -- What the tables that a database has say, in whatever order they stand, and whatever stands
 -- beside.
 use Rattle.std.specs.Prelude.{◌≡◌, ◌⊎◌, [], false, true, List}
-use Rattle.sqlite.specs.Effect.{Database}
+use Rattle.sqlite.specs.Effect.{Database, IsDatabase}
+use Rattle.sqlite.specs.Schema.{Schema}
+use Rattle.sqlite.specs.State.{State}
+use Rattle.sqlite.specs.Tree.{Trees}
 use Rattle.lpis_lineage.specs.declared.row.Entry.{Entry}
 use Rattle.lpis_lineage.specs.Lineage.{last_live}
 use Rattle.lpis_register_rows.specs.Content.{Content, StoredText}
@@ -10,6 +13,7 @@ use Rattle.lpis_register_rows.specs.Shapes.{AreLive, Shape, ShapesAre, TextsStan
 use Rattle.lpis_register_rows.specs.declared.version.Version.{Version}
 use Rattle.lpis_register_rows.specs.declared.version.Version.TheVariants.{First, Second, Third}
 use Rattle.lpis_register_sql.specs.Presence.{AreThere, is_any}
+use Rattle.lpis_register_sql.specs.Quiet.{IsSettled}
 use Rattle.lpis_register_sql.specs.Showing.{ShowsRows, ShowsTexts}
 use Rattle.lpis_register_sql.specs.declared.found.Found.{Found}
 
@@ -79,3 +83,14 @@ StaysWhole db now h shapes = (found : Found) × AreThere db.schema found × (IsW
 abbrev pub SaysNone : Database → Type 0
 SaysNone db = (found : Found) × AreThere db.schema found × (is_any found ≡ true)
     × SaysNoTables found db
+
+-- no transaction is open, and the tables say this
+pub record IsSaid (st : State) (h : List Entry) (shapes : List Shape) : Type 0 where
+  pub settled : IsSettled st
+  pub says : SaysRegister st.now h shapes
+
+-- a crash leaves trees that are those of a database, and it says this
+abbrev pub LeavesSaid : List Entry → List Shape → Trees → Type 0
+LeavesSaid h shapes trees = (schema : Schema)
+    × IsDatabase (record { schema = schema; trees = trees })
+    × SaysRegister (record { schema = schema; trees = trees }) h shapes

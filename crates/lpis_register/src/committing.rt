@@ -1,62 +1,57 @@
 //! Writing a release that was accepted.
 
-ghost use Rattle.std.specs.Prelude.{◌≡◌, false, true, IfErr, IsTrue, List, OnErr, OnOk};
+ghost use Rattle.std.specs.Prelude.{◌≡◌, false, pos, IfErr, IsTrue, List, OnErr, OnOk};
 ghost use Rattle.sqlite.specs.Held.{state};
 ghost use Rattle.sqlite.specs.State.{HasCleanDisk};
 ghost use Rattle.sqlite.specs.declared.error.Error.TheVariants.{SqliteFailure};
 ghost use Rattle.sqlite.specs.declared.error.ErrorCode.TheVariants.{OutOfMemory};
 ghost use Rattle.lpis_lineage.specs.declared.row.Entry.{Entry};
-ghost use Rattle.lpis_register_sql.specs.Stopping.{StopsWithin};
+ghost use Rattle.lpis_register_rows.specs.Shapes.{text_edits};
+ghost use Rattle.lpis_register_sql.specs.Stopping.{RanAlone, release_statements};
+ghost use Rattle.lpis_register_sql.specs.Within.{KeepsTables, Makes};
 ghost use Rattle.lpis_register.specs.Accepting.{IsPrepared};
-ghost use Rattle.lpis_register.specs.Failing.{FailsToRun, writing_statements};
+ghost use Rattle.lpis_register.specs.Failing.{FailsToWrite, writing_statements};
 ghost use Rattle.lpis_register.specs.Faults.{IsStoreFault};
-ghost use Rattle.lpis_register.specs.Histories.{LeavesRegister};
 ghost use Rattle.lpis_register.specs.Holdings.{Candidate, holdings};
 ghost use Rattle.lpis_register.specs.Publishing.{FollowsHistory};
+ghost use Rattle.lpis_register.specs.Saying.{LeavesSaid};
 ghost use Rattle.lpis_register.specs.private.Writes.{Commits, FailsToCommit};
 ghost use Rattle.lpis_register.specs.private.Writes.{IsToWrite, WritesRelease, written};
 ghost use Rattle.lpis_register.specs.declared.fault.PublishFault.TheVariants.{Memory, Store};
 ghost use Rattle.lpis_register.specs.declared.fault.PublishFault.TheVariants.{StoreMemory};
 
 use crate::accepting::Writing;
+use crate::confirming::confirm;
 use crate::fault::PublishFault;
 use lpis_lineage::{History, IdSet};
-use lpis_register_rows::{ShapeChange, publishing_adds_the_release, steps_are_what_is_written};
-use lpis_register_sql::write_release;
+use lpis_register_rows::ShapeChange;
+use lpis_register_sql::{tables_in, write_release};
 use lpis_rings::Polygon;
 use lpis_tables::Id;
-use sqlite::{Alter, Connection, Error, ErrorCode};
+use sqlite::{Alter, Connection, Error, ErrorCode, Transaction};
 use std::alloc::Global;
 
-/// Writes an accepted release, which stands at a history's end already, in one transaction: tables
-/// that hold the history before it and the kept shapes hold the whole one and its shapes
-/// afterwards, and with an error what they held.
-fn write_at_end<S: Alter>(
+/// Writes an accepted release inside a transaction.
+fn fill<S: Alter>(
     alloc: Global,
-    conn: &mut Connection<S>,
-    history: &History,
+    tx: &mut Transaction<'_, S>,
     last: u16,
     kept: &[(Id, Polygon)],
     writing: &Writing,
 ) -> Result<(), Error>
-    requires autocommit { conn.old.in_transaction ≡ false }
-    ensures autocommit { conn.new.in_transaction ≡ false }
-    ensures writes { (h : List Entry) → IsToWrite writing.now last h history.now
-        → WritesRelease (holdings h kept.now) (written writing.now history.now)
-        (λ o. LeavesRegister o history.now writing.now.shapes.items)
-        (state S.Store conn.old) (state S.Store conn.new) result }
-    ensures stops { (h : List Entry) → IsToWrite writing.now last h history.now
-        → IsTrue (state S.Store conn.old).is_open → HasCleanDisk (state S.Store conn.new)
-        → IfErr result (StopsWithin S.Store (writing_statements writing.now (holdings h kept.now))
-        (record conn.old { in_transaction = true }) conn.new) }
+    ensures same_reference { tx.new.conn.ghost_name ≡ tx.old.conn.ghost_name }
+    ensures makes { Makes S.Store (release_statements (pos writing.now.year) (pos last)
+        writing.now.change.dropped_ids writing.now.fresh.items writing.now.change.rows
+        (text_edits kept.now writing.now.shapes.items)) tx.old.conn.now tx.new.conn.now result }
+    ensures tables { HasCleanDisk (state S.Store tx.new.conn.now)
+        → IsTrue (state S.Store tx.old.conn.now).is_open → IsTrue tx.old.conn.now.in_transaction
+        → OnOk result (KeepsTables (state S.Store tx.old.conn.now)
+        (state S.Store tx.new.conn.now)) }
 {
-    let _ = history.releases();
-    publishing_adds_the_release();
-    steps_are_what_is_written();
     let shapes = writing.shapes.as_slice();
     write_release(
         alloc,
-        conn,
+        tx,
         u32::from(writing.year),
         u32::from(last),
         writing.change.dropped(),
@@ -64,6 +59,43 @@ fn write_at_end<S: Alter>(
         writing.change.rows(),
         ShapeChange { kept, shapes },
     )
+}
+
+/// Writes an accepted release, which stands at a history's end already, in one transaction, reads
+/// the tables back, and commits it where they say the history and its shapes. With an error the
+/// tables are as they were.
+fn write_at_end<S: Alter>(
+    alloc: Global,
+    conn: &mut Connection<S>,
+    history: &History,
+    last: u16,
+    kept: &[(Id, Polygon)],
+    writing: &Writing,
+) -> Result<(), PublishFault>
+    requires autocommit { conn.old.in_transaction ≡ false }
+    ensures autocommit { conn.new.in_transaction ≡ false }
+    ensures writes { WritesRelease (written writing.now history.now)
+        (LeavesSaid history.now writing.now.shapes.items)
+        (state S.Store conn.old) (state S.Store conn.new) result }
+    ensures ran { (h : List Entry) → IsToWrite writing.now last h history.now
+        → HasCleanDisk (state S.Store conn.new) → OnOk result (RanAlone S.Store
+        (writing_statements writing.now (holdings h kept.now)) conn.old conn.new) }
+    ensures failure { IfErr result IsStoreFault }
+    ensures cause { (h : List Entry) → IsToWrite writing.now last h history.now
+        → HasCleanDisk (state S.Store conn.new) → IfErr result (λ fault. fault ≡ Store
+        → FailsToWrite S.Store writing.now (holdings h kept.now) conn.old conn.new) }
+{
+    let found = tables_in(conn.schema());
+    let mut tx = conn.transaction();
+    match fill(alloc, &mut tx, last, kept, writing) {
+        Ok(()) => {}
+        Err(error) => return Err(fault_of_writing(error)),
+    }
+    confirm(alloc, &mut tx, &found, history, writing.shapes.as_slice())?;
+    match tx.commit() {
+        Ok(()) => Ok(()),
+        Err(error) => Err(fault_of_writing(error)),
+    }
 }
 
 /// Puts an accepted release at the history's end.
@@ -111,17 +143,19 @@ fn write_or_take_back<S: Alter>(
     ensures commits { (h : List Entry) (due : IsToWrite writing.now last h history.old)
         → Commits due.candidate (holdings h kept.now) (written writing.now history.new)
         (state S.Store conn.old) (state S.Store conn.new) result }
+    ensures ran { (h : List Entry) → IsToWrite writing.now last h history.old
+        → HasCleanDisk (state S.Store conn.new) → OnOk result (RanAlone S.Store
+        (writing_statements writing.now (holdings h kept.now)) conn.old conn.new) }
     ensures failure { IfErr result IsStoreFault }
     ensures cause { (h : List Entry) → IsToWrite writing.now last h history.old
         → HasCleanDisk (state S.Store conn.new) → IfErr result (λ fault. fault ≡ Store
-        → FailsToRun S.Store (writing_statements writing.now (holdings h kept.now))
-        conn.old conn.new) }
+        → FailsToWrite S.Store writing.now (holdings h kept.now) conn.old conn.new) }
 {
     match write_at_end(alloc, conn, history, last, kept, writing) {
         Ok(()) => Ok(()),
-        Err(error) => {
+        Err(fault) => {
             history.take_back();
-            Err(fault_of_writing(error))
+            Err(fault)
         }
     }
 }
@@ -144,8 +178,10 @@ pub(crate) fn commit_release<S: Alter>(
         → IsPrepared c history.old (record { live = live; writing = writing.now })
         → Commits c (holdings history.old kept.now) (written writing.now history.new)
         (state S.Store conn.old) (state S.Store conn.new) result }
-    ensures failure { IfErr result (FailsToCommit S.Store
+    ensures ran { HasCleanDisk (state S.Store conn.new) → OnOk result (RanAlone S.Store
         (writing_statements writing.now (holdings history.old kept.now)) conn.old conn.new) }
+    ensures failure { IfErr result (FailsToCommit S.Store writing.now
+        (holdings history.old kept.now) conn.old conn.new) }
 {
     let last = history.last_year();
     match grow(history, live, writing) {

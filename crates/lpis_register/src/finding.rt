@@ -32,7 +32,7 @@ use sqlite::{Alter, Connection};
 use std::alloc::Global;
 
 /// The history of rows, and their version.
-fn history_at(alloc: Global, rows: &Rows) -> Result<(History, Version), PublishFault>
+pub(crate) fn history_at(alloc: Global, rows: &Rows) -> Result<(History, Version), PublishFault>
     ensures says { IfOk result (λ found. TablesHave found.1 rows.now found.0) }
     ensures unlawful { IfErr result (λ e. e ≡ Unlawful → (version : _) (h : List Entry)
         → TablesHave version rows.now h → ⊥) }
@@ -82,7 +82,7 @@ pub(crate) fn find_rows<S: Alter>(
 }
 
 /// The shapes of texts, which are to be of live parcels.
-fn shapes_at(
+pub(crate) fn shapes_at(
     alloc: Global,
     history: &History,
     texts: Vec<TextRow>,

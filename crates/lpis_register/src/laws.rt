@@ -3,6 +3,7 @@
 ghost use Rattle.std.specs.Prelude.{◌≡◌, ◌++◌, [], List};
 ghost use Rattle.sqlite.specs.Effect.{Database};
 ghost use Rattle.sqlite.specs.Held.{state};
+ghost use Rattle.sqlite.specs.State.{Opens};
 ghost use Rattle.sqlite.specs.Tree.{Trees};
 ghost use Rattle.lpis_lineage_exact.specs.ExactLineage.{ShapesTurnOnce};
 ghost use Rattle.lpis_lineage_exact.specs.Shapes.{shape_named};
@@ -13,7 +14,8 @@ ghost use Rattle.lpis_register_sql.specs.Layouts.{Origin};
 ghost use Rattle.lpis_register.specs.Calls.{AllLead, AreReleasesOf, Call, accepted};
 ghost use Rattle.lpis_register.specs.Histories.{HoldsRegister, LeavesRegister};
 ghost use Rattle.lpis_register.specs.Holdings.{Holdings, holdings};
-ghost use Rattle.lpis_register.specs.Saying.{SaysHistory, SaysNone, SaysRegister};
+ghost use Rattle.lpis_register.specs.Saying.{IsSaid, LeavesSaid, SaysHistory, SaysNone};
+ghost use Rattle.lpis_register.specs.Saying.{SaysRegister};
 ghost use Rattle.lpis_register_rows.specs.Shapes.{Shape};
 ghost use Rattle.lpis_register_rows.specs.declared.version.Version.{Version};
 
@@ -58,6 +60,19 @@ pub fn a_crash_leaves_what_is_held<S: Alter>(conn: &Connection<S>)
         → HoldsRegister o (state S.Store conn.now) h shapes → (db : Trees)
         → (state S.Store conn.now).may_leave db → LeavesRegister o h shapes db }
 {}
+
+/// While the tables of a database say a history and shapes, a crash leaves tables that say them,
+/// and nothing else; and an opening of what a crash left finds what it says.
+pub fn a_crash_leaves_what_is_said<S: Alter>(conn: &Connection<S>)
+    ensures left { (h : List Entry) (shapes : List Shape)
+        → IsSaid (state S.Store conn.now) h shapes → (db : Trees)
+        → (state S.Store conn.now).may_leave db → LeavesSaid h shapes db }
+    ensures found { (h : List Entry) (shapes : List Shape) → Opens (state S.Store conn.now)
+        → LeavesSaid h shapes (state S.Store conn.now).committed.trees
+        → SaysRegister (state S.Store conn.now).now h shapes }
+{
+    let _ = conn.schema();
+}
 
 /// A database says one history, and keeps one list of shapes.
 pub fn a_database_holds_one_register<S: Alter>(conn: &Connection<S>)

@@ -1,12 +1,15 @@
 //! The register.
 
-ghost use Rattle.std.specs.Prelude.{◌≡◌, ◌≢◌, ◌⊎◌, false, IfOk, IfErr};
+ghost use Rattle.std.specs.Prelude.{◌≡◌, ◌≢◌, ◌⊎◌, false, IfOk, IfErr, OnOk};
 ghost use Rattle.sqlite.specs.Held.{state};
+ghost use Rattle.sqlite.specs.State.{HasCleanDisk};
+ghost use Rattle.lpis_register_sql.specs.Stopping.{RanAlone};
 ghost use Rattle.lpis_lineage.specs.Order.{IsAscending};
 ghost use Rattle.lpis_release.specs.Release.{Contents};
 ghost use Rattle.lpis_register_rows.specs.Shapes.{shape_ids};
 ghost use Rattle.lpis_register.specs.Accepting.{IsAccepted, WasMadeFor};
 ghost use Rattle.lpis_register.specs.Failing.{FailsToStore, HasReadCause, HasStoreCause};
+ghost use Rattle.lpis_register.specs.Failing.{writing_statements};
 ghost use Rattle.lpis_register.specs.Faults.{IsStoreFault, PublishRefuses};
 ghost use Rattle.lpis_register.specs.Histories.{IsTrace, IsUnknown, ReadsHistory};
 ghost use Rattle.lpis_register.specs.Holdings.{Candidate, candidate, holdings};
@@ -153,7 +156,8 @@ impl<S: Alter> Register<S> {
         accept_parcels(self.alloc, &self.history, kept, year, parcels, rows, cert)
     }
 
-    /// Publishes a release that was accepted for this history and these shapes, in one transaction:
+    /// Publishes a release that was accepted for this history and these shapes, in one transaction,
+    /// which is committed once the tables were read back and say it, whatever tables there are:
     /// after a crash the tables have it whole or not at all, and always where the answer was Ok.
     /// With an error the history and the shapes are as they were.
     pub fn commit(&mut self, accepted: Accepted) -> Result<Change, PublishFault>
@@ -162,6 +166,9 @@ impl<S: Alter> Register<S> {
             → Publishes c self.old.held self.new.held result }
         ensures stores { (c : Candidate) → IsAccepted c self.old.held accepted
             → Stores S.Store c self.old self.new result }
+        // The engine ran the statements of the release, and no others, and committed that.
+        ensures ran { HasCleanDisk (state S.Store self.new.conn) → OnOk result (RanAlone S.Store
+            (writing_statements accepted.writing self.old.held) self.old.conn self.new.conn) }
         ensures untouched { IfErr result (λ fault. IsStoreFault fault
             ⊎ ((fault ≡ Memory) × (self.new.conn ≡ self.old.conn))) }
         ensures cause { IfErr result (λ fault. HasStoreCause S.Store accepted self.old self.new
@@ -207,7 +214,8 @@ impl<S: Alter> Register<S> {
         ensures untouched { IfErr result (λ fault. IsStoreFault fault
             ⊎ (self.new.conn ≡ self.old.conn)) }
         // Such a fault comes where the release was accepted; `Store` where the database was shut,
-        // its disk failed, or the engine refuses one of the release's statements.
+        // its disk failed, the engine refuses one of the release's statements, or its tables then
+        // say something else.
         ensures cause { IfErr result (λ fault. IsStoreFault fault → FailsToStore S.Store
             (candidate year yes.now cert.now.exact rows.now) self.old self.new (fault ≡ Store)) }
     {

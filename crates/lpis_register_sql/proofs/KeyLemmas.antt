@@ -1,9 +1,9 @@
 -- What UPDATE and DELETE by a key make of a table's rows.
-use Rattle.std.proofs.Common.{◌≡◌, ◌⊎◌, inl, inr, ℕ, ℤ, List, [], ◌∷◌, ◌++◌, map, drop, slice_get, Bool, true, false, not, Some, Ok, refl, sym, ap, ap₂, subst, subst₂, ◌∙◌, IsPermutation}
-use Rattle.std.proofs.Common.{is_eq, true≢false}
+use Rattle.std.proofs.Common.{◌≡◌, inl, inr, ℕ, ℤ, List, [], ◌∷◌, ◌++◌, map, drop, slice_get, Bool, true, not, Some, Ok, refl, sym, ap, subst, subst₂, ◌∙◌, IsPermutation}
+use Rattle.std.proofs.Common.{is_eq}
 use Rattle.std.proofs.Common.{if◌then◌else◌, filter, bytes_eq, flat_map, nat_cmp}
 use Rattle.std.proofs.lemmas.Bool.{cases_Bool}
-use Rattle.lpis_register_sql.proofs.Common.{not-true, IsPermutation-trans, IsPermutation-map, Null, Int, Row, value_cmp, Update, edit_of, Has, Given}
+use Rattle.lpis_register_sql.proofs.Common.{IsPermutation-map, Null, Int, Row, value_cmp, edit_of, Has, Given}
 use Rattle.lpis_register_sql.proofs.Common.{Schema, Table, Term, Trees}
 use Rattle.lpis_register_sql.proofs.Common.{overlay, rowid, understood, State, mode_of, statement_of}
 use Rattle.lpis_register_sql.proofs.Common.{Origin, Whole, schema_of, AreKeyed}
@@ -24,7 +24,7 @@ use Rattle.std.proofs.lemmas.Simd.{map-map}
 use Rattle.sqlite.specs.Edit.{Applies}
 use Rattle.sqlite_schema.specs.declared.schema.Keys.{Keys}
 use Rattle.sqlite_value.specs.declared.keys.Collation.TheVariants.{Binary}
-use Rattle.sqlite_rules.proofs.ListLemmas.{has_filtered, has_either}
+use Rattle.sqlite_rules.proofs.ListLemmas.{has_filtered}
 use Rattle.sqlite_rules.proofs.ProbeLemmas.{mapped_has, has_mapped}
 use Rattle.sqlite.specs.Cast.{cast_row}
 use Rattle.sqlite.specs.Term.{holds}
@@ -32,8 +32,8 @@ use Rattle.lpis_register_sql.proofs.MeaningLemmas.{Says, from_all, whole}
 use Rattle.lpis_register_sql.specs.Standing.{Fits}
 use Rattle.lpis_register_sql.proofs.PartLemmas.{KeepsAll}
 use Rattle.lpis_register_sql.proofs.StandLemmas.{may_change}
-use Rattle.lpis_register_sql.proofs.WriteLemmas.{OneChange, deletes, ran, step_of, updates}
-use Rattle.lpis_register_sql.proofs.UpdateLemmas.{has_permuted, filter_same, found_are_replaced, gone_are, walk_replaces, map_same_at, numbered_given, key_of, without_is}
+use Rattle.lpis_register_sql.proofs.WriteLemmas.{OneChange, deletes, ran, step_of}
+use Rattle.lpis_register_sql.proofs.UpdateLemmas.{has_permuted, filter_same, found_are_replaced, gone_are, map_same_at, numbered_given, key_of, without_is}
 
 -- SQL's equality of texts is that of their bytes
 pub same_text : (a b : List ℕ) → is_true (binary (Compare Eq Binary) (Text a) (Text b)) ≡ bytes_eq a b
@@ -143,62 +143,6 @@ module _ (tree : ℕ) (tests project : List Term) (given : Row) where
       abbrev after : Row → Row
       after v = row (step (back v))
 
-      at_thing : (x : X) (b : Bool) → (if b then row (turn x) else row x) ≡ row (if b then turn x else x)
-      at_thing x true = refl
-      at_thing x false = refl
-
-      stepped : (r : Row) → Has rows r → (if hits r then drop 1 (made r) else drop 1 r) ≡ after (drop 1 r)
-      stepped r there =
-          let it = thing_at r there in
-          let x = it.0 in
-          ap (λ b. if b then drop 1 (made r) else drop 1 r) (hit_is r x it.1 it.3 it.2) ∙ ap₂ (λ a c. if test x then a else c) (rest_is r x it.1 it.3 it.2) it.3 ∙ at_thing x (test x)
-          ∙ sym (ap after it.3 ∙ ap (λ z. row (step z)) (undone x))
-
-      things_after : (next : List Row) → IsPermutation (map made (filter hits rows) ++ filter (λ r. not (hits r)) rows) next → IsPermutation (map row (map step xs)) (map (drop 1) next)
-      things_after next same =
-          let things : map after (map row xs) ≡ map row (map step xs) = map-map after row xs ∙ map_same_at _ _ xs (λ x there. ap (λ z. row (step z)) (undone x)) ∙ sym (map-map row step xs) in
-          let turned : map after (map (drop 1) rows) ≡ map (λ r. if hits r then drop 1 (made r) else drop 1 r) rows = map-map after (drop 1) rows ∙ sym (map_same_at _ _ rows stepped) in
-          IsPermutation-trans _ _ _ (subst₂ IsPermutation things turned (IsPermutation-map after _ _ are))
-          (IsPermutation-trans _ _ _ (walk_replaces hits made (drop 1) rows) (IsPermutation-map (drop 1) _ _ same))
-
-      from_row : (x : Row) → Has (map made (filter hits rows) ++ filter (λ r. not (hits r)) rows) x
-          → (r : Row) × Has rows r × (rowid x ≡ rowid r) × (((hits r ≡ true) × (x ≡ made r)) ⊎ ((hits r ≡ false) × (x ≡ r)))
-      from_row x there = elim (has_either (map made (filter hits rows)) _ x there) [
-        | inl new ↦
-            let it = has_mapped made (filter hits rows) x new in
-            let was = has_filtered hits rows it.0 it.1 in
-            let at = thing_at it.0 was.0 in
-            (it.0, was.0, ap rowid it.2 ∙ key_is it.0 at.0 at.1 at.3 at.2 ∙ sym at.2, inl (was.1, it.2))
-        | inr old ↦
-            let was = has_filtered (λ r. not (hits r)) rows x old in
-            (x, was.0, refl, inr (not-true _ was.1, refl))
-      ]
-
-      keyed_after : (next : List Row) → IsPermutation (map made (filter hits rows) ++ filter (λ r. not (hits r)) rows) next → AreKeyed next
-      keyed_after next same = record { whole = whole_after; alone = alone_after }
-        where
-          whole_after : (x : Row) → Has next x → (n : ℤ) × (rowid x ≡ Int n)
-          whole_after x there =
-              let it = from_row x (has_permuted _ next x same there) in
-              let n = keyed.whole it.0 it.1 in
-              (n.0, it.2 ∙ n.1)
-
-          same_kind : (x z r q : Row) → r ≡ q → ((hits r ≡ true) × (x ≡ made r)) ⊎ ((hits r ≡ false) × (x ≡ r)) → ((hits q ≡ true) × (z ≡ made q)) ⊎ ((hits q ≡ false) × (z ≡ q)) → x ≡ z
-          same_kind x z r q e (inl a) (inl b) = a.1 ∙ ap made e ∙ sym b.1
-          same_kind x z r q e (inl a) (inr b) = absurd (true≢false (sym a.0 ∙ ap hits e ∙ b.0))
-          same_kind x z r q e (inr a) (inl b) = absurd (true≢false (sym b.0 ∙ ap hits (sym e) ∙ a.0))
-          same_kind x z r q e (inr a) (inr b) = a.1 ∙ e ∙ sym b.1
-
-          alone_after : (x z : Row) → Has next x → Has next z → rowid x ≡ rowid z → x ≡ z
-          alone_after x z hx hz e =
-              let a = from_row x (has_permuted _ next x same hx) in
-              let b = from_row z (has_permuted _ next z same hz) in
-              same_kind x z a.0 b.0 (keyed.alone a.0 b.0 a.1 b.1 (sym a.2 ∙ e ∙ b.2)) a.3 b.3
-
-      -- the rows that were found are replaced by what is made of them
-      pub updated_keeps : (next : List Row) → IsPermutation (map made (filter hits rows) ++ filter (λ r. not (hits r)) rows) next → KeepsAll row (map step xs) next
-      updated_keeps next all = (things_after next all, keyed_after next all)
-
 -- ---- the statements
 
 module _ (o : Origin) (sql : List ℕ) (index : ℕ) (table : Table) (tests project : List Term) (given : Row) (old new : State) (count : ℕ)
@@ -222,23 +166,4 @@ module _ (o : Origin) (sql : List ℕ) (index : ℕ) (table : Table) (tests proj
       record {
         writes = record { schema = it.schema_is; sound = w.sound; others = step.tables };
         keeps = deleted_keeps table.tree tests project given row back undone test first hit_is (db table.tree) xs keeps.0 keeps.1 it.found (new.now.trees table.tree) found step.rows;
-      }
-
-  -- UPDATE turns them
-  pub updates_by_key : Says o sql (Update index (whole (from_all table.tree tests project))) → (turn : X → X)
-      → ((r : Row) (x : X) (n : ℤ) → drop 1 r ≡ row x → rowid r ≡ Int n → drop 1 (cast_row table (drop 1 (out table.tree tests project given r))) ≡ row (turn x))
-      → ((r : Row) (x : X) (n : ℤ) → drop 1 r ≡ row x → rowid r ≡ Int n → rowid (cast_row table (drop 1 (out table.tree tests project given r))) ≡ Int n)
-      → Changes o old new table.tree row (map (λ x. if test x then turn x else x) xs)
-  updates_by_key says turn rest_is key_is =
-      let s = schema_of (Whole o) in
-      let db = old.now.trees in
-      let q = from_all table.tree tests project in
-      let w = ran s sql given (Update index (whole q)) old new count (λ w. w) has says executed in
-      let it = updates old.step_limit (mode_of old) given s db (statement_of sql (understood s sql)) index table (whole q) w.tally new.now at w.does in
-      let step = step_of o db new.now.trees _ fits changes it.edited in
-      let found = finds table.tree tests project given db it.found own (it.answer.answer Null) in
-      record {
-        writes = record { schema = it.schema_is; sound = w.sound; others = step.tables };
-        keeps = updated_keeps table.tree tests project given row back undone test first hit_is (db table.tree) xs keeps.0 keeps.1 table turn rest_is key_is (new.now.trees table.tree)
-            (replaced table.tree tests project given table db new.now.trees it.found step keeps.1 first found);
       }

@@ -9,7 +9,7 @@ use Rattle.sqlite.specs.State.{Commits}
 use Rattle.sqlite.specs.Steps.{FailsToCommit}
 use Rattle.sqlite_trees.specs.declared.store.Store as store
 use Rattle.lpis_register_sql.specs.Stopping.{BoundStatement, Ran, RanAlone, StopsWithin}
-use Rattle.lpis_register_sql.specs.private.Inside.{Makes}
+use Rattle.lpis_register_sql.specs.Within.{Makes}
 use Rattle.lpis_register_sql.proofs.Common.{Error, HasCleanDisk, Survives, Trees, state}
 use Rattle.lpis_register_sql.proofs.StepLemmas.{IsCommitted}
 use Rattle.lpis_register_sql.proofs.StopLemmas.{failed_commit, fails, stops_still, then}

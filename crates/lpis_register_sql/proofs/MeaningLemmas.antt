@@ -10,10 +10,7 @@ use Rattle.lpis_register_sql.specs.Tables.{release_table, row_table}
 use Rattle.lpis_register_sql.specs.private.Stages.{one_table, three_tables, two_tables}
 use Rattle.lpis_register_sql.specs.Beside.{Beside, nothing}
 use Rattle.sqlite_schema.specs.declared.program.Program.{Program}
-use Rattle.sqlite.specs.Term.{lit, col, op2}
-use Rattle.sqlite_sql.specs.declared.ops.BinaryOp.TheVariants.{Compare}
-use Rattle.sqlite_sql.specs.declared.ops.CompareOp.TheVariants.{Eq}
-use Rattle.sqlite_value.specs.declared.keys.Collation.TheVariants.{Binary}
+use Rattle.sqlite.specs.Term.{lit, col}
 use Rattle.sqlite.specs.Query.{Query, inner, end}
 use Rattle.sqlite.specs.Source.TheVariants.{Values}
 use Rattle.sqlite_schema.specs.declared.command.Command.{Command}
@@ -22,9 +19,7 @@ use Rattle.sqlite.specs.Change.{created}
 use Rattle.sqlite.proofs.Callers.{IsPlain, command_of}
 use Rattle.sqlite_tied.specs.Compute.{everything}
 use Rattle.lpis_register_sql.specs.Statements.{make_format, make_release, make_span, make_row, insert_format, clear_span, insert_whole_span}
-use Rattle.lpis_register_sql.specs.Statements.{insert_release, insert_span, insert_line, end_span}
 use Rattle.lpis_register_sql.specs.Statements.{clear_live, set_version, make_text, make_mark, clear_mark, clear_text}
-use Rattle.lpis_register_sql.specs.Statements.{insert_text, replace_text, delete_text, insert_mark}
 
 -- a query over one table with this filter and these columns: no groups, no DISTINCT, no order, no limit
 abbrev pub from_all : ℕ → List Term → List Term → Query
@@ -48,41 +43,13 @@ whole q = record { lets = []; body = q }
 abbrev pub format_terms : List Term
 format_terms = lit (Int (pos 1)) ∷ lit Null ∷ lit (Int (pos 3)) ∷ []
 
--- what is inserted into `lpis_release`: the parameter as rowid, NULL in its place in the row
-abbrev pub release_terms : List Term
-release_terms = col 0 0 ∷ lit Null ∷ []
-
--- what is inserted into `lpis_span` for a span that has not ended: no rowid, two parameters, and 0
-abbrev pub span_terms : List Term
-span_terms = lit Null ∷ col 0 0 ∷ col 0 1 ∷ lit (Int (pos 0)) ∷ []
-
--- what is inserted into `lpis_row`: no rowid, and four parameters
-abbrev pub line_terms : List Term
-line_terms = lit Null ∷ col 0 0 ∷ col 0 1 ∷ col 0 2 ∷ col 0 3 ∷ []
-
 -- what is inserted into `lpis_span` for a span with its end: no rowid, and three parameters
 abbrev pub whole_span_terms : List Term
 whole_span_terms = lit Null ∷ col 0 0 ∷ col 0 1 ∷ col 0 2 ∷ []
 
--- what is inserted into `lpis_text` and `lpis_mark`: no rowid, and two parameters
-abbrev pub pair_terms : List Term
-pair_terms = lit Null ∷ col 0 0 ∷ col 0 1 ∷ []
-
 -- the rowids of all rows of a table
 abbrev pub ids_query : ℕ → Query
 ids_query tree = from_all tree [] (col 1 0 ∷ [])
-
--- for each span whose identifier is the second parameter: its rowid, and its row with the first one as last year
-abbrev pub ends_query : ℕ → Query
-ends_query tree = from_all tree (op2 (Compare Eq Binary) (col 1 1) (col 0 1) ∷ []) (col 1 0 ∷ col 1 0 ∷ col 1 1 ∷ col 1 2 ∷ col 0 0 ∷ [])
-
--- for each text whose identifier is the second parameter: its rowid, and its row with the first one as text
-abbrev pub replaces_query : ℕ → Query
-replaces_query tree = from_all tree (op2 (Compare Eq Binary) (col 1 1) (col 0 1) ∷ []) (col 1 0 ∷ col 1 0 ∷ col 1 1 ∷ col 0 0 ∷ [])
-
--- the rowid of each text whose identifier is the parameter
-abbrev pub deletes_query : ℕ → Query
-deletes_query tree = from_all tree (op2 (Compare Eq Binary) (col 1 1) (col 0 0) ∷ []) (col 1 0 ∷ [])
 
 -- for each row of `lpis_format`: its rowid, and the row with version 3
 abbrev pub version_query : Query
@@ -145,60 +112,20 @@ pub insert_format_means : (o : Origin) → Says o insert_format (Insert 0 (Value
 unfolding understood everything
 insert_format_means = in_each _ (λ x. (refl, (refl, refl))) (λ x. (refl, (refl, refl)))
 
--- the text that inserts a release is an INSERT of its terms into the second table, `lpis_release`
-pub insert_release_means : (o : Origin) → Says o insert_release (Insert 1 (Values release_terms 2))
-unfolding understood everything
-insert_release_means = in_each _ (λ x. (refl, (refl, refl))) (λ x. (refl, (refl, refl)))
-
--- the text that inserts a row of lineage is an INSERT of its terms into the fourth table, `lpis_row`
-pub insert_line_means : (o : Origin) → Says o insert_line (Insert 3 (Values line_terms 5))
-unfolding understood everything
-insert_line_means = in_each _ (λ x. (refl, (refl, refl))) (λ x. (refl, (refl, refl)))
-
--- the text that inserts a span that has not ended is an INSERT of its terms at the place of `lpis_span`
-pub insert_span_means : (o : Origin) → Says o insert_span (Insert (span_place o) (Values span_terms 4))
-unfolding understood everything
-insert_span_means = in_each _ (λ x. (refl, (refl, refl))) (λ x. (refl, (refl, refl)))
-
 -- the text that inserts a span with its end is an INSERT of its terms at the place of `lpis_span`
 pub insert_whole_span_means : (o : Origin) → Says o insert_whole_span (Insert (span_place o) (Values whole_span_terms 4))
 unfolding understood everything
 insert_whole_span_means = in_each _ (λ x. (refl, (refl, refl))) (λ x. (refl, (refl, refl)))
-
--- the text that ends a span is an UPDATE of `lpis_span` by the query that finds the rows with that identifier
-pub end_span_means : (o : Origin) → Says o end_span (Update (span_place o) (whole (ends_query (span_tree o))))
-unfolding understood everything
-end_span_means = in_each _ (λ x. (refl, (refl, refl))) (λ x. (refl, (refl, refl)))
 
 -- the text that clears `lpis_span` is a DELETE of all its rowids
 pub clear_span_means : (o : Origin) → Says o clear_span (Delete (span_place o) (whole (ids_query (span_tree o))))
 unfolding understood everything
 clear_span_means = in_each _ (λ x. (refl, (refl, refl))) (λ x. (refl, (refl, refl)))
 
--- the text that inserts a text of a shape is an INSERT of its terms at the place of `lpis_text`
-pub insert_text_means : (o : Origin) → Says o insert_text (Insert (text_place o) (Values pair_terms 3))
-unfolding understood everything
-insert_text_means = in_each _ (λ x. (refl, (refl, refl))) (λ x. (refl, (refl, refl)))
-
 -- the text that clears `lpis_text` is a DELETE of all its rowids
 pub clear_text_means : (o : Origin) → Says o clear_text (Delete (text_place o) (whole (ids_query (text_tree o))))
 unfolding understood everything
 clear_text_means = in_each _ (λ x. (refl, (refl, refl))) (λ x. (refl, (refl, refl)))
-
--- the text that replaces one of a shape is an UPDATE of `lpis_text` by the query that finds the rows with its identifier
-pub replace_text_means : (o : Origin) → Says o replace_text (Update (text_place o) (whole (replaces_query (text_tree o))))
-unfolding understood everything
-replace_text_means = in_each _ (λ x. (refl, (refl, refl))) (λ x. (refl, (refl, refl)))
-
--- the text that deletes one of a shape is a DELETE of the rowids with its identifier
-pub delete_text_means : (o : Origin) → Says o delete_text (Delete (text_place o) (whole (deletes_query (text_tree o))))
-unfolding understood everything
-delete_text_means = in_each _ (λ x. (refl, (refl, refl))) (λ x. (refl, (refl, refl)))
-
--- the text that inserts a mark is an INSERT of its terms at the place of `lpis_mark`
-pub insert_mark_means : (o : Origin) → Says o insert_mark (Insert (mark_place o) (Values pair_terms 3))
-unfolding understood everything
-insert_mark_means = in_each _ (λ x. (refl, (refl, refl))) (λ x. (refl, (refl, refl)))
 
 -- the text that clears `lpis_mark` is a DELETE of all its rowids
 pub clear_mark_means : (o : Origin) → Says o clear_mark (Delete (mark_place o) (whole (ids_query (mark_tree o))))

@@ -1,8 +1,8 @@
 -- The parts of what the tables hold, carried over a step that leaves them.
-use Rattle.std.proofs.Common.{◌≡◌, ◌≢◌, ℕ, ℤ, List, [], map, drop, Bool, MatchBool, true, false, inl, inr, refl, sym, subst, subst₂, ◌∙◌, ◌+◌, ◌&&◌, IsPermutation, true≢false, nat_eq, nat_lt}
+use Rattle.std.proofs.Common.{◌≡◌, ◌≢◌, ℕ, List, [], map, drop, Bool, MatchBool, true, false, inl, inr, refl, sym, subst, subst₂, ◌∙◌, ◌+◌, ◌&&◌, IsPermutation, true≢false, nat_eq, nat_lt}
 use Rattle.std.proofs.lemmas.Bool.{cases_Bool}
 use Rattle.lpis_register_sql.proofs.Common.{Row, Trees, overlay, Content, Format, StoredSpan, Origin, New, Moved, Whole, is_moved, span_tree, text_tree}
-use Rattle.lpis_register_rows.specs.Content.{Line, Live, Mark, StoredText}
+use Rattle.lpis_register_rows.specs.Content.{Live, Mark, StoredText}
 use Rattle.lpis_register_sql.proofs.Common.{mark_tree}
 use Rattle.lpis_register_sql.proofs.Common.{AreKeyed, format_row, year_row, span_row, line_row, live_row, text_row, mark_row}
 use Rattle.lpis_register_sql.specs.Holding.{Keeps}
@@ -90,19 +90,10 @@ module _ {db next : Trees} {c : Content} where
   formats_changed {o = New z} fs k m are = means_next 0 k refl m are refl refl refl refl refl refl
   formats_changed {o = Moved z} fs k m are = means_next 0 k refl m are refl refl refl refl refl refl
 
-  pub years_changed : {o : Origin} (ys : List ℤ) → Others o 1 db next → Means (Whole o) db c → IsPermutation (map year_row ys) (next 1) → Means (Whole o) next (record c { years = ys })
-  years_changed {o = New z} ys k m are = means_next 1 k refl m refl are refl refl refl refl refl
-  years_changed {o = Moved z} ys k m are = means_next 1 k refl m refl are refl refl refl refl refl
-
   pub spans_changed : {o : Origin} (ss : List StoredSpan) → Others o (span_tree o) db next → Means (Whole o) db c → KeepsAll span_row ss (next (span_tree o))
       → Means (Whole o) next (record c { spans = ss })
   spans_changed {o = New z} ss k m are = means_next 2 k refl m refl refl are refl refl refl refl
   spans_changed {o = Moved z} ss k m are = means_next 6 k refl m refl refl are refl refl refl refl
-
-  pub lines_changed : {o : Origin} (ls : List Line) → Others o 4 db next → Means (Whole o) db c → IsPermutation (map line_row ls) (map (drop 1) (next 4))
-      → Means (Whole o) next (record c { lines = ls })
-  lines_changed {o = New z} ls k m are = means_next 4 k refl m refl refl refl are refl refl refl
-  lines_changed {o = Moved z} ls k m are = means_next 4 k refl m refl refl refl are refl refl refl
 
   -- `lpis_live` is there
   pub live_changed : {z : Beside} (ls : List Live) → Others (Moved z) 2 db next → Means (Whole (Moved z)) db c → KeepsAll live_row ls (next 2) → Means (Whole (Moved z)) next (record c { live = ls })

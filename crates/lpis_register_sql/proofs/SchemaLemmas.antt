@@ -158,7 +158,7 @@ same_view row v w p q =
     ∙ ap₂ (λ b c. record w { binds = b; is_bound = c }) it.binds it.bound
 
 -- trees list one schema, with no condition on it
-one_of_trees : (a b : Schema) (trees : Trees) → IsSound a trees → IsSound b trees → a ≡ b
+pub one_of_trees : (a b : Schema) (trees : Trees) → IsSound a trees → IsSound b trees → a ≡ b
 one_of_trees a b trees p q =
     let tables : a.tables ≡ b.tables = same_all IsTableRow same_table _ _ _ p.lists.listed.tables q.lists.listed.tables in
     let indexes : a.indexes ≡ b.indexes = same_all (IsIndexRow a.tables) (same_index same_itself a.tables p.lists.listed.named) _ _ _ p.lists.listed.indexes

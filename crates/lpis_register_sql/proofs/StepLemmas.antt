@@ -2,7 +2,7 @@
 use Rattle.std.proofs.Common.{◌≡◌, List, [], ◌∷◌, arith, refl, sym, ap, subst, ◌∙◌, false, true, Ok, Err, Result, OnOk, inl, inr, IsTrue, IfErr, OnErr, IsErrAnd}
 use Rattle.lpis_register_sql.proofs.Common.{Trees, Database, State, HasCleanDisk, Survives, state, Error, Content, Layout, Whole, New, no_schema}
 use Rattle.lpis_register_sql.proofs.Common.{Inside, IsStored, HoldsRows}
-use Rattle.lpis_register_sql.specs.private.Inside.{IsQuiet}
+use Rattle.lpis_register_sql.specs.Within.{IsQuiet}
 use Rattle.lpis_register_sql.specs.Holding.{Leaves}
 use Rattle.sqlite.proofs.Callers.{survives_begin}
 use Rattle.lpis_register_sql.specs.Layouts.{made_whole}
@@ -16,7 +16,7 @@ use Rattle.lpis_register_sql.specs.Beside.{nothing}
 use Rattle.lpis_register_sql.specs.Commits.{Creates, Rewrites}
 use Rattle.lpis_register_sql.specs.Quiet.{IsSettled, StaysSettled}
 use Rattle.lpis_register_sql.specs.Stopping.{BoundStatement, Ran}
-use Rattle.lpis_register_sql.specs.private.Inside.{Makes}
+use Rattle.lpis_register_sql.specs.Within.{Makes}
 use Rattle.lpis_register_sql.specs.private.Stages.{Stage}
 use Rattle.lpis_register_sql.proofs.TurnLemmas.{Holds, Leads}
 use Rattle.sqlite_trees.specs.declared.store.Store as store
@@ -66,12 +66,12 @@ ran_open g [] a b r up within = subst (λ h. IsTrue (state g h).is_open × IsTru
 ran_open g (x ∷ xs) a b (mid, count, ran, same, more) up within = ran_open g xs mid b more ran.1.is_open ran.1.mode
 
 -- a transaction in which nothing was committed, begun over what was shown
-begun_over : {S : Type 0} (g : store.Ghosts S) (held first last : Held S) → first ≡ record held { in_transaction = true } → IsQuiet (state g first) (state g last) → HasCleanDisk (state g last)
+pub begun_over : {S : Type 0} (g : store.Ghosts S) (held first last : Held S) → first ≡ record held { in_transaction = true } → IsQuiet (state g first) (state g last) → HasCleanDisk (state g last)
     → IsTrue (state g last).is_open → IsSettled (state g held) → (state g last).committed ≡ (state g held).now
 begun_over g held first last begun quiet clean up was = (quiet.kept clean).committed up ∙ ap (λ h. (state g h).committed) begun ∙ sym was.settled
 
 -- one that is dropped
-dropped_settled : {S : Type 0} (g : store.Ghosts S) (held first last end : Held S) → first ≡ record held { in_transaction = true } → IsQuiet (state g first) (state g last)
+pub dropped_settled : {S : Type 0} (g : store.Ghosts S) (held first last end : Held S) → first ≡ record held { in_transaction = true } → IsQuiet (state g first) (state g last)
     → Survives (state g last) (state g end) (λ _. ⊥) → (HasCleanDisk (state g end) → IsRolledBack (state g last) (state g end)) → HasCleanDisk (state g end) → IsTrue (state g end).is_open
     → StaysSettled (state g held) (state g end)
 dropped_settled g held first last end begun quiet drops undone clean up =

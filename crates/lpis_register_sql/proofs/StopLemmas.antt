@@ -13,7 +13,7 @@ use Rattle.sqlite_trees.specs.declared.error.StoreError.TheVariants as cause
 use Rattle.sqlite_trees.specs.declared.store.Store as store
 use Rattle.sqlite.specs.declared.error.Error.TheVariants.{SqliteFailure}
 use Rattle.sqlite.specs.declared.error.ErrorCode.TheVariants as code
-use Rattle.lpis_register_sql.specs.private.Inside.{Ends, Makes}
+use Rattle.lpis_register_sql.specs.Within.{Ends, Makes}
 use Rattle.lpis_register_sql.proofs.Common.{Does, Error, State, mode_of, state}
 use Rattle.sqlite.specs.State.{ExecutesInside}
 use Rattle.lpis_register_sql.proofs.StepLemmas.{quiet_none, quiet_on, ran_open}

@@ -25,7 +25,8 @@ use Rattle.lpis_register_sql.proofs.StopLemmas.{failing, faults_kept, more_fault
 
 -- ---- what is decided
 
-memory? : (e : Error) → (e ≡ SqliteFailure code.OutOfMemory) ⊎ (e ≢ SqliteFailure code.OutOfMemory)
+-- whether memory ran out
+pub memory? : (e : Error) → (e ≡ SqliteFailure code.OutOfMemory) ⊎ (e ≢ SqliteFailure code.OutOfMemory)
 memory? (SqliteFailure code.OutOfMemory) = inl refl
 memory? e = inr (λ is. absurd cc)
 

@@ -2,13 +2,11 @@
 use Rattle.std.proofs.Common.{◌≡◌, inl, inr, ℤ, List, [], ◌∷◌, ◌++◌, map, Bool, true, false, not, refl, sym, ap, ap₂, subst, ◌∙◌, IsPermutation, true≢false, is_eq, arith, if◌then◌else◌, ◌||◌, filter}
 use Rattle.std.specs.List.{list_any}
 use Rattle.std.proofs.lemmas.Bool.{cases_Bool}
-use Rattle.lpis_register_sql.proofs.Common.{nat_tests, and_parts, not-true, IsPermutation-refl, IsPermutation-trans, IsPermutation-map, Int, Row, value_cmp, rowid, put_row}
+use Rattle.lpis_register_sql.proofs.Common.{nat_tests, and_parts, not-true, IsPermutation-refl, IsPermutation-trans, Int, Row, value_cmp, rowid, put_row}
 use Rattle.lpis_register_sql.proofs.Common.{is_taken}
 use Rattle.lpis_register_sql.proofs.Common.{Given, Has, AreKeyed}
 use Rattle.std.proofs.lemmas.Int.{ints}
-use Rattle.std.proofs.lemmas.List.Sorted.{IsPermutation-sym, IsPermutation-middle, IsPermutation-append, IsPermutation-append_right, IsPermutation-filter_both}
-use Rattle.std.proofs.lemmas.List.{map-append}
-use Rattle.std.proofs.lemmas.Simd.{map-map}
+use Rattle.std.proofs.lemmas.List.Sorted.{IsPermutation-sym, IsPermutation-middle, IsPermutation-append, IsPermutation-append_right}
 use Rattle.std.proofs.lemmas.Cmp.{tied_itself}
 use Rattle.sqlite_value.proofs.OrderLemmas.{value_cmp_total, value_cmp-Int}
 use Rattle.sqlite.specs.Tree.{has_rowid, without_rowid}
@@ -124,20 +122,3 @@ found_are_replaced p f rows ids news keyed gone made fresh =
     IsPermutation-trans _ _ _
     (IsPermutation-append _ _ _ _ made (subst (IsPermutation (filter (λ r. not (p r)) rows)) (sym left)
     (IsPermutation-refl _))) (put_all_more news (without_all rows ids) fresh)
-
--- the same as a walk over the rows
-pub walk_replaces : {X : Type 0} (p : Row → Bool) (f : Row → Row) (g : Row → X) (rows : List Row)
-    → IsPermutation (map (λ r. if p r then g (f r) else g r) rows)
-    (map g (map f (filter p rows) ++ filter (λ r. not (p r)) rows))
-walk_replaces {X} p f g rows =
-    let u : Row → X = λ r. if p r then g (f r) else g r in
-    subst (IsPermutation (map u rows)) (joined rows rows) (IsPermutation-map u _ _ (IsPermutation-filter_both p (λ r. not (p r)) (λ r. refl) rows))
-  where
-    hit : (rows : List Row) → map (λ r. if p r then g (f r) else g r) (filter p rows) ≡ map g (map f (filter p rows))
-    hit rows = map_same_at _ _ (filter p rows) (λ r there. rw (has_filtered p rows r there).1 refl) ∙ sym (map-map g f (filter p rows))
-
-    missed : (rows : List Row) → map (λ r. if p r then g (f r) else g r) (filter (λ r. not (p r)) rows) ≡ map g (filter (λ r. not (p r)) rows)
-    missed rows = map_same_at _ _ (filter (λ r. not (p r)) rows) (λ r there. rw (not-true (p r) (has_filtered (λ r. not (p r)) rows r there).1) refl)
-
-    joined : (xs ys : List Row) → map (λ r. if p r then g (f r) else g r) (filter p xs ++ filter (λ r. not (p r)) ys) ≡ map g (map f (filter p xs) ++ filter (λ r. not (p r)) ys)
-    joined xs ys = map-append _ (filter p xs) _ ∙ ap₂ ◌++◌ (hit xs) (missed ys) ∙ sym (map-append g (map f (filter p xs)) _)

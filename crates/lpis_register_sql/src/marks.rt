@@ -3,7 +3,7 @@
 ghost use Rattle.std.specs.Prelude.{◌≡◌, ◌<◌, ◌^◌, ◌∷◌, [], map, pos};
 ghost use Rattle.lpis_register_rows.specs.Content.{marks_from};
 ghost use Rattle.lpis_register_sql.specs.Stopping.{mark_statement};
-ghost use Rattle.lpis_register_sql.specs.private.Inside.{Makes};
+ghost use Rattle.lpis_register_sql.specs.Within.{Makes};
 ghost use Rattle.lpis_register_sql.specs.private.Lines.{mark_at};
 
 use crate::statements::run;
@@ -18,8 +18,8 @@ fn insert_mark<S: Alter>(
 ) -> Result<(), Error>
     requires small { position < 2 ^ 63 }
     ensures same_reference { tx.new.conn.ghost_name ≡ tx.old.conn.ghost_name }
-    ensures makes { Makes S.Store (mark_statement (mark_at (pos year) (pos position)) ∷ []) tx.old.conn.now
-        tx.new.conn.now result }
+    ensures makes { Makes S.Store (mark_statement (mark_at (pos year) (pos position)) ∷ [])
+        tx.old.conn.now tx.new.conn.now result }
 {
     let position = position as i64;
     run(

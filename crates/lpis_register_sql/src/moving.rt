@@ -10,7 +10,7 @@ ghost use Rattle.lpis_register_sql.specs.Making.{spans_in_place};
 ghost use Rattle.lpis_register_sql.specs.Making.{version_in_place, whole_span_statement};
 ghost use Rattle.lpis_register_sql.specs.Quiet.{IsFound};
 ghost use Rattle.lpis_register_sql.specs.Stopping.{StopsWithin};
-ghost use Rattle.lpis_register_sql.specs.private.Inside.{Makes};
+ghost use Rattle.lpis_register_sql.specs.Within.{Makes};
 ghost use Rattle.lpis_register_sql.specs.private.Lines.{span_at};
 ghost use Rattle.lpis_register_sql.specs.Commits.{IsFoundOf, Rewrites};
 

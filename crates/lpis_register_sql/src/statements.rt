@@ -5,7 +5,7 @@ ghost use Rattle.sqlite.specs.Held.{state};
 ghost use Rattle.sqlite.specs.Values.{bound};
 ghost use Rattle.lpis_register_rows.specs.Content.{successor_text};
 ghost use Rattle.lpis_register_sql.specs.Making.{plain_statement};
-ghost use Rattle.lpis_register_sql.specs.private.Inside.{Ends, IsQuiet, Makes};
+ghost use Rattle.lpis_register_sql.specs.Within.{Ends, IsQuiet, Makes};
 ghost use Rattle.lpis_register_sql.specs.private.Lines.{line_with, row_line};
 ghost use Rattle.lpis_register_sql.specs.Stopping.{ending_statement, line_statement};
 ghost use Rattle.lpis_register_sql.specs.Stopping.{span_statement, year_statement};
@@ -124,8 +124,9 @@ fn insert_line<S: Alter>(
 ) -> Result<(), Error>
     requires small { position < 2 ^ 63 }
     ensures same_reference { tx.new.conn.ghost_name ≡ tx.old.conn.ghost_name }
-    ensures makes { Makes S.Store (line_statement (line_with (pos year) (pos position) old.now new.now) ∷ [])
-        tx.old.conn.now tx.new.conn.now result }
+    ensures makes { Makes S.Store
+        (line_statement (line_with (pos year) (pos position) old.now new.now) ∷ []) tx.old.conn.now
+        tx.new.conn.now result }
 {
     let position = position as i64;
     run(

@@ -6,7 +6,7 @@ ghost use Rattle.sqlite.specs.State.{HasCleanDisk};
 ghost use Rattle.lpis_register_sql.specs.Commits.{Creates};
 ghost use Rattle.lpis_register_sql.specs.Making.{making_statements};
 ghost use Rattle.lpis_register_sql.specs.Stopping.{RanAlone, StopsWithin};
-ghost use Rattle.lpis_register_sql.specs.private.Inside.{Makes};
+ghost use Rattle.lpis_register_sql.specs.Within.{Makes};
 
 use crate::completing::complete;
 use crate::found::Found;

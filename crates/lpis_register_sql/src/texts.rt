@@ -5,7 +5,7 @@ ghost use Rattle.lpis_register_rows.specs.Content.{Deletes, Replaces, Inserts};
 ghost use Rattle.lpis_register_rows.specs.Shapes.{written_text};
 ghost use Rattle.lpis_register_rows.specs.Editing.{edit_in, edits_in};
 ghost use Rattle.lpis_register_sql.specs.Stopping.{edit_statement};
-ghost use Rattle.lpis_register_sql.specs.private.Inside.{Makes};
+ghost use Rattle.lpis_register_sql.specs.Within.{Makes};
 ghost use Rattle.lpis_register_sql.specs.private.Lines.{text_at};
 
 use crate::statements::run;

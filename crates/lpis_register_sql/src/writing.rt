@@ -1,7 +1,7 @@
 //! The loop that writes a release, which rests on the statements' clauses alone.
 
 ghost use Rattle.std.specs.Prelude.{◌≡◌};
-ghost use Rattle.lpis_register_sql.specs.private.Inside.{Makes};
+ghost use Rattle.lpis_register_sql.specs.Within.{Makes};
 ghost use Rattle.lpis_register_sql.specs.private.StepStatements.{statements_in, statements_left};
 
 use crate::marks::insert_if;

@@ -9,7 +9,6 @@ use Rattle.std.specs.Prelude.{IsTrue}
 use Rattle.std.proofs.lemmas.Bool.{and_parts}
 use Rattle.std.proofs.lemmas.List.Concat.{flat_map-cons}
 use Rattle.lpis_tables.specs.Ids.{has_id}
-use Rattle.lpis_register.proofs.Shared.{IsLeftAlone, holds_still}
 use Rattle.lpis_lineage_exact.specs.ExactLineage.{ShapesTurnOnce}
 use Rattle.lpis_lineage_exact.specs.Shapes.{shape_named}
 use Rattle.lpis_lineage.specs.declared.kind.Kind.{Kind}
@@ -39,7 +38,7 @@ use Rattle.lpis_run_publish.proofs.MarkedLemmas.{left-exactly}
 use Rattle.lpis_register.specs.Accepting.{IsAccepted}
 use Rattle.lpis_register.specs.Failing.{FailsToStore, HasStoreCause}
 use Rattle.lpis_register.specs.Holdings.{Candidate, Holdings, RegisterState, candidate_ids}
-use Rattle.lpis_register.specs.Publishing.{FollowsHistory, TablesHold}
+use Rattle.lpis_register.specs.Publishing.{FollowsHistory, IsLeftAlone, TablesSay}
 use Rattle.lpis_register.specs.declared.accepting.Accepted.{Accepted}
 
 -- ---- the lines of a change
@@ -119,24 +118,24 @@ published-accepted c before after a change made is ascend follows once =
 -- ---- what a call leaves
 module _ {S : Type 0} (g : Ghosts S) (old new : RegisterState S) where
   -- the database holds what was made of the register
-  pub leaves-committed : (a : Answered) → a.status ≡ done → (HasCleanDisk (state g new.conn) → (o : _) → TablesHold g o old → TablesHold g o new) → PublishLeaves g old new (Ok a)
-  leaves-committed a is held =
-      record { same = λ other. absurd (other is); failure = tt; stored = record { holds = λ clean opened. held clean; served = λ other. held } }
+  pub leaves-committed : (a : Answered) → a.status ≡ done → (HasCleanDisk (state g new.conn) → TablesSay g new) → PublishLeaves g old new (Ok a)
+  leaves-committed a is say =
+      record { same = λ other. absurd (other is); failure = tt; stored = record { holds = λ clean opened. inl (say clean); served = λ other clean. inl (say clean) } }
 
   -- or what it held
   pub leaves-kept : (failure : Failure) → IsMemoryOrStore failure → new.held ≡ old.held
       → (HasCleanDisk (state g new.conn) → IsTrue (state g new.conn).is_open → IsLeftAlone g old new)
-      → ((IsStoreFailure failure → ⊥) → (o : _) → TablesHold g o old → TablesHold g o new) → PublishLeaves g old new (Err failure)
+      → ((IsStoreFailure failure → ⊥) → IsLeftAlone g old new) → PublishLeaves g old new (Err failure)
   leaves-kept failure stopped kept opened served =
       record {
         same = tt;
         failure = (stopped, kept);
-        stored = record { holds = λ clean up o held. holds_still g o old new kept (opened clean up) held; served = λ other clean. served other };
+        stored = record { holds = λ clean up. inr (kept, opened clean up); served = λ other clean. inr (kept, served other) };
       }
 
-  -- a database left as it was holds what the register does, where that is left too
-  pub still-held : new.conn ≡ old.conn → new.held ≡ old.held → (o : _) → TablesHold g o old → TablesHold g o new
-  still-held same kept o held = rw (same, kept) held
+  -- a database that was not reached is as it was
+  pub still-settled : new.conn ≡ old.conn → IsLeftAlone g old new
+  still-settled same = rw same (λ was. (was, refl))
 
 -- ---- why the database failed
 -- that the database ran out of memory is not that it failed

@@ -39,7 +39,7 @@ module _ {S : Type 0} (g : Ghosts S) (year : ℕ) (given : Submission Known) whe
   pub runs-unread : (old : RegisterState S) (out : Option (List ℕ)) (failure : Failure) → AreUnread (submission_named given) failure → RunsPublish g year given old old out out (Err failure)
   runs-unread old out failure unread = record {
     runs = runs_stopped _ _ out failure (record { stopped = inl unread; same = refl });
-    stored = record { holds = λ clean opened o held. held; served = λ other clean o held. held };
+    stored = record { holds = λ clean opened. inr (refl, λ was. (was, refl)); served = λ other clean. inr (refl, λ was. (was, refl)) };
     cause = λ is. absurd (unread-no-store given failure unread is);
   }
 

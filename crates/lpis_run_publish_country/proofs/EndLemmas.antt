@@ -67,12 +67,16 @@ stop_no_store s old new f (inr (write, begun)) = none_of_store f (inr (inr write
 -- ---- a register
 -- it holds what it held
 pub stays_same : {S : Type 0} (store : Ghosts S) (old : RegisterState S) (r : Result ℕ Failure) → Stays store old old r
-stays_same store old (Ok status) = record { holds = λ clean opened o held. held; served = λ other clean o held. held }
-stays_same store old (Err failure) = record { holds = λ clean opened o held. held; served = λ other clean o held. held }
+stays_same store old (Ok status) = record { holds = λ clean opened. inr (refl, λ was. (was, refl)); served = λ other clean. inr (refl, λ was. (was, refl)) }
+stays_same store old (Err failure) = record { holds = λ clean opened. inr (refl, λ was. (was, refl)); served = λ other clean. inr (refl, λ was. (was, refl)) }
 
 -- a call that refuses leaves it so
 pub leaves_same : {S : Type 0} (store : Ghosts S) (old : RegisterState S) (a : Printed) → PublishLeaves store old old (Ok a)
-leaves_same store old a = record { same = λ other. refl; failure = tt; stored = record { holds = λ clean opened o held. held; served = λ other clean o held. held } }
+leaves_same store old a = record {
+  same = λ other. refl;
+  failure = tt;
+  stored = record { holds = λ clean opened. inr (refl, λ was. (was, refl)); served = λ other clean. inr (refl, λ was. (was, refl)) };
+}
 
 -- ---- the union
 module _ {S : Type 0} (store : Ghosts S) (asked : CountryRequest) (said : CountrySaid) (regions : List Contents) (old new : RegisterState S) where

@@ -6,15 +6,13 @@ use Rattle.sqlite.specs.State.{State, HasCleanDisk, Survives}
 use Rattle.sqlite_trees.specs.declared.store.Store.{Ghosts}
 use Rattle.lpis_lineage.specs.declared.row.Entry.{Entry}
 use Rattle.lpis_lineage.specs.Lineage.{last_year}
-use Rattle.lpis_register_sql.specs.Layouts.{Origin}
 use Rattle.lpis_register_sql.specs.Quiet.{StaysSettled}
-use Rattle.lpis_register_sql.specs.Stopping.{BoundStatement}
 use Rattle.lpis_register.specs.Accepting.{IsPrepared}
-use Rattle.lpis_register.specs.Failing.{FailsToRun}
+use Rattle.lpis_register.specs.Failing.{FailsToWrite}
 use Rattle.lpis_register.specs.Faults.{IsStoreFault}
-use Rattle.lpis_register.specs.Histories.{HoldsRegister, LeavesRegister}
 use Rattle.lpis_register.specs.Holdings.{Candidate, Holdings, holdings}
 use Rattle.lpis_register.specs.Publishing.{FollowsHistory, LeavesRelease}
+use Rattle.lpis_register.specs.Saying.{IsSaid, LeavesSaid}
 use Rattle.lpis_register.specs.declared.accepting.Writing.{Writing}
 use Rattle.lpis_register.specs.declared.fault.PublishFault.{PublishFault}
 use Rattle.lpis_register.specs.declared.fault.PublishFault.TheVariants.{Memory, Store}
@@ -32,26 +30,22 @@ pub record IsToWrite (w : Writing) (last : ℕ) (before after : List Entry) : Ty
   pub follows : FollowsHistory candidate before (written w after)
   pub last_is : last ≡ last_year before
 
--- tables that hold what was held before hold what is held after; with an error the database is as
--- it was. A crash leaves what it left before, or such tables; right after the call what is held
--- after
-pub record WritesRelease {E : Type 0} (before after : Holdings) (IsLeft : Origin → Trees → Type 0)
+-- the tables say what is held after; with an error the database is as it was. A crash leaves what
+-- it left before, or such tables; right after Ok what is held after
+pub record WritesRelease {E : Type 0} (after : Holdings) (IsLeft : Trees → Type 0)
     (old new : State) (r : Result (Unit {0}) E) : Type 0 where
-  pub ok : HasCleanDisk new → (o : Origin) → HoldsRegister o old before.history before.shapes
-      → OnOk r (HoldsRegister o new after.history after.shapes)
+  pub ok : HasCleanDisk new → OnOk r (IsSaid new after.history after.shapes)
   pub err : HasCleanDisk new → IsTrue new.is_open → OnErr r (StaysSettled old new)
-  pub crash : (o : Origin) → HoldsRegister o old before.history before.shapes
-      → Survives old new (IsLeft o)
-  pub durable : HasCleanDisk new → (o : Origin)
-      → HoldsRegister o old before.history before.shapes
-      → OnOk r ((db : Trees) → new.may_leave db → LeavesRegister o after.history after.shapes db)
+  pub crash : Survives old new IsLeft
+  pub durable : HasCleanDisk new
+      → OnOk r ((db : Trees) → new.may_leave db → LeavesSaid after.history after.shapes db)
 
--- publishing an accepted release by these statements failed: either the database did, and there is
--- a cause, or memory ran out before it was asked
-pub record FailsToCommit {S : Type 0} (store : Ghosts S) (xs : List BoundStatement)
+-- publishing an accepted release failed: either the database did, and there is a cause, or memory
+-- ran out before it was asked
+pub record FailsToCommit {S : Type 0} (store : Ghosts S) (w : Writing) (before : Holdings)
     (old new : Held S) (fault : PublishFault) : Type 0 where
   pub untouched : IsStoreFault fault ⊎ ((fault ≡ Memory) × (new ≡ old))
-  pub cause : HasCleanDisk (state store new) → fault ≡ Store → FailsToRun store xs old new
+  pub cause : HasCleanDisk (state store new) → fault ≡ Store → FailsToWrite store w before old new
 
 -- an accepted candidate stands at the end of the history and of that of the tables, as publishing
 -- it does
@@ -59,4 +53,4 @@ pub record Commits {E : Type 0} (c : Candidate) (before after : Holdings) (old n
     (r : Result (Unit {0}) E) : Type 0 where
   pub follows : OnOk r (FollowsHistory c before.history after)
   pub refused : OnErr r (after.history ≡ before.history)
-  pub writes : WritesRelease before after (LeavesRelease c before.history) old new r
+  pub writes : WritesRelease after (LeavesRelease c before.history) old new r

@@ -1,7 +1,7 @@
 use Rattle.std.proofs.Common.{◌≡◌, Ok, take}
 use Rattle.std.specs.List.{flat_map}
 use Rattle.lpis_register_sql.specs.Making.{unless}
-use Rattle.lpis_register_sql.specs.private.Inside.{Makes}
+use Rattle.lpis_register_sql.specs.Within.{Makes}
 use Rattle.lpis_register_sql.proofs.completing.make_missing.Given as goal
 
 abbrev pub invariant-loop-statement : goal.invariant-loop-statement

@@ -1,6 +1,6 @@
 use Rattle.std.proofs.Common.{◌≡◌, Ok, map, take}
 use Rattle.lpis_register_sql.specs.Making.{whole_span_statement}
-use Rattle.lpis_register_sql.specs.private.Inside.{Makes}
+use Rattle.lpis_register_sql.specs.Within.{Makes}
 use Rattle.lpis_register_sql.proofs.moving.insert_whole_spans.Given as goal
 
 abbrev pub invariant-loop-span : goal.invariant-loop-span

@@ -1,31 +1,12 @@
-use Rattle.std.proofs.Common.{◌≡◌, pos, rules}
+use Rattle.std.proofs.Common.{pos}
 use Rattle.lpis_register_rows.specs.Shapes.{text_edits}
-use Rattle.lpis_register_sql.proofs.MakingLemmas.{commit_stops, undone_stops}
-use Rattle.lpis_register_sql.proofs.ReleaseLemmas.{releases}
-use Rattle.lpis_register_sql.proofs.StepLemmas.{written_at_commit, written_not}
+use Rattle.lpis_register_sql.proofs.TableLemmas.{made_keeps_tables}
 use Rattle.lpis_register_sql.proofs.publishing.write_release.Goals as goal
 
-pub returns-clause-writes : goal.returns-clause-writes
-returns-clause-writes g c =
-    let same : c.commit.new.self.0 ≡ c.conn-2-1.given.0 = search rules in
-    rw (← same) (written_at_commit c.args.conn.now c.commit.new.self.0 c.transaction-tx.ensures.begun (rw c.steps_of-steps.ensures at c.in_ok-write_steps.ensures.makes) c.commit.ensures.survives
-    c.commit.ensures.ok c.commit.ensures.err
-    (releases (pos c.args.year) (pos c.args.last) c.args.dropped.now c.args.fresh.now c.args.rows.now (text_edits c.args.change.kept.now c.args.change.shapes.now))
-    (λ up db may. g.met.S.Store.settled c.commit.new.self.0.store db up may))
+pub returns-clause-makes : goal.returns-clause-makes
+returns-clause-makes g c = rw c.steps_of-steps.ensures at c.write_steps.ensures.makes
 
-pub returns-clause-stops : goal.returns-clause-stops
-returns-clause-stops g c =
-    let same : c.commit.new.self.0 ≡ c.conn-2-1.given.0 = search rules in
-    commit_stops c.args.conn.now c.transaction-tx.ensures.begun same c.commit.result (rw c.steps_of-steps.ensures at c.in_ok-write_steps.ensures.makes) c.commit.ensures.survives c.commit.ensures.err
-
-pub returns-in_err-write_steps-clause-stops : goal.returns-in_err-write_steps-clause-stops
-returns-in_err-write_steps-clause-stops g c =
-    let same : c.drop-tx.new.self.0 ≡ c.conn-1.given.0 = search rules in
-    undone_stops c.args.conn.now c.transaction-tx.ensures.begun same c.from_residual.result c.from_residual.ensures.1
-    (rw c.steps_of-steps.ensures at c.in_err-write_steps.ensures.makes) c.drop-tx.ensures.survives
-
-pub returns-in_err-write_steps-clause-writes : goal.returns-in_err-write_steps-clause-writes
-returns-in_err-write_steps-clause-writes g c =
-    let same : c.drop-tx.new.self.0 ≡ c.conn-1.given.0 = search rules in
-    rw (← same) (written_not c.args.conn.now c.drop-tx.new.self.0 c.transaction-tx.ensures.begun (rw c.steps_of-steps.ensures at c.in_err-write_steps.ensures.makes) c.drop-tx.ensures.survives
-    c.drop-tx.ensures.undone c.from_residual.result c.from_residual.ensures.1)
+pub returns-clause-tables : goal.returns-clause-tables
+returns-clause-tables g c clean up within =
+    made_keeps_tables g.S.Store (pos c.args.year) (pos c.args.last) c.args.dropped.now c.args.fresh.now c.args.rows.now (text_edits c.args.change.kept.now c.args.change.shapes.now)
+    c.args.tx.now.conn.now c.write_steps.new.tx.conn.now c.write_steps.result (rw c.steps_of-steps.ensures at c.write_steps.ensures.makes) clean up within

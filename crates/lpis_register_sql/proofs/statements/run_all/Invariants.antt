@@ -1,6 +1,6 @@
 use Rattle.std.proofs.Common.{◌≡◌, Ok, map, take}
 use Rattle.lpis_register_sql.specs.Making.{plain_statement}
-use Rattle.lpis_register_sql.specs.private.Inside.{Makes}
+use Rattle.lpis_register_sql.specs.Within.{Makes}
 use Rattle.lpis_register_sql.proofs.statements.run_all.Given as goal
 
 abbrev pub invariant-loop-text : goal.invariant-loop-text

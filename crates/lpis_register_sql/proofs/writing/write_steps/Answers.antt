@@ -1,6 +1,6 @@
 use Rattle.std.proofs.Common.{◌++◌, ◌∙◌, Ok, subst, sym}
 use Rattle.std.proofs.lemmas.List.{append_assoc}
-use Rattle.lpis_register_sql.specs.private.Inside.{Makes}
+use Rattle.lpis_register_sql.specs.Within.{Makes}
 use Rattle.lpis_register_sql.specs.private.StepStatements.{statements_in, statements_left}
 use Rattle.lpis_register_sql.proofs.MakingLemmas.{loop_fails}
 use Rattle.lpis_register_sql.proofs.ReleaseLemmas.{done_more, nothing_left}

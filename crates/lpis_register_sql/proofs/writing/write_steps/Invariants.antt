@@ -1,6 +1,6 @@
 use Rattle.std.proofs.Common.{◌≡◌, ◌++◌, List, Ok}
 use Rattle.lpis_register_sql.specs.Stopping.{BoundStatement}
-use Rattle.lpis_register_sql.specs.private.Inside.{Makes}
+use Rattle.lpis_register_sql.specs.Within.{Makes}
 use Rattle.lpis_register_sql.specs.private.StepStatements.{size_left, statements_left}
 use Rattle.lpis_register_sql.proofs.writing.write_steps.Given as goal
 

@@ -1,5 +1,5 @@
 use Rattle.std.proofs.Common.{inl, inr, refl}
-use Rattle.lpis_run_publish.proofs.PublishLemmas.{leaves-committed, leaves-kept, memory-no-store, publication-accepted, published-accepted, still-held}
+use Rattle.lpis_run_publish.proofs.PublishLemmas.{leaves-committed, leaves-kept, memory-no-store, publication-accepted, published-accepted, still-settled}
 use Rattle.lpis_run_publish.proofs.publish.publish_accepted.Goals as goal
 
 pub returns-in-Ok-clause-answer : goal.returns-in-Ok-clause-answer
@@ -26,10 +26,10 @@ returns-in-Err-Memory-clause-leaves g c =
     let new = c.commit.new.self in
     let kept = (c.in-Err-Memory.ensures.publishes made.0 made.1).refused in
     leaves-kept g.S.Store old new _ (inl refl) kept (c.in-Err-Memory.ensures.stores made.0 made.1).err
-    (λ other o held. elim c.in-Err-Memory.ensures.untouched [
+    (λ other. elim c.in-Err-Memory.ensures.untouched [
       | inl (inl e) ↦ cc e
       | inl (inr e) ↦ cc e
-      | inr p ↦ still-held g.S.Store old new p.1 kept o held
+      | inr p ↦ still-settled g.S.Store old new p.1
     ])
 
 pub returns-in-Err-Store-clause-leaves : goal.returns-in-Err-Store-clause-leaves

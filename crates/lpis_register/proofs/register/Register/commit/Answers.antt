@@ -1,8 +1,12 @@
-use Rattle.std.proofs.Common.{ap, refl}
+use Rattle.std.proofs.Common.{ap, refl, subst}
+use Rattle.sqlite.specs.Held.{state}
+use Rattle.sqlite.specs.State.{HasCleanDisk}
+use Rattle.lpis_register_sql.specs.Stopping.{RanAlone}
+use Rattle.lpis_register.specs.Failing.{writing_statements}
 use Rattle.lpis_register.proofs.CommittingLemmas.{stored_err, stored_ok}
 use Rattle.lpis_register.proofs.FailingLemmas.{fails_as}
 use Rattle.lpis_register.proofs.ResultLemmas.{failure_refused}
-use Rattle.lpis_register.specs.Holdings.{holdings}
+use Rattle.lpis_register.specs.Holdings.{RegisterState, holdings}
 use Rattle.lpis_register.specs.private.Writes.{written}
 use Rattle.lpis_register.proofs.register.Register.commit.Goals as goal
 
@@ -34,7 +38,6 @@ returns-in-Ok-clause-stores g c = rw (← c.self.view_is) (λ x made.
 pub returns-in-Err-clause-stores : goal.returns-in-Err-clause-stores
 returns-in-Err-clause-stores g c = rw (← c.self.view_is) (λ x made.
     stored_err g.S.Store x _ _ (written c.args.accepted.writing c.commit_release.new.history) _
-    (ap (λ h. holdings h c.self.inside.shapes.items) (c.in-Err.ensures.commits x made.prepared).refused)
     (rw c.as_slice-kept.ensures.value at (c.in-Err.ensures.commits x made.prepared)))
 
 pub returns-in-Err-clause-untouched : goal.returns-in-Err-clause-untouched
@@ -44,3 +47,9 @@ pub returns-in-Err-clause-cause : goal.returns-in-Err-clause-cause
 returns-in-Err-clause-cause g c =
     fails_as g.S.Store c.args.accepted.writing (record { conn = c.self.inside.conn; held = holdings c.self.inside.history c.self.inside.shapes.items }) c.args.self.now
     c.commit_release.new.conn c.in-Err.fault c.self.view_is (rw c.as_slice-kept.ensures.value at c.in-Err.ensures.failure)
+
+pub returns-in-Ok-clause-ran : goal.returns-in-Ok-clause-ran
+returns-in-Ok-clause-ran g c = subst
+    (λ (old : RegisterState g.row.S.Denot). HasCleanDisk (state g.S.Store c.commit_release.new.conn)
+    → RanAlone g.S.Store (writing_statements c.args.accepted.writing old.held) old.conn c.commit_release.new.conn)
+    c.self.view_is (rw c.as_slice-kept.ensures.value at c.in-Ok.ensures.ran)
