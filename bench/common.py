@@ -6,12 +6,10 @@ a table, and under it what was wanted and what was got. `bench/all` runs them, a
 ./lpis runs. `BEFORE=PROGRAM` names an earlier `lpis`, which bench/beside_check runs too."""
 
 import collections
-import contextlib
 import functools
 import json
 import multiprocessing
 import os
-import pathlib
 import resource
 import shutil
 import subprocess
@@ -21,7 +19,8 @@ import textwrap
 
 HERE = os.path.dirname(os.path.realpath(__file__))
 TOP = os.path.dirname(HERE)
-sys.path.append(os.path.join(TOP, "tests", "helpers"))  # what tests and benches share: registers, years, shapes
+HELPERS = os.path.join(TOP, "tests", "helpers")  # what tests and benches share: registers, years, lands
+sys.path.append(HELPERS)
 MEGABYTE = 1_000_000
 RUNS, WIDTH, MOST_FAULTS = 3, 120, 20
 IN_MEMORY = "/dev/shm" if os.access("/dev/shm", os.W_OK) else None  # a folder for files that are written and synced often
@@ -47,19 +46,9 @@ def temporary(where=None):
     return tempfile.TemporaryDirectory(prefix="lpis-bench-", dir=where)
 
 
-@contextlib.contextmanager
-def copy_of(folder):
-    """A copy of a folder beside it, for a while."""
-    copy = pathlib.Path(tempfile.mkdtemp(dir=folder.parent))
-    try:
-        yield shutil.copytree(folder, copy, dirs_exist_ok=True)
-    finally:
-        shutil.rmtree(copy)
-
-
 def make(maker, *words):
     """Runs one of the scripts that write inputs."""
-    subprocess.run([sys.executable, os.path.join(HERE, maker), *map(str, words)], check=True)
+    subprocess.run([sys.executable, os.path.join(HELPERS, maker), *map(str, words)], check=True)
 
 
 def compiled(folder, name):
@@ -70,10 +59,10 @@ def compiled(folder, name):
     return program
 
 
-def straight(size, folder):
-    """A release of so many parcels with T-junctions and holes, and its certificate."""
-    make("make_parcels.py", size, folder, "straight")
-    done([lpis(), "cut", folder, os.path.join(folder, CERT)])
+def certified(size, folder, kind="straight"):
+    """A release of so many parcels with T-junctions and holes, or of another kind, and its certificate; what `lpis cut` printed."""
+    make("make_parcels.py", size, folder, kind)
+    return done([lpis(), "cut", folder, os.path.join(folder, CERT)]).text
 
 
 def bytes_of(folder, names):

@@ -6,8 +6,9 @@ import signal
 import subprocess
 import tempfile
 
-from common import CERT, HERE, compiled, copy_of, done, lpis
+from common import CERT, HERE, compiled, done, lpis
 import country_example
+from calls import copy_of
 from country_changes import add_lineage, change
 from registers import NOTHING, VERSION_1, VERSION_2, WITHOUT_MARKS, made, register
 from years import Years

@@ -7,20 +7,20 @@ names the program.
 
 import random
 import shutil
-import subprocess
 import sys
 from collections import Counter
 from pathlib import Path
 
-import common
+import calls
 import damage
 import idea_pictures
 import pytest
 import release as audit
 from nasty_shapes import Release
+from places import BUILT, TOP as HOUSE
 from tables import write_release
 
-TOP, LPIS = Path(common.TOP), common.lpis()
+TOP = Path(HOUSE)
 RELEASES, LEAST = 100, (3, 2, 3, 3)  # of a series; cases of each condition, series by series
 MOST_LINES, COLUMNS = 365, 120  # of audit/
 DAMAGES = ["tables"] * 12 + ["wrong"] * 9 + damage.CONDITIONS * 3 + [damage.pair_added, damage.other_edge] * 2 + damage.TEXTS * 7
@@ -28,8 +28,7 @@ EXACT = TOP / "examples" / "exact"
 
 
 def lpis(*words):
-    run = subprocess.run([LPIS, *map(str, words)], stdin=subprocess.DEVNULL, capture_output=True, timeout=120, check=False)
-    return run.returncode, run.stdout.decode("utf-8", "backslashreplace")
+    return calls.lpis(*words, encoding="utf-8", errors="backslashreplace")[:2]
 
 
 def audited(main, *words):
@@ -107,7 +106,7 @@ def test_pictures(tmp_path):
 
 
 def expect_agreement(said, tool, *words):
-    run = subprocess.run([sys.executable, TOP / "tools" / tool, "--audit", "--lpis", LPIS, *map(str, words)], capture_output=True, text=True, check=False)
+    run = calls.run(sys.executable, TOP / "tools" / tool, "--audit", "--lpis", BUILT, *words)
     assert "two programs agree" in run.stdout and said in run.stdout, run.stdout[-300:] + run.stderr[-300:]
 
 

@@ -6,11 +6,10 @@ import pathlib
 import sqlite3
 import subprocess
 
-import common
+from places import BUILT, TOP as HOUSE
 from registers import LEFT, RIGHT, TABLES, made, rows, said
 
-TOP = pathlib.Path(common.TOP)
-LPIS = common.lpis()
+TOP = pathlib.Path(HOUSE)
 YEARS = TOP / "examples" / "years"
 NEW = ["lpis_format", "lpis_release", "lpis_span", "lpis_row", "lpis_text", "lpis_mark"]
 MOVED = ["lpis_format", "lpis_release", "lpis_live", "lpis_row", "lpis_span", "lpis_text", "lpis_mark"]
@@ -25,7 +24,7 @@ def expect(name, found, wanted):
 
 
 def lpis(*words):
-    run = subprocess.run([LPIS, *map(str, words)], capture_output=True, text=True, timeout=60, cwd=TOP)
+    run = subprocess.run([BUILT, *map(str, words)], capture_output=True, text=True, timeout=60, cwd=TOP)
     return run.stdout + "".join("2> " + line + "\n" for line in run.stderr.splitlines()), run.returncode
 
 

@@ -9,7 +9,7 @@ import sys
 
 import pytest
 from calls import run, tool
-from places import BUILT, TOP
+from places import BUILT, HELPERS
 from spare import Spare, read
 import judged_country as judged
 
@@ -98,9 +98,9 @@ class Land:
 
 
 def generated(folder, count, *kinds):
-    """A release of bench/make_parcels.py: digitised borders, T-junctions, ponds, parcels of two parts."""
+    """A release of make_parcels.py: digitised borders, T-junctions, ponds, parcels of two parts."""
     os.makedirs(folder)
-    subprocess.run([sys.executable, os.path.join(TOP, "bench", "make_parcels.py"), str(count), folder, *kinds], check=True)
+    subprocess.run([sys.executable, os.path.join(HELPERS, "make_parcels.py"), str(count), folder, *kinds], check=True)
     return folder
 
 

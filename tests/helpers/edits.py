@@ -1,6 +1,6 @@
 """A source in doubles as it is a year later: exact splits and merges along corners that it had, for the tests of `tools/prepare --previous`. By Shapely.
 
-    tests/helpers/edits.py FOLDER NEW [COUNT [SEED [NOISE]]]     FOLDER has parcels.csv and covers.csv of bench/make_coverage.py
+    tests/helpers/edits.py FOLDER NEW [COUNT [SEED [NOISE]]]     FOLDER has parcels.csv and covers.csv of make_coverage.py
 
 A parcel is split along its pieces or along a line between two of its corners; two neighbours are merged, with their pieces kept, or drawn anew as one
 piece without the corners that then lie on a straight line. NOISE metres are added to each corner, the same wherever the corner stands.

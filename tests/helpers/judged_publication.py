@@ -1,5 +1,5 @@
 """What `lpis publish-country` and `lpis exact-country` have to answer, by their definition in docs/FORMATS.md, over sets, lists and whole numbers and
-without them: each region's own check is handed in, and what the register says is read with SQLite. Shapes are compared by bench/exact_years.py."""
+without them: each region's own check is handed in, and what the register says is read with SQLite. Shapes are compared by exact_years.py."""
 
 import collections
 import csv

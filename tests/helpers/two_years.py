@@ -14,7 +14,7 @@ from shapely import wkb, wkt
 
 import dirty
 import edits
-from places import TOP
+from places import HELPERS
 
 KINDS = ["crossing", "null", "blank", "umlaut", "stranger", "bare", "z", "wide"]
 CLASSES = [("ARABLE", 100), ("GRASS", 100), ("TREES", 30), ("WATER", 0)]
@@ -59,7 +59,7 @@ def make(count, folder):
     """Writes all of it; how many splits and merges there are."""
     with tempfile.TemporaryDirectory() as spare:
         first, second = os.path.join(spare, "first"), os.path.join(spare, "second")
-        subprocess.run([sys.executable, os.path.join(TOP, "bench", "make_coverage.py"), str(count), "1", first], check=True)
+        subprocess.run([sys.executable, os.path.join(HELPERS, "make_coverage.py"), str(count), "1", first], check=True)
         done = edits.make(first, second, int(count * EDITED), SEED)
         for year, tables in ((2026, first), (2027, second)):
             package(os.path.join(folder, f"land-{year}.gpkg"), tables)

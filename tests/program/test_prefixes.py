@@ -11,20 +11,13 @@ country's blocks as 54, and one of country.txt as 90, both at the line behind it
 import pathlib
 import re
 import shutil
-import subprocess
 
-import common
 import country_example
 import pytest
+from calls import lpis
+from places import TOP
 
-EXAMPLES = pathlib.Path(common.TOP, "examples")
-LPIS = common.lpis()
-SECONDS = 60
-
-
-def lpis(*words):
-    run = subprocess.run([LPIS, *map(str, words)], stdin=subprocess.DEVNULL, capture_output=True, text=True, timeout=SECONDS)
-    return run.returncode, run.stdout, run.stderr
+EXAMPLES = pathlib.Path(TOP, "examples")
 
 
 def expect_series(whole, answer_of, wanted_of):

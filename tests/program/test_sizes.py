@@ -8,13 +8,11 @@ points; `publish` of it, then of a second year that renames each parcel, and `tr
 """
 
 import os
-import subprocess
 
-import common
+import calls
 import pytest
 
-LPIS = common.lpis()
-MOST_CORNERS, SECONDS = 99_000, 600
+MOST_CORNERS = 99_000
 ROW = 300  # parcels beside one another
 
 
@@ -24,8 +22,7 @@ def sizes(most):
 
 
 def lpis(folder, *words):
-    run = subprocess.run([LPIS, *map(str, words)], cwd=folder, stdin=subprocess.DEVNULL, capture_output=True, text=True, timeout=SECONDS)
-    return run.returncode, run.stdout, run.stderr
+    return calls.lpis(*words, cwd=folder)
 
 
 def square(k):

@@ -6,7 +6,7 @@ import random
 import sys
 
 from calls import done, tool
-from places import TOP
+from places import HELPERS
 from cells_case import Case
 from lpis_tools import shapely_there
 
@@ -121,7 +121,7 @@ class TestCountries(Case):
 
     def test_new_borders(self):
         """Each parcel of another text lies beside a split one, and has the ends of the new borders more, all of it by whole numbers."""
-        done(sys.executable, os.path.join(TOP, "bench", "make_coverage.py"), PARCELS, 3, self.path("one"))
+        done(sys.executable, os.path.join(HELPERS, "make_coverage.py"), PARCELS, 3, self.path("one"))
         land, chance = edits.Land(self.path("one")), random.Random(3)
         names = list(land.parcels)
         chance.shuffle(names)

@@ -15,9 +15,8 @@ import traceback
 from dataclasses import dataclass
 from pathlib import Path
 
-from common import TOP
+from places import TOOLS
 
-TOOLS = os.path.join(TOP, "tools")
 PRELOADED = ["numpy", "shapely.geometry", "shapely.ops", "shapely.strtree", "shapely.validation", "shapely.prepared", "pyproj", "sqlite3", "csv", "json", "tempfile"]
 # What a run may take, by the points of its source: seconds of a processor, and megabytes beyond those of a process that has loaded all.
 SECONDS, SECONDS_EACH = 10.0, 0.001

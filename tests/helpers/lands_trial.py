@@ -8,7 +8,7 @@ from pathlib import Path
 
 import lands_damage
 import lands_source
-from common import answer, lpis
+from calls import lpis
 from lands_judge import Judge, Written, records, rings_of
 
 STATUSES = {0, 1, 64}
@@ -97,7 +97,7 @@ class Trial:
             return
         cert = self.path("cert.txt")
         for words in (["cut", out, cert], ["check", out, cert]):
-            status, text, told = answer([lpis(), *words])
+            status, text, told = lpis(*words)
             if text.startswith("refused 40 ") and triangles_of(out) > MOST_TRIANGLES:
                 return  # too large for one certificate, as docs/GUIDE.md says: it goes into regions
             if status != 0:
@@ -164,8 +164,8 @@ class Trial:
             self.say("split", "the classes of a region, or of the country, are others")
         self.same_balance("split", country, out, "tables_m2")
         for region in regions:
-            answer([lpis(), "cut", os.path.join(country, region), os.path.join(country, region, "cert.txt")])
-        status, text, told = answer([lpis(), "country", country])
+            lpis("cut", os.path.join(country, region), os.path.join(country, region, "cert.txt"))
+        status, text, told = lpis("country", country)
         if status != 0:
             self.say("split", f"lpis country: {(text + told).strip()[-200:]}")
 
