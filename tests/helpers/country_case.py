@@ -12,6 +12,7 @@ from calls import run, tool
 from places import BUILT, HELPERS
 from spare import Spare, read
 import judged_country as judged
+from tables import polygon_text
 
 HEADS = {"parcels": "parcel,wkt", "covers": "piece,parcel,class,wkt", "classes": "class,percent"}
 CLASSES = ["GRASS,100", "TREES,30", "WATER,0"]
@@ -44,12 +45,8 @@ def write_text(path, text):
         file.write(text)
 
 
-def metres(value):
-    return f"{'-' if value < 0 else ''}{abs(value) // 1000}.{abs(value) % 1000:03}"
-
-
 def wkt(*rings):
-    return '"POLYGON(' + ",".join("(" + ",".join(f"{metres(x)} {metres(y)}" for x, y in ring + ring[:1]) + ")" for ring in rings) + ')"'
+    return f'"{polygon_text([rings], 3)}"'
 
 
 class Land:

@@ -8,9 +8,9 @@ which is its own shape. Polygons are as in tables.py, of whole millimetres."""
 import random
 
 from exact_lineage import Change, Row, corners_of
-from exact_map import LIMIT, Truth, shoelace
+from exact_map import LIMIT, Truth
 from mesh import Drawing, Mesh
-from tables import orient
+from tables import orient, shoelace
 
 LETTERS = "abcdefghijklmnopqrstuvwxyzABCDEFGHIJKLMNOPQRSTUVWXYZ"
 SIZES = [20, 1_000, 60_000, 10**7]

@@ -8,8 +8,8 @@ from pathlib import Path
 
 import lands_damage
 import lands_source
-from calls import lpis
-from lands_judge import Judge, Written, records, rings_of
+from calls import lpis, records
+from lands_judge import Judge, Written, rings_of
 
 STATUSES = {0, 1, 64}
 UNFORESEEN = 70  # the status of an error that nobody foresaw

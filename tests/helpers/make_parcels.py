@@ -28,7 +28,7 @@ import random
 import sys
 
 from make_large import round_point
-from tables import orient, write_release
+from tables import orient, shoelace, write_release
 
 STEP, JITTER = 12_000, 1_800  # centimetres
 EAST, NORTH = 40_000_000, 530_000_000
@@ -51,10 +51,6 @@ def middle_of(a, b):
 
 def edges_of(ring):
     return list(zip(ring, ring[1:] + ring[:1]))
-
-
-def area2(ring):
-    return sum(a[0] * b[1] - b[0] * a[1] for a, b in edges_of(ring))
 
 
 def points_of(polygon):
@@ -238,14 +234,14 @@ class Digitised(Map):
         return [ring]
 
     def are_pieces(self, *rings):
-        areas = [area2(ring) for ring in rings]
+        areas = [shoelace(ring) for ring in rings]
         return 8 * min(areas) >= sum(areas) and min(map(len, rings)) >= 4 and all(map(self.fits, rings))
 
     def divided(self, ring, middle):
         """The ring cut into one to four pieces, the largest first."""
         rings = [ring]
         for _ in range(self.numbers.choice(SPOKES) - 1):
-            rings.sort(key=area2)
+            rings.sort(key=shoelace)
             rings += self.halves(rings.pop())
         return [[[part]] for part in rings]
 

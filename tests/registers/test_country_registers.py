@@ -5,7 +5,7 @@ import random
 
 import pytest
 from asking import NEW, HISTORY, MARKED, SHAPES, ELSEWHERE, expect, lpis, rows, dump, texts, expect_tables, expect_published, release_of
-from asking import expect_spans
+from asking import expect_spans, write_release
 from country_years import Map, Tiling, box_of, write_country, write_region
 from registers import LEFT, RIGHT, SQUARE, TABLES, VERSION_1, VERSION_2, WITHOUT_MARKS, made, said
 
@@ -87,12 +87,7 @@ def country_of(folder, name, plan, regions, lineage=()):
     (country / "country.txt").write_text("\n".join(["lpis-country 1", *plan, ""]))
     (country / "classes.csv").write_text("class,percent\nG,100\n")
     for region, shapes in regions.items():
-        release = country / region
-        release.mkdir()
-        (release / "parcels.csv").write_text("parcel,wkt\n" + "".join(f'{parcel},"{wkt}"\n' for parcel, wkt in shapes.items()))
-        (release / "covers.csv").write_text("piece,parcel,class,wkt\n" + "".join(f'{parcel.lower()},{parcel},G,"{wkt}"\n' for parcel, wkt in shapes.items()))
-        (release / "classes.csv").write_bytes((country / "classes.csv").read_bytes())
-        (release / "lineage.csv").write_text("\n".join([*(lineage.get(region) or ["old,new"]), ""]))
+        write_release(country / region, shapes, *(lineage.get(region) or ["old,new"]))
     cut_country(country)
     return country
 

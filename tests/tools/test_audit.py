@@ -13,26 +13,20 @@ import sys
 from pathlib import Path
 
 import pytest
-from registers import made
+from registers import MARK, TABLES, TEXT, made
 from calls import tool
 from places import BUILT, TOOLS, TOP
 from spare import Spare
 import dirty
 from lpis_tools import shapely_there
 
-SECOND = """
-CREATE TABLE lpis_format (one INTEGER NOT NULL PRIMARY KEY, version INTEGER NOT NULL) STRICT;
-CREATE TABLE lpis_release (year INTEGER NOT NULL PRIMARY KEY) STRICT;
-CREATE TABLE lpis_span (id TEXT NOT NULL PRIMARY KEY, since INTEGER NOT NULL REFERENCES lpis_release (year), until INTEGER NOT NULL) STRICT;
-CREATE TABLE lpis_row (year INTEGER NOT NULL REFERENCES lpis_release (year), pos INTEGER NOT NULL, old TEXT NOT NULL, new TEXT NOT NULL, PRIMARY KEY (year, pos)) STRICT;
+SECOND = TABLES[2] + """
 INSERT INTO lpis_format VALUES (1, 2);
 INSERT INTO lpis_release VALUES (2024), (2025), (2027);
 INSERT INTO lpis_span VALUES ('A', 2024, 2024), ('B', 2025, 0), ('C', 2025, 2025), ('D', 2024, 2025), ('E', 2027, 0);
 INSERT INTO lpis_row VALUES (2025, 0, 'A', 'B'), (2025, 1, 'A', 'C'), (2027, 0, 'C', 'E'), (2027, 1, 'D', '');
 """
-THIRD = """
-CREATE TABLE lpis_text (id TEXT NOT NULL PRIMARY KEY, wkt TEXT NOT NULL) STRICT;
-CREATE TABLE lpis_mark (year INTEGER NOT NULL, pos INTEGER NOT NULL, PRIMARY KEY (year, pos), FOREIGN KEY (year, pos) REFERENCES lpis_row (year, pos)) STRICT;
+THIRD = TEXT + MARK + """
 UPDATE lpis_format SET version = 3;
 INSERT INTO lpis_text VALUES ('B', 'POLYGON((0.000 0.000,1.000 0.000,1.000 1.000,0.000 0.000))');
 INSERT INTO lpis_mark VALUES (2025, 0), (2025, 1);

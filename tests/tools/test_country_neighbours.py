@@ -8,6 +8,7 @@ import sys
 from calls import done, tool
 from places import HELPERS
 from cells_case import Case
+from lands_parts import on
 from lpis_tools import shapely_there
 
 if shapely_there.is_there():
@@ -27,10 +28,6 @@ def points_of(shape):
     """The points of a row's shape, as a GeoPackage has it."""
     found = wkb.loads(shape[8:])
     return [point for part in getattr(found, "geoms", [found]) for ring in (part.exterior, *part.interiors) for point in ring.coords]
-
-
-def on(a, b, share):
-    return tuple(one + (other - one) * share for one, other in zip(a, b))
 
 
 class Row(dict):

@@ -10,6 +10,7 @@ from lpis_tools import shapely_there
 import lands_run
 import lands_trial
 from lands_land import Land
+from lands_parts import boxed
 from lands_shapes import Shape
 from lands_shrink import Shrinking
 
@@ -22,7 +23,7 @@ E, N = 550_000.0, 5_400_000.0
 
 def box(x, y, width=10.0, height=10.0):
     """A rectangle about the corner of the land."""
-    return [(E + x, N + y), (E + x + width, N + y), (E + x + width, N + y + height), (E + x, N + y + height), (E + x, N + y)]
+    return boxed(E + x, N + y, width, height)
 
 
 def alike(*members, form=None):

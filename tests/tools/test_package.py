@@ -63,13 +63,6 @@ def lines_of_readme():
     return blocks
 
 
-def squares(folder, count):
-    """A release of so many parcels in a row, of one piece each, the first of a register."""
-    parcels = [(f"P{number}", [[[(100 * number, 0), (100 * number + 100, 0), (100 * number + 100, 90), (100 * number, 90)]]]) for number in range(count)]
-    tables.write_release(folder, parcels, [(f"C{name}", name, "G", polygon) for name, polygon in parcels])
-    (pathlib.Path(folder) / "lineage.csv").write_text("old,new\n", encoding="ascii")
-
-
 def programs_of(path):
     """The processes that run a program."""
     found = []
@@ -242,7 +235,8 @@ class TestPackages(Kept):
         folder.mkdir()
         top = self.unpacked(folder)
         program, script, release, cert = top / "lib" / "lpis" / "program" / "lpis", top / "bin" / "lpis", folder / "release", folder / "cert.txt"
-        squares(release, MANY)
+        tables.write_squares(release, MANY)
+        (release / "lineage.csv").write_text("old,new\n", encoding="ascii")
         done(script, "cut", release, cert)
         ends = set()
         for number in (signal.SIGTERM, signal.SIGINT, signal.SIGHUP):
