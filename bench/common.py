@@ -182,6 +182,21 @@ def done(words, folder=None):
     return found
 
 
+def psql(database, *statements):
+    """The words by which psql has statements done in a database."""
+    return ["psql", "-X", "-q", "-A", "-t", "-v", "ON_ERROR_STOP=1", "-d", database, *(word for statement in statements for word in ("-c", statement))]
+
+
+def dropped(database):
+    """The end of a database; whether there is a server."""
+    return bool(shutil.which("psql")) and answer(psql("postgres", f"drop database if exists {database}"))[0] == 0
+
+
+def has_postgis(database):
+    """Makes a database with PostGIS anew, where a server is reached; whether it is there."""
+    return dropped(database) and answer(psql("postgres", f"create database {database}"))[0] == 0 and answer(psql(database, "create extension postgis"))[0] == 0
+
+
 def best(words, runs=RUNS, folder=None):
     """The least seconds and the greatest peak of some runs that have to end well and to print the same."""
     return bests([words], runs, folder)[0]
