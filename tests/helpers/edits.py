@@ -75,29 +75,26 @@ class Land:
 
     def split_by_a_line(self, name, chance):
         """Between two corners of the parcel; its pieces are cut too."""
-        shape = self.parcels[name]
-        if shape.geom_type != "Polygon" and len(shape.geoms) != 1:
-            return False
-        corners = list(getattr(shape, "geoms", [shape])[0].exterior.coords)[:-1]
-        for _ in range(20):
-            line = LineString(chance.sample(corners, 2))
-            halves = parts_of(split(getattr(shape, "geoms", [shape])[0], line))
-            if len(halves) == 2 and line.length > 20 and min(half.area for half in halves) > shape.area / 5:
-                self.divide(name, halves)
-                return True
-        return False
+        return self.split_by(name, lambda border: LineString(chance.sample(list(border.coords)[:-1], 2)), 20)
 
     def split_across(self, name, chance):
         """Along a line that ends somewhere between the corners of two borders; those that the parcel shares them with have no corner there."""
+        def across(border):
+            a, b = (border.interpolate(chance.random(), normalized=True) for _ in range(2))
+            return LineString([(2 * a.x - b.x, 2 * a.y - b.y), (2 * b.x - a.x, 2 * b.y - a.y)])
+
+        return self.split_by(name, across)
+
+    def split_by(self, name, line_of, least=0):
+        """By the first of twenty lines, drawn for the border of a parcel of one part, that is longer than that and leaves two large halves."""
         shape = self.parcels[name]
         if shape.geom_type != "Polygon" and len(shape.geoms) != 1:
             return False
         outline = getattr(shape, "geoms", [shape])[0]
         for _ in range(20):
-            a, b = (outline.exterior.interpolate(chance.random(), normalized=True) for _ in range(2))
-            line = LineString([(2 * a.x - b.x, 2 * a.y - b.y), (2 * b.x - a.x, 2 * b.y - a.y)])
+            line = line_of(outline.exterior)
             halves = parts_of(split(outline, line))
-            if len(halves) == 2 and min(half.area for half in halves) > shape.area / 5:
+            if len(halves) == 2 and line.length > least and min(half.area for half in halves) > shape.area / 5:
                 self.divide(name, halves)
                 return True
         return False
