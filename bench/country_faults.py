@@ -7,6 +7,7 @@ import shutil
 import sqlite3
 from pathlib import Path
 
+from country_example import regions_of
 from country_years import CLASSES
 from tables import write_lines
 
@@ -17,7 +18,7 @@ class Given:
 
     def __init__(self, numbers, folder, register, year, file, gone):
         self.numbers, self.folder, self.register, self.year, self.file, self.gone, self.stale = numbers, folder, register, year, file, gone, set()
-        self.regions = [line.split()[1] for line in self.lines("country.txt") if line.startswith("region ")]
+        self.regions = regions_of(folder)
 
     def path(self, *names):
         return os.path.join(self.folder, *names)

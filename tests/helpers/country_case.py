@@ -12,6 +12,7 @@ from calls import run, tool
 from places import BUILT, HELPERS
 from spare import Spare, read
 import judged_country as judged
+from country_example import regions_of
 from tables import polygon_text
 
 HEADS = {"parcels": "parcel,wkt", "covers": "piece,parcel,class,wkt", "classes": "class,percent"}
@@ -124,7 +125,7 @@ class Case(Spare):
         return ended.stdout.splitlines()[-1].split()
 
     def regions(self):
-        return [line.split()[1] for line in read(self.path("country", "country.txt")).splitlines() if line.startswith("region ")]
+        return regions_of(self.out)
 
     def region(self, place):
         return os.path.join(self.out, self.regions()[place])

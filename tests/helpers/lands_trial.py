@@ -9,6 +9,7 @@ from pathlib import Path
 import lands_damage
 import lands_source
 from calls import lpis, records
+from country_example import regions_of
 from lands_judge import Judge, Written, rings_of
 
 STATUSES = {0, 1, 64}
@@ -153,8 +154,7 @@ class Trial:
 
     def judge_regions(self, out, country):
         """The regions of a country have each row of the tables, and nothing else; each gets its yes."""
-        with open(os.path.join(country, "country.txt"), encoding="ascii") as file:
-            regions = [line.split()[1] for line in file if line.startswith("region ")]
+        regions = regions_of(country)
         for name in TABLES[:2]:
             wanted = {tuple(record.items()) for record in records(out, name)}
             found = {tuple(record.items()) for region in regions for record in records(os.path.join(country, region), name)}

@@ -141,11 +141,9 @@ def locate_country(points):
 def country(year):
     """A year of examples/country-years in regions; the second after the first, with the blocks of its marks."""
     def make(folder):
-        for each in ("2024", "2025")[: 1 + (year == "2025")]:
-            country_example.write(folder / each, each, lambda region: expect(0, lpis(["cut", region, region / "cert.txt"], folder)))
-        if year == "2025":
-            expect(0, lpis(["publish-country", "years.db", "2024", "2024"], folder))
-            expect(0, lpis(["exact-country", "years.db", "2025", "exact.txt"], folder))
+        country_example.begin(folder, lambda *words: expect(0, lpis(words, folder)))
+        if year == "2024":
+            (folder / "years.db").unlink()
     return make
 
 

@@ -161,10 +161,8 @@ def test_blocks(is_for_exact, tmp_path):
 def country(tmp_path_factory):
     """The second year of examples/country-years, with the country's blocks, and the register of the first."""
     folder = tmp_path_factory.mktemp("country")
-    for year in ("2024", "2025"):
-        country_example.write(folder / year, year, lambda region: lpis("cut", region, region / "cert.txt"))
-    lpis("publish-country", folder / "years.db", 2024, folder / "2024")
-    lpis("exact-country", folder / "years.db", folder / "2025", folder / "2025" / "exact.txt")
+    country_example.begin(folder, lpis)
+    (folder / "exact.txt").rename(folder / "2025" / "exact.txt")
     return folder
 
 

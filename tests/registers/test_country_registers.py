@@ -6,6 +6,7 @@ import random
 import pytest
 from asking import NEW, HISTORY, MARKED, SHAPES, ELSEWHERE, expect, lpis, rows, dump, texts, expect_tables, expect_published, release_of
 from asking import expect_spans, write_release
+from country_example import regions_of
 from country_years import Map, Tiling, box_of, write_country, write_region
 from registers import LEFT, RIGHT, SQUARE, TABLES, VERSION_1, VERSION_2, WITHOUT_MARKS, made, said
 
@@ -13,10 +14,6 @@ from registers import LEFT, RIGHT, SQUARE, TABLES, VERSION_1, VERSION_2, WITHOUT
 def cut_country(country):
     for region in sorted(path for path in country.iterdir() if path.is_dir()):
         expect(f"cut {region}", lpis("cut", region, region / "cert.txt")[1], 0)
-
-
-def regions_in(country):
-    return [line.split()[1] for line in (country / "country.txt").read_text().splitlines() if line.startswith("region ")]
 
 
 def publish_country(name, path, year, country, *before):
@@ -45,7 +42,7 @@ def test_three_ways(seed, tmp_path):
         if lpis("exact-country", ways["several"], several, here / "tried.txt")[1] != 0:
             for path in several.glob("*/lineage.csv"):
                 path.write_text("".join(",".join(line.split(",")[:2]) + "\n" for line in path.read_text().splitlines()))
-        rows = [line for region in regions_in(several) for line in (several / region / "lineage.csv").read_text().splitlines()[1:]]
+        rows = [line for region in regions_of(several) for line in (several / region / "lineage.csv").read_text().splitlines()[1:]]
         lineage = "".join(line + "," * (2 - line.count(",")) + "\n" for line in ["old,new,exact", *rows])
         write_region(release, list(land.parcels.items()))
         (one / "all").mkdir(parents=True)
