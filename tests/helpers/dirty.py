@@ -254,14 +254,16 @@ def make_large(path, count, seed=1, share=0.05, kind=Large):
 
 
 def make(path, kinds, system=25832):
-    return put(path, *rows_of(kinds), [("GRASS", 100), ("TREES", 30)], system)
+    return put(path, *rows_of(kinds), system=system)
 
 
-def put(path, parcels, covers, classes, system=25832):
+def put(path, parcels, covers, classes=(("GRASS", 100), ("TREES", 30)), system=25832):
+    """A package of these rows; without classes it has no table of them."""
     package = Package(path, system)
     package.layer("parcels", ["parcel"], parcels)
     package.layer("covers", ["piece", "parcel", "class"], covers)
-    package.table("classes", ["class", "percent"], classes)
+    if classes:
+        package.table("classes", ["class", "percent"], classes)
     package.close()
     return path
 

@@ -8,6 +8,7 @@ import os
 import subprocess
 import sys
 import tempfile
+from itertools import chain
 from unittest import mock
 
 from shapely import wkb, wkt
@@ -32,12 +33,7 @@ def package(path, folder):
     """The tables of a folder, and some dirty parcels far from them."""
     with mock.patch.object(dirty, "EAST", APART):
         parcels, covers = dirty.rows_of(KINDS)
-    made = dirty.Package(path)
-    for name, columns, more in (("parcels", ["parcel"], parcels), ("covers", ["piece", "parcel", "class"], covers)):
-        made.layer(name, columns, rows(folder, name, columns))
-        made.rows(name, columns, more)
-    made.table("classes", ["class", "percent"], CLASSES)
-    made.close()
+    dirty.put(path, chain(rows(folder, "parcels", ["parcel"]), parcels), chain(rows(folder, "covers", ["piece", "parcel", "class"]), covers), CLASSES)
 
 
 def cuts_of(folder):

@@ -31,7 +31,7 @@ def planted(path, blocks):
         for found, names, more in zip(rows, (1, 2), dirty.rows_of(dirty.ALL)):
             found += [(*(None if name is None else f"b{number}-{name}" for name in row[:names]), *row[names:]) for row in more]
     dirty.EAST, dirty.NORTH = east, north
-    return dirty.put(path, *rows, [("GRASS", 100), ("TREES", 30)])
+    return dirty.put(path, *rows)
 
 
 def shape_of(data):

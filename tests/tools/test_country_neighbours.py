@@ -12,11 +12,12 @@ from lands_parts import on
 from lpis_tools import shapely_there
 
 if shapely_there.is_there():
-    from shapely import wkb, wkt
+    from shapely import wkb
 
     import dirty
     import edits
     import neighbours
+    import two_years
     from lpis_tools import rounding, snapping
 
 PARCELS, SPLITS = 100, 25
@@ -106,11 +107,8 @@ class TestCountries(Case):
     """Two years of a small country in which some parcels were split between the corners of their borders."""
 
     def source(self, folder, path):
-        made = dirty.Package(path)
-        for name, columns in (("parcels", ["parcel"]), ("covers", ["piece", "parcel", "class"])):
-            made.layer(name, columns, [(*(row[column] for column in columns), wkb.dumps(wkt.loads(row["wkt"]))) for row in edits.Land(folder).rows(name)])
-        made.table("classes", ["class", "percent"], [(name, 100) for name in ("ARABLE", "GRASS", "TREES", "WATER")])
-        made.close()
+        rows = [two_years.rows(folder, *layer) for layer in (("parcels", ["parcel"]), ("covers", ["piece", "parcel", "class"]))]
+        dirty.put(path, *rows, two_years.CLASSES)
 
     def prepared(self, year, *words):
         ran = tool("country", "prepare", self.path(f"{year}.gpkg"), self.path(year), "--accept", "--quiet", "--parcels", 60, *words)

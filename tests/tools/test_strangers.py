@@ -238,10 +238,7 @@ class TestPackages(Case):
 
     def endless(self, name):
         """A GeoPackage whose layer of parcels is a view that never ends."""
-        package = dirty.Package(self.path(name))
-        package.layer("parcels", ["parcel"], [])
-        package.layer("covers", ["piece", "parcel", "class"], [])
-        package.close()
+        dirty.put(self.path(name), [], [])
         made(self.path(name), f"DROP TABLE parcels; CREATE VIEW parcels AS {ENDLESS} WHERE fid < 0;" if name == "silent.gpkg" else f"DROP TABLE parcels; CREATE VIEW parcels AS {ENDLESS};")
         return self.path(name)
 

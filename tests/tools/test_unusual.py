@@ -143,12 +143,8 @@ class TestUnusual(Case):
         """A source of one parcel beside others, at an easting, in a system."""
         shapes = [dirty.polygon([(x - dirty.EAST + at, y) for x, y in dirty.box(10 * number, 0)]) for number, at in enumerate((east, *others))]
         with unittest.mock.patch.dict(dirty.SYSTEMS, {2154: ("Lambert-93", dirty.SYSTEMS[25832][1].replace("Transverse_Mercator", "Lambert_Conformal_Conic_2SP")), 32720: dirty.SYSTEMS[25832]}):
-            package = dirty.Package(self.path("land.gpkg"), system)
-        package.layer("parcels", ["parcel"], [(f"A{number}", shape) for number, shape in enumerate(shapes)])
-        package.layer("covers", ["piece", "parcel", "class"], [(f"A{number}.1", f"A{number}", "GRASS", shape) for number, shape in enumerate(shapes)])
-        package.table("classes", ["class", "percent"], [("GRASS", 100)])
-        package.close()
-        return self.path("land.gpkg")
+            return dirty.put(self.path("land.gpkg"), [(f"A{number}", shape) for number, shape in enumerate(shapes)],
+                             [(f"A{number}.1", f"A{number}", "GRASS", shape) for number, shape in enumerate(shapes)], [("GRASS", 100)], system)
 
     @pytest.mark.parametrize("east, system, kind", ((32_550_000, 25832, "prefix"), (32_550_000, 4647, "prefix"), (30_550_000, 25832, "far"), (32_550_000, 2154, "far"), (20_000_139, 32720, "prefix"), (20_000_139, 25832, "far"),
                                                     (33_550_000, 4647, "far"), (61_000_000, 25832, "far")))
