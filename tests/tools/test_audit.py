@@ -13,7 +13,7 @@ import sys
 from pathlib import Path
 
 import pytest
-from registers import MARK, TABLES, TEXT, made
+from registers import MARK, TABLES, TEXT, made, rows
 from calls import tool
 from places import BUILT, TOOLS, TOP
 from spare import Spare
@@ -85,7 +85,7 @@ class TestRegisters(Spare):
         writer.wait()
         writer.stdout.close()
         assert (run.returncode, run.stderr) == (0, "")
-        assert sqlite3.connect(copy).execute("SELECT count(*) FROM lpis_span WHERE id = 'Z'").fetchone() == (1,)
+        assert rows(copy, "SELECT count(*) FROM lpis_span WHERE id = 'Z'") == [(1,)]
 
     def lines_of_the_guide(self):
         """The queries of the guide, line by line, and what it advises for another user's register."""

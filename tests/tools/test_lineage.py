@@ -3,7 +3,6 @@ Wants Shapely; the program where it is built, or named by LPIS."""
 
 import os
 import random
-import sqlite3
 import subprocess
 import tracemalloc
 from pathlib import Path
@@ -11,16 +10,12 @@ from pathlib import Path
 import pytest
 from calls import tool
 from places import BUILT, TOP
+from registers import RELEASE, SPAN, TEXT, made
 from spare import Spare
 from lpis_tools import lineage_faults, shapely_there, years
 
 EXAMPLES = os.path.join(TOP, "examples", "exact")
-REGISTER = """
-CREATE TABLE lpis_release (year INTEGER NOT NULL PRIMARY KEY) STRICT;
-CREATE TABLE lpis_span (id TEXT NOT NULL PRIMARY KEY, since INTEGER NOT NULL, until INTEGER NOT NULL) STRICT;
-CREATE TABLE lpis_text (id TEXT NOT NULL PRIMARY KEY, wkt TEXT NOT NULL) STRICT;
-INSERT INTO lpis_release VALUES (2023), (2024);
-"""
+REGISTER = RELEASE + SPAN + TEXT + "INSERT INTO lpis_release VALUES (2023), (2024); INSERT INTO lpis_span VALUES ('early', 2023, 2023);"
 
 
 def box(left, low, right, high):
@@ -71,14 +66,8 @@ class Years(Spare):
         return Path(self.path(*names)).read_text(encoding="utf-8").split("\n")[1:-1]
 
     def register(self, shapes):
-        base = sqlite3.connect(self.path("lpis.db"))
-        base.executescript(REGISTER)
-        base.executemany("INSERT INTO lpis_span VALUES (?, 2024, 0)", [(name,) for name in shapes])
-        base.executemany("INSERT INTO lpis_text VALUES (?, ?)", [item for item in shapes.items() if item[0] != "m"])
-        base.execute("INSERT INTO lpis_span VALUES ('early', 2023, 2023)")
-        base.commit()
-        base.close()
-        return self.path("lpis.db")
+        texts = [f"INSERT INTO lpis_text VALUES ('{name}', '{wkt}')" for name, wkt in shapes.items() if name != "m"]
+        return made(self.path("lpis.db"), REGISTER, *(f"INSERT INTO lpis_span VALUES ('{name}', 2024, 0)" for name in shapes), *texts)
 
 
 @pytest.mark.skipif(not shapely_there.python(), reason=shapely_there.LACKING)

@@ -12,6 +12,7 @@ import dirty
 import places
 from calls import records
 from preparing_case import CLASSES, Case, ring
+from registers import made
 
 
 class TestUnusual(Case):
@@ -34,12 +35,7 @@ class TestUnusual(Case):
     def changed(self, *statements):
         """A clean source with statements made in it."""
         source = self.package([("A", dirty.polygon(dirty.box(0, 0)))], [("A.1", "A", "GRASS", dirty.polygon(dirty.box(0, 0)))])
-        base = dirty.sqlite3.connect(source)
-        for statement in statements:
-            base.execute(statement)
-        base.commit()
-        base.close()
-        return source
+        return made(source, *statements)
 
     def locked(self):
         source = self.changed()
@@ -157,12 +153,8 @@ class TestUnusual(Case):
     def test_degrees_among_metres(self):
         """A parcel in degrees among metres is a row that stops."""
         source = self.far(9, 25832, [550_000])
-        base = dirty.sqlite3.connect(source)
-        degrees = dirty.polygon([(9.1, 48.1), (9.2, 48.1), (9.2, 48.2), (9.1, 48.1)])
-        for name in ("parcels", "covers"):
-            base.execute(f"UPDATE {name} SET geom = ? WHERE fid = 1", (b"GP\0\1" + struct.pack("<i", 25832) + degrees,))
-        base.commit()
-        base.close()
+        degrees = b"GP\0\1" + struct.pack("<i", 25832) + dirty.polygon([(9.1, 48.1), (9.2, 48.1), (9.2, 48.2), (9.1, 48.1)])
+        made(source, *(f"UPDATE {name} SET geom = x'{degrees.hex()}' WHERE fid = 1" for name in ("parcels", "covers")))
         status, told = self.told(source)
         assert (status, told.count("which reads as degrees among metres") >= 2) == (1, True), told
         status, told = self.told(source, "--accept")
