@@ -3,7 +3,7 @@ and what `publish` says of blocks. Polygons are as in tables.py, of whole millim
 
 import collections
 
-from exact_map import edges
+from exact_map import LIMIT, edges
 from tables import orient
 
 # A row of lineage; where it stands in a table of a region, its number there, and that region.
@@ -99,6 +99,37 @@ def lines_of(blocks):
         lines.append(f"exact {'merge' if is_merge else 'split'} {name} {len(flats)}\n")
         lines += [f"f {' '.join(str(value) for point in flat for value in point)}\n" for flat in flats]
     return "".join(lines)
+
+
+def with_blocks(cert, blocks):
+    """The text of a certificate with these blocks."""
+    return cert.replace("\npairs ", f"\n{lines_of(blocks)}pairs ")
+
+
+def spoiled(numbers, groups, blocks):
+    """The blocks with one thing wrong, mostly."""
+    blocks = [[is_merge, name, list(flats)] for is_merge, name, flats in blocks]
+    kind = numbers.choice(["bent", "stranger", "left out", "twice", "turned", "no block", "exchanged", "other kind", "one more"])
+    place = numbers.randrange(len(blocks))
+    flats = blocks[place][2]
+    a, b = sorted({point for member in groups[place].whole for point in member[0]})[:2]
+    if kind == "bent":
+        flats.append((a, b, tuple(value + (step if value <= 0 else -step) for value, step in zip(a, (1, 2)))))
+    elif kind == "stranger":
+        ends = [tuple(2 * p - q for p, q in zip(*pair)) for pair in ((b, a), (a, b))]
+        flats += [(a, b, end) for end in ends if all(abs(value) <= LIMIT for value in end)][:1]
+    elif kind == "no block":
+        blocks.pop(place)
+    elif kind == "exchanged":
+        numbers.shuffle(blocks)
+    elif kind == "other kind":
+        blocks[place][0] ^= True
+    elif kind == "one more":
+        blocks.append([numbers.random() < 0.5, numbers.choice(["A", "zz", blocks[place][1]]), []])
+    elif flats:
+        flat = flats.pop(numbers.randrange(len(flats)))
+        flats += {"left out": [], "twice": [flat, flat], "turned": [flat[::-1]]}[kind]
+    return blocks
 
 
 class Change:

@@ -5,15 +5,17 @@ Between the years a corner moves by a millimetre, or land is lost, gained or exc
 or beside it, where they are rounded. So a group may be exact or not, whatever was done: exact_lineage.py says it. Each parcel has one piece,
 which is its own shape. Polygons are as in tables.py, of whole millimetres."""
 
+import os
 import random
 
 from exact_lineage import Change, Row, corners_of
 from exact_map import LIMIT, Truth
 from mesh import Drawing, Mesh
-from tables import orient, shoelace
+from tables import orient, shoelace, write_lines, write_release
 
 LETTERS = "abcdefghijklmnopqrstuvwxyzABCDEFGHIJKLMNOPQRSTUVWXYZ"
 SIZES = [20, 1_000, 60_000, 10**7]
+CLASSES, UNMARKED = ["class,percent", "G,100"], ["", "0"]
 
 
 class TwoYears:
@@ -72,13 +74,25 @@ class TwoYears:
         old, new, is_marked = self.rows[place]
         self.rows[place] = (old, new, not is_marked)
 
+    def write(self, folder, numbers):
+        """The releases of both years, with their tables of lineage."""
+        for year, parcels in (("2024", self.old), ("2025", self.new)):
+            write_release(os.path.join(folder, year), list(parcels.items()), pieces_of(parcels), 3, CLASSES)
+        write_lines(os.path.join(folder, "2024"), "lineage.csv", ["old,new"])
+        rows = [f"{old},{new},{'1' if is_marked else numbers.choice(UNMARKED)}" for old, new, is_marked in self.rows]
+        write_lines(os.path.join(folder, "2025"), "lineage.csv", ["old,new,exact", *rows])
+
     def change(self):
         """What the rows say."""
         return Change(self.old, self.new, [Row(*row, number) for number, row in enumerate(self.rows, 1)], self.old)
 
 
+def pieces_of(parcels):
+    return [(f"p.{name}", name, "G", polygon) for name, polygon in parcels.items()]
+
+
 def is_sound(parcels):
-    truth = Truth(list(parcels.items()), [(f"p.{name}", name, "G", polygon) for name, polygon in parcels.items()])
+    truth = Truth(list(parcels.items()), pieces_of(parcels))
     return not (truth.bad or truth.uneven or truth.faces)
 
 
