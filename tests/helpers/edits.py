@@ -9,11 +9,14 @@ piece without the corners that then lie on a straight line. NOISE metres are add
 import csv
 import os
 import random
+import shutil
 import sys
 
 from shapely import wkt
 from shapely.geometry import LineString, MultiPolygon, Polygon
 from shapely.ops import split, unary_union
+
+from calls import records
 
 STRAIGHT = 1e-6  # metres beside its neighbours' line: a corner that a GIS drops
 SAME = 5  # decimals of metres to which two corners at one place agree
@@ -29,14 +32,10 @@ class Land:
 
     def __init__(self, folder):
         self.folder = folder
-        self.parcels = {row["parcel"]: wkt.loads(row["wkt"]) for row in self.rows("parcels")}
+        self.parcels = {row["parcel"]: wkt.loads(row["wkt"]) for row in records(folder, "parcels.csv")}
         self.pieces, self.of_parcel = {}, {}  # pieces, and the names of those of each parcel
-        for row in self.rows("covers"):
+        for row in records(folder, "covers.csv"):
             self.put(row["piece"], row["parcel"], row["class"], wkt.loads(row["wkt"]))
-
-    def rows(self, name):
-        with open(os.path.join(self.folder, f"{name}.csv"), newline="", encoding="ascii") as file:
-            yield from csv.DictReader(file)
 
     def put(self, name, parcel, land_class, shape):
         """A new piece, or one that gets another parcel."""
@@ -56,13 +55,12 @@ class Land:
 
     def write(self, folder, moved):
         os.makedirs(folder, exist_ok=True)
-        for name, header, records in (("parcels", ["parcel", "wkt"], [[key, self.text(shape, moved)] for key, shape in self.parcels.items()]),
+        for name, header, lines in (("parcels", ["parcel", "wkt"], [[key, self.text(shape, moved)] for key, shape in self.parcels.items()]),
                                       ("covers", ["piece", "parcel", "class", "wkt"], [[key, *piece[:2], self.text(piece[2], moved)] for key, piece in self.pieces.items()])):
             with open(os.path.join(folder, f"{name}.csv"), "w", newline="", encoding="ascii") as file:
                 table = csv.writer(file, lineterminator="\n")
-                table.writerows([header, *records])
-        with open(os.path.join(self.folder, "classes.csv"), "rb") as there, open(os.path.join(folder, "classes.csv"), "wb") as file:
-            file.write(there.read())
+                table.writerows([header, *lines])
+        shutil.copy(os.path.join(self.folder, "classes.csv"), folder)
 
     @staticmethod
     def text(shape, moved):

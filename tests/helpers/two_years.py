@@ -3,7 +3,6 @@
     tests/helpers/two_years.py COUNT FOLDER     writes FOLDER/land-2026.gpkg and land-2027.gpkg, and FOLDER/country/country.txt with nine tiles
 """
 
-import csv
 import os
 import subprocess
 import sys
@@ -15,6 +14,7 @@ from shapely import wkb, wkt
 
 import dirty
 import edits
+from calls import records
 from places import HELPERS
 
 KINDS = ["crossing", "null", "blank", "umlaut", "stranger", "bare", "z", "wide"]
@@ -24,9 +24,8 @@ APART = 450_000  # the easting of dirt
 
 
 def rows(folder, name, columns):
-    with open(os.path.join(folder, f"{name}.csv"), newline="", encoding="ascii") as file:
-        for row in csv.DictReader(file):
-            yield (*(row[column] for column in columns), wkb.dumps(wkt.loads(row["wkt"])))
+    for row in records(folder, f"{name}.csv"):
+        yield (*(row[column] for column in columns), wkb.dumps(wkt.loads(row["wkt"])))
 
 
 def package(path, folder):
@@ -38,8 +37,7 @@ def package(path, folder):
 
 def cuts_of(folder):
     """Two whole millimetres in x and two in y that part a land's parcels into nine tiles of about as many."""
-    with open(os.path.join(folder, "parcels.csv"), newline="", encoding="ascii") as file:
-        corners = [wkt.loads(row["wkt"]).bounds[:2] for row in csv.DictReader(file)]
+    corners = [wkt.loads(row["wkt"]).bounds[:2] for row in records(folder, "parcels.csv")]
     return [[int(1000 * sorted(corner[axis] for corner in corners)[len(corners) * part // 3]) for part in (1, 2)] for axis in (0, 1)]
 
 

@@ -1,7 +1,6 @@
 """Tests what the guide tells to do with a register beside lpis: a backup while another process uses it, and the queries of tools/audit.sql. Wants the
 system's sqlite3. The register is made by SQLite as docs/FORMATS.md has it, and by `lpis` where that is built or named by LPIS."""
 
-import csv
 import hashlib
 import json
 import os
@@ -14,7 +13,7 @@ from pathlib import Path
 
 import pytest
 from registers import MARK, TABLES, TEXT, made, rows
-from calls import tool
+from calls import records, tool
 from places import BUILT, TOOLS, TOP
 from spare import Spare
 import dirty
@@ -64,8 +63,7 @@ class TestRegisters(Spare):
 
     def backup(self, path):
         """The command as the guide has it, on other files."""
-        with open(os.path.join(TOP, "docs", "GUIDE.md"), encoding="utf-8") as file:
-            command = re.search(r"^ +(sqlite3 register\.db .*\.backup.*?)\s*(?:#.*)?$", file.read(), re.MULTILINE)[1]
+        command = re.search(r"^ +(sqlite3 register\.db .*\.backup.*?)\s*(?:#.*)?$", Path(TOP, "docs", "GUIDE.md").read_text(encoding="utf-8"), re.MULTILINE)[1]
         copy = os.path.join(self.folder, "copy.db")
         return subprocess.run(["bash", "-c", command.replace("register.db", path).replace("register-2026.db", copy)], capture_output=True, text=True, check=False), copy
 
@@ -152,8 +150,7 @@ class TestBeforeTheTables(Spare):
 
     def test_beside(self):
         text, told, html = self.report()
-        with open(os.path.join(self.out, "report.csv"), newline="", encoding="utf-8") as file:
-            gone = [row for row in csv.DictReader(file) if row["kind"] in ("lost", "left out") and row["layer"] == "parcels"]
+        gone = [row for row in records(self.out, "report.csv") if row["kind"] in ("lost", "left out") and row["layer"] == "parcels"]
         area = sum(float(row["area_m2"]) for row in gone)
         assert (len(gone), area) == (2, 200.0)
         assert "left out of the source: 2 parcels, 0.0200 ha; 3 pieces, 0.0100 ha" in text

@@ -9,6 +9,7 @@ import re
 import resource
 import shutil
 import time
+from pathlib import Path
 
 import pytest
 from calls import run
@@ -23,8 +24,7 @@ CAN = shapely_there.is_there() and BUILT and shutil.which("ogrinfo")
 
 def lines_of_guide():
     """The lines of the path: the block that begins with ogrinfo."""
-    with open(os.path.join(TOP, "docs", "GUIDE.md"), encoding="utf-8") as file:
-        part = file.read().split("\n## A country at once\n")[1]
+    part = Path(TOP, "docs", "GUIDE.md").read_text(encoding="utf-8").split("\n## A country at once\n")[1]
     return [line.strip() for line in part[part.index("    ogrinfo") :].split("\n\n")[0].splitlines()]
 
 
