@@ -56,7 +56,7 @@ class Land:
     def write(self, folder, moved):
         os.makedirs(folder, exist_ok=True)
         for name, header, lines in (("parcels", ["parcel", "wkt"], [[key, self.text(shape, moved)] for key, shape in self.parcels.items()]),
-                                      ("covers", ["piece", "parcel", "class", "wkt"], [[key, *piece[:2], self.text(piece[2], moved)] for key, piece in self.pieces.items()])):
+                                    ("covers", ["piece", "parcel", "class", "wkt"], [[key, *piece[:2], self.text(piece[2], moved)] for key, piece in self.pieces.items()])):
             with open(os.path.join(folder, f"{name}.csv"), "w", newline="", encoding="ascii") as file:
                 table = csv.writer(file, lineterminator="\n")
                 table.writerows([header, *lines])
