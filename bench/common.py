@@ -2,8 +2,8 @@
 what is wanted and with which words it is run; constants and a `main` follow. It prints a page of Markdown: a heading, a line on what it is,
 a table, and under it what was wanted and what was got. `bench/all` runs them, and keeps the page of NAME as bench/results/NAME.md.
 
-`CUT=PROGRAM` in the environment names another program that knows `cut DIR CERT`, `LPIS=PROGRAM` another `lpis`; without them it is the one that
-./lpis runs. `BEFORE=PROGRAM` names an earlier `lpis`, which bench/beside_check runs too."""
+`LPIS=PROGRAM` in the environment names another `lpis` than the one that ./lpis runs. `BEFORE=PROGRAM` names an earlier `lpis`, which
+bench/beside_check runs too."""
 
 import collections
 import functools
@@ -79,10 +79,6 @@ def lpis():
         return os.path.realpath(os.environ["LPIS"])
     found = subprocess.run([os.path.join(TOP, "lpis"), "program"], stdout=subprocess.PIPE, text=True, check=False)
     return found.stdout.rstrip("\n") if found.returncode == 0 else sys.exit(found.returncode)
-
-
-def cutter():
-    return os.environ.get("CUT") or lpis()
 
 
 def before():
