@@ -18,7 +18,6 @@ import pytest
 import release as audit
 from nasty_shapes import Release
 from places import BUILT, TOP as HOUSE
-from tables import write_release
 
 TOP = Path(HOUSE)
 RELEASES, LEAST = 100, (3, 2, 3, 3)  # of a series; cases of each condition, series by series
@@ -46,12 +45,6 @@ def expect_same(name, folder, cert):
     return "yes" if status == 0 else text.split(" ")[1]
 
 
-def write(folder, number, mutated):
-    """A generated release."""
-    release = Release(number, mutated)
-    write_release(folder, release.parcels, release.pieces, release.decimals, release.classes)
-
-
 def damaged_certificate(cert, change, numbers):
     lines = cert.read_text(encoding="ascii").split("\n")[:-1]
     end = numbers.choice(["\n"] * 9 + ["", "\n\n", "\r\n", "\n "]) if change in damage.TEXTS else "\n"
@@ -63,7 +56,7 @@ def test_releases(series, least, tmp_path):
     """Each sound release with its own certificate, and then, in turn: that certificate damaged, or a byte of one of the four files, or the release made wrong."""
     numbers, codes, sound, wrong, cert = random.Random(75 + series), Counter(), tmp_path / "sound", tmp_path / "wrong", tmp_path / "cert.txt"
     for number in range(series * RELEASES, (series + 1) * RELEASES):
-        write(sound, number, False)
+        Release(number, False).write(sound)
         status, text = lpis("cut", sound, cert)
         assert status == 0, f"release {number} is not cut: {text}"
         codes[expect_same(f"release {number}", sound, cert)] += 1
@@ -71,7 +64,7 @@ def test_releases(series, least, tmp_path):
         if change == "tables":
             file.write_bytes(damage.edited(file.read_bytes(), numbers))
         elif change == "wrong":
-            write(wrong, number, True)
+            Release(number, True).write(wrong)
         else:
             damaged_certificate(cert, change, numbers)
         codes[expect_same(f"release {number}, {getattr(change, '__name__', change)}", wrong if change == "wrong" else sound, cert)] += 1

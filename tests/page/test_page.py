@@ -19,7 +19,7 @@ from browser import Browser
 from page_case import CC, EXAMPLES, SOURCES, TESTS, TOP, WHOLE, built, native, node, read, releases_of, wanted
 from lpis_tools import explaining, report
 import nasty_shapes
-from tables import write_release, write_squares
+from tables import write_squares
 
 RELEASES, MANY = (200, 60_000) if WHOLE else (20, 5_000)  # generated releases, of which a half has faults; parcels in the browser
 
@@ -93,8 +93,8 @@ class TestModule:
             os.mkdir(os.path.join(folder, "files"))
             cases, last = Cases(os.path.join(folder, "files")), None
             for number in range(RELEASES):
-                made, release = nasty_shapes.Release(number, number % 2 == 1), os.path.join(folder, f"r{number}")
-                write_release(release, made.parcels, made.pieces, made.decimals, made.classes)
+                release = os.path.join(folder, f"r{number}")
+                nasty_shapes.Release(number, number % 2 == 1).write(release)
                 cert = cases.cut(release)
                 for one in filter(None, (cert, last)):
                     cases.check(release, one)
