@@ -8,6 +8,7 @@ import tracemalloc
 from pathlib import Path
 
 import pytest
+from asking import write_release
 from calls import tool
 from places import BUILT, TOP
 from registers import RELEASE, SPAN, TEXT, made
@@ -199,11 +200,9 @@ class TestCountries(Years):
 class TestBeside(Years):
     """The first fault of a random table is the one that `publish` reports, where it reports one of lineage."""
 
-    def released(self, folder, shapes):
-        write(folder, shapes)
-        with open(os.path.join(folder, "covers.csv"), "w", encoding="ascii") as file:
-            file.write("piece,parcel,class,wkt\n" + "".join(f'{name}-p,{name},G,"{wkt}"\n' for name, wkt in shapes.items()))
-        Path(folder, "classes.csv").write_text("class,percent\nG,100\n", encoding="ascii")
+    def released(self, year, shapes, *rows):
+        folder = self.path(year)
+        write_release(Path(folder), shapes, "old,new,exact", *rows)
         subprocess.run([BUILT, "cut", folder, os.path.join(folder, "cert.txt")], check=True, capture_output=True)
         return folder
 
@@ -212,13 +211,9 @@ class TestBeside(Years):
 
     def test_random_tables(self):
         chance = random.Random(7)
-        first, new = self.released(self.path("2023"), {"early": box(0, 0, 1, 1)}), self.released(self.path("2025"), NEWER)
-        write(first, {"early": box(0, 0, 1, 1)}, "")
-        old = self.released(self.path("2024"), OLDER)
-        write(old, OLDER, "early,,\n")
+        first, old, new = self.released("2023", {"early": box(0, 0, 1, 1)}), self.released("2024", OLDER, "early,,"), self.released("2025", NEWER)
         for year, folder in ((2023, first), (2024, old)):
             assert f"published {year}" in self.published(year, folder)
-        agreed = 0
         for _ in range(24):
             rows = "".join(f"{chance.choice('aabbkmnz')},{chance.choice(['a1', 'a2', 'mm', 'n', 'zz', ''])},{chance.choice(['', '1'])}\n" for _ in range(chance.randrange(1, 6)))
             write(new, NEWER, rows)
@@ -226,5 +221,3 @@ class TestBeside(Years):
             words = self.published(2025, new).split()
             assert ["refused", "81", "lineage", found[0].code] == words[:4], rows
             assert (str(found[0].row) if "row" in words else found[0].name.split()[0]) == words[5 if "row" in words else 4], rows
-            agreed += 1
-        assert 24 == agreed
