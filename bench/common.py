@@ -2,16 +2,14 @@
 what is wanted and with which words it is run; constants and a `main` follow. It prints a page of Markdown: a heading, a line on what it is,
 a table, and under it what was wanted and what was got. `bench/all` runs them, and keeps the page of NAME as bench/results/NAME.md.
 
-`CUT=PROGRAM` in the environment names another program that knows `cut DIR CERT`, `LPIS=PROGRAM` another `lpis`; without them it is the one that
-./lpis runs. `BEFORE=PROGRAM` names an earlier `lpis`, which bench/beside_check runs too."""
+`LPIS=PROGRAM` in the environment names another `lpis` than the one that ./lpis runs. `BEFORE=PROGRAM` names an earlier `lpis`, which
+bench/beside_check runs too."""
 
 import collections
-import contextlib
 import functools
 import json
 import multiprocessing
 import os
-import pathlib
 import resource
 import shutil
 import subprocess
@@ -21,7 +19,8 @@ import textwrap
 
 HERE = os.path.dirname(os.path.realpath(__file__))
 TOP = os.path.dirname(HERE)
-sys.path.append(os.path.join(TOP, "tests", "helpers"))  # what tests and benches share: registers, years, shapes
+HELPERS = os.path.join(TOP, "tests", "helpers")  # what tests and benches share: registers, years, lands
+sys.path.append(HELPERS)
 MEGABYTE = 1_000_000
 RUNS, WIDTH, MOST_FAULTS = 3, 120, 20
 IN_MEMORY = "/dev/shm" if os.access("/dev/shm", os.W_OK) else None  # a folder for files that are written and synced often
@@ -47,19 +46,9 @@ def temporary(where=None):
     return tempfile.TemporaryDirectory(prefix="lpis-bench-", dir=where)
 
 
-@contextlib.contextmanager
-def copy_of(folder):
-    """A copy of a folder beside it, for a while."""
-    copy = pathlib.Path(tempfile.mkdtemp(dir=folder.parent))
-    try:
-        yield shutil.copytree(folder, copy, dirs_exist_ok=True)
-    finally:
-        shutil.rmtree(copy)
-
-
 def make(maker, *words):
     """Runs one of the scripts that write inputs."""
-    subprocess.run([sys.executable, os.path.join(HERE, maker), *map(str, words)], check=True)
+    subprocess.run([sys.executable, os.path.join(HELPERS, maker), *map(str, words)], check=True)
 
 
 def compiled(folder, name):
@@ -70,10 +59,10 @@ def compiled(folder, name):
     return program
 
 
-def straight(size, folder):
-    """A release of so many parcels with T-junctions and holes, and its certificate."""
-    make("make_parcels.py", size, folder, "straight")
-    done([lpis(), "cut", folder, os.path.join(folder, CERT)])
+def certified(size, folder, kind="straight"):
+    """A release of so many parcels with T-junctions and holes, or of another kind, and its certificate; what `lpis cut` printed."""
+    make("make_parcels.py", size, folder, kind)
+    return done([lpis(), "cut", folder, os.path.join(folder, CERT)]).text
 
 
 def bytes_of(folder, names):
@@ -90,10 +79,6 @@ def lpis():
         return os.path.realpath(os.environ["LPIS"])
     found = subprocess.run([os.path.join(TOP, "lpis"), "program"], stdout=subprocess.PIPE, text=True, check=False)
     return found.stdout.rstrip("\n") if found.returncode == 0 else sys.exit(found.returncode)
-
-
-def cutter():
-    return os.environ.get("CUT") or lpis()
 
 
 def before():
@@ -191,6 +176,21 @@ def done(words, folder=None):
     if found.status != 0:
         sys.exit(f"{' '.join(map(str, words))}: status {found.status}: {(found.text + found.told)[-300:]}")
     return found
+
+
+def psql(database, *statements):
+    """The words by which psql has statements done in a database."""
+    return ["psql", "-X", "-q", "-A", "-t", "-v", "ON_ERROR_STOP=1", "-d", database, *(word for statement in statements for word in ("-c", statement))]
+
+
+def dropped(database):
+    """The end of a database; whether there is a server."""
+    return bool(shutil.which("psql")) and answer(psql("postgres", f"drop database if exists {database}"))[0] == 0
+
+
+def has_postgis(database):
+    """Makes a database with PostGIS anew, where a server is reached; whether it is there."""
+    return dropped(database) and answer(psql("postgres", f"create database {database}"))[0] == 0 and answer(psql(database, "create extension postgis"))[0] == 0
 
 
 def best(words, runs=RUNS, folder=None):

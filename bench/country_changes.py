@@ -4,12 +4,9 @@ import os
 import zlib
 from collections import Counter
 
+from country_example import regions_of
+
 CHANGED, SPLIT, OF = 45, 5, 1_000  # so many of a thousand get another identifier, or are split into their pieces
-
-
-def regions_of(folder):
-    with open(os.path.join(folder, "country.txt"), encoding="ascii") as file:
-        return [line.split()[1] for line in file if line.startswith("region ")]
 
 
 def write_lineage(folder, region, rows):

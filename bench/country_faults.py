@@ -1,5 +1,5 @@
 """Faults that are planted in the folders of a country, the register and the words of a command, one by one. Each gets what a command is given, and
-changes it; it answers whether there was a place for it."""
+changes it; it answers False where there was no place for it."""
 
 import os
 import re
@@ -7,6 +7,7 @@ import shutil
 import sqlite3
 from pathlib import Path
 
+from country_example import regions_of
 from country_years import CLASSES
 from tables import write_lines
 
@@ -17,7 +18,7 @@ class Given:
 
     def __init__(self, numbers, folder, register, year, file, gone):
         self.numbers, self.folder, self.register, self.year, self.file, self.gone, self.stale = numbers, folder, register, year, file, gone, set()
-        self.regions = [line.split()[1] for line in self.lines("country.txt") if line.startswith("region ")]
+        self.regions = regions_of(folder)
 
     def path(self, *names):
         return os.path.join(self.folder, *names)
@@ -80,7 +81,6 @@ class Given:
 
 def store(given):
     given.register = given.path("no folder", "years.db")
-    return True
 
 
 def no_register(given):
@@ -89,29 +89,24 @@ def no_register(given):
 
 def year(given):
     given.year -= given.numbers.randint(1, 4)
-    return True
 
 
 def top_missing(given):
     os.remove(given.path(given.numbers.choice(["country.txt", "classes.csv"])))
-    return True
 
 
 def no_plan(given):
     lines = given.lines("country.txt")
     given.write(given.numbers.choice([lines[:-1], [*lines, "region more"], ["lpis-country 2", *lines[1:]], [*lines[:-1], f"{lines[-1]}."]]), "country.txt")
-    return True
 
 
 def no_classes(given):
     lines = given.lines("classes.csv")
     given.write(given.numbers.choice([["class,class,percent"], [*lines, lines[1]], [*lines, "Z,101"], ["class"], [*lines, "Z"], [*lines, "a b,1"]]), "classes.csv")
-    return True
 
 
 def no_file(given):
     given.file = given.path("none.txt")
-    return True
 
 
 def bad_file(given):
@@ -124,7 +119,6 @@ def bad_file(given):
             before.replace("pairs 0\n", "pairs 0\npairs 0\n"), before.replace("pairs 0", "exact split A 1\nf 0 0 0 0 0 00\npairs 0"), before.replace("pairs 0", "exact join A 0\npairs 0"),
             before.replace("pairs 0", "parcel A 0\npairs 0"), before.replace("pairs 0", "exact merge A 2000001\npairs 0"), before[: given.numbers.randrange(len(before))],
         ]))
-    return True
 
 
 def whole_certificate(given):
@@ -133,12 +127,10 @@ def whole_certificate(given):
     own = read(given.path(given.region(), "cert.txt"))
     given.file = given.path("whole.txt")
     Path(given.file).write_text(own.replace("\npairs ", f"\n{blocks}pairs "), encoding="ascii")
-    return True
 
 
 def lineage_missing(given):
     os.remove(given.path(given.region(), "lineage.csv"))
-    return True
 
 
 def lineage_table(given):
@@ -151,7 +143,6 @@ def lineage_table(given):
         ["old"], ["old,old,new"], ["new"], ["old,new,exact,exact"], ["old,new,new"], [*lines, ",".join([*row, "more"])], [*lines, ",".join(["", *row[1:]])], [*lines, ",".join([row[0], "a b", *row[2:]])],
         ["old,new,exact", "A,B,x"], ["new,EXACT,Old", "B,1,A A"],
     ]), region, "lineage.csv")
-    return True
 
 
 def lineage_column_order(given):
@@ -160,7 +151,6 @@ def lineage_column_order(given):
     rows = [line.split(",") for line in given.lines(region, "lineage.csv")]
     with open(given.path(region, "lineage.csv"), "w", encoding="utf-8") as file:
         file.write("\ufeff" + "".join(",".join([f"note {place}" if place else "Note", *row[::-1]]) + "\n\n" for place, row in enumerate(rows)))
-    return True
 
 
 def region_file(given):
@@ -175,13 +165,11 @@ def region_file(given):
         given.write(["lpis-cert 0"], region, "cert.txt")
     else:
         shutil.copy(given.path(given.region(), "cert.txt"), given.path(region, "cert.txt"))
-    return True
 
 
 def other_classes(given):
     region = given.region()
     given.write(given.numbers.choice([[*CLASSES, "X,0"], [CLASSES[0], CLASSES[2], CLASSES[1]], [*CLASSES[:2], "W,38"]]), region, "classes.csv")
-    return True
 
 
 def guest_missing(given):
@@ -192,7 +180,6 @@ def guest_missing(given):
     name, regions = given.numbers.choice(several)
     region = given.numbers.choice(regions)
     given.change_parcel(region, name, (lambda row, column: []) if given.numbers.random() < 0.5 else (lambda row, column: [row.replace("G,", "W,")]))
-    return True
 
 
 def stranger(given):
@@ -206,7 +193,6 @@ def stranger(given):
     for table, column in (("parcels.csv", 0), ("covers.csv", 1)):
         mine = [line for line in given.lines(regions[0], table)[1:] if line.split(",")[column] == name]
         given.write([*given.lines(region, table), *mine], region, table)
-    return True
 
 
 def namesake(given):
@@ -217,7 +203,6 @@ def namesake(given):
         return False
     (name, region), (other, _) = given.numbers.choice(pairs)
     given.change_parcel(region, name, lambda row, column: [",".join(other if place == column else field for place, field in enumerate(row.split(",")))])
-    return True
 
 
 def renamed(given):
@@ -236,12 +221,10 @@ def renamed(given):
         given.change_parcel(region, old, change)
     for region, place, fields in given.rows():
         given.set_row(region, place, [new if it == old and at == 1 else it for at, it in enumerate(fields)])
-    return True
 
 
 def unknown_row(given):
     given.add_row(given.numbers.choice(["unknown", *given.gone]), given.numbers.choice(list(given.parcels()) or ["unknown"]))
-    return True
 
 
 def kept_row(given):
@@ -249,7 +232,6 @@ def kept_row(given):
     if not parcels:
         return False
     given.add_row(given.numbers.choice(parcels), given.numbers.choice([*parcels, ""]))
-    return True
 
 
 def other_row(given):
@@ -269,7 +251,6 @@ def other_row(given):
         given.add_row(fields[0], given.numbers.choice(list(given.parcels()) or ["nowhere"]))
     else:
         given.set_row(region, place, None)
-    return True
 
 
 def other_mark(given):
@@ -278,7 +259,6 @@ def other_mark(given):
         return False
     region, place, fields = given.numbers.choice(rows)
     given.set_row(region, place, [*fields[:2], "" if fields[2] == "1" else "1"])
-    return True
 
 
 def shape_lost(given):
@@ -310,7 +290,6 @@ def other_blocks(given):
         text = text.replace(flat, new, 1)
     given.file = given.path("blocks.txt")
     Path(given.file).write_text(text, encoding="ascii")
-    return True
 
 
 def read(path):
@@ -329,7 +308,7 @@ def planted(given, count):
     done = []
     for plant in given.numbers.choices([it for it, _ in PLANTS], [weight for _, weight in PLANTS], k=count):
         try:
-            if plant(given):
+            if plant(given) is not False:
                 done.append(plant.__name__)
         except (OSError, IndexError, ValueError):
             pass  # a fault before it left nothing that it could change

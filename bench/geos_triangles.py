@@ -1,10 +1,9 @@
 #!/usr/bin/python3
 """Triangulates the pieces of a release by GEOS through Shapely: geos_triangles.py FOLDER.
 
-Needs Shapely for /usr/bin/python3 (Debian: python3-shapely). Constrained Delaunay triangulation where there is one: Shapely 2.1 has a
-function for it, Shapely 1.8 stands on a GEOS which has it from 3.10 on and is called through its C interface. Else ear clipping by
-mapbox_earcut (Debian: python3-mapbox-earcut). Prints what was found, then: triangles, near pairs, processor seconds of the
-triangulation alone, and of reading the texts too.
+Needs Shapely for /usr/bin/python3 (Debian: python3-shapely), with constrained Delaunay triangulation: Shapely 2.1 has a function for it,
+Shapely 1.8 stands on a GEOS which has it from 3.10 on and is called through its C interface. Prints triangles, near pairs, and processor
+seconds of the triangulation alone.
 """
 
 import csv
@@ -13,6 +12,7 @@ import struct
 import sys
 import time
 
+from common import TABLES
 from tables import orient
 
 
@@ -29,8 +29,8 @@ def corners_of(wkb):
     return triangles
 
 
-def shapely_1():
-    """Polygons from texts, and constrained Delaunay triangles, through the C interface of GEOS 3.10 and later."""
+def of_shapely_1():
+    """What reads texts, triangulates and writes bytes, through the C interface of GEOS 3.10 and later."""
     import ctypes
 
     from shapely import geos, wkt
@@ -38,45 +38,22 @@ def shapely_1():
 
     call = geos._lgeos.GEOSConstrainedDelaunayTriangulation_r
     call.argtypes, call.restype = [ctypes.c_void_p, ctypes.c_void_p], ctypes.c_void_p
-    handle = geos.lgeos.geos_handle
-    name = f"constrained Delaunay of GEOS {'.'.join(map(str, geos.geos_version))}"
-    return name, wkt.loads, lambda polygon: geom_factory(call(handle, polygon._geom)), lambda found: corners_of(found.wkb)
+    return wkt.loads, lambda polygon: geom_factory(call(geos.lgeos.geos_handle, polygon._geom)), lambda found: found.wkb
 
 
-def shapely_2():
+def of_shapely_2():
     import shapely
 
-    name = f"constrained Delaunay of GEOS {'.'.join(map(str, shapely.geos_version))}"
-    return name, shapely.from_wkt, shapely.constrained_delaunay_triangles, lambda found: corners_of(shapely.to_wkb(found, byte_order=1))
-
-
-def earcut():
-    import mapbox_earcut
-    import numpy
-    from shapely import wkt
-
-    def triangulate(polygon):
-        found = []
-        for member in getattr(polygon, "geoms", [polygon]):
-            rings = [list(ring.coords)[:-1] for ring in (member.exterior, *member.interiors)]
-            points = numpy.array([point for ring in rings for point in ring])
-            places = mapbox_earcut.triangulate_float64(points, numpy.cumsum([len(ring) for ring in rings]))
-            found.append(points[places].reshape(-1, 3, 2))
-        return found
-
-    def corners(found):
-        return [tuple(tuple(round(value * 1000) for value in point) for point in corner) for member in found for corner in member.tolist()]
-
-    return "ear clipping of mapbox_earcut", wkt.loads, triangulate, corners
+    return shapely.from_wkt, shapely.constrained_delaunay_triangles, lambda found: shapely.to_wkb(found, byte_order=1)
 
 
 def peer():
-    for found in (shapely_2, shapely_1, earcut):
+    for found in (of_shapely_2, of_shapely_1):
         try:
             return found()
         except (ImportError, AttributeError):
             continue
-    sys.exit("neither a Shapely with constrained triangulation nor mapbox_earcut was found")
+    sys.exit("no Shapely with constrained triangulation was found")
 
 
 def count_near(triangles):
@@ -102,17 +79,14 @@ def count_near(triangles):
 
 def main():
     csv.field_size_limit(sys.maxsize)
-    with open(os.path.join(sys.argv[1], "covers.csv"), newline="", encoding="ascii") as table:
-        texts = [row["wkt"] for row in csv.DictReader(table)]
-    name, read, triangulate, corners = peer()
-    before = time.process_time()
-    polygons = [read(text) for text in texts]
-    middle = time.process_time()
+    read, triangulate, bytes_of = peer()
+    with open(os.path.join(sys.argv[1], TABLES[1]), newline="", encoding="ascii") as table:
+        polygons = [read(row["wkt"]) for row in csv.DictReader(table)]
+    start = time.process_time()
     found = [triangulate(polygon) for polygon in polygons]
-    after = time.process_time()
-    triangles = [t for answer in found for t in corners(answer) if orient(*t) != 0]
-    print(name)
-    print(len(triangles), count_near(triangles), f"{after - middle:.3f}", f"{after - before:.3f}")
+    took = time.process_time() - start
+    triangles = [t for answer in found for t in corners_of(bytes_of(answer)) if orient(*t) != 0]
+    print(len(triangles), count_near(triangles), f"{took:.3f}")
 
 
 main()

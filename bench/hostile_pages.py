@@ -9,7 +9,7 @@ import struct
 import tempfile
 
 from common import MEGABYTE
-from registers import made, register
+from registers import made, register, rows
 
 NAME, PAGE, SEED = "years.db", 4096, 20_261_123
 ROW = "INSERT INTO lpis_row VALUES (2025, 5, 'north', {})"
@@ -69,9 +69,7 @@ def flips_of_texts(base, of, count):
 def flips_of_pages(base, of, tables, count, width):
     """So many bytes changed on the pages of these tables and of the indices of their keys."""
     path = getattr(base, of)
-    connection = sqlite3.connect(path)
-    roots = [root for root, in connection.execute(f"SELECT rootpage FROM sqlite_schema WHERE tbl_name IN {tables}")]
-    connection.close()
+    roots = [root for root, in rows(path, f"SELECT rootpage FROM sqlite_schema WHERE tbl_name IN {tables}")]
     data = path.read_bytes()
     # The last half of a small page has its rows, the first its header: what lies between is free.
     places = [(root - 1) * PAGE + at for root in roots for at in range(PAGE) if at < 32 or data[(root - 1) * PAGE + at]]

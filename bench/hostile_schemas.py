@@ -2,20 +2,15 @@
 
 import functools
 import shutil
-import sqlite3
 
 from hostile_pages import NAME
-from registers import SQUARE, TEXT
+from registers import SQUARE, TEXT, made
 
 
 def changed(folder, base, script, of="small"):
     """A register, after statements of SQLite that mind no rule."""
     shutil.copy(getattr(base, of), folder / NAME)
-    connection = sqlite3.connect(folder / NAME)
-    connection.executescript("PRAGMA foreign_keys = OFF; PRAGMA writable_schema = ON; PRAGMA ignore_check_constraints = ON;")
-    connection.executescript(script)
-    connection.commit()
-    connection.close()
+    made(folder / NAME, "PRAGMA foreign_keys = OFF; PRAGMA writable_schema = ON; PRAGMA ignore_check_constraints = ON;", script)
 
 
 def with_object(kind, name, text, root=0):

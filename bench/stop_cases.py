@@ -6,8 +6,9 @@ import signal
 import subprocess
 import tempfile
 
-from common import CERT, HERE, compiled, copy_of, done, lpis
+from common import CERT, HERE, compiled, done, lpis
 import country_example
+from calls import copy_of
 from country_changes import add_lineage, change
 from registers import NOTHING, VERSION_1, VERSION_2, WITHOUT_MARKS, made, register
 from years import Years
@@ -134,10 +135,7 @@ def country_case(folder):
     """The second year of examples/country-years in three regions, with the blocks of its marks."""
     made_in = folder / "country"
     made_in.mkdir()
-    for year in ("2024", "2025"):
-        country_example.write(made_in / year, year, lambda region: done([lpis(), "cut", region, region / CERT]))
-    done([lpis(), "publish-country", NAME, 2024, "2024"], made_in)
-    done([lpis(), "exact-country", NAME, "2025", "exact.txt"], made_in)
+    country_example.begin(made_in, lambda *words: done([lpis(), *words]))
     return Case("publish-country of a second year with marks", made_in, ["publish-country", NAME, 2025, "2025", "--exact", "exact.txt"])
 
 

@@ -4,16 +4,12 @@ import os
 import shutil
 
 from common import CERT, done, lpis, make
+from tables import write_lines
 
 
 def read(path):
     with open(path, encoding="ascii") as file:
         return file.read().splitlines()
-
-
-def write(path, lines):
-    with open(path, "w", encoding="ascii") as file:
-        file.writelines(line + "\n" for line in lines)
 
 
 class Years:
@@ -38,11 +34,11 @@ class Years:
         folder = os.path.join(self.folder, f"year{number}")
         os.makedirs(folder)
         shutil.copy(os.path.join(self.first, "classes.csv"), folder)
-        write(os.path.join(folder, "lineage.csv"), rows)
+        write_lines(folder, "lineage.csv", rows)
         renamed = [line.split(",", 1) for line in self.parcels[1:]]
-        write(os.path.join(folder, "parcels.csv"), self.parcels[:1] + [f"{self.names[name]},{rest}" for name, rest in renamed])
+        write_lines(folder, "parcels.csv", self.parcels[:1] + [f"{self.names[name]},{rest}" for name, rest in renamed])
         pieces = [line.split(",", 2) for line in self.covers[1:]]
-        write(os.path.join(folder, "covers.csv"), self.covers[:1] + [f"{piece},{self.names[name]},{rest}" for piece, name, rest in pieces])
+        write_lines(folder, "covers.csv", self.covers[:1] + [f"{piece},{self.names[name]},{rest}" for piece, name, rest in pieces])
         cert = os.path.join(folder, CERT)
         done([lpis(), "cut", folder, cert])
         return folder, cert, rows

@@ -33,7 +33,7 @@ def land_of(folder):
     import edits
 
     source, edited, first, second = (folder / name for name in ("source", "edited", "2025", "2026"))
-    run(sys.executable, TOP / "bench" / "make_coverage.py", PARCELS, 3, source)
+    run(sys.executable, TOP / "tests" / "helpers" / "make_coverage.py", PARCELS, 3, source)
     edits.make(source, edited, EDITS, 3)
     run(TOP / "tools" / "prepare", source, first)
     run(TOP / "tools" / "prepare", edited, second, "--previous", first)

@@ -9,7 +9,7 @@ import pytest
 import places
 
 # Modules whose tests take longest: they begin first, and short ones fill the cores at the end.
-LONGEST = ("test_transcripts", "test_lands", "test_country", "test_country_cut", "test_script", "test_unusual", "test_explain")
+LONGEST = ("test_transcripts", "test_lands", "test_country", "test_country_cut", "test_unusual", "test_explain")
 # Those of which each test goes to whatever process is free; of all others a module, or a class, is run by one.
 SPREAD = ("test_refusals", "test_prefixes", "test_audited_releases", "test_audited_years")
 sys.dont_write_bytecode = True

@@ -7,20 +7,19 @@ names the program.
 
 import random
 import shutil
-import subprocess
 import sys
 from collections import Counter
 from pathlib import Path
 
-import common
+import calls
 import damage
 import idea_pictures
 import pytest
 import release as audit
 from nasty_shapes import Release
-from tables import write_release
+from places import BUILT, TOP as HOUSE
 
-TOP, LPIS = Path(common.TOP), common.lpis()
+TOP = Path(HOUSE)
 RELEASES, LEAST = 100, (3, 2, 3, 3)  # of a series; cases of each condition, series by series
 MOST_LINES, COLUMNS = 365, 120  # of audit/
 DAMAGES = ["tables"] * 12 + ["wrong"] * 9 + damage.CONDITIONS * 3 + [damage.pair_added, damage.other_edge] * 2 + damage.TEXTS * 7
@@ -28,8 +27,7 @@ EXACT = TOP / "examples" / "exact"
 
 
 def lpis(*words):
-    run = subprocess.run([LPIS, *map(str, words)], stdin=subprocess.DEVNULL, capture_output=True, timeout=120, check=False)
-    return run.returncode, run.stdout.decode("utf-8", "backslashreplace")
+    return calls.lpis(*words, encoding="utf-8", errors="backslashreplace")[:2]
 
 
 def audited(main, *words):
@@ -47,12 +45,6 @@ def expect_same(name, folder, cert):
     return "yes" if status == 0 else text.split(" ")[1]
 
 
-def write(folder, number, mutated):
-    """A generated release."""
-    release = Release(number, mutated)
-    write_release(folder, release.parcels, release.pieces, release.decimals, release.classes)
-
-
 def damaged_certificate(cert, change, numbers):
     lines = cert.read_text(encoding="ascii").split("\n")[:-1]
     end = numbers.choice(["\n"] * 9 + ["", "\n\n", "\r\n", "\n "]) if change in damage.TEXTS else "\n"
@@ -64,7 +56,7 @@ def test_releases(series, least, tmp_path):
     """Each sound release with its own certificate, and then, in turn: that certificate damaged, or a byte of one of the four files, or the release made wrong."""
     numbers, codes, sound, wrong, cert = random.Random(75 + series), Counter(), tmp_path / "sound", tmp_path / "wrong", tmp_path / "cert.txt"
     for number in range(series * RELEASES, (series + 1) * RELEASES):
-        write(sound, number, False)
+        Release(number, False).write(sound)
         status, text = lpis("cut", sound, cert)
         assert status == 0, f"release {number} is not cut: {text}"
         codes[expect_same(f"release {number}", sound, cert)] += 1
@@ -72,7 +64,7 @@ def test_releases(series, least, tmp_path):
         if change == "tables":
             file.write_bytes(damage.edited(file.read_bytes(), numbers))
         elif change == "wrong":
-            write(wrong, number, True)
+            Release(number, True).write(wrong)
         else:
             damaged_certificate(cert, change, numbers)
         codes[expect_same(f"release {number}, {getattr(change, '__name__', change)}", wrong if change == "wrong" else sound, cert)] += 1
@@ -107,7 +99,7 @@ def test_pictures(tmp_path):
 
 
 def expect_agreement(said, tool, *words):
-    run = subprocess.run([sys.executable, TOP / "tools" / tool, "--audit", "--lpis", LPIS, *map(str, words)], capture_output=True, text=True, check=False)
+    run = calls.run(sys.executable, TOP / "tools" / tool, "--audit", "--lpis", BUILT, *words)
     assert "two programs agree" in run.stdout and said in run.stdout, run.stdout[-300:] + run.stderr[-300:]
 
 

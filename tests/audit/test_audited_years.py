@@ -8,14 +8,13 @@ import sqlite3
 import tempfile
 from pathlib import Path
 
-import damage
 import lineage
 import pytest
 import register
 import registers
 from asking import dump
+from exact_lineage import spoiled, with_blocks
 from exact_years import TwoYears
-from tables import write_lines, write_release
 from test_audited_releases import audited, lpis
 
 YEARS, EDITS = 25, 4  # pairs of years; registers that are edited of each
@@ -73,37 +72,6 @@ def copied(path, other):
     return other
 
 
-def write_years(folder, years):
-    for year, parcels in ((2024, years.old), (2025, years.new)):
-        pieces = [(f"p.{name}", name, "G", polygon) for name, polygon in parcels.items()]
-        write_release(folder / str(year), list(parcels.items()), pieces, 3, ["class,percent", "G,100"])
-    write_lines(folder / "2025", "lineage.csv", ["old,new,exact", *(f"{old},{new},{'1' if is_marked else ''}" for old, new, is_marked in years.rows)])
-    write_lines(folder / "2024", "lineage.csv", ["old,new"])
-
-
-def damaged_blocks(text, numbers):
-    """A certificate with something wrong in its blocks, mostly."""
-    lines = text.split("\n")[:-1]
-    heads = damage.places(lines, "exact")
-    if not heads:
-        return text
-    place = numbers.choice(heads)
-    end, kind = damage.block_ends(lines, place), numbers.randrange(6)
-    if kind == 0:
-        return text.replace(lines[place], lines[place].replace("split", "merge") if "split" in lines[place] else lines[place].replace("merge", "split"))
-    if kind == 1:
-        lines[place:end] = []
-    elif kind == 2 and end > place + 1:
-        lines[place:end] = damage.with_count(lines[place : end - 1], 0, -1, -1)
-    elif kind == 3:
-        lines[place:end] = [*damage.with_count(lines[place:end], 0, -1, 1), numbers.choice(["f 0 0 3 0 7 0", "f 0 0 0 0 1 0", "f 0 0 1 0 0 1"])]
-    elif kind == 4 and end > place + 1:
-        lines[place:end] = [*damage.with_count(lines[place:end], 0, -1, 1), lines[end - 1]]
-    else:
-        lines[place:end] = lines[place:end] * 2
-    return "\n".join(lines) + "\n"
-
-
 def edited(path, years, numbers):
     """Runs a statement over a register, and tells it; the database may refuse it."""
     names = sorted({*years.old, *years.new})
@@ -155,15 +123,16 @@ def expect_lineage(folder, path):
 def test_years(number, tmp_path):
     """The two years of a number: published with the blocks that `exact` writes, and with damaged ones; then the register, whole and edited."""
     numbers, years, path, cert = random.Random(76_000 + number), TwoYears(number), tmp_path / "years.db", tmp_path / "2025.txt"
-    write_years(tmp_path, years)
+    years.write(tmp_path, numbers)
     for year in (2024, 2025):
         lpis("cut", tmp_path / str(year), tmp_path / f"{year}.txt")
     lpis("publish", path, 2024, tmp_path / "2024", tmp_path / "2024.txt")
+    groups, plain = years.change().groups(), cert.read_text(encoding="ascii")
     if lpis("exact", path, tmp_path / "2025", cert, tmp_path / "exact.txt")[0] == 0:
         (tmp_path / "exact.txt").replace(cert)
-    text = cert.read_text(encoding="ascii")
-    for blocks in [damaged_blocks(text, numbers), text]:
-        cert.write_text(blocks, encoding="ascii")
+    wrong = with_blocks(plain, spoiled(numbers, groups, [group.block() for group in groups]) if groups else [])
+    for text in [wrong, cert.read_text(encoding="ascii")]:
+        cert.write_text(text, encoding="ascii")
         copy = expect_lineage(tmp_path, path)
     expect_register(copy, tmp_path / "opened.db")
     for _ in range(EDITS):

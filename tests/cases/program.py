@@ -3,11 +3,9 @@
 import subprocess
 from pathlib import Path
 
-import common
+from places import BUILT as LPIS, TOP as HOUSE
 
-TOP = Path(common.TOP)
-
-LPIS = common.lpis()
+TOP = Path(HOUSE)
 SECONDS = 120
 
 SQUARE = "POLYGON((0 0,10 0,10 10,0 10,0 0))"

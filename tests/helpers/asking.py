@@ -6,11 +6,10 @@ import pathlib
 import sqlite3
 import subprocess
 
-import common
+from places import BUILT, TOP as HOUSE
 from registers import LEFT, RIGHT, TABLES, made, rows, said
 
-TOP = pathlib.Path(common.TOP)
-LPIS = common.lpis()
+TOP = pathlib.Path(HOUSE)
 YEARS = TOP / "examples" / "years"
 NEW = ["lpis_format", "lpis_release", "lpis_span", "lpis_row", "lpis_text", "lpis_mark"]
 MOVED = ["lpis_format", "lpis_release", "lpis_live", "lpis_row", "lpis_span", "lpis_text", "lpis_mark"]
@@ -25,7 +24,7 @@ def expect(name, found, wanted):
 
 
 def lpis(*words):
-    run = subprocess.run([LPIS, *map(str, words)], capture_output=True, text=True, timeout=60, cwd=TOP)
+    run = subprocess.run([BUILT, *map(str, words)], capture_output=True, text=True, timeout=60, cwd=TOP)
     return run.stdout + "".join("2> " + line + "\n" for line in run.stderr.splitlines()), run.returncode
 
 
@@ -79,15 +78,19 @@ def expect_published(name, path, year, release, cert, *before):
     expect(f"{name}: published", (text.splitlines()[-len(before) - 1:], status), ([*before, f"published {year}"], 0))
 
 
+def write_release(release, shapes, *lineage):
+    """The tables of parcels of these shapes, each with one piece, and this table of lineage."""
+    release.mkdir(exist_ok=True)
+    for name, lines in (("parcels", ["parcel,wkt", *(f'{parcel},"{wkt}"' for parcel, wkt in shapes.items())]), ("classes", ["class,percent", "G,100"]),
+                        ("covers", ["piece,parcel,class,wkt", *(f'{parcel.lower()},{parcel},G,"{wkt}"' for parcel, wkt in shapes.items())]), ("lineage", lineage)):
+        (release / f"{name}.csv").write_text("".join(f"{line}\n" for line in lines))
+
+
 def release_of(folder, name, shapes, *lineage):
-    """A release of parcels of these shapes, each with one piece, and of this table of lineage; and its certificate."""
+    """Such a release, and its certificate."""
     release, cert = folder / name, folder / f"{name}.txt"
     if not release.exists():
-        release.mkdir()
-        (release / "parcels.csv").write_text("parcel,wkt\n" + "".join(f'{parcel},"{wkt}"\n' for parcel, wkt in shapes.items()))
-        (release / "covers.csv").write_text("piece,parcel,class,wkt\n" + "".join(f'{parcel.lower()},{parcel},G,"{wkt}"\n' for parcel, wkt in shapes.items()))
-        (release / "classes.csv").write_text("class,percent\nG,100\n")
-        (release / "lineage.csv").write_text("".join(f"{line}\n" for line in lineage))
+        write_release(release, shapes, *lineage)
         expect(f"cut {name}", lpis("cut", release, cert)[1], 0)
     return release, cert
 

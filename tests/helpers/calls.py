@@ -1,10 +1,14 @@
-"""Runs of programs and of the tools, and the tables that these write."""
+"""Runs of the program, of the tools and of others, the tables that these write, and copies of what they find."""
 
+import contextlib
 import csv
 import os
+import shutil
 import subprocess
+import tempfile
+from pathlib import Path
 
-from places import TOOLS
+from places import BUILT, TOOLS
 
 
 def run(*words, **more):
@@ -19,6 +23,12 @@ def done(*words, **more):
     return ended.stdout
 
 
+def lpis(*words, **more):
+    """Status, standard output and standard error of a run of the program, which reads no standard input."""
+    ended = run(BUILT, *words, **{"stdin": subprocess.DEVNULL, "timeout": 600, **more})
+    return ended.returncode, ended.stdout, ended.stderr
+
+
 def tool(name, *words, **more):
     """A run of a script of tools/."""
     return run(os.path.join(TOOLS, name), *words, **more)
@@ -30,3 +40,13 @@ def records(*path):
         return []
     with open(os.path.join(*path), newline="", encoding="utf-8") as file:
         return list(csv.DictReader(file))
+
+
+@contextlib.contextmanager
+def copy_of(folder):
+    """A copy of a folder beside it, for a while."""
+    copy = Path(tempfile.mkdtemp(dir=folder.parent))
+    try:
+        yield shutil.copytree(folder, copy, dirs_exist_ok=True)
+    finally:
+        shutil.rmtree(copy)

@@ -9,9 +9,11 @@ import sys
 
 import pytest
 from calls import run, tool
-from places import BUILT, TOP
+from places import BUILT, HELPERS
 from spare import Spare, read
 import judged_country as judged
+from country_example import regions_of
+from tables import polygon_text
 
 HEADS = {"parcels": "parcel,wkt", "covers": "piece,parcel,class,wkt", "classes": "class,percent"}
 CLASSES = ["GRASS,100", "TREES,30", "WATER,0"]
@@ -44,12 +46,8 @@ def write_text(path, text):
         file.write(text)
 
 
-def metres(value):
-    return f"{'-' if value < 0 else ''}{abs(value) // 1000}.{abs(value) % 1000:03}"
-
-
 def wkt(*rings):
-    return '"POLYGON(' + ",".join("(" + ",".join(f"{metres(x)} {metres(y)}" for x, y in ring + ring[:1]) + ")" for ring in rings) + ')"'
+    return f'"{polygon_text([rings], 3)}"'
 
 
 class Land:
@@ -98,9 +96,9 @@ class Land:
 
 
 def generated(folder, count, *kinds):
-    """A release of bench/make_parcels.py: digitised borders, T-junctions, ponds, parcels of two parts."""
+    """A release of make_parcels.py: digitised borders, T-junctions, ponds, parcels of two parts."""
     os.makedirs(folder)
-    subprocess.run([sys.executable, os.path.join(TOP, "bench", "make_parcels.py"), str(count), folder, *kinds], check=True)
+    subprocess.run([sys.executable, os.path.join(HELPERS, "make_parcels.py"), str(count), folder, *kinds], check=True)
     return folder
 
 
@@ -127,7 +125,7 @@ class Case(Spare):
         return ended.stdout.splitlines()[-1].split()
 
     def regions(self):
-        return [line.split()[1] for line in read(self.path("country", "country.txt")).splitlines() if line.startswith("region ")]
+        return regions_of(self.out)
 
     def region(self, place):
         return os.path.join(self.out, self.regions()[place])

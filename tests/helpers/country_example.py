@@ -17,6 +17,19 @@ ROWS = {
 }
 
 
+def regions_of(folder):
+    """The names of a country's regions, in their order."""
+    return [line.split()[1] for line in pathlib.Path(folder, "country.txt").read_text(encoding="ascii").splitlines() if line.startswith("region ")]
+
+
+def begin(folder, lpis):
+    """Both years in a folder, the first one published there, and the blocks of the second; `lpis` runs the program."""
+    for year in REGIONS:
+        write(folder / year, year, lambda region: lpis("cut", region, region / "cert.txt"))
+    lpis("publish-country", folder / "years.db", 2024, folder / "2024")
+    lpis("exact-country", folder / "years.db", folder / "2025", folder / "exact.txt")
+
+
 def write(folder, year, cut):
     """Writes the country of a year into a folder that is not there; `cut` makes the certificate of a region's folder."""
     folder.mkdir()

@@ -160,6 +160,7 @@ def rows_of(kinds, move=(0, 0)):
 
 
 KINDS_AT_ONCE = 4  # rows of each kind, at least
+AT_ONCE = 5_000  # parcels in memory
 
 
 class Large:
@@ -178,13 +179,18 @@ class Large:
     def box(self, x, y, width, height):
         return self.moved([(x, y), (x + width, y), (x + width, y + height), (x, y + height), (x, y)])
 
-    def make(self):
+    def write(self, package):
+        """The rows of both layers, as they are made."""
+        package.layer("parcels", ["parcel"], [])
+        package.layer("covers", ["piece", "parcel", "class"], [])
         kinds = [kind for kind in LARGE for _ in range(KINDS_AT_ONCE)]
         places = set(self.random.sample(range(self.count), min(self.count, max(len(kinds), int(self.count * self.share)))))
         for number in range(self.count):
-            kind = (kinds.pop() if kinds else self.random.choice(LARGE)) if number in places else ""
-            self.parcel(number, kind)
-        return self.parcels, self.covers
+            self.parcel(number, (kinds.pop() if kinds else self.random.choice(LARGE)) if number in places else "")
+            if number % AT_ONCE == AT_ONCE - 1 or number == self.count - 1:
+                package.rows("parcels", ["parcel"], self.parcels)
+                package.rows("covers", ["piece", "parcel", "class"], self.covers)
+                self.parcels, self.covers = [], []
 
     def parcel(self, number, kind):
         """A parcel of two pieces, divided somewhere; a third of them with a pond."""
@@ -238,21 +244,26 @@ class Large:
         return {"null": None, "empty": EMPTY, "line": line(*way[:2]), "z": polygon(way, z=312.5)}[kind]
 
 
-def make_large(path, count, seed=1, share=0.05):
+def make_large(path, count, seed=1, share=0.05, kind=Large):
     """A coverage of many parcels of which such a share is dirty, with every kind."""
-    parcels, covers = Large(count, seed, share).make()
-    return put(path, parcels, covers, [("GRASS", 100), ("TREES", 30), ("WATER", 0)])
+    package = Package(path)
+    kind(count, seed, share).write(package)
+    package.table("classes", ["class", "percent"], [("GRASS", 100), ("TREES", 30), ("WATER", 0)])
+    package.close()
+    return path
 
 
 def make(path, kinds, system=25832):
-    return put(path, *rows_of(kinds), [("GRASS", 100), ("TREES", 30)], system)
+    return put(path, *rows_of(kinds), system=system)
 
 
-def put(path, parcels, covers, classes, system=25832):
+def put(path, parcels, covers, classes=(("GRASS", 100), ("TREES", 30)), system=25832):
+    """A package of these rows; without classes it has no table of them."""
     package = Package(path, system)
     package.layer("parcels", ["parcel"], parcels)
     package.layer("covers", ["piece", "parcel", "class"], covers)
-    package.table("classes", ["class", "percent"], classes)
+    if classes:
+        package.table("classes", ["class", "percent"], classes)
     package.close()
     return path
 

@@ -1,6 +1,6 @@
 """A source in doubles as it is a year later: exact splits and merges along corners that it had, for the tests of `tools/prepare --previous`. By Shapely.
 
-    tests/helpers/edits.py FOLDER NEW [COUNT [SEED [NOISE]]]     FOLDER has parcels.csv and covers.csv of bench/make_coverage.py
+    tests/helpers/edits.py FOLDER NEW [COUNT [SEED [NOISE]]]     FOLDER has parcels.csv and covers.csv of make_coverage.py
 
 A parcel is split along its pieces or along a line between two of its corners; two neighbours are merged, with their pieces kept, or drawn anew as one
 piece without the corners that then lie on a straight line. NOISE metres are added to each corner, the same wherever the corner stands.
@@ -9,11 +9,14 @@ piece without the corners that then lie on a straight line. NOISE metres are add
 import csv
 import os
 import random
+import shutil
 import sys
 
 from shapely import wkt
 from shapely.geometry import LineString, MultiPolygon, Polygon
 from shapely.ops import split, unary_union
+
+from calls import records
 
 STRAIGHT = 1e-6  # metres beside its neighbours' line: a corner that a GIS drops
 SAME = 5  # decimals of metres to which two corners at one place agree
@@ -29,14 +32,10 @@ class Land:
 
     def __init__(self, folder):
         self.folder = folder
-        self.parcels = {row["parcel"]: wkt.loads(row["wkt"]) for row in self.rows("parcels")}
+        self.parcels = {row["parcel"]: wkt.loads(row["wkt"]) for row in records(folder, "parcels.csv")}
         self.pieces, self.of_parcel = {}, {}  # pieces, and the names of those of each parcel
-        for row in self.rows("covers"):
+        for row in records(folder, "covers.csv"):
             self.put(row["piece"], row["parcel"], row["class"], wkt.loads(row["wkt"]))
-
-    def rows(self, name):
-        with open(os.path.join(self.folder, f"{name}.csv"), newline="", encoding="ascii") as file:
-            yield from csv.DictReader(file)
 
     def put(self, name, parcel, land_class, shape):
         """A new piece, or one that gets another parcel."""
@@ -56,13 +55,12 @@ class Land:
 
     def write(self, folder, moved):
         os.makedirs(folder, exist_ok=True)
-        for name, header, records in (("parcels", ["parcel", "wkt"], [[key, self.text(shape, moved)] for key, shape in self.parcels.items()]),
-                                      ("covers", ["piece", "parcel", "class", "wkt"], [[key, *piece[:2], self.text(piece[2], moved)] for key, piece in self.pieces.items()])):
+        for name, header, lines in (("parcels", ["parcel", "wkt"], [[key, self.text(shape, moved)] for key, shape in self.parcels.items()]),
+                                    ("covers", ["piece", "parcel", "class", "wkt"], [[key, *piece[:2], self.text(piece[2], moved)] for key, piece in self.pieces.items()])):
             with open(os.path.join(folder, f"{name}.csv"), "w", newline="", encoding="ascii") as file:
                 table = csv.writer(file, lineterminator="\n")
-                table.writerows([header, *records])
-        with open(os.path.join(self.folder, "classes.csv"), "rb") as there, open(os.path.join(folder, "classes.csv"), "wb") as file:
-            file.write(there.read())
+                table.writerows([header, *lines])
+        shutil.copy(os.path.join(self.folder, "classes.csv"), folder)
 
     @staticmethod
     def text(shape, moved):
@@ -75,29 +73,26 @@ class Land:
 
     def split_by_a_line(self, name, chance):
         """Between two corners of the parcel; its pieces are cut too."""
-        shape = self.parcels[name]
-        if shape.geom_type != "Polygon" and len(shape.geoms) != 1:
-            return False
-        corners = list(getattr(shape, "geoms", [shape])[0].exterior.coords)[:-1]
-        for _ in range(20):
-            line = LineString(chance.sample(corners, 2))
-            halves = parts_of(split(getattr(shape, "geoms", [shape])[0], line))
-            if len(halves) == 2 and line.length > 20 and min(half.area for half in halves) > shape.area / 5:
-                self.divide(name, halves)
-                return True
-        return False
+        return self.split_by(name, lambda border: LineString(chance.sample(list(border.coords)[:-1], 2)), 20)
 
     def split_across(self, name, chance):
         """Along a line that ends somewhere between the corners of two borders; those that the parcel shares them with have no corner there."""
+        def across(border):
+            a, b = (border.interpolate(chance.random(), normalized=True) for _ in range(2))
+            return LineString([(2 * a.x - b.x, 2 * a.y - b.y), (2 * b.x - a.x, 2 * b.y - a.y)])
+
+        return self.split_by(name, across)
+
+    def split_by(self, name, line_of, least=0):
+        """By the first of twenty lines, drawn for the border of a parcel of one part, that is longer than that and leaves two large halves."""
         shape = self.parcels[name]
         if shape.geom_type != "Polygon" and len(shape.geoms) != 1:
             return False
         outline = getattr(shape, "geoms", [shape])[0]
         for _ in range(20):
-            a, b = (outline.exterior.interpolate(chance.random(), normalized=True) for _ in range(2))
-            line = LineString([(2 * a.x - b.x, 2 * a.y - b.y), (2 * b.x - a.x, 2 * b.y - a.y)])
+            line = line_of(outline.exterior)
             halves = parts_of(split(outline, line))
-            if len(halves) == 2 and min(half.area for half in halves) > shape.area / 5:
+            if len(halves) == 2 and line.length > least and min(half.area for half in halves) > shape.area / 5:
                 self.divide(name, halves)
                 return True
         return False

@@ -1,4 +1,4 @@
-"""Whether the tables of a folder are a sound map, by the exact arithmetic of bench/exact_map.py and without lpis; and the report that they then have."""
+"""Whether the tables of a folder are a sound map, by the exact arithmetic of exact_map.py and without lpis; and the report that they then have."""
 
 from exact_map import Truth
 from lpis_tools import report

@@ -4,6 +4,7 @@ import csv
 import os
 import re
 
+from exact_map import decimal
 from lpis_tools import polygons
 
 FAR = 20_000_000_000
@@ -53,11 +54,7 @@ def classes_of(folder):
 
 
 def areas(area, weighted):
-    return f"area {printed(5 * area, 7)} eligible {printed(5 * weighted, 9)}"
-
-
-def printed(value, digits):
-    return f"{value // 10**digits}.{value % 10**digits:0{digits}}"
+    return f"area {decimal(5 * area, 7)} eligible {decimal(5 * weighted, 9)}"
 
 
 def counts(sums):

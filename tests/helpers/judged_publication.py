@@ -1,5 +1,5 @@
 """What `lpis publish-country` and `lpis exact-country` have to answer, by their definition in docs/FORMATS.md, over sets, lists and whole numbers and
-without them: each region's own check is handed in, and what the register says is read with SQLite. Shapes are compared by bench/exact_years.py."""
+without them: each region's own check is handed in, and what the register says is read with SQLite. Shapes are compared by exact_lineage.py."""
 
 import collections
 import csv
@@ -7,7 +7,7 @@ import os
 import re
 
 import judged_country as judged
-from exact_years import Group, block_fault, is_made_up
+from exact_lineage import Change, Row, block_fault, is_made_up
 from lpis_tools import polygons
 
 IDENTIFIER = re.compile(r"[A-Za-z0-9._:/-]{1,40}")
@@ -15,8 +15,6 @@ NUMBER = re.compile(r"0|-?[1-9][0-9]*")
 MOST_ROWS, MOST_FLATS, MOST_COUNT = 200_000, 2_000_000, 4_294_967_295
 MARK = "\xef\xbb\xbf"
 
-# A row of lineage, with its number in its own table and that table's region.
-Row = collections.namedtuple("Row", "old new is_marked number region")
 # What a register says: releases as (year, identifiers, rows as (old, new, is marked)), and the shapes of the last by identifier.
 Said = collections.namedtuple("Said", "releases shapes")
 # What comes: standard output, standard error, the status, what the register says then (None: as before), and the blocks that are wanted.
@@ -175,20 +173,12 @@ class At(Exception):
 # A release that follows.
 
 
-class Release:
+class Release(Change):
     """The union of the regions after the last release: its parcels in order, and all rows."""
 
     def __init__(self, said, parcels, rows):
-        self.said, self.parcels, self.rows = said, parcels, rows
-        self.last = set(said.releases[-1][1]) if said.releases else set()
-        self.after, self.before = collections.defaultdict(list), collections.defaultdict(list)
-        for row in rows:
-            if row.new:
-                self.after[row.old].append(row.new)
-                self.before[row.new].append(row.old)
-        for name in parcels:
-            if name in self.last:
-                self.before[name].append(name)
+        super().__init__(set(said.releases[-1][1]) if said.releases else set(), parcels, rows, said.shapes)
+        self.said = said
 
     def row_fault(self):
         """What stands behind `refused 81 lineage` for the first row that does not fit, or None."""
@@ -213,44 +203,16 @@ class Release:
             years = [year for year, names, _ in self.said.releases if name in names]
             if years and name not in self.last:
                 return f"76 {name} {years[-1]}"
-        grouped = {id(row) for group in self.marked() for row in self.rows_of(*group[:2])}
-        for row in self.rows:
-            if row.is_marked and id(row) not in grouped:
-                return f"78 row {row.number} region {row.region}"
-        return None
-
-    # What became of the parcels.
-
-    def kind(self, old):
-        after = self.after[old]
-        if len(after) < 2:
-            return "ended" if not after else "merged" if len(self.before[after[0]]) > 1 else "replaced"
-        return "split" if all(len(self.before[new]) == 1 for new in after) else "redrawn"
-
-    def dropped(self):
-        return sorted(name for name in self.last if name not in self.parcels)
-
-    def rows_of(self, is_merge, name):
-        return [row for row in self.rows if (row.new if is_merge else row.old) == name and row.new]
-
-    def marked(self):
-        """The marked groups in their order: whether it is a merge, its identifier, and the others of it."""
-        splits = [(False, old, self.after[old]) for old in self.dropped() if self.kind(old) == "split"]
-        merges = [(True, new, self.before[new]) for new in sorted(self.parcels)
-                  if len(self.before[new]) > 1 and all(old == new or self.after[old] == [new] for old in self.before[new])]
-        return [group for group in splits + merges if all(row.is_marked for row in self.rows_of(*group[:2]))]
+        row = self.first_outside()
+        return f"78 row {row.number} region {row.region}" if row else None
 
     def groups(self):
         """The groups with their shapes; 77 where one is not kept."""
         for is_merge, name, others in self.marked():
             for old in sorted(others) if is_merge else [name]:
-                if old not in self.said.shapes:
+                if old not in self.shapes:
                     raise Ends(f"refused 81 lineage 77 {old}\n")
-        return [Group(*group, self.said.shapes, self.parcels) for group in self.marked()]
-
-    def lines(self):
-        exact = {row.old for group in self.marked() for row in self.rows_of(*group[:2])}
-        return "".join(f"lineage {old} {self.kind(old)}{' exact' if old in exact else ''}\n" for old in self.dropped())
+        return super().groups()
 
     def kept(self, year):
         """What the register says once it is published."""

@@ -7,7 +7,7 @@ import random
 
 from exact_map import LIMIT
 from mesh import Drawing, Mesh
-from tables import orient
+from tables import orient, write_release
 
 THIN = 10_000_000  # from this number on each mutation is a thin overlap
 
@@ -54,6 +54,9 @@ class Release:
             self.parcels.append((f"P{k}", self.drawn(heap)))
             self.pieces += [(f"C{k}.{j}", f"P{k}", "GW"[j % 2], self.drawn(share)) for j, share in enumerate(shares)]
         self.numbers.shuffle(self.pieces)
+
+    def write(self, folder):
+        write_release(folder, self.parcels, self.pieces, self.decimals, self.classes)
 
     def in_millimetres(self):
         """The parcels and the pieces, in whole millimetres."""

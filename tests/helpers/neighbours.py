@@ -5,12 +5,13 @@ A border that is new this year may end on the border of a parcel that did not ch
 text where it lies beside a changed one, and only by corners at ends of new borders, each within a millimetre, in x and in y, of the border that it had.
 """
 
-import csv
 import glob
 import os
 import re
 import sqlite3
 from fractions import Fraction
+
+from calls import records
 
 RING = re.compile(r"\(([^()]+)\)")
 MOVED = 1  # millimetres in x and in y: half of one from the source to each year's border
@@ -29,8 +30,7 @@ def texts(folder):
     """The text of each parcel of a country."""
     found = {}
     for path in glob.glob(os.path.join(folder, "*", "parcels.csv")):
-        with open(path, newline="", encoding="ascii") as file:
-            found.update((row["parcel"], row["wkt"]) for row in csv.DictReader(file))
+        found.update((row["parcel"], row["wkt"]) for row in records(path))
     return found
 
 

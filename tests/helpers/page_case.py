@@ -13,7 +13,6 @@ from importlib.machinery import SourceFileLoader
 import pytest
 from browser import CHROMIUM  # noqa: F401 which `wanted` finds by its name
 from places import BUILT, TOP
-import tables
 
 SOURCES, TESTS, EXAMPLES = (os.path.join(TOP, *path) for path in (("page",), ("tests", "page"), ("examples",)))
 CC, NODE, WASM_OPT = shutil.which("cc"), shutil.which("node"), shutil.which("wasm-opt")
@@ -95,10 +94,3 @@ def read(path):
 
 def releases_of(folder):
     return sorted(place for place, _, names in os.walk(folder) if {"parcels.csv", "covers.csv", "classes.csv"} <= set(names))
-
-
-def squares(folder, count):
-    """A release of so many parcels in a grid, of one piece each."""
-    wide = 250
-    parcels = [(f"P{n}", [[[(x, y), (x + 1000, y), (x + 1000, y + 900), (x, y + 900)]]]) for n in range(count) for x, y in [(1000 * (n % wide), 1000 * (n // wide))]]
-    tables.write_release(folder, parcels, [(f"C{name}", name, "GW"[number % 2], polygon) for number, (name, polygon) in enumerate(parcels)])

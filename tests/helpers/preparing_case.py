@@ -36,12 +36,7 @@ class Case(Spare):
         self.write("classes.csv", classes)
 
     def package(self, parcels, covers):
-        package = dirty.Package(self.path("land.gpkg"))
-        package.layer("parcels", ["parcel"], parcels)
-        package.layer("covers", ["piece", "parcel", "class"], covers)
-        package.table("classes", ["class", "percent"], [("GRASS", 100), ("TREES", 30)])
-        package.close()
-        return self.path("land.gpkg")
+        return dirty.put(self.path("land.gpkg"), parcels, covers)
 
     def run_on(self, source, *words):
         return tool("prepare", source, self.out, *words)

@@ -3,18 +3,19 @@
     tests/helpers/two_years.py COUNT FOLDER     writes FOLDER/land-2026.gpkg and land-2027.gpkg, and FOLDER/country/country.txt with nine tiles
 """
 
-import csv
 import os
 import subprocess
 import sys
 import tempfile
+from itertools import chain
 from unittest import mock
 
 from shapely import wkb, wkt
 
 import dirty
 import edits
-from places import TOP
+from calls import records
+from places import HELPERS
 
 KINDS = ["crossing", "null", "blank", "umlaut", "stranger", "bare", "z", "wide"]
 CLASSES = [("ARABLE", 100), ("GRASS", 100), ("TREES", 30), ("WATER", 0)]
@@ -23,27 +24,20 @@ APART = 450_000  # the easting of dirt
 
 
 def rows(folder, name, columns):
-    with open(os.path.join(folder, f"{name}.csv"), newline="", encoding="ascii") as file:
-        for row in csv.DictReader(file):
-            yield (*(row[column] for column in columns), wkb.dumps(wkt.loads(row["wkt"])))
+    for row in records(folder, f"{name}.csv"):
+        yield (*(row[column] for column in columns), wkb.dumps(wkt.loads(row["wkt"])))
 
 
 def package(path, folder):
     """The tables of a folder, and some dirty parcels far from them."""
     with mock.patch.object(dirty, "EAST", APART):
         parcels, covers = dirty.rows_of(KINDS)
-    made = dirty.Package(path)
-    for name, columns, more in (("parcels", ["parcel"], parcels), ("covers", ["piece", "parcel", "class"], covers)):
-        made.layer(name, columns, rows(folder, name, columns))
-        made.rows(name, columns, more)
-    made.table("classes", ["class", "percent"], CLASSES)
-    made.close()
+    dirty.put(path, chain(rows(folder, "parcels", ["parcel"]), parcels), chain(rows(folder, "covers", ["piece", "parcel", "class"]), covers), CLASSES)
 
 
 def cuts_of(folder):
     """Two whole millimetres in x and two in y that part a land's parcels into nine tiles of about as many."""
-    with open(os.path.join(folder, "parcels.csv"), newline="", encoding="ascii") as file:
-        corners = [wkt.loads(row["wkt"]).bounds[:2] for row in csv.DictReader(file)]
+    corners = [wkt.loads(row["wkt"]).bounds[:2] for row in records(folder, "parcels.csv")]
     return [[int(1000 * sorted(corner[axis] for corner in corners)[len(corners) * part // 3]) for part in (1, 2)] for axis in (0, 1)]
 
 
@@ -59,7 +53,7 @@ def make(count, folder):
     """Writes all of it; how many splits and merges there are."""
     with tempfile.TemporaryDirectory() as spare:
         first, second = os.path.join(spare, "first"), os.path.join(spare, "second")
-        subprocess.run([sys.executable, os.path.join(TOP, "bench", "make_coverage.py"), str(count), "1", first], check=True)
+        subprocess.run([sys.executable, os.path.join(HELPERS, "make_coverage.py"), str(count), "1", first], check=True)
         done = edits.make(first, second, int(count * EDITED), SEED)
         for year, tables in ((2026, first), (2027, second)):
             package(os.path.join(folder, f"land-{year}.gpkg"), tables)

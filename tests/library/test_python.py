@@ -267,8 +267,7 @@ class TestAnswers(Case):
     @pytest.mark.skipif(not ("library" in BACKENDS), reason=NO_LIBRARY)
     def test_library(self):
         """Over a larger release: the bytes of the program, rooms that are too small, threads, and an interpreter that goes on meanwhile."""
-        parcels = [(f"P{number}", [[[(100 * number, 0), (100 * number + 100, 0), (100 * number + 100, 90), (100 * number, 90)]]]) for number in range(20_000)]
-        generated.write_release(self.top, parcels, [(f"C{name}", name, "G", polygon) for name, polygon in parcels])
+        generated.write_squares(self.top, 20_000)
         tables = [self.top / f"{name}.csv" for name in NAMES]
         lpis.backend("library")
         made = lpis.cut(*tables)

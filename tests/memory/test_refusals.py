@@ -12,16 +12,15 @@ import pathlib
 import random
 import re
 import shutil
-import subprocess
 import tempfile
 
-import common
+import calls
 import country_example
 import pytest
+from places import TOP
 from registers import VERSION_1, VERSION_2, VERSION_3, WITHOUT_MARKS, made, said
 
-EXAMPLES = pathlib.Path(common.TOP, "examples")
-LPIS = common.lpis()
+EXAMPLES = pathlib.Path(TOP, "examples")
 SECONDS, MANY, SAMPLE, FEW, SEED = 60, 1_000, 100, 25, 20_261_123
 # A file system in memory, where there is one: the register is put on its disk by each publish.
 FAST = "/dev/shm" if os.access("/dev/shm", os.W_OK) else None
@@ -46,8 +45,7 @@ end
 
 
 def lpis(words, folder, **more):
-    run = subprocess.run([LPIS, *map(str, words)], cwd=folder, stdin=subprocess.DEVNULL, capture_output=True, timeout=SECONDS, **more)
-    return run.returncode, run.stdout, run.stderr
+    return calls.lpis(*words, cwd=folder, text=False, timeout=SECONDS, **more)
 
 
 class Command:
@@ -143,11 +141,9 @@ def locate_country(points):
 def country(year):
     """A year of examples/country-years in regions; the second after the first, with the blocks of its marks."""
     def make(folder):
-        for each in ("2024", "2025")[: 1 + (year == "2025")]:
-            country_example.write(folder / each, each, lambda region: expect(0, lpis(["cut", region, region / "cert.txt"], folder)))
-        if year == "2025":
-            expect(0, lpis(["publish-country", "years.db", "2024", "2024"], folder))
-            expect(0, lpis(["exact-country", "years.db", "2025", "exact.txt"], folder))
+        country_example.begin(folder, lambda *words: expect(0, lpis(words, folder)))
+        if year == "2024":
+            (folder / "years.db").unlink()
     return make
 
 
@@ -226,11 +222,11 @@ class Refusals:
         self.command, self.folder, self.library = command, folder, library
         folder.mkdir()
         command.fill(folder)
-        with common.copy_of(folder) as copy:
+        with calls.copy_of(folder) as copy:
             self.before = command.state(copy)
-        with common.copy_of(folder) as copy:
+        with calls.copy_of(folder) as copy:
             self.usual, self.after = lpis(command.words, copy), command.state(copy)
-        with common.copy_of(folder) as copy:
+        with calls.copy_of(folder) as copy:
             *_, told = self.start(0, False, copy)
             self.requests = int(re.fullmatch(r"requests (\d+)\n", told).group(1))
 
@@ -251,7 +247,7 @@ class Refusals:
 
     def ending(self, number, goes_on):
         """How a run ended whose request of this number was refused: `memory`, `store`, `usual`, or what is not right."""
-        with common.copy_of(self.folder) as copy:
+        with calls.copy_of(self.folder) as copy:
             *answer, told = self.start(number, goes_on, copy)
             answer, refused = tuple(answer), re.match(r"refused .*", told)
             if not refused:
@@ -260,7 +256,7 @@ class Refusals:
                 # The database has caches that need not grow, and need not copy its log at the end.
                 as_usual = answer == self.usual and "years.db" in self.command.kept and self.command.state(copy) == self.after
                 return "usual" if as_usual else f"{refused.group(0)}: {answer}"
-            with common.copy_of(copy) as seen:
+            with calls.copy_of(copy) as seen:
                 if self.command.state(seen) != self.before:
                     return f"{refused.group(0)}: {' or '.join(self.command.kept)} is not as before"
             again = lpis(self.command.words, copy)

@@ -16,9 +16,10 @@ from pathlib import Path
 import pytest
 from spare import Spare
 from browser import Browser
-from page_case import CC, EXAMPLES, SOURCES, TESTS, TOP, WHOLE, built, native, node, read, releases_of, squares, tables, wanted
+from page_case import CC, EXAMPLES, SOURCES, TESTS, TOP, WHOLE, built, native, node, read, releases_of, wanted
 from lpis_tools import explaining, report
 import nasty_shapes
+from tables import write_squares
 
 RELEASES, MANY = (200, 60_000) if WHOLE else (20, 5_000)  # generated releases, of which a half has faults; parcels in the browser
 
@@ -92,8 +93,8 @@ class TestModule:
             os.mkdir(os.path.join(folder, "files"))
             cases, last = Cases(os.path.join(folder, "files")), None
             for number in range(RELEASES):
-                made, release = nasty_shapes.Release(number, number % 2 == 1), os.path.join(folder, f"r{number}")
-                tables.write_release(release, made.parcels, made.pieces, made.decimals, made.classes)
+                release = os.path.join(folder, f"r{number}")
+                nasty_shapes.Release(number, number % 2 == 1).write(release)
                 cert = cases.cut(release)
                 for one in filter(None, (cert, last)):
                     cases.check(release, one)
@@ -107,7 +108,7 @@ class TestModule:
     def test_memory_and_room(self):
         with tempfile.TemporaryDirectory() as folder:
             release, cert = os.path.join(folder, "r"), os.path.join(folder, "cert")
-            squares(release, 3000)
+            write_squares(release, 3000)
             native("cut", release, cert)
             status, text = native("check", release, cert)
             inputs = [os.path.join(release, f"{name}.csv") for name in ("parcels", "covers", "classes")] + [cert]
@@ -275,7 +276,7 @@ class TestPage(Spare):
 
     def test_too_little_memory(self):
         release, cert = os.path.join(self.folder, "r"), os.path.join(self.folder, "cert.txt")
-        squares(release, 3000)
+        write_squares(release, 3000)
         native("cut", release, cert)
         for pages, words in ((120, "No answer: out of memory"), (4000, "Yes")):
             browser = self.browser(f"--js-flags=--wasm-max-mem-pages={pages}")
@@ -285,7 +286,7 @@ class TestPage(Spare):
 
     def test_many_parcels(self):
         release, cert = os.path.join(self.folder, "r"), os.path.join(self.folder, "cert.txt")
-        squares(release, MANY)
+        write_squares(release, MANY)
         native("cut", release, cert)
         browser = self.browser()
         browser.value("window.ticks = 0, setInterval(() => ticks++, 10)")

@@ -7,9 +7,10 @@ import tempfile
 from pathlib import Path
 
 import pytest
-from page_case import CC, EXAMPLES, TESTS, dev_page, native, node, releases_of, squares, tables, wanted
+from page_case import CC, EXAMPLES, TESTS, dev_page, native, node, releases_of, wanted
 from lpis_tools import explaining, report
 import nasty_shapes
+from tables import write_squares
 
 FAULTS = ["refused 41 parcels west east at 50020 23980 1", "refused 43 parcel west at 7 22 3", "refused 43 parcel west at -1000001 22 7", "refused 33 parcels row 2", "refused 31 covers row 0",
           "refused 44 parcel west", "refused 42 pieces nosuch west-1", "refused 34 covers row 99", "refused 60", "refused 56 cert line 2", "refused 55 cert line 900", "refused 37 parcels row 1"]
@@ -84,8 +85,7 @@ class TestScripts:
         wanted("NODE")
         with tempfile.TemporaryDirectory() as folder:
             for number in range(20):
-                made = nasty_shapes.Release(number, False)
-                tables.write_release(os.path.join(folder, str(number)), made.parcels, made.pieces, made.decimals, made.classes)
+                nasty_shapes.Release(number, False).write(os.path.join(folder, str(number)))
             cases = releases_of(folder) + releases_of(EXAMPLES)
             for case, found in zip(cases, node("sums", map=dev_page.drawn(), cases=[{"folder": case} for case in cases])):
                 rows, sums = report.by_class(report.read(case))
@@ -96,7 +96,7 @@ class TestScripts:
     def test_the_map_has_every_shape(self):
         wanted("NODE")
         with tempfile.TemporaryDirectory() as folder:
-            squares(os.path.join(folder, "r"), 30)
+            write_squares(os.path.join(folder, "r"), 30)
             [found] = node("sums", map=dev_page.drawn(), cases=[{"folder": os.path.join(folder, "r")}])
         drawing = found["drawing"]
         assert [drawing[name]["count"] for name in ("parcels", "pieces", "old")] == [30, 30, 0]

@@ -8,11 +8,13 @@ its path. With all of them there it fails for none. What a command writes is han
 import pathlib
 import re
 import shutil
+import subprocess
 
-import common
 import pytest
+from calls import lpis, run
+from places import TOP as HOUSE
 
-TOP, PROGRAM = pathlib.Path(common.TOP), common.lpis()
+TOP = pathlib.Path(HOUSE)
 EXAMPLE = TOP / "examples" / "square"
 NO_ROWS = "; where no identifier was dropped, as in a first year, it is the line old,new alone"
 OTHER_WORDS = {"register": "register.db", "year": "2024", "id": "A"}
@@ -23,7 +25,7 @@ FOLDERS = {head: rest for head, *rest in ROWS if head.endswith("/")}
 
 def words_of(command):
     """The names of the words that the program wants of a command; those of options are in brackets, and none of them."""
-    usage = re.search(r"(?m)^Usage: .*$", common.answer([PROGRAM, command, "--help"])[1])
+    usage = re.search(r"(?m)^Usage: .*$", lpis(command, "--help")[1])
     return re.findall(r"<(\w+)>", usage[0]) if usage else []
 
 
@@ -79,11 +81,11 @@ class Case:
     def told(self):
         """The last two lines on standard error."""
         (self.top / "register.db").unlink(missing_ok=True)
-        return common.answer([TOP / "lpis", *self.words], self.top)[2].splitlines()[-2:]
+        return run(TOP / "lpis", *self.words, cwd=self.top, stdin=subprocess.DEVNULL).stderr.splitlines()[-2:]
 
 
 def test_commands():
-    told = re.search(r"(?ms)^Commands:\n(.*?)^$", common.answer([PROGRAM, "--help"])[1] + "\n")
+    told = re.search(r"(?ms)^Commands:\n(.*?)^$", lpis("--help")[1] + "\n")
     assert sorted(set(re.findall(r"(?m)^  ([\w-]+)", told[1])) - {"help"}) == sorted(COMMANDS)
 
 

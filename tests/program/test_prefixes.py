@@ -11,20 +11,13 @@ country's blocks as 54, and one of country.txt as 90, both at the line behind it
 import pathlib
 import re
 import shutil
-import subprocess
 
-import common
 import country_example
 import pytest
+from calls import lpis
+from places import TOP
 
-EXAMPLES = pathlib.Path(common.TOP, "examples")
-LPIS = common.lpis()
-SECONDS = 60
-
-
-def lpis(*words):
-    run = subprocess.run([LPIS, *map(str, words)], stdin=subprocess.DEVNULL, capture_output=True, text=True, timeout=SECONDS)
-    return run.returncode, run.stdout, run.stderr
+EXAMPLES = pathlib.Path(TOP, "examples")
 
 
 def expect_series(whole, answer_of, wanted_of):
@@ -168,10 +161,8 @@ def test_blocks(is_for_exact, tmp_path):
 def country(tmp_path_factory):
     """The second year of examples/country-years, with the country's blocks, and the register of the first."""
     folder = tmp_path_factory.mktemp("country")
-    for year in ("2024", "2025"):
-        country_example.write(folder / year, year, lambda region: lpis("cut", region, region / "cert.txt"))
-    lpis("publish-country", folder / "years.db", 2024, folder / "2024")
-    lpis("exact-country", folder / "years.db", folder / "2025", folder / "2025" / "exact.txt")
+    country_example.begin(folder, lpis)
+    (folder / "exact.txt").rename(folder / "2025" / "exact.txt")
     return folder
 
 

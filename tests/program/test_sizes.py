@@ -8,13 +8,12 @@ points; `publish` of it, then of a second year that renames each parcel, and `tr
 """
 
 import os
-import subprocess
 
-import common
+import calls
 import pytest
+from tables import polygon_text, write_lines, write_release
 
-LPIS = common.lpis()
-MOST_CORNERS, SECONDS = 99_000, 600
+MOST_CORNERS = 99_000
 ROW = 300  # parcels beside one another
 
 
@@ -24,14 +23,13 @@ def sizes(most):
 
 
 def lpis(folder, *words):
-    run = subprocess.run([LPIS, *map(str, words)], cwd=folder, stdin=subprocess.DEVNULL, capture_output=True, text=True, timeout=SECONDS)
-    return run.returncode, run.stdout, run.stderr
+    return calls.lpis(*words, cwd=folder)
 
 
 def square(k):
-    """The ring of the k-th square of ten metres."""
-    x, y = 10 * (k % ROW), 10 * (k // ROW)
-    return f"({x} {y},{x + 10} {y},{x + 10} {y + 10},{x} {y + 10},{x} {y})"
+    """The k-th square of ten metres, in centimetres."""
+    x, y = 1000 * (k % ROW), 1000 * (k // ROW)
+    return [[[(x, y), (x + 1000, y), (x + 1000, y + 1000), (x, y + 1000)]]]
 
 
 def saw(corners):
@@ -41,17 +39,10 @@ def saw(corners):
     return f"(0 0,{teeth} 0,{teeth} 1{tops[len(f',{teeth} 1'):]},0 0)", 2 * teeth + (teeth - 1)
 
 
-def write_release(folder, count, year):
-    folder.mkdir()
-    named = [f"{year}-{k}" for k in range(count)]
-    tables = {
-        "parcels.csv": ["parcel,wkt", *(f'{name},"POLYGON({square(k)})"' for k, name in enumerate(named))],
-        "covers.csv": ["piece,parcel,class,wkt", *(f'p{name},{name},G,"POLYGON({square(k)})"' for k, name in enumerate(named))],
-        "classes.csv": ["class,percent", "G,100"],
-        "lineage.csv": ["old,new", *(f"2024-{k},2025-{k}" for k in range(count if year == 2025 else 0))],
-    }
-    for name, lines in tables.items():
-        (folder / name).write_text("\n".join(lines) + "\n")
+def write(folder, count, year):
+    parcels = [(f"{year}-{k}", square(k)) for k in range(count)]
+    write_release(folder, parcels, [(f"p{name}", name, "G", shape) for name, shape in parcels])
+    write_lines(folder, "lineage.csv", ["old,new", *(f"2024-{k},2025-{k}" for k in range(count if year == 2025 else 0))])
 
 
 @pytest.fixture(params=sizes(int(os.environ.get("MOST", "40000"))))
@@ -60,7 +51,7 @@ def count(request):
 
 
 def test_area(count, tmp_path):
-    (tmp_path / "areas.csv").write_text("\n".join(["wkt", *(f'"POLYGON({square(k)})"' for k in range(count))]) + "\n")
+    (tmp_path / "areas.csv").write_text("\n".join(["wkt", *(f'"{polygon_text(square(k))}"' for k in range(count))]) + "\n")
     assert lpis(tmp_path, "area", "areas.csv") == (0, "100.0000000\n" * count, "")
     if 4 <= count <= MOST_CORNERS:
         ring, twice = saw(count)
@@ -70,7 +61,7 @@ def test_area(count, tmp_path):
 
 def test_two_years(count, tmp_path):
     for year in (2024, 2025):
-        write_release(tmp_path / str(year), count, year)
+        write(tmp_path / str(year), count, year)
         status, line, _ = lpis(tmp_path, "cut", year, "cert.txt")
         assert status == 0 and line.startswith(f"triangles {2 * count} pairs ")
         status, report, _ = lpis(tmp_path, "check", year, "cert.txt")

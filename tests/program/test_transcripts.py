@@ -19,10 +19,10 @@ import select
 import signal
 import subprocess
 
-import common
 import pytest
+from places import BUILT, TOP as HOUSE
 
-HERE, TOP = pathlib.Path(__file__).resolve().parent, pathlib.Path(common.TOP)
+HERE, TOP = pathlib.Path(__file__).resolve().parent, pathlib.Path(HOUSE)
 SECONDS = 600  # of one command
 pytestmark = pytest.mark.finds_program
 
@@ -109,7 +109,7 @@ def given(tmp_path_factory):
     """What each command of a page gives: they are run at the first look."""
     top, found = tmp_path_factory.mktemp("transcripts"), {}
     (top / "program").mkdir()
-    (top / "program" / "lpis").symlink_to(common.lpis())
+    (top / "program" / "lpis").symlink_to(BUILT)
 
     def given(page):
         if page not in found:

@@ -5,7 +5,8 @@ import random
 
 import pytest
 from asking import NEW, HISTORY, MARKED, SHAPES, ELSEWHERE, expect, lpis, rows, dump, texts, expect_tables, expect_published, release_of
-from asking import expect_spans
+from asking import expect_spans, write_release
+from country_example import regions_of
 from country_years import Map, Tiling, box_of, write_country, write_region
 from registers import LEFT, RIGHT, SQUARE, TABLES, VERSION_1, VERSION_2, WITHOUT_MARKS, made, said
 
@@ -13,10 +14,6 @@ from registers import LEFT, RIGHT, SQUARE, TABLES, VERSION_1, VERSION_2, WITHOUT
 def cut_country(country):
     for region in sorted(path for path in country.iterdir() if path.is_dir()):
         expect(f"cut {region}", lpis("cut", region, region / "cert.txt")[1], 0)
-
-
-def regions_in(country):
-    return [line.split()[1] for line in (country / "country.txt").read_text().splitlines() if line.startswith("region ")]
 
 
 def publish_country(name, path, year, country, *before):
@@ -45,7 +42,7 @@ def test_three_ways(seed, tmp_path):
         if lpis("exact-country", ways["several"], several, here / "tried.txt")[1] != 0:
             for path in several.glob("*/lineage.csv"):
                 path.write_text("".join(",".join(line.split(",")[:2]) + "\n" for line in path.read_text().splitlines()))
-        rows = [line for region in regions_in(several) for line in (several / region / "lineage.csv").read_text().splitlines()[1:]]
+        rows = [line for region in regions_of(several) for line in (several / region / "lineage.csv").read_text().splitlines()[1:]]
         lineage = "".join(line + "," * (2 - line.count(",")) + "\n" for line in ["old,new,exact", *rows])
         write_region(release, list(land.parcels.items()))
         (one / "all").mkdir(parents=True)
@@ -87,12 +84,7 @@ def country_of(folder, name, plan, regions, lineage=()):
     (country / "country.txt").write_text("\n".join(["lpis-country 1", *plan, ""]))
     (country / "classes.csv").write_text("class,percent\nG,100\n")
     for region, shapes in regions.items():
-        release = country / region
-        release.mkdir()
-        (release / "parcels.csv").write_text("parcel,wkt\n" + "".join(f'{parcel},"{wkt}"\n' for parcel, wkt in shapes.items()))
-        (release / "covers.csv").write_text("piece,parcel,class,wkt\n" + "".join(f'{parcel.lower()},{parcel},G,"{wkt}"\n' for parcel, wkt in shapes.items()))
-        (release / "classes.csv").write_bytes((country / "classes.csv").read_bytes())
-        (release / "lineage.csv").write_text("\n".join([*(lineage.get(region) or ["old,new"]), ""]))
+        write_release(country / region, shapes, *(lineage.get(region) or ["old,new"]))
     cut_country(country)
     return country
 

@@ -4,10 +4,11 @@ worked example goes through its years over a new register and over one of each v
 import sqlite3
 
 from asking import TOP, YEARS, NEW, MOVED, HISTORY, MARKED, SHAPES, ELSEWHERE, expect, lpis, rows, dump, texts, expect_whole, names_of, expect_tables
-from asking import publish, expect_published, release_of, expect_spans
+from asking import publish, expect_published, release_of, expect_spans, write_release
 from lpis_tools import polygons, tables
 from registers import LEFT, MARK, MARKS, RIGHT, ROW, SPAN, SPANS, SQUARE, TABLES, TEXT, TEXTS, VERSION_1, VERSION_2, VERSION_3, WITHOUT_MARKS, made
 from registers import said
+from tables import polygon_text
 
 # Texts and marks of another history, in tables of a version that has neither: whatever they are, the move empties them.
 STALE = TEXT + MARK + "INSERT INTO lpis_text VALUES ('B', 'no polygon'), ('X', ''); INSERT INTO lpis_mark VALUES (2025, 1);"
@@ -47,9 +48,7 @@ def asked(path, queries):
 
 def kept(members):
     """The text that a register keeps of a polygon."""
-    bodies = ["(" + ",".join("(" + ",".join(f"{polygons.metres(x)} {polygons.metres(y)}" for x, y in ring) + ")" for ring in member) + ")"
-              for member in members]
-    return "POLYGON" + bodies[0] if len(bodies) == 1 else "MULTIPOLYGON(" + ",".join(bodies) + ")"
+    return polygon_text([[ring[:-1] for ring in member] for member in members], 3)
 
 
 def shapes_of(release):
@@ -138,19 +137,13 @@ def test_shapes(tmp_path):
         publish(tmp_path, tmp_path / f"{name}.db", 2024, release)
         expect(f"shapes of {name}", texts(tmp_path / f"{name}.db"), shapes_of(release))
     release, path = tmp_path / "spelled", tmp_path / "spelled.db"
-    release.mkdir()
-    (release / "parcels.csv").write_text("parcel,wkt\n" + "".join(f'{name},"{wkt}"\n' for name, (wkt, _) in SPELLED.items()))
-    (release / "covers.csv").write_text("piece,parcel,class,wkt\n" + "".join(f'{name},{name},G,"{wkt}"\n' for name, (wkt, _) in SPELLED.items()))
-    (release / "classes.csv").write_text("class,percent\nG,100\n")
-    (release / "lineage.csv").write_text("old,new\n")
+    write_release(release, {name: wkt for name, (wkt, _) in SPELLED.items()}, "old,new")
     publish(tmp_path, path, 2024, release)
     expect("texts that are spelled in other ways", texts(path), sorted((name, text) for name, (_, text) in SPELLED.items()))
     before = dump(path)
     expect("a register of them opens", lpis("trace", path, "far"), ("far\n", 0))
     expect("and stays as it is", dump(path), before)
-    (release / "parcels.csv").write_text("parcel,wkt\n")
-    (release / "covers.csv").write_text("piece,parcel,class,wkt\n")
-    (release / "lineage.csv").write_text("old,new\n" + "".join(f"{name},\n" for name in SPELLED))
+    write_release(release, {}, "old,new", *(f"{name}," for name in SPELLED))
     publish(tmp_path, path, 2025, release)
     expect("no shape is kept of a release without parcels", texts(path), [])
 

@@ -1,7 +1,6 @@
 """Tests what the guide tells to do with a register beside lpis: a backup while another process uses it, and the queries of tools/audit.sql. Wants the
 system's sqlite3. The register is made by SQLite as docs/FORMATS.md has it, and by `lpis` where that is built or named by LPIS."""
 
-import csv
 import hashlib
 import json
 import os
@@ -13,26 +12,20 @@ import sys
 from pathlib import Path
 
 import pytest
-from registers import made
-from calls import tool
+from registers import MARK, TABLES, TEXT, made, rows
+from calls import records, tool
 from places import BUILT, TOOLS, TOP
 from spare import Spare
 import dirty
 from lpis_tools import shapely_there
 
-SECOND = """
-CREATE TABLE lpis_format (one INTEGER NOT NULL PRIMARY KEY, version INTEGER NOT NULL) STRICT;
-CREATE TABLE lpis_release (year INTEGER NOT NULL PRIMARY KEY) STRICT;
-CREATE TABLE lpis_span (id TEXT NOT NULL PRIMARY KEY, since INTEGER NOT NULL REFERENCES lpis_release (year), until INTEGER NOT NULL) STRICT;
-CREATE TABLE lpis_row (year INTEGER NOT NULL REFERENCES lpis_release (year), pos INTEGER NOT NULL, old TEXT NOT NULL, new TEXT NOT NULL, PRIMARY KEY (year, pos)) STRICT;
+SECOND = TABLES[2] + """
 INSERT INTO lpis_format VALUES (1, 2);
 INSERT INTO lpis_release VALUES (2024), (2025), (2027);
 INSERT INTO lpis_span VALUES ('A', 2024, 2024), ('B', 2025, 0), ('C', 2025, 2025), ('D', 2024, 2025), ('E', 2027, 0);
 INSERT INTO lpis_row VALUES (2025, 0, 'A', 'B'), (2025, 1, 'A', 'C'), (2027, 0, 'C', 'E'), (2027, 1, 'D', '');
 """
-THIRD = """
-CREATE TABLE lpis_text (id TEXT NOT NULL PRIMARY KEY, wkt TEXT NOT NULL) STRICT;
-CREATE TABLE lpis_mark (year INTEGER NOT NULL, pos INTEGER NOT NULL, PRIMARY KEY (year, pos), FOREIGN KEY (year, pos) REFERENCES lpis_row (year, pos)) STRICT;
+THIRD = TEXT + MARK + """
 UPDATE lpis_format SET version = 3;
 INSERT INTO lpis_text VALUES ('B', 'POLYGON((0.000 0.000,1.000 0.000,1.000 1.000,0.000 0.000))');
 INSERT INTO lpis_mark VALUES (2025, 0), (2025, 1);
@@ -70,8 +63,7 @@ class TestRegisters(Spare):
 
     def backup(self, path):
         """The command as the guide has it, on other files."""
-        with open(os.path.join(TOP, "docs", "GUIDE.md"), encoding="utf-8") as file:
-            command = re.search(r"^ +(sqlite3 register\.db .*\.backup.*?)\s*(?:#.*)?$", file.read(), re.MULTILINE)[1]
+        command = re.search(r"^ +(sqlite3 register\.db .*\.backup.*?)\s*(?:#.*)?$", Path(TOP, "docs", "GUIDE.md").read_text(encoding="utf-8"), re.MULTILINE)[1]
         copy = os.path.join(self.folder, "copy.db")
         return subprocess.run(["bash", "-c", command.replace("register.db", path).replace("register-2026.db", copy)], capture_output=True, text=True, check=False), copy
 
@@ -91,7 +83,7 @@ class TestRegisters(Spare):
         writer.wait()
         writer.stdout.close()
         assert (run.returncode, run.stderr) == (0, "")
-        assert sqlite3.connect(copy).execute("SELECT count(*) FROM lpis_span WHERE id = 'Z'").fetchone() == (1,)
+        assert rows(copy, "SELECT count(*) FROM lpis_span WHERE id = 'Z'") == [(1,)]
 
     def lines_of_the_guide(self):
         """The queries of the guide, line by line, and what it advises for another user's register."""
@@ -158,8 +150,7 @@ class TestBeforeTheTables(Spare):
 
     def test_beside(self):
         text, told, html = self.report()
-        with open(os.path.join(self.out, "report.csv"), newline="", encoding="utf-8") as file:
-            gone = [row for row in csv.DictReader(file) if row["kind"] in ("lost", "left out") and row["layer"] == "parcels"]
+        gone = [row for row in records(self.out, "report.csv") if row["kind"] in ("lost", "left out") and row["layer"] == "parcels"]
         area = sum(float(row["area_m2"]) for row in gone)
         assert (len(gone), area) == (2, 200.0)
         assert "left out of the source: 2 parcels, 0.0200 ha; 3 pieces, 0.0100 ha" in text

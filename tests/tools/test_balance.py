@@ -1,5 +1,5 @@
 """Tests the balance of land and the reports of each path to the tables, over a source with all kinds of dirt, by a judge that shares no code with the
-tools (bench/lands_judge.py, lands_trial.py): tools/prepare and tools/country split.
+tools (lands_judge.py, lands_trial.py): tools/prepare and tools/country split.
 
     PARCELS=20000 pytest -s tests/tools/test_balance.py      a coverage of so many parcels, of which a fifth is dirty, in place of a small source; times are
     printed
@@ -31,7 +31,7 @@ def planted(path, blocks):
         for found, names, more in zip(rows, (1, 2), dirty.rows_of(dirty.ALL)):
             found += [(*(None if name is None else f"b{number}-{name}" for name in row[:names]), *row[names:]) for row in more]
     dirty.EAST, dirty.NORTH = east, north
-    return dirty.put(path, *rows, [("GRASS", 100), ("TREES", 30)])
+    return dirty.put(path, *rows)
 
 
 def shape_of(data):

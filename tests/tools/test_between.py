@@ -11,6 +11,7 @@ import pytest
 import dirty
 import places
 from calls import records
+from lands_parts import boxed
 from preparing_case import Case
 from lpis_tools import shapely_there
 
@@ -20,24 +21,20 @@ WIDTHS = (0.005, 0.02, 0.3, 0.9, 0.999)
 BLOCK = 200  # metres from a case to the next
 
 
-def box(x, y, width, height):
-    return [(x, y), (x + width, y), (x + width, y + height), (x, y + height), (x, y)]
-
-
 def lands():
     """Parcels about a place, and the rows that they have: the parcels beside it, the width and the area, up to a metre wide."""
     for gap in WIDTHS:
-        yield [("a", box(0, 0, 50, 40)), ("b", box(50 + gap, 0, 50, 40))], [("a b", gap, 40 * gap)]  # open at both ends
-        yield ([("a", box(0, 0, 50, 20)), ("b", box(0, 20 + gap, 50, 20)), ("c", box(-9, 0, 9, 40 + gap)), ("d", box(50, 0, 9, 40 + gap))], [("a b", gap, 50 * gap)])  # closed
-        yield [("a", box(0, 0, 50, 40)), ("b", box(50 + gap, 0, 50, 20)), ("c", box(50 + gap, 20, 50, 20))], [("a b", gap, 20 * gap), ("a c", gap, 20 * gap)]
-    yield [("a", box(0, 0, 50, 40)), ("b", box(53, 0, 50, 40))], []  # a road
-    yield [("a", box(0, 0, 50, 40)), ("b", box(50, 0, 50, 40))], []
+        yield [("a", boxed(0, 0, 50, 40)), ("b", boxed(50 + gap, 0, 50, 40))], [("a b", gap, 40 * gap)]  # open at both ends
+        yield ([("a", boxed(0, 0, 50, 20)), ("b", boxed(0, 20 + gap, 50, 20)), ("c", boxed(-9, 0, 9, 40 + gap)), ("d", boxed(50, 0, 9, 40 + gap))], [("a b", gap, 50 * gap)])  # closed
+        yield [("a", boxed(0, 0, 50, 40)), ("b", boxed(50 + gap, 0, 50, 20)), ("c", boxed(50 + gap, 20, 50, 20))], [("a b", gap, 20 * gap), ("a c", gap, 20 * gap)]
+    yield [("a", boxed(0, 0, 50, 40)), ("b", boxed(53, 0, 50, 40))], []  # a road
+    yield [("a", boxed(0, 0, 50, 40)), ("b", boxed(50, 0, 50, 40))], []
     yield [("a", [(0, 0), (50, 0), (50, 20), (20, 20), (20, 20.5), (50, 20.5), (50, 40), (0, 40), (0, 0)])], []  # an arm within one parcel
-    yield [("a", box(0, 0, 50, 40)), ("b", box(50.5, 40.5, 50, 40))], []  # corner to corner
-    yield [("a", box(0, 0, 50, 40)), ("b", box(0, 40, 20, 40)), ("c", box(60, 0, 40, 80))], []  # corners of a road
+    yield [("a", boxed(0, 0, 50, 40)), ("b", boxed(50.5, 40.5, 50, 40))], []  # corner to corner
+    yield [("a", boxed(0, 0, 50, 40)), ("b", boxed(0, 40, 20, 40)), ("c", boxed(60, 0, 40, 80))], []  # corners of a road
     wedge = [("a", [(0, 0), (100, 0), (100, 20), (0, 20), (0, 0)]), ("b", [(0, 20), (100, 30), (100, 60), (0, 20)])]
     yield wedge, [("a b", 0.4986, 5.0)]  # up to where it is a metre wide
-    yield [("a", box(0, 0, 50, 40)), ("b", box(50.4, 0, 0.2, 40)), ("c", box(51, 0, 50, 40))], [("a b", 0.4, 16.0), ("b c", 0.4, 16.0)]  # nothing across a narrow parcel
+    yield [("a", boxed(0, 0, 50, 40)), ("b", boxed(50.4, 0, 0.2, 40)), ("c", boxed(51, 0, 50, 40))], [("a b", 0.4, 16.0), ("b c", 0.4, 16.0)]  # nothing across a narrow parcel
 
 
 @pytest.mark.skipif(not shapely_there.is_there(), reason=shapely_there.LACKING)

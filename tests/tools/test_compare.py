@@ -40,14 +40,6 @@ class Case(Spare):
     def set_up(self):
         self.out, self.land = self.path("out"), self.path("land.gpkg")
 
-    def package(self, parcels, covers, classes=(("GRASS", 100), ("TREES", 30)), system=25832):
-        package = dirty.Package(self.land, system)
-        package.layer("parcels", ["parcel"], parcels)
-        package.layer("covers", ["piece", "parcel", "class"], covers)
-        if classes:
-            package.table("classes", ["class", "percent"], classes)
-        package.close()
-
     def round(self):
         """Makes the tables."""
         subprocess.run([shapely_there.python(), "-c", ROUNDS, TOOLS, self.land, self.out], check=True)
@@ -126,7 +118,7 @@ class TestSource(Case):
     def test_gap(self):
         """A place of a parcel that none of its pieces has is left out of the parcel."""
         parcel, piece = square("A", 0, 0)
-        self.package([parcel], [(*piece[:3], dirty.polygon(dirty.box(0, 0, 8, 10)))])
+        dirty.put(self.land, [parcel], [(*piece[:3], dirty.polygon(dirty.box(0, 0, 8, 10)))])
         run = self.rounded("--accept")
         assert run.returncode == 0, run.stdout + run.stderr
         assert [(row["kind"], row["identifiers"], row["area_m2"], row["x"]) for row in self.report()] == [("gap", "A", "20.0000", "550009.000"), ("changed", "A", "20.0000", "550009.000")]
@@ -137,7 +129,7 @@ class TestSource(Case):
         lands = [square(name, 20 * number, 0) for number, name in enumerate(("null", "empty", "nan", "far", "kept"))]
         shapes = {"null": None, "empty": dirty.EMPTY, "nan": dirty.polygon([(float("nan"), 1.0), (2.0, 1.0), (2.0, 2.0), (float("nan"), 1.0)]),
                   "far": dirty.polygon([(3e7, 0.0), (3.1e7, 0.0), (3.1e7, 9.0), (3e7, 0.0)])}
-        self.package([(name, shapes.get(name, shape)) for (name, shape), _ in lands], [piece for _, piece in lands])
+        dirty.put(self.land, [(name, shapes.get(name, shape)) for (name, shape), _ in lands], [piece for _, piece in lands])
         run = self.rounded()
         assert run.returncode == 1, run.stderr
         made = {row["identifiers"]: row for row in self.report() if row["kind"] == "made"}
@@ -151,7 +143,7 @@ class TestSource(Case):
     def test_namesakes(self):
         """Many parcels of one name are one row with the land of all, and each other row is reported; the time grows with their number alone."""
         lands = [square(name, 12 * (number % 20), 12 * (number // 20)) for number, name in enumerate(["A"] * 3 + [""] * 397)]
-        self.package([parcel for parcel, _ in lands], [(*piece[:3], dirty.polygon(dirty.box(12 * (number % 20), 12 * (number // 20), 9))) for number, (_, piece) in enumerate(lands)])
+        dirty.put(self.land, [parcel for parcel, _ in lands], [(*piece[:3], dirty.polygon(dirty.box(12 * (number % 20), 12 * (number // 20), 9))) for number, (_, piece) in enumerate(lands)])
         run = self.rounded("--accept")
         assert (run.returncode, [record["parcel"] for record in self.table("parcels")], len(self.table("covers"))) == (0, ["A", ""], 400), run.stdout[-3000:] + run.stderr
         assert Counter(row["kind"] for row in self.report() if row["layer"] == "parcels" and row["kind"] in ("lost", "gap", "doubled")) == {"lost": 398, "gap": 400, "doubled": 2}
@@ -160,13 +152,13 @@ class TestSource(Case):
     def test_heights(self):
         """Shapes with heights and measures lose neither a parcel nor a piece."""
         box = dirty.box(0, 0)
-        self.package([("A", dirty.polygon(box, z=312.5))], [("A.1", "A", "GRASS", dirty.polygon(dirty.box(0, 0, 5), z=312.5)), ("A.2", "A", "TREES", dirty.polygon(dirty.box(5, 0, 5), z=1.0, m=7.0))])
+        dirty.put(self.land, [("A", dirty.polygon(box, z=312.5))], [("A.1", "A", "GRASS", dirty.polygon(dirty.box(0, 0, 5), z=312.5)), ("A.2", "A", "TREES", dirty.polygon(dirty.box(5, 0, 5), z=1.0, m=7.0))])
         run = self.rounded()
         assert (run.returncode, len(self.table("covers")), len(self.table("parcels"))) == (0, 2, 1), run.stdout + run.stderr
 
     def test_no_classes(self):
         parcel, piece = square("A", 0, 0)
-        self.package([parcel], [piece], ())
+        dirty.put(self.land, [parcel], [piece], ())
         self.round()
         self.put_classes("class,percent\nWATER,0\nROCK,33.5\n")
         run = self.compare("--accept")
@@ -199,7 +191,7 @@ class TestCompare(Case):
     def set_up(self):
         super().set_up()
         lands = [square(name, 20 * number, 0) for number, name in enumerate("ABCDE")]
-        self.package([parcel for parcel, _ in lands], [piece for _, piece in lands])
+        dirty.put(self.land, [parcel for parcel, _ in lands], [piece for _, piece in lands])
         self.round()
 
     def edit(self, name, edit):

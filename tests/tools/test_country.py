@@ -8,8 +8,9 @@ import subprocess
 
 import pytest
 from calls import run, tool
-from country_case import BUILT, CLASSES, HEADS, TOP, Case, Land, generated, lines, read, write, write_text
+from country_case import BUILT, CLASSES, HEADS, Case, Land, generated, lines, read, write, write_text
 import judged_country as judged
+from places import TOP
 from lpis_tools import polygons
 
 

@@ -9,6 +9,7 @@ import pytest
 import hard
 from lpis_tools import shapely_there
 from cells_case import ByCells, mended, read
+from lands_parts import boxed, on
 
 if shapely_there.is_there():
     from lpis_tools import country_prepare, land as land_module, last_year, naming, parts, passes, rounding, snapping, store
@@ -41,7 +42,7 @@ class TestCells(ByCells):
                 assert read(made, name) == read(self.folder, "whole", name)
             assert found == whole
 
-    @pytest.mark.parametrize("seed, step, width", ((0, 3.0, 0.1), (1, 0.3, 0.1), (2, 30.0, 60.0)))
+    @pytest.mark.parametrize("seed, step, width", ((0, 3.0, 0.1), (1, 0.3, 0.1), (3, 30.0, 60.0)))
     def test_between(self, seed, step, width):
         """Land that nobody has, as in one: faces that many cells have a part of, islands in them, and arms between parcels of two cells."""
         land = mended(hard.Land(seed, 30, step))
@@ -58,8 +59,8 @@ class TestCells(ByCells):
         land.parcels.clear(), land.covers.clear()
         for x in range(side + 2):
             for y in (range(side + 2) if x in (0, side + 1) else (0, side + 1)):
-                land.ring(f"R{x}.{y}", *((x + dx, y + dy) for dx, dy in ((0, 0), (1, 0), (1, 1), (0, 1))))
-        land.ring("island", (1 + wide, 1 + wide), (side + 1 - wide, 1 + wide), (side + 1 - wide, side + 1 - 0.1), (1 + wide, side + 1 - 0.1))
+                land.parcel([boxed(x, y, 1)])
+        land.parcel([boxed(1 + wide, 1 + wide, side - 2 * wide, side - 0.1 - wide)])
         for width, count, area in ((0.5, 1, side * side - (side - 1) * (side - 0.6)), (0.2, side, 0.1 * (side - 1))):
             found = self.whole(land, width)
             assert (len(found), round(sum(loss[5] for loss in found), 6)) == (count, round(area, 6))
@@ -91,7 +92,7 @@ class TestCells(ByCells):
             last = last_year.LastYear(self.path("whole"))
             for number, row in enumerate(land.covers[::3]):
                 share = 0.1 + number % 8 / 10
-                row.found = hard.wkb.Found([[[point for a, b in zip(ring, ring[1:]) for point in (a, hard.between(a, b, share))] + ring[:1] for ring in member] for member in row.found.members])
+                row.found = hard.wkb.Found([[[point for a, b in zip(ring, ring[1:]) for point in (a, on(a, b, share))] + ring[:1] for ring in member] for member in row.found.members])
             mended(land)
             then = rounding.numpy.unique(rounding.numpy.concatenate([*last.shapes()]), axis=0)
             made = rounding.Map(land.parcels, land.covers, lambda words: None, then=then)

@@ -6,16 +6,18 @@ import random
 import sys
 
 from calls import done, tool
-from places import TOP
+from places import HELPERS
 from cells_case import Case
+from lands_parts import on
 from lpis_tools import shapely_there
 
 if shapely_there.is_there():
-    from shapely import wkb, wkt
+    from shapely import wkb
 
     import dirty
     import edits
     import neighbours
+    import two_years
     from lpis_tools import rounding, snapping
 
 PARCELS, SPLITS = 100, 25
@@ -27,10 +29,6 @@ def points_of(shape):
     """The points of a row's shape, as a GeoPackage has it."""
     found = wkb.loads(shape[8:])
     return [point for part in getattr(found, "geoms", [found]) for ring in (part.exterior, *part.interiors) for point in ring.coords]
-
-
-def on(a, b, share):
-    return tuple(one + (other - one) * share for one, other in zip(a, b))
 
 
 class Row(dict):
@@ -109,11 +107,8 @@ class TestCountries(Case):
     """Two years of a small country in which some parcels were split between the corners of their borders."""
 
     def source(self, folder, path):
-        made = dirty.Package(path)
-        for name, columns in (("parcels", ["parcel"]), ("covers", ["piece", "parcel", "class"])):
-            made.layer(name, columns, [(*(row[column] for column in columns), wkb.dumps(wkt.loads(row["wkt"]))) for row in edits.Land(folder).rows(name)])
-        made.table("classes", ["class", "percent"], [(name, 100) for name in ("ARABLE", "GRASS", "TREES", "WATER")])
-        made.close()
+        rows = [two_years.rows(folder, *layer) for layer in (("parcels", ["parcel"]), ("covers", ["piece", "parcel", "class"]))]
+        dirty.put(path, *rows, two_years.CLASSES)
 
     def prepared(self, year, *words):
         ran = tool("country", "prepare", self.path(f"{year}.gpkg"), self.path(year), "--accept", "--quiet", "--parcels", 60, *words)
@@ -121,7 +116,7 @@ class TestCountries(Case):
 
     def test_new_borders(self):
         """Each parcel of another text lies beside a split one, and has the ends of the new borders more, all of it by whole numbers."""
-        done(sys.executable, os.path.join(TOP, "bench", "make_coverage.py"), PARCELS, 3, self.path("one"))
+        done(sys.executable, os.path.join(HELPERS, "make_coverage.py"), PARCELS, 3, self.path("one"))
         land, chance = edits.Land(self.path("one")), random.Random(3)
         names = list(land.parcels)
         chance.shuffle(names)

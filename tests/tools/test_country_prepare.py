@@ -210,12 +210,8 @@ class TestSources(Case):
             assert read(folder, name) == read(self.country, name), name
 
     def test_words(self):
-        bare = self.path("bare.gpkg")
-        package = dirty.Package(bare)
         shape = dirty.polygon(dirty.box(0, 0))
-        package.layer("parcels", ["parcel"], [("A", shape)])
-        package.layer("covers", ["piece", "parcel", "class"], [("P", "A", "GRASS", shape)])
-        package.close()
+        bare = dirty.put(self.path("bare.gpkg"), [("A", shape)], [("P", "A", "GRASS", shape)], ())
         far, wrong = os.path.join(self.folder, "far"), os.path.join(self.folder, "wrong")
         for folder, x, text in ((far, 9, "POLYGON(({0} 1,{0} 2,8 2,{0} 1))"), (wrong, 9, "POLYGON(({0}.0001 1,{0} 2,8 2,{0}.0001 1))")):
             os.mkdir(folder)

@@ -266,12 +266,8 @@ class TestWhole(Case):
         small = dirty.make(self.path("l.gpkg"), [])
         assert self.run_on(small).returncode == 0
         before = {name: open(os.path.join(self.out, name), "rb").read() for name in ("parcels.csv", "covers.csv", "classes.csv")}
-        package = dirty.Package(self.path("m.gpkg"))
         shapes = [(f"P{number}", dirty.polygon(dirty.box(20 * number, 0))) for number in range(300)]
-        package.layer("parcels", ["parcel"], shapes)
-        package.layer("covers", ["piece", "parcel", "class"], [(f"{name}.1", name, "GRASS", shape) for name, shape in shapes])
-        package.table("classes", ["class", "percent"], [("GRASS", 100), ("TREES", 30)])
-        package.close()
+        dirty.put(self.path("m.gpkg"), shapes, [(f"{name}.1", name, "GRASS", shape) for name, shape in shapes])
 
         def limit():
             signal.signal(signal.SIGXFSZ, signal.SIG_IGN)

@@ -7,13 +7,12 @@ import json
 import os
 import re
 import shutil
-import sqlite3
 import subprocess
 import xml.dom.minidom
 from pathlib import Path
 
 import pytest
-from registers import made
+from registers import TEXT, made
 from calls import tool
 from places import BUILT, TOOLS, TOP
 from lpis_tools import codes
@@ -65,13 +64,7 @@ def release(folder, parcels="A,\"" + SQUARE + "\"\n", covers="C,A,G,\"" + SQUARE
 
 def register(folder, shapes):
     """A register that keeps these shapes, as far as tools/explain reads it."""
-    path = os.path.join(folder, "register.db")
-    connection = sqlite3.connect(path)
-    connection.executescript("PRAGMA journal_mode = WAL; CREATE TABLE lpis_text (id TEXT NOT NULL PRIMARY KEY, wkt TEXT NOT NULL) STRICT;")
-    connection.executemany("INSERT INTO lpis_text VALUES (?, ?)", shapes.items())
-    connection.commit()
-    connection.close()
-    return path
+    return made(os.path.join(folder, "register.db"), "PRAGMA journal_mode = WAL", TEXT, *(f"INSERT INTO lpis_text VALUES ('{name}', '{wkt}')" for name, wkt in shapes.items()))
 
 
 def test_every_code_has_words():

@@ -313,9 +313,5 @@ class TestPackages(Files):
     def test_letters(self):
         """Names in other letters than UTF-8 stay different."""
         path = dirty.make(self.path("l.gpkg"), [])
-        base = dirty.sqlite3.connect(path)
-        for fid, name in ((1, b"M\xfchle"), (2, b"M\xf6hle")):
-            base.execute("UPDATE parcels SET parcel = CAST(? AS TEXT) WHERE fid = ?", (name, fid))
-        base.commit()
-        base.close()
+        made(path, *(f"UPDATE parcels SET parcel = CAST(x'{name.hex()}' AS TEXT) WHERE fid = {fid}" for fid, name in ((1, b"M\xfchle"), (2, b"M\xf6hle"))))
         assert [row["parcel"] for row in land.read(path)["parcels"].rows[:2]] == ["M\\xfchle", "M\\xf6hle"]

@@ -1,18 +1,18 @@
 """Tests the tools by whole lands: 40 generated ones, damaged sources, and each land that once failed, made small. What has to hold is said in
-bench/lands_trial.py. Wants Shapely."""
+lands_trial.py. Wants Shapely."""
 
 import math
 import os
-import unittest.mock
 from pathlib import Path
 
 import pytest
 from lpis_tools import shapely_there
 import lands_run
-import lands_shrink
 import lands_trial
 from lands_land import Land
+from lands_parts import boxed
 from lands_shapes import Shape
+from lands_shrink import Shrinking
 
 LANDS, MOST, DAMAGED = 40, 200, 40
 # Damaged sources that once ended in a traceback, or never: arcs without a radius, a table without a name, a number for a shape, a view without
@@ -23,7 +23,7 @@ E, N = 550_000.0, 5_400_000.0
 
 def box(x, y, width=10.0, height=10.0):
     """A rectangle about the corner of the land."""
-    return [(E + x, N + y), (E + x + width, N + y), (E + x + width, N + y + height), (E + x, N + y + height), (E + x, N + y)]
+    return boxed(E + x, N + y, width, height)
 
 
 def alike(*members, form=None):
@@ -93,14 +93,10 @@ class TestLands:
 
         shapes = [[[circle(30 * k, 5.123456, 9.87654321, 12), circle(30 * k, 5, 2.5, 5)]] for k in range(4)]
         whole = Land.of_rows(*alike(*([[box(200 + 20 * k, 0)]] for k in range(30)), shapes[1], *([[box(200 + 20 * k, 30)]] for k in range(30))))
-        for is_there in (True, False):
-            if is_there and not lands_shrink.hypothesis:
-                continue
-            with unittest.mock.patch.object(lands_shrink, "hypothesis", lands_shrink.hypothesis if is_there else None):
-                small = lands_shrink.Shrinking(whole, fails).run()
-            (row,) = small.rows()
-            assert (fails(small), [len(ring) for ring in row.shape.members[0]]) == (True, [4, 4]), is_there
-            assert not is_there or all(value == round(value) for point in row.shape.points() for value in point), row.shape.points()
+        small = Shrinking(whole, fails).run()
+        (row,) = small.rows()
+        assert (fails(small), [len(ring) for ring in row.shape.members[0]]) == (True, [4, 4])
+        assert all(value == round(value) for point in row.shape.points() for value in point), row.shape.points()
         assert len(whole.rows()) == 122
 
     def test_judge(self):

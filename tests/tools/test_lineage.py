@@ -3,24 +3,20 @@ Wants Shapely; the program where it is built, or named by LPIS."""
 
 import os
 import random
-import sqlite3
 import subprocess
 import tracemalloc
 from pathlib import Path
 
 import pytest
+from asking import write_release
 from calls import tool
 from places import BUILT, TOP
+from registers import RELEASE, SPAN, TEXT, made
 from spare import Spare
 from lpis_tools import lineage_faults, shapely_there, years
 
 EXAMPLES = os.path.join(TOP, "examples", "exact")
-REGISTER = """
-CREATE TABLE lpis_release (year INTEGER NOT NULL PRIMARY KEY) STRICT;
-CREATE TABLE lpis_span (id TEXT NOT NULL PRIMARY KEY, since INTEGER NOT NULL, until INTEGER NOT NULL) STRICT;
-CREATE TABLE lpis_text (id TEXT NOT NULL PRIMARY KEY, wkt TEXT NOT NULL) STRICT;
-INSERT INTO lpis_release VALUES (2023), (2024);
-"""
+REGISTER = RELEASE + SPAN + TEXT + "INSERT INTO lpis_release VALUES (2023), (2024); INSERT INTO lpis_span VALUES ('early', 2023, 2023);"
 
 
 def box(left, low, right, high):
@@ -71,14 +67,8 @@ class Years(Spare):
         return Path(self.path(*names)).read_text(encoding="utf-8").split("\n")[1:-1]
 
     def register(self, shapes):
-        base = sqlite3.connect(self.path("lpis.db"))
-        base.executescript(REGISTER)
-        base.executemany("INSERT INTO lpis_span VALUES (?, 2024, 0)", [(name,) for name in shapes])
-        base.executemany("INSERT INTO lpis_text VALUES (?, ?)", [item for item in shapes.items() if item[0] != "m"])
-        base.execute("INSERT INTO lpis_span VALUES ('early', 2023, 2023)")
-        base.commit()
-        base.close()
-        return self.path("lpis.db")
+        texts = [f"INSERT INTO lpis_text VALUES ('{name}', '{wkt}')" for name, wkt in shapes.items() if name != "m"]
+        return made(self.path("lpis.db"), REGISTER, *(f"INSERT INTO lpis_span VALUES ('{name}', 2024, 0)" for name in shapes), *texts)
 
 
 @pytest.mark.skipif(not shapely_there.python(), reason=shapely_there.LACKING)
@@ -210,11 +200,9 @@ class TestCountries(Years):
 class TestBeside(Years):
     """The first fault of a random table is the one that `publish` reports, where it reports one of lineage."""
 
-    def released(self, folder, shapes):
-        write(folder, shapes)
-        with open(os.path.join(folder, "covers.csv"), "w", encoding="ascii") as file:
-            file.write("piece,parcel,class,wkt\n" + "".join(f'{name}-p,{name},G,"{wkt}"\n' for name, wkt in shapes.items()))
-        Path(folder, "classes.csv").write_text("class,percent\nG,100\n", encoding="ascii")
+    def released(self, year, shapes, *rows):
+        folder = self.path(year)
+        write_release(Path(folder), shapes, "old,new,exact", *rows)
         subprocess.run([BUILT, "cut", folder, os.path.join(folder, "cert.txt")], check=True, capture_output=True)
         return folder
 
@@ -223,13 +211,9 @@ class TestBeside(Years):
 
     def test_random_tables(self):
         chance = random.Random(7)
-        first, new = self.released(self.path("2023"), {"early": box(0, 0, 1, 1)}), self.released(self.path("2025"), NEWER)
-        write(first, {"early": box(0, 0, 1, 1)}, "")
-        old = self.released(self.path("2024"), OLDER)
-        write(old, OLDER, "early,,\n")
+        first, old, new = self.released("2023", {"early": box(0, 0, 1, 1)}), self.released("2024", OLDER, "early,,"), self.released("2025", NEWER)
         for year, folder in ((2023, first), (2024, old)):
             assert f"published {year}" in self.published(year, folder)
-        agreed = 0
         for _ in range(24):
             rows = "".join(f"{chance.choice('aabbkmnz')},{chance.choice(['a1', 'a2', 'mm', 'n', 'zz', ''])},{chance.choice(['', '1'])}\n" for _ in range(chance.randrange(1, 6)))
             write(new, NEWER, rows)
@@ -237,5 +221,3 @@ class TestBeside(Years):
             words = self.published(2025, new).split()
             assert ["refused", "81", "lineage", found[0].code] == words[:4], rows
             assert (str(found[0].row) if "row" in words else found[0].name.split()[0]) == words[5 if "row" in words else 4], rows
-            agreed += 1
-        assert 24 == agreed

@@ -8,12 +8,13 @@ import os
 import re
 import resource
 import shutil
-import subprocess
-import tempfile
 import time
-import unittest
+from pathlib import Path
 
+import pytest
+from calls import run
 from places import BUILT, TOOLS, TOP
+from spare import Kept
 from lpis_tools import shapely_there
 
 PARCELS = int(os.environ.get("PARCELS", "0"))
@@ -23,33 +24,26 @@ CAN = shapely_there.is_there() and BUILT and shutil.which("ogrinfo")
 
 def lines_of_guide():
     """The lines of the path: the block that begins with ogrinfo."""
-    with open(os.path.join(TOP, "docs", "GUIDE.md"), encoding="utf-8") as file:
-        part = file.read().split("\n## A country at once\n")[1]
+    part = Path(TOP, "docs", "GUIDE.md").read_text(encoding="utf-8").split("\n## A country at once\n")[1]
     return [line.strip() for line in part[part.index("    ogrinfo") :].split("\n\n")[0].splitlines()]
 
 
-@unittest.skipUnless(CAN, "Shapely, ogrinfo or the program is not there")
-class Nation(unittest.TestCase):
+@pytest.mark.skipif(not CAN, reason="Shapely, ogrinfo or the program is not there")
+class TestNation(Kept):
     @classmethod
-    def setUpClass(cls):
+    def set_up(cls):
         import two_years
 
-        spare = tempfile.TemporaryDirectory()
-        cls.addClassCleanup(spare.cleanup)
-        cls.folder, cls.told = spare.name, {}
-        cls.edits = two_years.make(PARCELS or FEW, cls.folder)
+        cls.edits, cls.told = two_years.make(PARCELS or FEW, cls.folder), {}
         os.symlink(TOOLS, os.path.join(cls.folder, "tools"))
         for line in lines_of_guide():
             before, start = resource.getrusage(resource.RUSAGE_CHILDREN), time.monotonic()
-            ended = subprocess.run(["bash", "-c", line], cwd=cls.folder, capture_output=True, text=True, check=False, env={**os.environ, "LPIS": BUILT})
+            ended = run("bash", "-c", line, cwd=cls.folder, env={**os.environ, "LPIS": BUILT})
             after = resource.getrusage(resource.RUSAGE_CHILDREN)
             cls.told[line.split("#")[0].strip()] = ended
             if PARCELS:
                 used = sum(getattr(after, name) - getattr(before, name) for name in ("ru_utime", "ru_stime"))
                 print(f"{line.split('#')[0].strip()}: {time.monotonic() - start:.0f} s by the clock, {used:.0f} s of processors, the largest process so far {after.ru_maxrss // MEGABYTE} MB", flush=True)
-
-    def path(self, *names):
-        return os.path.join(self.folder, *names)
 
     def ended(self, beginning):
         """The only run of the guide that begins so."""
@@ -59,23 +53,23 @@ class Nation(unittest.TestCase):
     def test_each_line(self):
         """The first prepare reports what is wrong; all else ends well."""
         found = [(line, ended.returncode) for line, ended in self.told.items()]
-        self.assertEqual(found, [(line, int(line == "tools/country prepare land-2026.gpkg country")) for line, _ in found], "".join(ended.stdout[-2000:] + ended.stderr[-2000:] for ended in self.told.values() if ended.returncode))
-        self.assertGreaterEqual(len(found), 10)
+        assert found == [(line, int(line == "tools/country prepare land-2026.gpkg country")) for line, _ in found], "".join(ended.stdout[-2000:] + ended.stderr[-2000:] for ended in self.told.values() if ended.returncode)
+        assert len(found) >= 10
 
     def test_checked_once(self):
         """What is published is checked on the way; the path has no other check, and the accepting run rounds nothing."""
-        self.assertFalse([line for line in self.told if line.startswith("tools/country check")])
-        self.assertIn("\nyes\npublished 2026\n", self.ended("tools/country publish register.db 2026").stdout)
-        self.assertIn("cells are those that the run before has rounded\n", self.ended("tools/country prepare land-2026.gpkg country --accept").stderr)
+        assert not [line for line in self.told if line.startswith("tools/country check")]
+        assert "\nyes\npublished 2026\n" in self.ended("tools/country publish register.db 2026").stdout
+        assert "cells are those that the run before has rounded\n" in self.ended("tools/country prepare land-2026.gpkg country --accept").stderr
 
     def test_two_years(self):
         """Nine regions; all splits and merges are exact and published; both years are kept, and each is a yes."""
         last = self.ended("tools/country publish register.db 2027").stdout
-        self.assertIn("\npublished 2027\n", last)
-        self.assertEqual(int(re.search(r"(?m)^exact (\d+)$", last)[1]), self.edits, last)
+        assert "\npublished 2027\n" in last
+        assert int(re.search(r"(?m)^exact (\d+)$", last)[1]) == self.edits, last
         for year in ("2026", "2027"):
-            ran = subprocess.run([BUILT, "country", self.path("country", "years", year)], capture_output=True, text=True, check=False)
-            self.assertEqual((ran.stdout.splitlines()[-1], ran.stdout.count("region ")), ("yes", 9), ran.stdout + ran.stderr)
+            ran = run(BUILT, "country", self.path("country", "years", year))
+            assert (ran.stdout.splitlines()[-1], ran.stdout.count("region ")) == ("yes", 9), ran.stdout + ran.stderr
 
     def test_what_stays(self):
         """A parcel of both years has the same text in both, to the byte, and the reports count what differs."""
@@ -83,13 +77,13 @@ class Nation(unittest.TestCase):
         kept, of_them = map(int, re.search(r"to the millimetre: (\d+) of its (\d+)", told).groups())
         report = self.ended("tools/report country/years/2027").stdout
         gone, changed, unchanged = (int(re.search(rf"since \S+: .*{word} (\d+)", report)[1]) for word in ("gone", "changed", "kept"))
-        self.assertEqual((kept, changed, unchanged), (of_them - gone, 0, kept), report)
-        self.assertRegex(report, r"(?m)^accepted by --accept: [1-9]")
+        assert (kept, changed, unchanged) == (of_them - gone, 0, kept), report
+        assert re.search(r"(?m)^accepted by --accept: [1-9]", report)
 
     def test_source_that_stays(self):
         """A parcel whose rows are the same in both sources has the same text: all edits are between corners, so that no new border ends on one of it."""
         import neighbours
 
         found = neighbours.Neighbours(*(self.path(f"land-{year}.gpkg") for year in (2026, 2027)), *(self.path("country", "years", year) for year in ("2026", "2027")))
-        self.assertGreater(len(found.unchanged()), self.edits)
-        self.assertEqual(found.other(), [])
+        assert len(found.unchanged()) > self.edits
+        assert found.other() == []

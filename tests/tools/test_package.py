@@ -7,7 +7,6 @@ import os
 import pathlib
 import re
 import shutil
-import signal
 import sqlite3
 import subprocess
 import tempfile
@@ -18,6 +17,7 @@ import pytest
 from calls import done, run
 from places import BUILT, TOP
 from spare import Kept
+import stopping
 import tables
 
 pytestmark = pytest.mark.finds_program
@@ -63,13 +63,6 @@ def lines_of_readme():
     return blocks
 
 
-def squares(folder, count):
-    """A release of so many parcels in a row, of one piece each, the first of a register."""
-    parcels = [(f"P{number}", [[[(100 * number, 0), (100 * number + 100, 0), (100 * number + 100, 90), (100 * number, 90)]]]) for number in range(count)]
-    tables.write_release(folder, parcels, [(f"C{name}", name, "G", polygon) for name, polygon in parcels])
-    (pathlib.Path(folder) / "lineage.csv").write_text("old,new\n", encoding="ascii")
-
-
 def programs_of(path):
     """The processes that run a program."""
     found = []
@@ -85,12 +78,6 @@ def is_written(register):
     """Whether a program writes a release into a new register: its log is longer than that of the tables."""
     log = pathlib.Path(f"{register}-wal")
     return log.exists() and log.stat().st_size > LOG_OF_TABLES
-
-
-def heard_signals():
-    """A program hears these three also where whoever runs the tests does not."""
-    for number in (signal.SIGTERM, signal.SIGINT, signal.SIGHUP):
-        signal.signal(number, signal.SIG_DFL)
 
 
 @pytest.mark.skipif(not BUILT, reason="the program is not built")
@@ -242,13 +229,14 @@ class TestPackages(Kept):
         folder.mkdir()
         top = self.unpacked(folder)
         program, script, release, cert = top / "lib" / "lpis" / "program" / "lpis", top / "bin" / "lpis", folder / "release", folder / "cert.txt"
-        squares(release, MANY)
+        tables.write_squares(release, MANY)
+        (release / "lineage.csv").write_text("old,new\n", encoding="ascii")
         done(script, "cut", release, cert)
         ends = set()
-        for number in (signal.SIGTERM, signal.SIGINT, signal.SIGHUP):
+        for number in stopping.SIGNALS:
             register = folder / f"{number.name}.db"
             publish = [script, "publish", register, "2024", release, cert]
-            with subprocess.Popen(publish, stdout=subprocess.DEVNULL, stderr=subprocess.DEVNULL, preexec_fn=heard_signals) as running:
+            with subprocess.Popen(publish, stdout=subprocess.DEVNULL, stderr=subprocess.DEVNULL, preexec_fn=stopping.hears_signals) as running:
                 while running.poll() is None and not is_written(register):
                     time.sleep(0.001)
                 running.send_signal(number)

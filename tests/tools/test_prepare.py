@@ -5,7 +5,6 @@ import os
 import shutil
 import subprocess
 import sys
-import tempfile
 import unittest.mock
 from pathlib import Path
 
@@ -15,7 +14,7 @@ from places import BUILT, TOOLS
 from spare import Kept, Spare
 import dirty
 import exact
-from lpis_tools import identifiers, shapely_there, sheets
+from lpis_tools import identifiers, shapely_there
 
 HAS_SHAPELY = shapely_there.python() is not None
 # Kind, layer, identifier and words that must come, for each kind of dirt.
@@ -207,14 +206,6 @@ class TestNames:
         assert all(map(identifiers.is_one, made)), made
         assert len(set(made)) == len(made)
         assert (made[0][:7], made[6][:4]) == ("Muehle_", "Ete_")
-
-    def test_encodings(self):
-        text = "class;percent\r\nGr\u00fcn;5\r\n"
-        for encoding in ("utf-8", "utf-8-sig", "utf-16", "utf-16-le", "utf-16-be", "cp1252"):
-            with tempfile.NamedTemporaryFile() as file:
-                file.write(text.encode(encoding))
-                file.flush()
-                assert sheets.read(file.name).records == [{"class": "Gr\u00fcn", "percent": "5"}], encoding
 
 
 class TestAnotherPython:

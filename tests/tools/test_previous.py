@@ -10,7 +10,7 @@ from pathlib import Path
 
 import pytest
 from calls import records, tool
-from places import BUILT, TOP
+from places import BUILT, HELPERS
 from spare import Kept, Spare
 from lpis_tools import shapely_there
 
@@ -30,7 +30,7 @@ class TestYears(Kept):
         import edits
 
         cls.made = {}
-        subprocess.run([sys.executable, os.path.join(TOP, "bench", "make_coverage.py"), str(PARCELS), "1", cls.path("source")], check=True)
+        subprocess.run([sys.executable, os.path.join(HELPERS, "make_coverage.py"), str(PARCELS), "1", cls.path("source")], check=True)
         cls.made["edits"] = edits.make(cls.path("source"), cls.path("edited"), EDITS, SEED)
         edits.make(cls.path("source"), cls.path("moved"), EDITS, SEED, 0.0001)
         for name, source, *more in (("first", "source"), ("plain", "edited"), ("kept", "edited", "--previous", cls.path("first")), ("same", "source", "--previous", cls.path("first")),
@@ -69,7 +69,7 @@ class TestYears(Kept):
         import edits
         import exact
 
-        subprocess.run([sys.executable, os.path.join(TOP, "bench", "make_coverage.py"), "36", "2", self.path("few")], check=True)
+        subprocess.run([sys.executable, os.path.join(HELPERS, "make_coverage.py"), "36", "2", self.path("few")], check=True)
         edits.make(self.path("few"), self.path("few edited"), 12, SEED, 0.0001)
         for source, out, *more in (("few", "few first"), ("few edited", "few kept", "--accept", "--previous", self.path("few first"))):
             assert 0 == tool("prepare", self.path(source), self.path(out), *more).returncode

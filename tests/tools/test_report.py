@@ -6,13 +6,13 @@ import json
 import os
 import re
 import shutil
-import sqlite3
 import subprocess
 from pathlib import Path
 
 import pytest
 from calls import tool
 from places import BUILT, TOOLS, TOP
+from registers import RELEASE, SPAN, made
 from spare import Spare
 from lpis_tools import page, shapely_there
 
@@ -182,10 +182,7 @@ class TestReports(Spare):
         assert self.report("--diff", self.path("none"))[0].returncode == 64
 
     def test_years_of_a_register(self):
-        base = sqlite3.connect(self.path("r.db"))
-        base.executescript("CREATE TABLE lpis_release (year INTEGER PRIMARY KEY); CREATE TABLE lpis_span (id TEXT PRIMARY KEY, since INTEGER, until INTEGER);"
-                           "INSERT INTO lpis_release VALUES (2025), (2024), (2027); INSERT INTO lpis_span VALUES ('A', 2024, 0), ('B', 2024, 2025)")
-        base.close()
+        made(self.path("r.db"), RELEASE, SPAN, "INSERT INTO lpis_release VALUES (2025), (2024), (2027); INSERT INTO lpis_span VALUES ('A', 2024, 0), ('B', 2024, 2025)")
         run, told = self.report("--register", self.path("r.db"))
         assert (told["register"]["years"], told["register"]["live"]) == ([2024, 2025, 2027], 1), run.stderr
         assert "r.db: 3 years (2024 to 2027), 1 live identifiers of 2, 0 shapes" in run.stdout
@@ -268,10 +265,7 @@ class TestReports(Spare):
         folder = shutil.copytree(os.path.join(TOP, "examples", "country"), self.path("land"))
         for region in ("west", "southeast", "northeast"):
             Path(folder, region, "lineage.csv").write_text(f"old,new\n{region},\n", encoding="ascii")
-        base = sqlite3.connect(self.path("r.db"))
-        base.executescript("CREATE TABLE lpis_release (year INTEGER PRIMARY KEY); CREATE TABLE lpis_span (id TEXT PRIMARY KEY, since INTEGER, until INTEGER);"
-                           "INSERT INTO lpis_release VALUES (2025); INSERT INTO lpis_span VALUES ('A', 2025, 0)")
-        base.close()
+        made(self.path("r.db"), RELEASE, SPAN, "INSERT INTO lpis_release VALUES (2025); INSERT INTO lpis_span VALUES ('A', 2025, 0)")
         run, told = self.report("--register", self.path("r.db"), line="refused 90 country line 1", folder=folder, cert=())
         assert (run.returncode, run.stdout.splitlines()[-1], told["register"]["years"]) == (1, "register 1 year (2025), 1 live identifiers of 1, 0 shapes", [2025]), run.stderr
         assert {"classes.csv", "west/lineage.csv", "northeast/lineage.csv"} <= set(told["files"]), sorted(told["files"])

@@ -8,6 +8,7 @@ from fractions import Fraction
 import pytest
 import hard
 from lpis_tools import shapely_there
+from tables import orient
 
 if shapely_there.is_there():
     import numpy
@@ -35,15 +36,11 @@ def meets(edge, pixel):
     return low < high or (low == high and not is_low_open and not is_high_open)
 
 
-def turn(a, b, c):
-    return (b[0] - a[0]) * (c[1] - a[1]) - (b[1] - a[1]) * (c[0] - a[0])
-
-
 def crossing(one, other):
     """The pixel of the proper crossing of two edges in parts, by fractions; None where there is none."""
     a, b, c, d = one[:2], one[2:], other[:2], other[2:]
-    before, behind = turn(c, d, a), turn(c, d, b)
-    if before * behind >= 0 or turn(a, b, c) * turn(a, b, d) >= 0:
+    before, behind = orient(c, d, a), orient(c, d, b)
+    if before * behind >= 0 or orient(a, b, c) * orient(a, b, d) >= 0:
         return None
     share = Fraction(before, before - behind)
     return tuple(((start + share * (end - start)) + HALF) // WHOLE for start, end in zip(a, b))
@@ -125,7 +122,7 @@ class TestLands:
                         break
                     if min(c[1], d[1]) > max(a[1], b[1]) or max(c[1], d[1]) < min(a[1], b[1]):
                         continue
-                    sides = turn(a, b, c), turn(a, b, d), turn(c, d, a), turn(c, d, b)
+                    sides = orient(a, b, c), orient(a, b, d), orient(c, d, a), orient(c, d, b)
                     assert not (sides[0] * sides[1] < 0 and sides[2] * sides[3] < 0), (a, b, c, d)
                     for side, (p, q), point in zip(sides, ((a, b), (a, b), (c, d), (c, d)), (c, d, a, b)):
                         is_between = min(p[0], q[0]) <= point[0] <= max(p[0], q[0]) and min(p[1], q[1]) <= point[1] <= max(p[1], q[1])

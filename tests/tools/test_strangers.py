@@ -1,5 +1,6 @@
 """Tests what tools do with what strangers hand them: no crash is an answer, nothing of it is run or written through, and it is printed fit for people."""
 
+import contextlib
 import csv
 import io
 import os
@@ -8,16 +9,16 @@ import stat
 import struct
 import subprocess
 import sys
-import tempfile
 import unittest.mock
 from pathlib import Path
 
 import pytest
+from calls import tool
 from registers import made
 import dirty
+import spare
 import stopping
 from places import TOOLS
-from spare import Spare
 from lpis_tools import countries, explaining, files, ledger, origin, page, polygons, printing, refusal, registers, report, shapely_there, streams, systems, tables, unforeseen, wkb, words, years
 
 DIGITS = "1" * 5000
@@ -58,39 +59,32 @@ def raises(kind):
 
 def ended_in(main):
     """The status of a tool, and what it tells."""
-    old, sys.stderr = sys.stderr, io.StringIO()
-    try:
-        with unittest.mock.patch("lpis_tools.printing.begin"):
-            return words.ended("tool", main), sys.stderr.getvalue()
-    finally:
-        sys.stderr = old
+    with unittest.mock.patch("lpis_tools.printing.begin"), contextlib.redirect_stderr(io.StringIO()) as told:
+        return words.ended("tool", main), told.getvalue()
 
 
-class Case(Spare):
+class Case(spare.Spare):
     def write(self, name, text):
-        with open(self.path(name), "w", encoding="utf-8") as file:
-            file.write(text)
-        return file.name
+        spare.write(text, self.path(name))
+        return self.path(name)
 
     def read(self, name):
-        return Path(self.path(name)).read_text(encoding="utf-8")
+        return spare.read(self.path(name))
 
-    def run_tool(self, text, told="", **more):
+    def run_tool(self, text, told=""):
         name, *rest = text.split()
-        return subprocess.run([os.path.join(TOOLS, name), *(word.format(self.folder) for word in rest)], input=told, capture_output=True, text=True, check=False, timeout=120, **more)
+        return tool(name, *(word.format(self.folder) for word in rest), input=told, timeout=120)
 
 
 class TestLastResort(Case):
     """An error that nobody foresaw."""
 
     def ended(self, main, folder=None):
-        was, tempfile.tempdir = tempfile.tempdir, folder or self.folder
-        try:
-            unforeseen.PLACE.step = ""
-            return ended_in(main)
-        finally:
-            tempfile.tempdir = was
-            unforeseen.at()
+        unforeseen.PLACE.step = ""
+        with unittest.mock.patch("tempfile.tempdir", folder or self.folder):
+            found = ended_in(main)
+        unforeseen.at()
+        return found
 
     def test_sentence(self):
         status, told = self.ended(fails)
@@ -238,10 +232,7 @@ class TestPackages(Case):
 
     def endless(self, name):
         """A GeoPackage whose layer of parcels is a view that never ends."""
-        package = dirty.Package(self.path(name))
-        package.layer("parcels", ["parcel"], [])
-        package.layer("covers", ["piece", "parcel", "class"], [])
-        package.close()
+        dirty.put(self.path(name), [], [])
         made(self.path(name), f"DROP TABLE parcels; CREATE VIEW parcels AS {ENDLESS} WHERE fid < 0;" if name == "silent.gpkg" else f"DROP TABLE parcels; CREATE VIEW parcels AS {ENDLESS};")
         return self.path(name)
 

@@ -12,6 +12,7 @@ import dirty
 import places
 from calls import records
 from preparing_case import CLASSES, Case, ring
+from registers import made
 
 
 class TestUnusual(Case):
@@ -34,12 +35,7 @@ class TestUnusual(Case):
     def changed(self, *statements):
         """A clean source with statements made in it."""
         source = self.package([("A", dirty.polygon(dirty.box(0, 0)))], [("A.1", "A", "GRASS", dirty.polygon(dirty.box(0, 0)))])
-        base = dirty.sqlite3.connect(source)
-        for statement in statements:
-            base.execute(statement)
-        base.commit()
-        base.close()
-        return source
+        return made(source, *statements)
 
     def locked(self):
         source = self.changed()
@@ -143,12 +139,8 @@ class TestUnusual(Case):
         """A source of one parcel beside others, at an easting, in a system."""
         shapes = [dirty.polygon([(x - dirty.EAST + at, y) for x, y in dirty.box(10 * number, 0)]) for number, at in enumerate((east, *others))]
         with unittest.mock.patch.dict(dirty.SYSTEMS, {2154: ("Lambert-93", dirty.SYSTEMS[25832][1].replace("Transverse_Mercator", "Lambert_Conformal_Conic_2SP")), 32720: dirty.SYSTEMS[25832]}):
-            package = dirty.Package(self.path("land.gpkg"), system)
-        package.layer("parcels", ["parcel"], [(f"A{number}", shape) for number, shape in enumerate(shapes)])
-        package.layer("covers", ["piece", "parcel", "class"], [(f"A{number}.1", f"A{number}", "GRASS", shape) for number, shape in enumerate(shapes)])
-        package.table("classes", ["class", "percent"], [("GRASS", 100)])
-        package.close()
-        return self.path("land.gpkg")
+            return dirty.put(self.path("land.gpkg"), [(f"A{number}", shape) for number, shape in enumerate(shapes)],
+                             [(f"A{number}.1", f"A{number}", "GRASS", shape) for number, shape in enumerate(shapes)], [("GRASS", 100)], system)
 
     @pytest.mark.parametrize("east, system, kind", ((32_550_000, 25832, "prefix"), (32_550_000, 4647, "prefix"), (30_550_000, 25832, "far"), (32_550_000, 2154, "far"), (20_000_139, 32720, "prefix"), (20_000_139, 25832, "far"),
                                                     (33_550_000, 4647, "far"), (61_000_000, 25832, "far")))
@@ -161,12 +153,8 @@ class TestUnusual(Case):
     def test_degrees_among_metres(self):
         """A parcel in degrees among metres is a row that stops."""
         source = self.far(9, 25832, [550_000])
-        base = dirty.sqlite3.connect(source)
-        degrees = dirty.polygon([(9.1, 48.1), (9.2, 48.1), (9.2, 48.2), (9.1, 48.1)])
-        for name in ("parcels", "covers"):
-            base.execute(f"UPDATE {name} SET geom = ? WHERE fid = 1", (b"GP\0\1" + struct.pack("<i", 25832) + degrees,))
-        base.commit()
-        base.close()
+        degrees = b"GP\0\1" + struct.pack("<i", 25832) + dirty.polygon([(9.1, 48.1), (9.2, 48.1), (9.2, 48.2), (9.1, 48.1)])
+        made(source, *(f"UPDATE {name} SET geom = x'{degrees.hex()}' WHERE fid = 1" for name in ("parcels", "covers")))
         status, told = self.told(source)
         assert (status, told.count("which reads as degrees among metres") >= 2) == (1, True), told
         status, told = self.told(source, "--accept")

@@ -1,107 +1,21 @@
-"""Two years of one map with marked splits and merges, each pair from its number, and what is true of them by whole numbers and from the
-definitions alone: which groups there are and in what order, which of them are exact, and what `publish` says of blocks.
+"""Two years of one map with marked splits and merges, each pair from its number.
 
 Shapes are heaps of a mesh's triangles, drawn as mesh.py draws them, in each year anew, or halves of a convex ring along a line.
 Between the years a corner moves by a millimetre, or land is lost, gained or exchanged; a line has its ends on lattice points of the border
-or beside it, where they are rounded. So a group may be exact or not, whatever was done: the judge says it. Each parcel has one piece, which is its own shape.
-Polygons are as in tables.py, of whole millimetres."""
+or beside it, where they are rounded. So a group may be exact or not, whatever was done: exact_lineage.py says it. Each parcel has one piece,
+which is its own shape. Polygons are as in tables.py, of whole millimetres."""
 
+import os
 import random
 
-from exact_map import LIMIT, Truth, edges, shoelace
+from exact_lineage import Change, Row, corners_of
+from exact_map import LIMIT, Truth
 from mesh import Drawing, Mesh
-from tables import orient
+from tables import orient, shoelace, write_lines, write_release
 
 LETTERS = "abcdefghijklmnopqrstuvwxyzABCDEFGHIJKLMNOPQRSTUVWXYZ"
 SIZES = [20, 1_000, 60_000, 10**7]
-
-
-# What is true.
-
-
-def corners_of(polygons):
-    return {point for polygon in polygons for member in polygon for ring in member for point in ring}
-
-
-def net_of(counted):
-    """The net counts of directed edges, each with how often it counts: by the pair with the lesser end first, none of them 0."""
-    net = {}
-    for (a, b), count in counted:
-        if a != b:
-            key, sign = ((a, b), 1) if a < b else ((b, a), -1)
-            net[key] = net.get(key, 0) + sign * count
-    return {edge: count for edge, count in net.items() if count}
-
-
-def difference(whole, parts, flats=()):
-    """The net counts by which the edges of a whole differ from those of its parts and flats together."""
-    taken = [(edge, -1) for polygon in parts for edge in edges(polygon)] + [(edge, -1) for a, b, c in flats for edge in ((a, b), (b, c), (c, a))]
-    return net_of([(edge, 1) for edge in edges(whole)] + taken)
-
-
-def passed(edge, corners):
-    """The corners inside an edge, from its first end to its second."""
-    a, b = edge
-    return sorted((p for p in corners if min(a, b) < p < max(a, b) and orient(a, b, p) == 0), reverse=a > b)
-
-
-def is_made_up(whole, parts):
-    """The whole turns round each point as often as its parts together: the edges that do not cancel do so once each is taken from one corner
-    on it to the next."""
-    corners = corners_of([whole, *parts])
-    atoms = []
-    for edge, count in difference(whole, parts).items():
-        way = [edge[0], *passed(edge, corners), edge[1]]
-        atoms += [(step, count) for step in zip(way, way[1:])]
-    return not net_of(atoms)
-
-
-def flats_of(whole, parts):
-    """Flats that lead each edge that does not cancel over the corners on it: where the whole is made up by its parts they show it."""
-    corners, flats = corners_of([whole, *parts]), []
-    for (a, b), count in sorted(difference(whole, parts).items()):
-        first = a
-        for p in passed((a, b), corners):
-            flats += [(first, b, p) if count > 0 else (first, p, b)] * abs(count)
-            first = p
-    return flats
-
-
-def is_flat(flat):
-    return len(set(flat)) == 3 and orient(*flat) == 0
-
-
-class Group:
-    """A marked split or merge, with its whole and its parts; `olds` are the identifiers whose old shapes it asks for."""
-
-    def __init__(self, is_merge, name, others, old, new):
-        self.is_merge, self.name, self.others = is_merge, name, sorted(others)
-        self.olds = self.others if is_merge else [name]
-        self.whole, self.parts = (new[name], [old[it] for it in self.others]) if is_merge else (old[name], [new[it] for it in self.others])
-
-    def block(self):
-        return [self.is_merge, self.name, flats_of(self.whole, self.parts)]
-
-
-def block_fault(groups, blocks):
-    """The code and the identifier of the first fault of blocks, each (is a merge, identifier, flats), or None."""
-    for place in range(max(len(groups), len(blocks))):
-        named = [(it.is_merge, it.name) for it in groups[place : place + 1]]
-        if [tuple(it[:2]) for it in blocks[place : place + 1]] != named:
-            return "6a", blocks[place][1] if place < len(blocks) else groups[place].name
-    for _, name, flats in blocks:
-        if not all(map(is_flat, flats)):
-            return "6b", name
-    for group, (_, name, flats) in zip(groups, blocks):
-        if not {p for flat in flats for p in flat} <= corners_of([group.whole, *group.parts]):
-            return "6c", name
-    for group, (_, name, flats) in zip(groups, blocks):
-        if difference(group.whole, group.parts, flats):
-            return "6d", name
-    return None
-
-
-# Two years.
+CLASSES, UNMARKED = ["class,percent", "G,100"], ["", "0"]
 
 
 class TwoYears:
@@ -160,54 +74,25 @@ class TwoYears:
         old, new, is_marked = self.rows[place]
         self.rows[place] = (old, new, not is_marked)
 
-    # What the rows say.
+    def write(self, folder, numbers):
+        """The releases of both years, with their tables of lineage."""
+        for year, parcels in (("2024", self.old), ("2025", self.new)):
+            write_release(os.path.join(folder, year), list(parcels.items()), pieces_of(parcels), 3, CLASSES)
+        write_lines(os.path.join(folder, "2024"), "lineage.csv", ["old,new"])
+        rows = [f"{old},{new},{'1' if is_marked else numbers.choice(UNMARKED)}" for old, new, is_marked in self.rows]
+        write_lines(os.path.join(folder, "2025"), "lineage.csv", ["old,new,exact", *rows])
 
-    def successors(self, old):
-        return [new for it, new, _ in self.rows if it == old and new]
+    def change(self):
+        """What the rows say."""
+        return Change(self.old, self.new, [Row(*row, number) for number, row in enumerate(self.rows, 1)], self.old)
 
-    def predecessors(self, new):
-        return [old for old, it, _ in self.rows if it == new] + [new] * (new in self.old)
 
-    def kind(self, old):
-        """What became of an identifier of the last release; None where it is kept."""
-        if old in self.new:
-            return None
-        after = self.successors(old)
-        if not after:
-            return "ended"
-        if len(after) == 1:
-            return "merged" if len(self.predecessors(after[0])) > 1 else "replaced"
-        return "split" if all(len(self.predecessors(new)) == 1 for new in after) else "redrawn"
-
-    def splits(self):
-        return [old for old in sorted(self.old) if self.kind(old) == "split"]
-
-    def merges(self):
-        """Successors with several predecessors, each of which has no other successor."""
-        return [new for new in sorted(self.new) if len(self.predecessors(new)) > 1 and all(it == new or self.kind(it) == "merged" for it in self.predecessors(new))]
-
-    def groups(self):
-        """The marked groups, in their order."""
-        split = [Group(False, old, self.successors(old), self.old, self.new) for old in self.splits() if all(m for it, _, m in self.rows if it == old)]
-        merged = [Group(True, new, self.predecessors(new), self.old, self.new) for new in self.merges() if all(m for _, it, m in self.rows if it == new)]
-        return split + merged
-
-    def is_in(self, row, groups):
-        return any(row[0] == group.name and not group.is_merge or row[1] == group.name and group.is_merge for group in groups)
-
-    def first_outside(self, groups):
-        """The number of the first marked row that belongs to none of the groups, from 1; None where each does."""
-        return next((place for place, row in enumerate(self.rows, 1) if row[2] and not self.is_in(row, groups)), None)
-
-    def lines(self, groups):
-        """The lines of the dropped identifiers."""
-        exact = {row[0] for row in self.rows if self.is_in(row, groups)}
-        dropped = [old for old in sorted(self.old) if old not in self.new]
-        return [f"lineage {old} {self.kind(old)}{' exact' if old in exact else ''}" for old in dropped]
+def pieces_of(parcels):
+    return [(f"p.{name}", name, "G", polygon) for name, polygon in parcels.items()]
 
 
 def is_sound(parcels):
-    truth = Truth(list(parcels.items()), [(f"p.{name}", name, "G", polygon) for name, polygon in parcels.items()])
+    truth = Truth(list(parcels.items()), pieces_of(parcels))
     return not (truth.bad or truth.uneven or truth.faces)
 
 

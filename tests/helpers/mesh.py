@@ -4,8 +4,7 @@ rings added that cancel. None of that changes which points the polygon contains.
 
 import math
 
-from exact_map import shoelace
-from tables import orient
+from tables import orient, shoelace
 
 WIDTHS = [[1], [1, 2, 3], [1, 1, 2, 7, 1_000], [1, 40, 90_000], [5, 6, 7], [400, 500, 600]]
 

@@ -12,6 +12,8 @@ import os
 import random
 import sys
 
+from lands_parts import on
+
 
 class Row:
     """A winding line from left to right."""
@@ -30,10 +32,6 @@ class Row:
 
     def way(self, left, right):
         return [(left, self.at(left))] + [(x, y) for x, y in zip(self.xs, self.ys) if left < x < right] + [(right, self.at(right))]
-
-
-def on(a, b, part):
-    return a[0] + part * (b[0] - a[0]), a[1] + part * (b[1] - a[1])
 
 
 def pieces_of(numbers, low, high, left, right):

@@ -7,13 +7,9 @@ rule. Nothing here triangulates, and no order of a sweep is kept from strip to s
 from fractions import Fraction
 
 from least_points import MOST, on_line, point_in
-from tables import orient
+from tables import orient, shoelace
 
 LIMIT = 20_000_000_000  # the range of a coordinate, in millimetres
-
-
-def shoelace(ring):
-    return sum(a[0] * b[1] - b[0] * a[1] for a, b in zip(ring, ring[1:] + ring[:1]))
 
 
 def edges(polygon):

@@ -7,11 +7,11 @@
 
 import csv
 import math
-import os
 import random
 import re
 from collections import defaultdict
 
+from calls import records
 from lands_land import KEYS
 
 csv.field_size_limit(1 << 30)
@@ -23,15 +23,6 @@ SAMPLES = 150
 GONE = ("lost", "left out")  # kinds of report.csv
 CONFLICTS = {"overlap", "gap", "outside"}  # kinds that name who shares land, which is no word for a row that is changed or gone
 MOST = 1e16  # square metres: of coordinates beyond the range, whose row is left out by name
-
-
-def records(folder, name):
-    """The records of a table of a folder; none where it is not there."""
-    path = os.path.join(folder, name)
-    if not os.path.exists(path):
-        return []
-    with open(path, newline="", encoding="utf-8") as file:
-        return list(csv.DictReader(file))
 
 
 def rings_of(text):

@@ -8,8 +8,9 @@ from pathlib import Path
 
 import lands_damage
 import lands_source
-from common import answer, lpis
-from lands_judge import Judge, Written, records, rings_of
+from calls import lpis, records
+from country_example import regions_of
+from lands_judge import Judge, Written, rings_of
 
 STATUSES = {0, 1, 64}
 UNFORESEEN = 70  # the status of an error that nobody foresaw
@@ -97,7 +98,7 @@ class Trial:
             return
         cert = self.path("cert.txt")
         for words in (["cut", out, cert], ["check", out, cert]):
-            status, text, told = answer([lpis(), *words])
+            status, text, told = lpis(*words)
             if text.startswith("refused 40 ") and triangles_of(out) > MOST_TRIANGLES:
                 return  # too large for one certificate, as docs/GUIDE.md says: it goes into regions
             if status != 0:
@@ -153,8 +154,7 @@ class Trial:
 
     def judge_regions(self, out, country):
         """The regions of a country have each row of the tables, and nothing else; each gets its yes."""
-        with open(os.path.join(country, "country.txt"), encoding="ascii") as file:
-            regions = [line.split()[1] for line in file if line.startswith("region ")]
+        regions = regions_of(country)
         for name in TABLES[:2]:
             wanted = {tuple(record.items()) for record in records(out, name)}
             found = {tuple(record.items()) for region in regions for record in records(os.path.join(country, region), name)}
@@ -164,8 +164,8 @@ class Trial:
             self.say("split", "the classes of a region, or of the country, are others")
         self.same_balance("split", country, out, "tables_m2")
         for region in regions:
-            answer([lpis(), "cut", os.path.join(country, region), os.path.join(country, region, "cert.txt")])
-        status, text, told = answer([lpis(), "country", country])
+            lpis("cut", os.path.join(country, region), os.path.join(country, region, "cert.txt"))
+        status, text, told = lpis("country", country)
         if status != 0:
             self.say("split", f"lpis country: {(text + told).strip()[-200:]}")
 

@@ -1,5 +1,5 @@
 #!/usr/bin/python3
-"""Writes a release of N parcels for the cutter, from a fixed seed: make_parcels.py N FOLDER [straight | mosaic | digitised | regular] [turned] [FAULT].
+"""Writes a release of N parcels for the cutter, from a fixed seed: make_parcels.py N FOLDER [KIND] [turned] [FAULT].
 
 The parcels are the cells of a grid of about 120 metres whose nodes were moved and whose borders are digitised in 1 to 12 segments, 2.85
 on average, 1.55 with `straight`: a piece has 4 to 56 points, 10.8 on average, 7.7 with `straight` (closing points are counted). A parcel
@@ -8,7 +8,8 @@ parcel of its own. Every polygon takes up points in the middle of its edges for 
 there. All nodes and borders are of even centimetres, so such middles lie exactly on the edge. It is sound by construction: a border keeps
 within a slim rhombus around its straight line, and a cell is divided around its middle only where the middle sees the whole ring.
 
-With `mosaic` each border has 8 segments, a parcel has one piece of its own shape, and no polygon takes up points.
+With `mosaic` each border has 8 segments, a parcel has one piece of its own shape, and no polygon takes up points; `grid` is the same with a
+segment each.
 
 With `digitised` every polygon has 5 to 60 points, a piece 18 on average, as far as a map of reference parcels shows its borders: a road or
 a ditch is one straight segment, a hedge has a few, the edge of a wood or a stream has a point each 8 to 15 metres. The pieces of a
@@ -27,7 +28,7 @@ import random
 import sys
 
 from make_large import round_point
-from tables import orient, write_release
+from tables import orient, shoelace, write_release
 
 STEP, JITTER = 12_000, 1_800  # centimetres
 EAST, NORTH = 40_000_000, 530_000_000
@@ -50,10 +51,6 @@ def middle_of(a, b):
 
 def edges_of(ring):
     return list(zip(ring, ring[1:] + ring[:1]))
-
-
-def area2(ring):
-    return sum(a[0] * b[1] - b[0] * a[1] for a, b in edges_of(ring))
 
 
 def points_of(polygon):
@@ -195,6 +192,11 @@ class Mosaic(Map):
         self.add([[ring]], [[[ring]]])
 
 
+class Grid(Mosaic):
+    def digitised(self, a, b):
+        return [a]
+
+
 class Digitised(Map):
     def digitised(self, a, b):
         """As many segments as the border of a whole cell would have on this length."""
@@ -232,19 +234,19 @@ class Digitised(Map):
         return [ring]
 
     def are_pieces(self, *rings):
-        areas = [area2(ring) for ring in rings]
+        areas = [shoelace(ring) for ring in rings]
         return 8 * min(areas) >= sum(areas) and min(map(len, rings)) >= 4 and all(map(self.fits, rings))
 
     def divided(self, ring, middle):
         """The ring cut into one to four pieces, the largest first."""
         rings = [ring]
         for _ in range(self.numbers.choice(SPOKES) - 1):
-            rings.sort(key=area2)
+            rings.sort(key=shoelace)
             rings += self.halves(rings.pop())
         return [[[part]] for part in rings]
 
 
-KINDS = {"straight": (Map, STRAIGHT), "mosaic": (Mosaic, SEGMENTS), "digitised": (Digitised, DIGITISED), "regular": (Digitised, REGULAR)}
+KINDS = {"straight": (Map, STRAIGHT), "mosaic": (Mosaic, SEGMENTS), "grid": (Grid, SEGMENTS), "digitised": (Digitised, DIGITISED), "regular": (Digitised, REGULAR)}
 
 
 def moved(polygon, corners, sign):

@@ -7,6 +7,7 @@ import importlib
 import io
 import os
 import resource
+import runpy
 import select
 import signal
 import sys
@@ -15,9 +16,8 @@ import traceback
 from dataclasses import dataclass
 from pathlib import Path
 
-from common import TOP
+from places import TOOLS
 
-TOOLS = os.path.join(TOP, "tools")
 PRELOADED = ["numpy", "shapely.geometry", "shapely.ops", "shapely.strtree", "shapely.validation", "shapely.prepared", "pyproj", "sqlite3", "csv", "json", "tempfile"]
 # What a run may take, by the points of its source: seconds of a processor, and megabytes beyond those of a process that has loaded all.
 SECONDS, SECONDS_EACH = 10.0, 0.001
@@ -53,18 +53,11 @@ class Runner:
     """Runs tools over sources of so many points."""
 
     def __init__(self, folder):
-        self.folder, self.codes = folder, {}
-
-    def code(self, tool):
-        if tool not in self.codes:
-            path = os.path.join(TOOLS, tool)
-            self.codes[tool] = compile(Path(path).read_text(encoding="utf-8"), path, "exec")
-        return self.codes[tool]
+        self.folder = folder
 
     def run(self, tool, *words, points=1000):
         """A run of a script of tools/ with these words."""
         words = [os.path.join(TOOLS, tool), *map(str, words)]
-        code = self.code(tool)
         seconds, room = SECONDS + SECONDS_EACH * points, ROOM + ROOM_EACH * points
         with tempfile.TemporaryFile(dir=self.folder) as out, tempfile.TemporaryFile(dir=self.folder) as err:
             sys.stdout.flush()
@@ -72,7 +65,7 @@ class Runner:
             pid = os.fork()
             if pid == 0:
                 os.environ["TMPDIR"], tempfile.tempdir = self.folder, None
-                in_child(code, words, out.fileno(), err.fileno(), seconds, room)
+                in_child(words, out.fileno(), err.fileno(), seconds, room)
             status, usage = waited(pid, WALL * seconds)
             texts = []
             for file in (out, err):
@@ -95,7 +88,7 @@ def waited(pid, wall):
     return (None if not is_done or code == -signal.SIGXCPU else code), usage
 
 
-def in_child(code, words, out, err, seconds, room):
+def in_child(words, out, err, seconds, room):
     """Becomes the tool, and never comes back."""
     status = 1
     try:
@@ -110,7 +103,7 @@ def in_child(code, words, out, err, seconds, room):
         resource.setrlimit(resource.RLIMIT_AS, (begun + room, begun + room))
         resource.setrlimit(resource.RLIMIT_CPU, (int(seconds) + 1, int(seconds) + 1))
         resource.setrlimit(resource.RLIMIT_CORE, (0, 0))
-        status = ended(code, words)
+        status = ended(words)
     finally:
         try:
             sys.stdout.flush()
@@ -119,15 +112,11 @@ def in_child(code, words, out, err, seconds, room):
             os._exit(status)
 
 
-def ended(code, words):
+def ended(words):
     """The status with which Python would end, told as Python would tell it."""
-    sys.argv = words
-    script = type(sys)("__main__")
-    script.__file__ = words[0]
-    sys.modules["__main__"] = script
+    sys.argv, status = words, 0
     try:
-        exec(code, script.__dict__)  # noqa: S102
-        status = 0
+        runpy.run_path(words[0], run_name="__main__")
     except SystemExit as end:
         status = end.code
         if status is not None and not isinstance(status, int):

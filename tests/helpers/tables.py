@@ -10,9 +10,9 @@ def orient(a, b, c):
     return (b[0] - a[0]) * (c[1] - a[1]) - (b[1] - a[1]) * (c[0] - a[0])
 
 
-def apart(t, u):
-    """The boxes of two triangles share no inner point."""
-    return any(max(p[k] for p in t) <= min(p[k] for p in u) or max(p[k] for p in u) <= min(p[k] for p in t) for k in (0, 1))
+def shoelace(ring):
+    """Twice the area of a ring, below 0 where it goes clockwise."""
+    return sum(a[0] * b[1] - b[0] * a[1] for a, b in zip(ring, ring[1:] + ring[:1]))
 
 
 def metres(point, decimals=2):
@@ -46,3 +46,9 @@ def write_release(folder, parcels, pieces, decimals=2, classes=CLASSES):
     write_lines(folder, "parcels.csv", ["parcel,wkt"] + [f'{name},"{polygon_text(polygon, decimals)}"' for name, polygon in parcels])
     rows = [f'{name},{parcel},{kind},"{polygon_text(polygon, decimals)}"' for name, parcel, kind, polygon in pieces]
     write_lines(folder, "covers.csv", ["piece,parcel,class,wkt"] + rows)
+
+
+def write_squares(folder, count, wide=250):
+    """So many parcels in rows, of one piece each."""
+    parcels = [(f"P{n}", [[[(x, y), (x + 1000, y), (x + 1000, y + 900), (x, y + 900)]]]) for n in range(count) for x, y in [(1000 * (n % wide), 1000 * (n // wide))]]
+    write_release(folder, parcels, [(f"C{name}", name, "GW"[number % 2], polygon) for number, (name, polygon) in enumerate(parcels)])

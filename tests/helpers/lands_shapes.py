@@ -8,6 +8,8 @@ import math
 import struct
 from decimal import Decimal
 
+from tables import orient
+
 AREALESS = ("null", "empty", "hollow", "line", "point", "collection")
 CURVED = ("arcs", "mixed")
 STRAIGHTENED = 0.0005  # metres that an arc may be straightened by
@@ -72,18 +74,14 @@ def chords(ring, arcs, form):
     """What a mixed ring's middle points of arcs add to the ring of its chords."""
     if form == "arcs":
         return 0.0
-    return sum(cross(*arcs[k:k + 3]) / 2 for k in range(0, len(arcs) - 2, 2))
-
-
-def cross(a, b, c):
-    return (b[0] - a[0]) * (c[1] - a[1]) - (b[1] - a[1]) * (c[0] - a[0])
+    return sum(orient(*arcs[k:k + 3]) / 2 for k in range(0, len(arcs) - 2, 2))
 
 
 def bulge(a, b, c):
     """What an arc from a over b to c adds to its chord, in square metres; positive on the right of its way."""
     if a == c:
         return math.pi * (math.dist(a, b) / 2) ** 2
-    doubled = cross(a, b, c)
+    doubled = orient(a, b, c)
     if doubled == 0:
         return 0.0
     ab, bc, ca = math.dist(a, b), math.dist(b, c), math.dist(c, a)
