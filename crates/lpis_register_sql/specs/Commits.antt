@@ -1,5 +1,5 @@
 -- What a call that writes in one transaction does to a database.
-use Rattle.std.specs.Prelude.{◌≡◌, ℕ, true, IsTrue, OnErr, OnOk, Result}
+use Rattle.std.specs.Prelude.{◌≡◌, ℕ, IsTrue, OnErr, OnOk, Result}
 use Rattle.sqlite.specs.Tree.{Trees}
 use Rattle.sqlite.specs.State.{HasCleanDisk, State, Survives}
 use Rattle.sqlite.specs.declared.error.Error.{Error}
@@ -7,7 +7,7 @@ use Rattle.lpis_register_rows.specs.Content.{Content, no_content}
 use Rattle.lpis_register_rows.specs.Histories.{only_format}
 use Rattle.lpis_register_sql.specs.Bare.{IsBare}
 use Rattle.lpis_register_sql.specs.Beside.{nothing}
-use Rattle.lpis_register_sql.specs.Layouts.{Layout, New, Whole, has_marks, made_whole}
+use Rattle.lpis_register_sql.specs.Layouts.{Layout, New, Whole, made_whole}
 use Rattle.lpis_register_sql.specs.Holding.{IsStored, Leaves}
 use Rattle.lpis_register_sql.specs.Quiet.{IsFound, StaysSettled}
 use Rattle.lpis_register_sql.specs.declared.found.Found.{Found}
@@ -26,10 +26,6 @@ pub record Creates (old new : State) (r : Result (Unit {0}) Error) : Type 0 wher
 -- rows of a version, in the tables that were found
 abbrev pub IsFoundOf : Found → ℕ → Layout → Content → Type 0
 IsFoundOf found version layout c = IsFound found layout × (c.formats ≡ only_format version)
-
--- all tables of version 3 are there
-abbrev pub AllStand : Layout → Content → Type 0
-AllStand layout c = has_marks layout ≡ true
 
 module _ (IsSuch : Layout → Content → Type 0) (turn : Content → Content) where
   -- a crash leaves such rows turned, and all tables of version 3
