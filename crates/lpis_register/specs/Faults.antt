@@ -50,7 +50,7 @@ IsFailure Memory = Unit {0}
 IsFailure Store = Unit {0}
 IsFailure _ = ⊥
 
--- the database failed, or itself ran out of memory, while a release was written
+-- the database failed, or memory ran out, while a release was written or read back
 abbrev pub IsStoreFault : PublishFault → Type 0
 IsStoreFault fault = (fault ≡ Store) ⊎ (fault ≡ StoreMemory)
 

@@ -1,4 +1,4 @@
-//! A release that may follow, with all that publishing it needs. Nothing is changed here.
+//! A release that may follow, with all that writing it needs. Nothing is changed here.
 
 ghost use Rattle.std.specs.Prelude.{◌≡◌, ◌≢◌, ◌<◌, [], ℕ, List, IfOk, IfErr, OnOk};
 ghost use Rattle.std.specs.List.{IsDistinct};
@@ -170,7 +170,7 @@ fn accept_later(
     Ok(Accepted { live, writing })
 }
 
-/// Refuses the parcels of a sound map that may not follow, or makes all that publishing them needs.
+/// Refuses the parcels of a sound map that may not follow, or makes all that writing them needs.
 pub(crate) fn accept_parcels(
     alloc: Global,
     history: &History,

@@ -116,8 +116,8 @@ impl<S: Alter> Register<S> {
     /// Refuses a release that may not follow the history: where its year is not above the last
     /// one's; else where its lineage is refused; else where an exact split or merge needs a shape
     /// of the last release that is not kept; else where the certificate's blocks don't show its
-    /// exact splits and merges. With Ok all that publishing it needs is made, and nothing is
-    /// changed yet.
+    /// exact splits and merges. With Ok all that writing it needs is made, and nothing is changed
+    /// yet.
     pub fn accept(
         &self,
         year: u16,
@@ -198,8 +198,9 @@ impl<S: Alter> Register<S> {
     /// Its exact splits and merges are such at every rational point. It is refused as `accept`
     /// refuses it; a refusal leaves the history and the shapes as they were.
     ///
-    /// The whole release is one transaction, and all that needs memory comes before it: after a
-    /// crash the tables have the release whole or not at all, and always where the answer was Ok.
+    /// The whole release is one transaction, in which the tables are read back before it is
+    /// committed. That takes memory; where it is refused, the transaction is undone. After a crash
+    /// the tables have the release whole or not at all, and always where the answer was Ok.
     pub fn publish(
         &mut self,
         year: u16,
@@ -215,7 +216,7 @@ impl<S: Alter> Register<S> {
             ⊎ (self.new.conn ≡ self.old.conn)) }
         // Such a fault comes where the release was accepted; `Store` where the database was shut,
         // its disk failed, the engine refuses one of the release's statements, or its tables then
-        // say something else.
+        // are not read, or say something else.
         ensures cause { IfErr result (λ fault. IsStoreFault fault → FailsToStore S.Store
             (candidate year yes.now cert.now.exact rows.now) self.old self.new (fault ≡ Store)) }
     {

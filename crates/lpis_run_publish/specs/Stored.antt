@@ -8,7 +8,7 @@ use Rattle.lpis_run.specs.declared.failure.Failure.TheVariants.{Store, StoreMemo
 use Rattle.lpis_register.specs.Holdings.{RegisterState}
 use Rattle.lpis_register.specs.Publishing.{IsLeftAlone, TablesSay}
 
--- the database failed, or itself ran out of memory
+-- the database failed, or memory ran out in its transaction
 abbrev pub IsStoreFailure : Failure → Type 0
 IsStoreFailure failure = (failure ≡ Store) ⊎ (failure ≡ StoreMemory)
 

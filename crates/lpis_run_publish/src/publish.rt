@@ -105,7 +105,7 @@ pub fn publish_accepted<S: Alter>(
         Ok(_) => Ok(answer),
         Err(PublishFault::Memory) => Err(Failure::Memory),
         Err(PublishFault::Store) => Err(Failure::Store),
-        // The database's own memory ran out: a commit has no other fault.
+        // Memory ran out in the transaction: a commit has no other fault.
         Err(_) => Err(Failure::StoreMemory),
     }
 }

@@ -88,8 +88,8 @@ module _ {S : Type 0} (store : Ghosts S) (asked : CountryRequest) where
     pub fails : FailsToStore store (union_of asked.year said regions) old new Failed
 
   -- what a run ends with, and what it leaves in the database. Where the database failed there was a
-  -- country to be stored, and a cause, unless it itself ran out of memory or its disk lost what was
-  -- written
+  -- country to be stored, and a cause, unless memory ran out in the transaction or its disk lost
+  -- what was written
   pub record RunsPublishCountry (old new : RegisterState S) (before after : Known)
       (result : Result ℕ Failure) : Type 0 where
     pub runs : EndsPublishCountry asked old.held new.held before after result
