@@ -9,7 +9,7 @@ import pytest
 import hard
 from lpis_tools import shapely_there
 from cells_case import ByCells, mended, read
-from lands_parts import boxed, on
+from lands_parts import boxed, closed, on
 
 if shapely_there.is_there():
     from lpis_tools import country_prepare, land as land_module, last_year, naming, parts, passes, rounding, snapping, store
@@ -42,7 +42,7 @@ class TestCells(ByCells):
                 assert read(made, name) == read(self.folder, "whole", name)
             assert found == whole
 
-    @pytest.mark.parametrize("seed, step, width", ((0, 3.0, 0.1), (1, 0.3, 0.1), (3, 30.0, 60.0)))
+    @pytest.mark.parametrize("seed, step, width", ((0, 3.0, 0.1), (1, 0.3, 0.1), (2, 30.0, 60.0), (3, 30.0, 60.0)))
     def test_between(self, seed, step, width):
         """Land that nobody has, as in one: faces that many cells have a part of, islands in them, and arms between parcels of two cells."""
         land = mended(hard.Land(seed, 30, step))
@@ -65,6 +65,18 @@ class TestCells(ByCells):
             found = self.whole(land, width)
             assert (len(found), round(sum(loss[5] for loss in found), 6)) == (count, round(area, 6))
             assert self.by_cells(land, 1, width=width)[1] == found
+
+    def test_needles(self):
+        """Two needles whose tips meet part a narrow face from a wide one. Each has a width by the corner of another parcel alone, and is a line to cells that do not read that."""
+        land = hard.Land(0, 0, 1.0)
+        land.parcels.clear(), land.covers.clear()
+        frame = (-20, -10, 10, 100), (-10, -10, 310, 10), (-10, 80, 310, 10), (300, -10, 10, 100)
+        for ring in (*(boxed(*of) for of in (*frame, (5.001, 10, 10, 10.001), (4.999, 59.999, 10, 10))), closed((0, 0), (0.0004, 0), (10, 40)), closed((19.9996, 80), (20, 80), (10, 40))):
+            land.parcel([ring])
+        whole = self.whole(land, 20.0)
+        assert [(len(names), words.count("4 more parcels"), round(area)) for _, names, _, words, _, area, _ in whole] == [(2, 1, 1500), (2, 0, 100), (2, 0, 13)]
+        for most in (20, 1):
+            assert self.by_cells(land, most, width=20.0)[1] == whole
 
     @pytest.mark.parametrize("seed, step", enumerate((0.02, 3.0, 30.0)))
     def test_last_year(self, seed, step):

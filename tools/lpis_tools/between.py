@@ -32,7 +32,7 @@ class Between:
         self.faces, self.points, self.width, self.names_of = made, made.network.points, width, names_of
         self.face = made.joined(is_nobody[made.cycle[0::2]] & is_nobody[made.cycle[1::2]])  # a line within nobody's land parts nothing
         rings = faces.Rings(made, numpy.where(is_nobody, 0, faces.NOBODY))
-        self.halves, self.following = rings.halves, rings.following  # borders, with nobody to their left
+        self.halves, self.following, self.is_clear = rings.halves, rings.following, rings.is_clear  # borders, with nobody to their left
         outer = [self.face[root] for root, around in zip(made.outer, made.around) if around == faces.NOBODY]
         self.inner = is_nobody & (self.face != outer[0]) if outer else is_nobody
 
@@ -70,7 +70,8 @@ class Between:
         """The narrow arms between two parcels, among borders that nobody's wider land lies beside."""
         halves, number = self.halves[is_wide], numpy.cumsum(is_wide) - 1
         names = Names(self.names_of(halves))
-        a, b, whose = straightened(*self.ends(halves), names.numbers, number[self.following[is_wide]])
+        following = numpy.where(self.is_clear, number[self.following], -1)[is_wide]  # not past a line's end: a cell may know a thin parcel as a line
+        a, b, whose = straightened(*self.ends(halves), names.numbers, following)
         return arms(a, b, [names.all[number] for number in whose.tolist()], self.width)
 
 

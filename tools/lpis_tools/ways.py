@@ -1,5 +1,6 @@
 """The borders of land that nobody has, as ways along it, of which each cell writes those beside its parcels: with nobody to the left, and a parcel to the right of each
-edge. A way ends where another cell's parcel follows; most of them are closed."""
+edge. A way ends where another cell's parcel follows, and where a line ends within the land: a part of a parcel that is wide in the whole may have no width in a cell, so
+what goes on there is told by the ways of all cells. Most ways are closed."""
 
 from __future__ import annotations
 
@@ -21,26 +22,27 @@ def ways_of(made, wanted):
     held, network = made.held(), made.network
     rings = faces.Rings(made.faces, numpy.where(numpy.array([name is None for name in held], bool), 0, faces.NOBODY))
     names = [held[there] for there in made.faces.cycle[rings.halves ^ 1].tolist()]
-    own, before = numpy.array([name in wanted for name in names], bool), numpy.empty(len(names), int)
-    before[rings.following] = numpy.arange(len(names))
+    own = numpy.array([name in wanted for name in names], bool)
     a, b = (network.points[made.faces.start[some]] for some in (rings.halves, rings.halves ^ 1))
-    for way, is_closed in walked(own, before, rings.following):
+    for way, is_closed in walked(own, own & own[rings.following] & rings.is_clear, rings.following):
         points = numpy.concatenate([a[way], b[way[-1:]]])
         runs = [(name, len(list(some))) for name, some in groupby(names[one] for one in way)]
         yield KIND, head_of(points, is_closed), [name for name, _ in runs], [count for _, count in runs], points.ravel().tolist()
 
 
-def walked(own, before, following):
-    """The ways over what is own, each with whether it is closed: first those that begin behind what is not own. A closed one begins at its least."""
-    is_own, after, seen = own.tolist(), following.tolist(), [False] * len(own)
-    for first in [*numpy.nonzero(own & ~own[before])[0].tolist(), *numpy.nonzero(own)[0].tolist()]:
+def walked(own, goes_on, following):
+    """The ways over what is own, each with whether it is closed: first those that begin where none goes on. A closed one begins at its least."""
+    behind = numpy.zeros(len(own), bool)
+    behind[following[goes_on]] = True
+    goes, after, seen = goes_on.tolist(), following.tolist(), [False] * len(own)
+    for first in [*numpy.nonzero(own & ~behind)[0].tolist(), *numpy.nonzero(own)[0].tolist()]:
         way, at = [], first
-        while is_own[at] and not seen[at]:
+        while not seen[at]:
             seen[at] = True
             way.append(at)
-            at = after[at]
+            at = after[at] if goes[at] else at
         if way:
-            yield way, at == first
+            yield way, goes[way[-1]]
 
 
 def head_of(points, is_closed):
