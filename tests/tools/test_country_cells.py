@@ -1,6 +1,7 @@
 """Tests tools/country prepare's cells: lands that are hard to round, cell by cell against the whole, byte for byte, and land that nobody has between parcels. Wants
 Shapely."""
 
+import math
 import os
 import tempfile
 from unittest import mock
@@ -42,10 +43,10 @@ class TestCells(ByCells):
                 assert read(made, name) == read(self.folder, "whole", name)
             assert found == whole
 
-    @pytest.mark.parametrize("seed, step, width", ((0, 3.0, 0.1), (1, 0.3, 0.1), (2, 30.0, 60.0), (3, 30.0, 60.0)))
-    def test_between(self, seed, step, width):
+    @pytest.mark.parametrize("seed, count, step, width", ((0, 30, 3.0, 0.1), (1, 30, 0.3, 0.1), (2, 30, 30.0, 60.0), (3, 30, 30.0, 60.0), (38, 9, 0.3, 0.1)))
+    def test_between(self, seed, count, step, width):
         """Land that nobody has, as in one: faces that many cells have a part of, islands in them, and arms between parcels of two cells."""
-        land = mended(hard.Land(seed, 30, step))
+        land = mended(hard.Land(seed, count, step))
         gone = {row["parcel"] for row in land.parcels[::5]}
         land.parcels, land.covers = ([row for row in rows if row["parcel"] not in gone] for rows in (land.parcels, land.covers))
         whole = self.whole(land, width)
@@ -77,6 +78,18 @@ class TestCells(ByCells):
         assert [(len(names), words.count("4 more parcels"), round(area)) for _, names, _, words, _, area, _ in whole] == [(2, 1, 1500), (2, 0, 100), (2, 0, 13)]
         for most in (20, 1):
             assert self.by_cells(land, most, width=20.0)[1] == whole
+
+    @pytest.mark.parametrize("is_wide", (True, False))
+    def test_needle_on_fine_borders(self, is_wide):
+        """The tip of a needle on a circle of short edges, whose other side faces another circle: the lines that stand for these edges begin anew there, wide or not."""
+        land, count = hard.Land(0, 0, 1.0), 400
+        land.parcels.clear(), land.covers.clear()
+        circles = [closed(*((east + 0.9 * math.cos(2 * math.pi * k / count), 40.9 + 0.9 * math.sin(2 * math.pi * k / count)) for k in range(count))) for east in (10.0, 11.9)]
+        for ring in (*circles, closed((0, 0), (0.0004, 0), (10, 40)), boxed(5.001 if is_wide else 5.1, 10, 10, 10.001)):
+            land.parcel([ring])
+        whole = self.whole(land, 0.2)
+        assert ["P0", "P1"] in [names for _, names, *_ in whole]
+        assert self.by_cells(land, 1, width=0.2)[1] == whole
 
     @pytest.mark.parametrize("seed, step", enumerate((0.02, 3.0, 30.0)))
     def test_last_year(self, seed, step):

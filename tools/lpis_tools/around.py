@@ -23,6 +23,7 @@ CREATE TABLE asked (width REAL);
 INDICES = "CREATE INDEX way_of_cell ON way (cell); CREATE INDEX way_of_ring ON way (ring); CREATE INDEX open_way ON way (ax, ay) WHERE NOT is_closed;"
 WITHIN = "FROM box_of_ring JOIN {} WHERE left >= ? AND right <= ? AND low >= ? AND high <= ?"
 DOUBT = 1.000_001  # of sums in doubles
+ROUNDED = 2.0**-21  # of a coordinate: what an R-tree may add to it, more to one box than to another within
 
 
 def put(base, cell, at, head):
@@ -69,7 +70,8 @@ def narrow(base, files, width):
     """The narrow faces, as gaps. Their ways are marked."""
     (count,) = base.execute("SELECT count(*) FROM ring WHERE area > 0").fetchone()
     found = base.execute("SELECT id, area, length, left, right, low, high FROM ring JOIN box_of_ring USING (id) WHERE area > 0 ORDER BY id")
-    for ring, area, length, *box in progress.each(found, progress.Quiet.tool, "narrow land between parcels", count, "rings"):
+    for ring, area, length, left, right, low, high in progress.each(found, progress.Quiet.tool, "narrow land between parcels", count, "rings"):
+        box = [value + sign * abs(value) * ROUNDED for value, sign in ((left, -1), (right, 1), (low, -1), (high, 1))]
         islands, shores = base.execute(f"SELECT total(area), total(length) {WITHIN.format('ring USING (id)')} AND area < 0", box).fetchone()
         if area + islands <= width * (length + shores) / 2 * DOUBT:
             face = Group(base, files, box).face(ring, width)
