@@ -140,7 +140,7 @@ class FindFaults(Folder):
         with tempfile.TemporaryDirectory() as spare:
             path = os.path.join(spare, "faults.geojson")
             ran = places.done(places.run([places.tool("faults"), folder, path, "--lpis", places.lpis()], feedback), "tools/faults", (REFUSED,))
-            self.written = self.fill_shapes((parameters, context), path, FAULT_COLUMNS)
+            self.written = self.fill_shapes((parameters, context), [path], FAULT_COLUMNS)
         words = ran.last().split()
         return {**self.written, "COUNT": int(words[1]) if len(words) > 1 else 0, "SUMMARY": "\n".join(ran.lines)}
 
