@@ -1,18 +1,13 @@
 -- A database says one history, and keeps one list of shapes.
-use Rattle.std.proofs.Common.{◌≡◌, ◌∙◌, ◌↔◌, refl, sym, ap, subst, [], ◌∷◌, ℕ, ℤ, pos, List, length, IsPermutation}
+use Rattle.std.proofs.Common.{◌≡◌, ◌∙◌, refl, sym, ap, [], ◌∷◌, ℕ, ℤ, pos, List, length}
 use Rattle.std.proofs.lemmas.List.Sorted.{IsPermutation-refl}
 use Rattle.lpis_tables.specs.Ids.{has_id}
 use Rattle.lpis_lineage.specs.Lineage.{holds}
-use Rattle.lpis_register.proofs.Common.{State, Entry, last_live, AreLive, Content, TablesHave, Shape, ShapesAre, HasHistory, Whole, IsStored, HoldsRegister, Version}
-use Rattle.lpis_register.specs.Opening.{texts_at}
-use Rattle.lpis_register_sql.specs.Layouts.{Origin}
+use Rattle.lpis_register.proofs.Common.{Entry, last_live, AreLive, Content, TablesHave, Shape, Version}
 use Rattle.lpis_register.proofs.Common.{First, Third}
 use Rattle.lpis_register_rows.specs.declared.version.Version.TheVariants.{Second}
-use Rattle.lpis_register_rows.specs.Content.{StoredText}
 use Rattle.lpis_register_rows.specs.Histories.{IsSameContent, IsSameHistory, only_format}
-use Rattle.lpis_register.specs.private.Finding.{HasNoRegister}
-use Rattle.lpis_register_rows.specs.Shapes.{TextsStand}
-use Rattle.lpis_register_rows.specs.Content.{Format, without_live, without_texts}
+use Rattle.lpis_register_rows.specs.Content.{Format}
 
 -- ---- the same histories have the same last identifiers
 
@@ -63,25 +58,6 @@ one_said one c h k Second Third a b = absurd (not_2_3 c.formats a.formats_are b.
 one_said one c h k Third First a b = absurd (not_1_3 c.formats b.formats_are a.formats_are)
 one_said one c h k Third Second a b = absurd (not_2_3 c.formats b.formats_are a.formats_are)
 
--- texts that may not be kept beside the history that was read may not be kept beside any
-pub none_kept : One → (c : Content) (h : List Entry) (version : Version) → TablesHave version c h → (TextsStand (texts_at version c) (last_live h) → ⊥) → HasNoRegister c
-none_kept one c h version told never other k shapes says =
-    let same = one_said one c k h other version says.says told in
-    never (shapes, subst (λ v. ShapesAre (texts_at v c) shapes) same.0 says.are, same_live k h same.1 shapes says.live)
-
--- ---- two ways to read one database
-
--- the rows that a database stores are the same however they are read, but for live ones and order
-abbrev pub OneContent : State → Type 0
-OneContent st = (o p : Origin) (c d : Content) → IsStored (Whole o) st c → IsStored (Whole p) st d → IsSameContent (without_live c) (without_live d)
-
--- rows of version 3 without live ones and texts, in another order, report the same histories
-abbrev pub Lifeless : Type 0
-Lifeless = (c d : Content) (h : List Entry) → IsSameContent (without_texts (without_live c)) d → HasHistory c h ↔ HasHistory d h
-
-less_texts : (c d : Content) → IsSameContent (without_live c) (without_live d) → IsSameContent (without_texts (without_live c)) (without_texts (without_live d))
-less_texts c d s = record { formats = s.formats; years = s.years; spans = s.spans; lines = s.lines; live = s.live; texts = IsPermutation-refl []; marks = s.marks }
-
 -- rows are the same as themselves
 pub same_itself : (c : Content) → IsSameContent c c
 same_itself c = record {
@@ -93,18 +69,3 @@ same_itself c = record {
   texts = IsPermutation-refl c.texts;
   marks = IsPermutation-refl c.marks;
 }
-
--- two histories that one database holds are the same
-pub one_history : (st : State) (o p : Origin) (h k : List Entry) (shapes others : List Shape) → OneContent st → Lifeless → One → HoldsRegister o st h shapes → HoldsRegister p st k others
-    → IsSameHistory h k
-one_history st o p h k shapes others content lifeless one a b =
-    let same = less_texts a.content b.content (content o p a.content b.content a.stored b.stored) in
-    let less = without_texts (without_live b.content) in
-    one Third b.content h k ((lifeless b.content less h (same_itself less)).1 ((lifeless a.content less h same).0 a.tells)) b.tells
-
--- two lists of shapes that one database holds are equal
-pub one_list : (st : State) (o p : Origin) (h k : List Entry) (shapes others : List Shape) → OneContent st
-    → ((texts more : List StoredText) (shapes kept : List Shape) → IsPermutation texts more → ShapesAre texts shapes → ShapesAre more kept → shapes ≡ kept)
-    → HoldsRegister o st h shapes → HoldsRegister p st k others → shapes ≡ others
-one_list st o p h k shapes others content one a b =
-    one a.content.texts b.content.texts shapes others (content o p a.content b.content a.stored b.stored).texts a.are b.are

@@ -16,7 +16,7 @@ use Rattle.lpis_register_sql.specs.private.Shown.{format_shown, line_shown, live
 use Rattle.lpis_register.proofs.Common.{Content, Entry, First, Shape, ShapesAre, TablesHave, Third, Version}
 use Rattle.lpis_register.proofs.AgreeingLemmas.{format_cut, line_cut, live_cut, mark_cut, rows_are, span_cut, text_cut, year_cut}
 use Rattle.lpis_register.proofs.OneHistoryLemmas.{One, one_said, same_itself, same_live}
-use Rattle.lpis_register.specs.Saying.{SaysHistory, SaysNoShapes, SaysNone, SaysRegister, SaysShapes}
+use Rattle.lpis_register.specs.Saying.{SaysHistory, SaysNoHistory, SaysNoShapes, SaysNone, SaysRegister, SaysShapes}
 
 -- two answers to the query of a table that is there are the same rows
 abbrev OneAnswer : Type 0
@@ -150,3 +150,9 @@ module _ (one_answer : OneAnswer) (textless : Textless) (one : One) (db : Databa
     | inr other ↦ (let told = told_once found more first second a.2.content refused.content h other.1 a.1 other.0 a.2.shown refused.shown a.2.says other.2 in
         shapes_clash one_answer db found more first second reordered a.1 h other.1 shapes told.1 a.2.keeps (subst (λ v. SaysNoShapes v more db other.1) (sym told.0) other.3))
   ]
+
+  -- unless none is there, they do not say no history either
+  pub says_unread : (h : List Entry) (shapes : List Shape) → SaysRegister db h shapes → SaysNoHistory db → (found : Found) × AreThere db.schema found × (is_any found ≡ false)
+  says_unread h shapes (found, first, inl a) unread = (found, first, a.0)
+  says_unread h shapes (found, first, inr a) (more, second, content, shown, none) =
+      absurd (none a.1 h (said_again one_answer db found more first second textless a.1 a.2.content content h a.2.shown shown a.2.says))

@@ -1,178 +1,232 @@
 -- What the steps of an opening do, joined.
-use Rattle.std.proofs.Common.{◌≡◌, ◌∙◌, ap, refl, sym, true≢false, inl, inr, List, Result, Ok, Err, IfErr, IfOk, IsTrue, [], arith, false, true}
-use Rattle.lpis_register.proofs.Common.{Trees, State, HasCleanDisk, Survives, survives_weaker, Entry, Content, IsFailure, IsStored, Layout}
-use Rattle.lpis_register.specs.Histories.{LeavesRegister}
-use Rattle.lpis_register.proofs.Common.{PublishFault, Shape, ShapesAre, HasHistory, Version, Whole}
-use Rattle.lpis_register_rows.specs.Content.{no_content}
-use Rattle.lpis_register_sql.specs.declared.found.Found.{Found}
-use Rattle.lpis_register_sql.specs.Presence.{AreThere, has_table, is_any}
-use Rattle.lpis_register_sql.specs.StoredTables.{Formats, Lines, Lives, Marks, Spans, StoredTable, Texts, Years, is_read, name_of}
-use Rattle.lpis_register_sql.specs.Quiet.{IsFound, StaysSettled}
-use Rattle.lpis_register_sql.specs.Bare.{IsBare}
-use Rattle.lpis_register_sql.specs.Holding.{Leaves}
-use Rattle.lpis_register_sql.proofs.Shared.{settled_then, stored_still}
-use Rattle.lpis_register.specs.Opening.{IsOpened, IsUnopened, HasRegister, LeavesOpened}
-use Rattle.lpis_register.specs.Faults.{IsOpeningFault}
-use Rattle.lpis_register.specs.Saying.{IsWhole, SaysNone}
-use Rattle.lpis_register_sql.specs.Beside.{nothing}
-use Rattle.lpis_register_sql.specs.Hiding.{hides_table}
-use Rattle.lpis_register.specs.declared.fault.PublishFault.TheVariants.{Store}
-use Rattle.lpis_register_sql.specs.Layouts.{New}
+use Rattle.std.proofs.Common.{◌≡◌, ◌∙◌, ◌⊎◌, ◌↔◌, ◌&&◌, ap, arith, refl, subst, sym, true≢false, inl, inr, Bool, List, Result, Ok, Err, IsTrue, [], ◌∷◌, false, true}
+use Rattle.std.proofs.lemmas.Bool.{cases_Bool}
 use Rattle.sqlite.proofs.StateLemmas.{survives_then}
-use Rattle.lpis_register_sql.specs.Commits.{LeavesMade}
-use Rattle.lpis_register.specs.declared.opening.Loaded.{Loaded}
-use Rattle.lpis_register.specs.private.Commits.{LeavesFound, OpensFound, Settles}
-use Rattle.lpis_register.proofs.HoldingLemmas.{holds_with, left_with, nothing_done}
-use Rattle.lpis_register.proofs.SayingLemmas.{SeesLoaded}
+use Rattle.sqlite.specs.Effect.{Database}
+use Rattle.sqlite.specs.Held.{Held}
+use Rattle.sqlite.specs.Schema.{Schema}
+use Rattle.sqlite_trees.specs.declared.store.Store as store
+use Rattle.lpis_register_sql.proofs.Shared.{settled_then, unread_still}
+use Rattle.lpis_register_sql.specs.Hiding.{hides_table}
+use Rattle.lpis_register_sql.specs.Presence.{AreThere, has_table, is_any, is_whole}
+use Rattle.lpis_register_sql.specs.Quiet.{LeavesAll}
+use Rattle.lpis_register_sql.specs.StoredTables.{Formats, Lines, Lives, Marks, Spans, StoredTable, Texts, Years, is_read, name_of}
+use Rattle.lpis_register_sql.specs.Stopping.{BoundStatement, Ran}
+use Rattle.lpis_register_sql.specs.Unread.{IsUnread}
+use Rattle.lpis_register_sql.specs.declared.found.Found.{Found}
+use Rattle.lpis_register.proofs.Common.{Entry, HasCleanDisk, PublishFault, Shape, Survives, Third, Version, state, survives_weaker}
+use Rattle.lpis_register.proofs.FailingLemmas.{or_shut}
+use Rattle.lpis_register.proofs.HoldingLemmas.{nothing_done}
 use Rattle.lpis_register.proofs.ResultLemmas.{failure_lawful, opening_failure}
-
--- ---- what is read first, and then settled as what was read
-
-module _ (found : Found) (old mid new : State) where
-  pub read_not : (e : PublishFault) → (HasCleanDisk mid → IsTrue mid.is_open → StaysSettled old mid) → SeesLoaded found old mid (Err e) → Survives old mid (λ _. ⊥) → IsOpeningFault e
-      → OpensFound found old mid (Err e)
-  read_not e same sees crash kind = record {
-    ok = λ up layout w c r. tt;
-    err = same;
-    said = λ up. tt;
-    refused = sees.refuses;
-    untouched = λ is. crash;
-    clean = λ up. omega (arith, up, crash.clean);
-    crash = survives_weaker old mid _ _ (λ _ db never. absurd never) crash;
-    kinds = kind;
-  }
-
-  module _ (told : Loaded) (version : Version)
-      (says : HasCleanDisk mid → (layout : Layout) → IsFound found layout → (c : Content) → IsStored layout old c → HasRegister version c told.history told.shapes.items)
-      (kept : HasCleanDisk mid → StaysSettled old mid) (sees : SeesLoaded found old mid (Ok (told, version))) (one : Survives old mid (λ _. ⊥)) where
-    crashed : (r : Result (Unit {0}) PublishFault) → Settles found version told.history mid new r → Survives old new (LeavesFound found old)
-    crashed r two = survives_then old mid new _ _ _ (λ _ db none. absurd none)
-        (λ clean db left layout w c r.
-        let late : HasCleanDisk mid = omega (arith, two.crash.clean) in
-        let now = says late layout w c r in
-        (told.history, told.shapes.items, version, now, left layout w c told.shapes.items now (stored_still layout old mid c (kept late) r))) one two.crash
-
-    pub settled_opens : Settles found version told.history mid new (Ok tt) → OpensFound found old new (Ok told)
-    settled_opens two = record {
-      ok = λ up layout w c r.
-          let late = two.clean up in
-          let now = says late layout w c r in (version, now, two.ok up layout w c told.shapes.items now (stored_still layout old mid c (kept late) r));
-      err = λ up on. tt;
-      said = λ up. let it = sees.shows.ok (two.clean up) in (version, it.0, λ third whole. two.idle third whole ∙ it.1.0);
-      refused = λ up. tt;
-      untouched = tt;
-      clean = λ up. let mid-up = two.clean up in omega (arith, mid-up, one.clean);
-      crash = crashed (Ok tt) two;
-      kinds = tt;
-    }
-
-    pub unsettled_fails : (e : PublishFault) → Settles found version told.history mid new (Err e) → OpensFound found old new (Err e)
-    unsettled_fails e two = record {
-      ok = λ up layout w c r. tt;
-      err = λ up on. settled_then old mid new (kept (two.clean up)) (two.err up on);
-      said = λ up. tt;
-      refused = λ up is. absurd (failure_lawful e two.failure is);
-      untouched = λ is. absurd (failure_lawful e two.failure is);
-      clean = λ up. let mid-up = two.clean up in omega (arith, mid-up, one.clean);
-      crash = crashed (Err e) two;
-      kinds = opening_failure e two.failure;
-    }
+use Rattle.lpis_register.proofs.SayingLemmas.{SeesLoaded}
+use Rattle.lpis_register.specs.FailingToOpen.{FailsAfterReading}
+use Rattle.lpis_register.specs.Faults.{IsOpeningFault}
+use Rattle.lpis_register.specs.Opening.{LeavesOpened}
+use Rattle.lpis_register.specs.Saying.{IsWhole, SaysRegister}
+use Rattle.lpis_register.specs.declared.fault.PublishFault.TheVariants.{Store}
+use Rattle.lpis_register.specs.declared.opening.Loaded.{Loaded}
+use Rattle.lpis_register.specs.private.Commits.{Settles}
+use Rattle.lpis_register.specs.private.Finding.{TellsFound}
+use Rattle.lpis_register.specs.private.Opens.{Opens}
 
 -- where each is found, one is
 whole_any : (found : Found) → IsWhole found → is_any found ≡ true
 whole_any found whole = rw whole.format refl
 
+whole_is : (found : Found) → IsWhole found → is_whole found ≡ true
+whole_is found whole = rw (whole.format, whole.years, whole.spans, whole.lines, whole.texts, whole.marks) refl
+
+-- where all of version 3 are found, so is the one of the version
+pub whole_format : (found : Found) → is_whole found ≡ true → found.format ≡ true
+whole_format found whole = by found.format found.years found.spans found.lines found.texts found.marks whole
+  where
+    by : (a b c d e f : Bool) → (((((a && b) && c) && d) && e) && f) ≡ true → a ≡ true
+    by true b c d e f is = refl
+    by false b c d e f is = absurd cc
+
+-- what is not settled so is to be made
+pub not_both : (found : Found) (version : Version) (settled : Bool) → (settled ≡ true) ↔ ((version ≡ Third) × (is_whole found ≡ true)) → settled ≡ false → version ≡ Third → is_whole found ≡ false
+not_both found version settled both not third = elim (cases_Bool (is_whole found)) [
+  | inl whole ↦ absurd (true≢false (sym (both.1 (third, whole)) ∙ not))
+  | inr other ↦ other
+]
+
 -- where there is no table, none is found
-pub nothing_there : (st : State) → IsBare st → SaysNone st.now → ⊥
-nothing_there st bare (found, there, any, none) = true≢false (sym any ∙ by (λ t. there t ∙ ap (λ s. has_table s (name_of t)) bare.schema))
+pub nothing_there : (schema : Schema) (found : Found) → schema.tables ≡ [] → AreThere schema found → is_any found ≡ true → ⊥
+nothing_there schema found bare there any = true≢false (sym any ∙ by (λ t. there t ∙ ap (λ ts. has_table (record schema { tables = ts }) (name_of t)) bare))
   where
     by : ((t : StoredTable) → is_read found t ≡ false) → is_any found ≡ false
     by each = rw (each Formats, each Years, each Spans, each Lines, each Lives, each Texts, each Marks) refl
 
--- ---- what the calls promise
+-- and the database says the empty history
+pub says_nothing : (db : Database) (h : List Entry) (shapes : List Shape) → db.schema.tables ≡ [] → SaysRegister db h shapes → (h ≡ []) × (shapes ≡ [])
+says_nothing db h shapes bare (found, there, inl none) = (none.1, none.2)
+says_nothing db h shapes bare (found, there, inr it) = absurd (nothing_there db.schema found bare there it.0)
 
--- what an opening promises: of Ok that it opened a register, of a fault that it opened none
-abbrev pub Answer : State → State → Result Loaded PublishFault → Type 0
-Answer old new r = IfOk r (λ (told : Loaded). IsOpened old new told.history told.shapes.items) × IfErr r (IsUnopened old new)
+module _ {S : Type 0} (g : store.Ghosts S) where
+  -- statements that were run were run on an open connection
+  ran_was_open : (xs : List BoundStatement) (a b : Held S) → Ran g xs a b → IsTrue (state g b).is_open → IsTrue (state g a).is_open
+  ran_was_open [] a b ran up = subst (λ h. IsTrue (state g h).is_open) (sym ran) up
+  ran_was_open (x ∷ xs) a b (mid, count, one, same, more) up = one.1.was_open
 
--- where a table is there unseen, nothing is done
-pub unseen : (st : State) → Answer st st (Err Store)
-unseen st = (
-  tt,
-  record {
-    same = λ up on was. (was, refl);
-    refused = λ is. absurd (let e = is in cc);
-    seen = λ is. absurd (let e = is in cc);
-    untouched = λ is. absurd (let e = is in cc);
-    clean = λ up. up;
-    crash = nothing_done (LeavesOpened st) st;
-    kind = tt;
-  },
-)
+  -- where a table is there unseen, nothing is done
+  pub unseen : (st : Held S) → hides_table st.schema ≡ true → Opens g st st (Err Store)
+  unseen st hidden = record {
+    opened = tt;
+    unopened = record {
+      same = λ clean up was. (was, refl);
+      refused = λ is. absurd (let e = is in cc);
+      seen = λ is. absurd (let e = is in cc);
+      untouched = λ is. absurd (let e = is in cc);
+      crash = nothing_done (LeavesOpened (state g st)) (state g st);
+      kind = tt;
+    };
+    cause = λ clean is. inr (inl hidden);
+    ran = tt;
+  }
 
--- where the tables stand
-pub opened_there : (found : Found) (old new : State) (r : Result Loaded PublishFault) → ((layout : Layout) (c : Content) → IsStored layout old c → IsFound found layout) → (IsBare old → ⊥)
-    → hides_table old.now.schema ≡ false → AreThere old.now.schema found → is_any found ≡ true → OpensFound found old new r → Answer old new r
-opened_there found old new r with never seen there any o = by r o where
-  crash : Survives old new (LeavesFound found old) → Survives old new (LeavesOpened old)
-  crash = survives_weaker old new _ _ (λ _ db left. record { found = λ layout c r. left layout (with layout c r) c r; bare = λ bare. absurd (never bare) })
+  module _ (old : Held S) (found : Found) (there : AreThere old.schema found) (seen : hides_table old.schema ≡ false) where
+    -- ---- where no table is there, those of version 3 are made
 
-  by : (r : Result Loaded PublishFault) → OpensFound found old new r → Answer old new r
-  by (Ok told) o = (
-    record {
-      bare = λ up bare. absurd (never bare);
-      found = λ up layout c r. o.ok up layout (with layout c r) c r;
-      said = λ up. let it = o.said up in (found, there, inr (any, it.0, it.1));
-      stays = λ up. let it = o.said up in (found, there, λ whole. (it.0, it.1, λ third. it.2 third whole));
-      seen = seen;
-      clean = o.clean;
-      crash = crash o.crash;
-    },
-    tt,
-  )
-  by (Err e) o = (
-    tt,
-    record {
-      same = o.err;
-      refused = λ is up. let no = o.refused up is in ((found, there, any, no.0), no.1);
-      seen = λ is. seen;
-      untouched = o.untouched;
-      clean = o.clean;
-      crash = crash o.crash;
-      kind = o.kinds;
-    },
-  )
+    module _ (new : Held S) (none : is_any found ≡ false) (told : Loaded) (no_release : told.history ≡ []) (no_shapes : told.shapes.items ≡ []) where
+      bare_says : SaysRegister (state g old).now told.history told.shapes.items
+      bare_says = (found, there, inl (none, no_release, no_shapes))
 
--- where there is none, and they are made
-module _ (told_empty : HasHistory no_content []) (no_shape : ShapesAre [] []) where
-  made_left : (db : Trees) → Leaves (Whole (New nothing)) no_content db → LeavesRegister (New nothing) [] [] db
-  made_left db left = left_with (New nothing) no_content [] [] told_empty no_shape tt db left
+      bare_left : {r : Result (Unit {0}) PublishFault} → Settles g Third told.history told.shapes.items old new r → Survives (state g old) (state g new) (LeavesOpened (state g old))
+      bare_left settles = survives_weaker (state g old) (state g new) _ _ (λ clean db left. (told.history, told.shapes.items, bare_says, left)) settles.writes.crash
 
-  module _ (old new : State) (never : (layout : Layout) (c : Content) → IsStored layout old c → ⊥) (clean : HasCleanDisk new → HasCleanDisk old) (crash : Survives old new (LeavesMade old)) where
-    made_only : Survives old new (LeavesOpened old)
-    made_only = survives_weaker old new _ _ (λ _ db left. record { found = λ layout c r. absurd (never layout c r); bare = λ bare. made_left db (left bare) }) crash
+      -- which succeeds
+      pub bare_opens : (x : Unit {0}) → Settles g Third told.history told.shapes.items old new (Ok x) → Opens g old new (Ok told)
+      bare_opens x settles = record {
+        opened = record {
+          said = λ clean. bare_says;
+          says = settles.writes.ok;
+          stays = λ clean. (found, there, λ whole. absurd (true≢false (sym (whole_any found whole) ∙ none)));
+          seen = seen;
+          crash = bare_left settles;
+        };
+        unopened = tt;
+        cause = tt;
+        ran = λ clean. let it = settles.ran clean in
+            inr (record { read = old; same = refl; found = it.found; there = it.there; version = Third; spans = it.spans; are = it.are; ran = it.ran });
+      }
 
-    -- which fails
-    pub opened_unmade : (e : PublishFault) → (HasCleanDisk new → IsTrue new.is_open → StaysSettled old new) → IsFailure e → IsUnopened old new e
-    opened_unmade e err failure = record {
-      same = err;
-      refused = λ is. absurd (failure_lawful e failure is);
-      seen = λ is. absurd (failure_lawful e failure is);
-      untouched = λ is. absurd (failure_lawful e failure is);
-      clean = clean;
-      crash = made_only;
-      kind = opening_failure e failure;
-    }
+      -- or fails
+      pub bare_fails : (e : PublishFault) → Settles g Third told.history told.shapes.items old new (Err e) → Opens g old new (Err e)
+      bare_fails e settles = record {
+        opened = tt;
+        unopened = record {
+          same = settles.writes.err;
+          refused = λ is. absurd (failure_lawful e settles.failure is);
+          seen = λ is. absurd (failure_lawful e settles.failure is);
+          untouched = λ is. absurd (failure_lawful e settles.failure is);
+          crash = bare_left settles;
+          kind = opening_failure e settles.failure;
+        };
+        cause = λ clean is. or_shut (state g old).is_open
+            (λ up. inr (found, there, inr (none, rw (no_release, no_shapes) at (settles.cause clean up seen is))));
+        ran = tt;
+      }
 
-    -- and holds no release
-    pub opened_made : (found : Found) (h : List Entry) (shapes : List Shape) → AreThere old.now.schema found → is_any found ≡ false → hides_table old.now.schema ≡ false → h ≡ [] → shapes ≡ []
-        → (HasCleanDisk new → IsBare old → IsStored (Whole (New nothing)) new no_content) → IsOpened old new h shapes
-    opened_made found h shapes there none seen no_release no_shapes made = record {
-      bare = λ up bare. (holds_with (New nothing) no_content [] [] told_empty no_shape tt new (made up bare), no_release, no_shapes);
-      found = λ up layout c r. absurd (never layout c r);
-      said = λ up. (found, there, inl (none, no_release, no_shapes));
-      stays = λ up. (found, there, λ whole. absurd (true≢false (sym (whole_any found whole) ∙ none)));
-      seen = seen;
-      clean = clean;
-      crash = made_only;
-    }
+    -- ---- where one is there, they are read
+
+    module _ (any : is_any found ≡ true) where
+      -- they are not read, or say nothing
+      pub read_not : (mid : Held S) (e : PublishFault) → LeavesAll {X = Loaded × Version} (state g old) (state g mid) (Err e) → SeesLoaded found (state g old) (state g mid) (Err e)
+          → TellsFound {X = Loaded × Version} found (state g old) (state g mid) (Err e) → IsOpeningFault e → Opens g old mid (Err e)
+      read_not mid e reads sees tells kind = record {
+        opened = tt;
+        unopened = record {
+          same = reads.same;
+          refused = λ is clean. let no = sees.refuses clean is in ((found, there, any, no.0), no.1);
+          seen = λ is. seen;
+          untouched = λ is. reads.survives;
+          crash = survives_weaker (state g old) (state g mid) _ _ (λ clean db never. absurd never) reads.survives;
+          kind = kind;
+        };
+        cause = λ clean is. or_shut (state g old).is_open (λ up. inr (found, there, inl (any, inl (tells clean up is))));
+        ran = tt;
+      }
+
+      module _ (mid : Held S) (told : Loaded) (version : Version) (reads : LeavesAll {X = Loaded × Version} {E = PublishFault} (state g old) (state g mid) (Ok (told, version)))
+          (sees : SeesLoaded found (state g old) (state g mid) (Ok (told, version))) where
+        read_says : HasCleanDisk (state g mid) → SaysRegister (state g old).now told.history told.shapes.items
+        read_says clean = (found, there, inr (any, version, (sees.shows.ok clean).0))
+
+        -- all of version 3 are there, and nothing is done
+        pub whole_opens : version ≡ Third → (HasCleanDisk (state g mid) → IsTrue (state g old).is_open) → mid.in_transaction ≡ false
+            → (IsTrue (state g mid).is_open → (state g mid).now ≡ (state g mid).committed) → Opens g old mid (Ok told)
+        whole_opens third on autocommit settled = record {
+          opened = record {
+            said = read_says;
+            says = λ clean.
+                let same = (sees.shows.ok clean).1 in
+                let up = (same.1 (on clean)).0.is_open in record {
+                  settled = record { is_open = up; autocommit = autocommit; settled = settled up };
+                  says = subst (λ db. SaysRegister db told.history told.shapes.items) (sym same.0) (read_says clean);
+                };
+            stays = λ clean. let it = sees.shows.ok clean in (found, there, λ whole. (version, it.0, λ is. it.1.0));
+            seen = seen;
+            crash = survives_weaker (state g old) (state g mid) _ _ (λ clean db never. absurd never) reads.survives;
+          };
+          unopened = tt;
+          cause = tt;
+          ran = λ clean. inl (sees.shows.ok clean).1.0;
+        }
+
+        -- or they are made those of version 3
+        module _ (new : Held S) (busy : version ≡ Third → is_whole found ≡ false) where
+          settled_left : {r : Result (Unit {0}) PublishFault} → Settles g version told.history told.shapes.items mid new r → Survives (state g old) (state g new) (LeavesOpened (state g old))
+          settled_left settles = survives_then (state g old) (state g mid) (state g new) _ _ _ (λ clean db never. absurd never)
+              (λ clean db left. (told.history, told.shapes.items, read_says (omega (arith, clean, settles.writes.crash.clean)), left)) reads.survives settles.writes.crash
+
+          pub settled_opens : (x : Unit {0}) → Settles g version told.history told.shapes.items mid new (Ok x) → Opens g old new (Ok told)
+          settled_opens x settles = record {
+            opened = record {
+              said = λ clean. read_says (omega (arith, clean, settles.writes.crash.clean));
+              says = settles.writes.ok;
+              stays = λ clean.
+                  let it = sees.shows.ok (omega (arith, clean, settles.writes.crash.clean)) in
+                  (found, there, λ whole. (version, it.0, λ third. absurd (true≢false (sym (whole_is found whole) ∙ busy third))));
+              seen = seen;
+              crash = settled_left settles;
+            };
+            unopened = tt;
+            cause = tt;
+            ran = λ clean. let it = settles.ran clean in
+                let same = (sees.shows.ok (omega (arith, clean, settles.writes.crash.clean))).1.0 in
+                inr (record { read = mid; same = same; found = it.found; there = it.there; version = version; spans = it.spans; are = it.are; ran = it.ran });
+          }
+
+          pub settled_fails : (e : PublishFault) → TellsFound {X = Loaded × Version} found (state g old) (state g mid) (Ok (told, version))
+              → Settles g version told.history told.shapes.items mid new (Err e) → Opens g old new (Err e)
+          settled_fails e tells settles = record {
+            opened = tt;
+            unopened = record {
+              same = λ clean up. settled_then (state g old) (state g mid) (state g new) (reads.kept (omega (arith, clean, settles.writes.crash.clean))) (settles.writes.err clean up);
+              refused = λ is. absurd (failure_lawful e settles.failure is);
+              seen = λ is. absurd (failure_lawful e settles.failure is);
+              untouched = λ is. absurd (failure_lawful e settles.failure is);
+              crash = settled_left settles;
+              kind = opening_failure e settles.failure;
+            };
+            cause = λ clean is. or_shut (state g old).is_open (λ up. inr (found, there, inl (any, after clean is up)));
+            ran = tt;
+          }
+            where
+              after : HasCleanDisk (state g new) → e ≡ Store → IsTrue (state g old).is_open → IsUnread found (state g old) (state g new) ⊎ FailsAfterReading g found old new
+              after clean is up =
+                  let at_mid : HasCleanDisk (state g mid) = omega (arith, clean, settles.writes.crash.clean) in elim (tells at_mid up) [
+                    | inr unread ↦ inl (unread_still found (state g old) (state g mid) (state g new) settles.writes.crash.counts unread)
+                    | inl same ↦ inr (record {
+                      read = mid;
+                      unchanged = same;
+                      limit = reads.survives.limit;
+                      counts = reads.survives.counts;
+                      version = version;
+                      history = told.history;
+                      shapes = told.shapes.items;
+                      said = (sees.shows.ok at_mid).0;
+                      fails = settles.cause clean same.0.is_open (ap (λ d. hides_table d.schema) same.0.now_is ∙ seen) is;
+                    })
+                  ]

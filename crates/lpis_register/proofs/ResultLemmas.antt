@@ -1,5 +1,5 @@
 -- Results, and the faults in them.
-use Rattle.std.proofs.Common.{◌≡◌, ◌⊎◌, inl, inr, refl, sym, subst}
+use Rattle.std.proofs.Common.{◌≡◌, ◌⊎◌, inl, inr, refl, sym, subst, Err, Ok, OnOk, Result}
 use Rattle.lpis_register.specs.Faults.{IsStoreFault, IsRefused, IsOpeningFault}
 use Rattle.lpis_register.specs.Holdings.{Candidate, Holdings}
 use Rattle.lpis_register.specs.declared.fault.PublishFault.TheVariants.{Memory, Year, Lineage, NotKept, Exact, Store, StoreMemory, Unknown}
@@ -38,3 +38,8 @@ pub failure_refused : (c : Candidate) (before : Holdings) (X : Type 0) (e : Publ
 failure_refused c before X e (inl (inl is)) = subst (IsRefused c before) (sym is) tt
 failure_refused c before X e (inl (inr is)) = subst (IsRefused c before) (sym is) tt
 failure_refused c before X e (inr is) = subst (IsRefused c before) (sym is.0) tt
+
+-- what is known anyway is known where there is an answer
+pub where_ok : {A E P : Type 0} (r : Result A E) → P → OnOk r P
+where_ok (Ok _) p = p
+where_ok (Err _) p = tt

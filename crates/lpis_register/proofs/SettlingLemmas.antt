@@ -1,74 +1,109 @@
--- Tables of version 3, made of those of any version that say a history.
-use Rattle.std.proofs.Common.{◌≡◌, List, Result, Ok, Err, true, false, Bool, refl, sym, subst, arith}
-use Rattle.lpis_register.proofs.Common.{State, Survives, survives_weaker, Entry, Content, IsFailure, IsStored, Layout, PublishFault, TablesHave, Shape, ShapesAre}
-use Rattle.lpis_register.proofs.Common.{HasHistory, Version, Third, Whole}
-use Rattle.lpis_register.specs.Saying.{IsWhole}
-use Rattle.lpis_register.specs.Opening.{texts_at}
-use Rattle.lpis_register_sql.specs.declared.found.Found.{Found}
-use Rattle.lpis_register_sql.specs.Quiet.{IsFound}
-use Rattle.lpis_register_sql.specs.Commits.{Rewrites}
-use Rattle.lpis_register_sql.specs.Beside.{nothing}
-use Rattle.lpis_register_sql.specs.Layouts.{Moved, New, has_marks, origin_of}
-use Rattle.lpis_register_sql.proofs.Shared.{each_table, mark_there}
+-- Tables of version 3, made of those that were found, and read back.
+use Rattle.std.proofs.Common.{◌≡◌, ◌≤◌, inl, inr, false, refl, subst, sym, true, List, Ok, Err, IsTrue}
+use Rattle.sqlite.specs.Effect.{IsDatabase}
+use Rattle.sqlite.specs.Held.{Held}
+use Rattle.sqlite.specs.State.{IsRolledBack, IsUnchanged}
+use Rattle.sqlite.specs.Steps.{FailsToCommit}
 use Rattle.sqlite.specs.declared.error.Error.{Error}
-use Rattle.lpis_register.specs.private.Commits.{IsReported, LeavesSettled, Settles}
-use Rattle.lpis_register.proofs.HoldingLemmas.{holds_with, left_with, nothing_done}
+use Rattle.sqlite.specs.declared.error.Error.TheVariants.{SqliteFailure}
+use Rattle.sqlite.specs.declared.error.ErrorCode.TheVariants.{OutOfMemory}
+use Rattle.sqlite_trees.specs.declared.store.Store as store
+use Rattle.lpis_register_rows.specs.Content.{StoredSpan}
+use Rattle.lpis_register_rows.specs.Histories.{AreSpansOf}
+use Rattle.lpis_register_sql.proofs.Shared.{IsCommitted, undone_stops}
+use Rattle.lpis_register_sql.specs.Hiding.{hides_table}
+use Rattle.lpis_register_sql.specs.Making.{settling_statements}
+use Rattle.lpis_register_sql.specs.Presence.{AreThere, completed, is_any}
+use Rattle.lpis_register_sql.specs.Stopping.{BoundStatement, StopsWithin}
+use Rattle.lpis_register_sql.specs.Within.{HasTables, IsQuiet, Makes}
+use Rattle.lpis_register_sql.specs.declared.found.Found.{Found}
+use Rattle.lpis_register.proofs.Common.{Entry, First, HasCleanDisk, IsFailure, PublishFault, Shape, Survives, Trees, Version, state}
+use Rattle.lpis_register.proofs.HoldingLemmas.{nothing_done}
+use Rattle.lpis_register.proofs.WritingLemmas.{commit_fails, confirmed_writes, dropped, dropped_after, ran_alone, unsaid_after}
+use Rattle.lpis_register.specs.Failing.{IsUnsaid}
+use Rattle.lpis_register.specs.FailingToOpen.{FailsToSettle}
+use Rattle.lpis_register.specs.Saying.{LeavesSaid, SaysTables}
+use Rattle.lpis_register.specs.declared.fault.PublishFault.TheVariants.{Memory, Store}
+use Rattle.lpis_register.specs.private.Commits.{Settles}
 
--- a write turns such rows into others, which say the same, and is reported
-module _ (found : Found) (version : Version) (h : List Entry) (old new : State) (IsSuch : Layout → Content → Type 0) (f : Content → Content)
-    (due : (layout : Layout) (c : Content) → IsFound found layout → TablesHave version c h → IsSuch layout c) (tells : (c : Content) → TablesHave version c h → HasHistory (f c) h)
-    (texts : (c : Content) (shapes : List Shape) → ShapesAre (texts_at version c) shapes → ShapesAre (f c).texts shapes) (busy : version ≡ Third → IsWhole found → ⊥) where
-  crash : (w : Result (Unit {0}) Error) → Rewrites IsSuch f old new w → Survives old new (LeavesSettled found version h old)
-  crash w wrote = survives_weaker old new _ _ (λ _ db left layout there c shapes says r.
-      left_with (origin_of layout) (f c) h shapes (tells c says.says) (texts c shapes says.are) says.live db (left layout c (due layout c there says.says) r)) wrote.crash
-
-  pub settled_by : (w : Result (Unit {0}) Error) (r : Result (Unit {0}) PublishFault) → Rewrites IsSuch f old new w → IsReported w r → Settles found version h old new r
-  settled_by (Ok x) (Ok y) wrote is = record {
-    ok = λ up layout there c shapes says r. holds_with (origin_of layout) (f c) h shapes (tells c says.says) (texts c shapes says.are) says.live new
-        (wrote.ok up layout c (due layout c there says.says) r);
-    err = λ up on. tt;
-    idle = λ third whole. absurd (busy third whole);
-    clean = λ up. omega (arith, up, wrote.crash.clean);
-    crash = crash (Ok x) wrote;
-    failure = tt;
+module _ {S : Type 0} (g : store.Ghosts S) (version : Version) (h : List Entry) (shapes : List Shape) (old : Held S) where
+  -- nothing is done, with a failure
+  pub settled_not : (e : PublishFault) → IsFailure e → (e ≡ Store → hides_table (state g old).now.schema ≡ false → ⊥) → Settles g version h shapes old old (Err e)
+  settled_not e failure never = record {
+    writes = record { ok = λ clean. tt; err = λ clean up was. (was, refl); crash = nothing_done (LeavesSaid h shapes) (state g old); durable = λ clean. tt };
+    ran = λ clean. tt;
+    failure = failure;
+    cause = λ clean up seen is. absurd (never is seen);
   }
-  settled_by (Err e) (Err fault) wrote is = record {
-    ok = λ up layout there c shapes says r. tt;
-    err = wrote.err;
-    idle = λ third whole. absurd (busy third whole);
-    clean = λ up. omega (arith, up, wrote.crash.clean);
-    crash = crash (Err e) wrote;
-    failure = is;
-  }
-  settled_by w r wrote is = absurd is
 
--- nothing is done, with a failure
-pub settled_not : (found : Found) (version : Version) (h : List Entry) (st : State) (e : PublishFault) → IsFailure e → Settles found version h st st (Err e)
-settled_not found version h st e failure = record {
-  ok = λ up layout w c shapes says r. tt;
-  err = λ up on was. (was, refl);
-  idle = λ third whole. refl;
-  clean = λ up. up;
-  crash = nothing_done (LeavesSettled found version h st) st;
-  failure = failure;
-}
+  module _ (found : Found) (there : AreThere old.schema found) (spans : List StoredSpan) (are : version ≡ First → AreSpansOf spans h) (first mid : Held S)
+      (begun : first ≡ record old { in_transaction = true }) where
+    abbrev xs : List BoundStatement
+    xs = settling_statements version found spans
 
--- nothing is to be done
-pub settled_there : (found : Found) (h : List Entry) (st : State) → ((layout : Layout) → IsFound found layout → has_marks layout ≡ true) → (x : Unit {0}) → Settles found Third h st st (Ok x)
-settled_there found h st there x = record {
-  ok = λ up layout w c shapes says r.
-      holds_with (origin_of layout) c h shapes says.says says.are says.live st (subst (λ l. IsStored l st c) (sym (mark_there layout (there layout w))) r);
-  err = λ up on. tt;
-  idle = λ third whole. refl;
-  clean = λ up. up;
-  crash = nothing_done (LeavesSettled found Third h st) st;
-  failure = tt;
-}
+    stopped : (end : Held S) (e : Error) (fault : PublishFault) → (e ≡ SqliteFailure OutOfMemory → fault ≡ Memory) → fault ≡ Store → StopsWithin g xs (record old { in_transaction = true }) end e
+        → FailsToSettle g version h shapes old end
+    stopped end e fault memory is (inl refused) = absurd (let m = memory refused in cc)
+    stopped end e fault memory is (inr stops) = record { found = found; there = there; spans = spans; are = are; fails = inl stops }
 
--- where each table of version 3 is found, they are found as in one of its orders
-pub whole_laid_out : (found : Found) → IsWhole found → (layout : Layout) × IsFound found layout × (has_marks layout ≡ true)
-whole_laid_out found w = by found.lives refl
-  where
-    by : (b : Bool) → found.lives ≡ b → (layout : Layout) × IsFound found layout × (has_marks layout ≡ true)
-    by true is = (Whole (Moved nothing), record { each = each_table _ w.format w.years w.spans w.lines is w.texts w.marks }, refl)
-    by false is = (Whole (New nothing), record { each = each_table _ w.format w.years w.spans w.lines is w.texts w.marks }, refl)
+    -- its statements fail
+    pub unmade_settles : (end : Held S) (e : Error) (fault : PublishFault) → (e ≡ SqliteFailure OutOfMemory → fault ≡ Memory) → IsFailure fault → Makes g xs first mid (Err e)
+        → Survives (state g mid) (state g end) (λ _. ⊥) → (HasCleanDisk (state g end) → IsRolledBack (state g mid) (state g end)) → Settles g version h shapes old end (Err fault)
+    unmade_settles end e fault memory failure made drops undone = record {
+      writes = dropped g old first mid end begun made.quiet h shapes fault (LeavesSaid h shapes) drops undone;
+      ran = λ clean. tt;
+      failure = failure;
+      cause = λ clean up seen is. stopped end e fault memory is (undone_stops old {end = end} begun refl (Err e) refl made drops up clean);
+    }
+
+    module _ (x : Unit {0}) (made : Makes g xs first mid (Ok x)) (sound : IsTrue (state g old).is_open → IsDatabase (state g old).now)
+        (tables : HasCleanDisk (state g mid) → IsTrue (state g first).is_open → IsTrue first.in_transaction → AreThere first.schema found → hides_table first.schema ≡ false
+        → IsDatabase (state g first).now → HasTables (completed found) (state g mid)) (seen : hides_table old.schema ≡ false) (last : Held S) (quiet : IsQuiet (state g mid) (state g last)) where
+      complete_there : HasCleanDisk (state g mid) → IsTrue (state g first).is_open → IsTrue first.in_transaction → HasTables (completed found) (state g mid)
+      complete_there clean up within = tables clean up within (subst (λ (h : Held S). AreThere h.schema found) (sym begun) there) (subst (λ (h : Held S). hides_table h.schema ≡ false) (sym begun) seen)
+          (subst (λ h. IsDatabase (state g h).now) (sym begun) (sound (subst (λ h. IsTrue (state g h).is_open) begun up)))
+
+      counts : (state g old).faults ≤ (state g mid).faults
+      counts = subst (λ h. (state g h).faults ≤ (state g mid).faults) begun made.quiet.survives.counts
+
+      -- the tables are not read back, or say something else
+      pub unsaid_settles : (end : Held S) (fault : PublishFault) → IsFailure fault
+          → (HasCleanDisk (state g last) → IsTrue (state g mid).is_open → fault ≡ Store → IsUnsaid (completed found) (state g mid) (state g last) h shapes)
+          → Survives (state g last) (state g end) (λ _. ⊥) → (HasCleanDisk (state g end) → IsRolledBack (state g last) (state g end)) → Settles g version h shapes old end (Err fault)
+      unsaid_settles end fault failure unsaid drops undone = record {
+        writes = dropped_after g old first mid last end begun made.quiet quiet h shapes fault (LeavesSaid h shapes) drops undone;
+        ran = λ clean. tt;
+        failure = failure;
+        cause = λ clean up visible is.
+            let it = unsaid_after g old first mid last end begun xs x made (completed found) complete_there quiet h shapes (λ late on. unsaid late on is) drops clean up in
+            record { found = found; there = there; spans = spans; are = are; fails = inr (record { reached = mid; counts = counts; ran = it.0; found = completed found; there = it.1; unsaid = it.2 }) };
+      }
+
+      module _ (told : HasCleanDisk (state g last) → (is_any (completed found) ≡ true) × ((version : Version) × SaysTables (completed found) (state g mid).now version h shapes)
+          × IsUnchanged (state g mid) (state g last)) (end : Held S) (ends : Survives (state g last) (state g end) (λ db. db ≡ (state g last).now.trees))
+          (law : IsTrue (state g end).is_open → (db : Trees) → (state g end).may_leave db → db ≡ (state g end).committed.trees) where
+        -- that is committed
+        pub said_settles : (y z : Unit {0}) → (HasCleanDisk (state g end) → IsCommitted (state g last) (state g end) (Ok y)) → Settles g version h shapes old end (Ok z)
+        said_settles y z ok = record {
+          writes = confirmed_writes g old first mid last end begun xs x made (completed found) complete_there quiet h shapes told ends (Ok y) (λ clean. tt) (Ok z) (λ P p. p) (λ P p. p) ok law;
+          ran = λ clean. record {
+            found = found;
+            there = there;
+            spans = spans;
+            are = are;
+            ran = ran_alone g old first mid last end begun xs x made (completed found) complete_there quiet h shapes told ends (Ok y) ok clean;
+          };
+          failure = tt;
+          cause = λ clean up visible. tt;
+        }
+
+        -- or it is not
+        pub uncommitted_settles : (e : Error) (fault : PublishFault) → (e ≡ SqliteFailure OutOfMemory → fault ≡ Memory) → IsFailure fault
+            → (HasCleanDisk (state g end) → FailsToCommit (state g last) (state g end) e) → Settles g version h shapes old end (Err fault)
+        uncommitted_settles e fault memory failure err = record {
+          writes = confirmed_writes g old first mid last end begun xs x made (completed found) complete_there quiet h shapes told ends (Err e) err (Err fault) (λ P p. p) (λ P p. p) (λ clean. tt) law;
+          ran = λ clean. tt;
+          failure = failure;
+          cause = λ clean up visible is. stopped end e fault memory is
+              (commit_fails g old first mid last end begun xs x made (completed found) complete_there quiet h shapes told ends (Err e) err e refl clean);
+        }

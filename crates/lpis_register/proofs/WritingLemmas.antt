@@ -13,7 +13,7 @@ use Rattle.lpis_register_sql.proofs.Shared.{IsCommitted, begun_over, dropped_set
 use Rattle.lpis_register_sql.specs.Presence.{AreThere, is_any}
 use Rattle.lpis_register_sql.specs.Quiet.{StaysSettled}
 use Rattle.lpis_register_sql.specs.Stopping.{BoundStatement, Ran, RanAlone, StopsWithin}
-use Rattle.lpis_register_sql.specs.Within.{IsQuiet, KeepsTables, Makes}
+use Rattle.lpis_register_sql.specs.Within.{HasTables, IsQuiet, KeepsTables, Makes}
 use Rattle.lpis_register_sql.specs.declared.found.Found.{Found}
 use Rattle.lpis_register.proofs.Common.{Entry, HasCleanDisk, Shape, State, Survives, Trees, Version, state}
 use Rattle.lpis_register.specs.Failing.{IsUnsaid}
@@ -112,9 +112,17 @@ dropped_after g held first mid last end begun one two = dropped g held first las
 
 -- ---- statements that were run, and tables that were read
 
+-- where no table is made or dropped, those that were found are there
+pub kept_tables : {S : Type 0} (g : store.Ghosts S) (held first mid : Held S) → first ≡ record held { in_transaction = true } → (found : Found) → AreThere held.schema found
+    → (HasCleanDisk (state g mid) → IsTrue (state g first).is_open → IsTrue first.in_transaction → KeepsTables (state g first) (state g mid))
+    → HasCleanDisk (state g mid) → IsTrue (state g first).is_open → IsTrue first.in_transaction → HasTables found (state g mid)
+kept_tables {S = S} g held first mid begun found there tables clean up within =
+    let kept = tables clean up within in
+    record { there = subst (λ s. AreThere s found) (sym (kept.schema ∙ ap (λ (h : Held S). h.schema) begun)) there; sound = kept.sound }
+
 module _ {S : Type 0} (g : store.Ghosts S) (held first mid last end : Held S) (begun : first ≡ record held { in_transaction = true }) (xs : List BoundStatement) (x : Unit {0})
-    (made : Makes g xs first mid (Ok x)) (tables : HasCleanDisk (state g mid) → IsTrue (state g first).is_open → IsTrue first.in_transaction → KeepsTables (state g first) (state g mid))
-    (found : Found) (there : AreThere held.schema found) (quiet : IsQuiet (state g mid) (state g last)) (h : List Entry) (shapes : List Shape) where
+    (made : Makes g xs first mid (Ok x)) (found : Found) (tables : HasCleanDisk (state g mid) → IsTrue (state g first).is_open → IsTrue first.in_transaction → HasTables found (state g mid))
+    (quiet : IsQuiet (state g mid) (state g last)) (h : List Entry) (shapes : List Shape) where
   inside : IsTrue first.in_transaction
   inside = subst (λ h. IsTrue h.in_transaction) (sym begun) refl
 
@@ -125,22 +133,26 @@ module _ {S : Type 0} (g : store.Ghosts S) (held first mid last end : Held S) (b
   before_reading clean = omega (arith, clean, quiet.survives.clean)
 
   there_still : HasCleanDisk (state g mid) → IsTrue (state g first).is_open → AreThere mid.schema found
-  there_still clean up = subst (λ s. AreThere s found) (sym ((tables clean up inside).schema ∙ ap (λ (h : Held S). h.schema) begun)) there
+  there_still clean up = (tables clean up inside).there
 
   -- the tables are not read back, or don't say this
-  pub not_confirmed : (HasCleanDisk (state g last) → IsTrue (state g mid).is_open → IsUnsaid found (state g mid) (state g last) h shapes)
-      → Survives (state g last) (state g end) (λ _. ⊥) → HasCleanDisk (state g end) → IsTrue (state g held).is_open
-      → (reached : Held S) × Ran g xs (record held { in_transaction = true }) reached × (found : Found) × AreThere reached.schema found × IsUnsaid found (state g reached) (state g end) h shapes
-  not_confirmed unsaid drops clean up =
+  pub unsaid_after : (HasCleanDisk (state g last) → IsTrue (state g mid).is_open → IsUnsaid found (state g mid) (state g last) h shapes) → Survives (state g last) (state g end) (λ _. ⊥)
+      → HasCleanDisk (state g end) → IsTrue (state g held).is_open
+      → Ran g xs (record held { in_transaction = true }) mid × AreThere mid.schema found × IsUnsaid found (state g mid) (state g end) h shapes
+  unsaid_after unsaid drops clean up =
       let late : HasCleanDisk (state g last) = omega (arith, clean, drops.clean) in
       let opened : IsTrue (state g first).is_open = subst (λ h. IsTrue (state g h).is_open) (sym begun) up in
       let ran = made.ends (before_reading late) opened inside in (
-        mid,
         subst (λ h. Ran g xs h mid) begun ran,
-        found,
         there_still (before_reading late) opened,
         unsaid_still found (state g mid) (state g last) (state g end) h shapes drops (unsaid late (ran_open g xs first mid ran opened inside).0),
       )
+
+  -- so there is such a state
+  pub not_confirmed : (HasCleanDisk (state g last) → IsTrue (state g mid).is_open → IsUnsaid found (state g mid) (state g last) h shapes)
+      → Survives (state g last) (state g end) (λ _. ⊥) → HasCleanDisk (state g end) → IsTrue (state g held).is_open
+      → (reached : Held S) × Ran g xs (record held { in_transaction = true }) reached × (found : Found) × AreThere reached.schema found × IsUnsaid found (state g reached) (state g end) h shapes
+  not_confirmed unsaid drops clean up = let it = unsaid_after unsaid drops clean up in (mid, it.0, found, it.1, it.2)
 
   -- they say it
   module _ (told : HasCleanDisk (state g last) → (is_any found ≡ true) × ((version : Version) × SaysTables found (state g mid).now version h shapes) × IsUnchanged (state g mid) (state g last)) where

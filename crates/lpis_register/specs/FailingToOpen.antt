@@ -1,44 +1,49 @@
 -- Why the database fails when a register is opened.
-use Rattle.std.specs.Prelude.{◌≡◌, ◌≤◌, ◌⊎◌, false, true, List}
+use Rattle.std.specs.Prelude.{◌≡◌, ◌≤◌, ◌⊎◌, [], false, true, List}
 use Rattle.sqlite.specs.Held.{Held, state}
 use Rattle.sqlite.specs.State.{HasCleanDisk, IsUnchanged}
 use Rattle.sqlite_trees.specs.declared.store.Store.{Ghosts}
 use Rattle.lpis_lineage.specs.declared.row.Entry.{Entry}
-use Rattle.lpis_register_rows.specs.Content.{Content, StoredSpan}
-use Rattle.lpis_register_rows.specs.Histories.{AreSpansOf, TablesHave}
+use Rattle.lpis_register_rows.specs.Content.{StoredSpan}
+use Rattle.lpis_register_rows.specs.Histories.{AreSpansOf}
 use Rattle.lpis_register_rows.specs.Shapes.{Shape}
 use Rattle.lpis_register_rows.specs.declared.version.Version.{Version}
-use Rattle.lpis_register_rows.specs.declared.version.Version.TheVariants.{First, Second, Third}
+use Rattle.lpis_register_rows.specs.declared.version.Version.TheVariants.{First, Third}
 use Rattle.lpis_register_sql.specs.Hiding.{hides_table}
-use Rattle.lpis_register_sql.specs.Holding.{IsStored}
-use Rattle.lpis_register_sql.specs.Layouts.{Layout}
-use Rattle.lpis_register_sql.specs.Making.{completing_statements, making_statements}
-use Rattle.lpis_register_sql.specs.Making.{moving_statements, raising_statements}
+use Rattle.lpis_register_sql.specs.Making.{settling_statements}
 use Rattle.lpis_register_sql.specs.Presence.{AreThere, is_any}
-use Rattle.lpis_register_sql.specs.Quiet.{IsFound}
-use Rattle.lpis_register_sql.specs.Stopping.{BoundStatement, IsStopped}
+use Rattle.lpis_register_sql.specs.Stopping.{BoundStatement, IsStopped, Ran}
 use Rattle.lpis_register_sql.specs.Unread.{IsUnread}
 use Rattle.lpis_register_sql.specs.declared.found.Found.{Found}
+use Rattle.lpis_register.specs.Failing.{IsUnsaid}
 use Rattle.lpis_register.specs.Saying.{SaysTables}
 
--- the statements that make tables of version 3 of those of a version: of version 1 with these spans
-abbrev pub settling_statements : Version → Found → List StoredSpan → List BoundStatement
-settling_statements First found spans = moving_statements found spans
-settling_statements Second found spans = raising_statements found
-settling_statements Third found spans = completing_statements found
-
 module _ {S : Type 0} (store : Ghosts S) where
-  -- the tables of a version, which say this history, don't become those of version 3: the disk
-  -- failed during the call, or the engine refuses one of the statements
-  pub record FailsToSettle (version : Version) (found : Found) (h : List Entry) (old new : Held S)
-      : Type 0 where
+  -- the engine ran these statements, and the tables then do not say this
+  pub record RunsUnsaid (xs : List BoundStatement) (h : List Entry) (shapes : List Shape)
+      (old new : Held S) : Type 0 where
+    pub reached : Held S
+    pub counts : (state store old).faults ≤ (state store reached).faults
+    pub ran : Ran store xs (record old { in_transaction = true }) reached
+    pub found : Found
+    pub there : AreThere reached.schema found
+    pub unsaid : IsUnsaid found (state store reached) (state store new) h shapes
+
+  -- tables that say this do not become those of version 3: the disk failed during the call, or the
+  -- engine refuses one of the statements; or it ran them, and the tables then are not read, or say
+  -- something else
+  pub record FailsToSettle (version : Version) (h : List Entry) (shapes : List Shape)
+      (old new : Held S) : Type 0 where
+    pub found : Found
+    pub there : AreThere old.schema found
     pub spans : List StoredSpan
     pub are : version ≡ First → AreSpansOf spans h
-    pub stopped : IsStopped store (settling_statements version found spans)
+    pub fails : IsStopped store (settling_statements version found spans)
         (record old { in_transaction = true }) new
+        ⊎ RunsUnsaid (settling_statements version found spans) h shapes old new
 
   -- so it is with the tables that were found, once they were read, which changed nothing: with the
-  -- version and the history that they say
+  -- version, the history and the shapes that they say
   pub record FailsAfterReading (found : Found) (old new : Held S) : Type 0 where
     pub read : Held S
     pub unchanged : IsUnchanged (state store old) (state store read)
@@ -48,9 +53,7 @@ module _ {S : Type 0} (store : Ghosts S) where
     pub history : List Entry
     pub shapes : List Shape
     pub said : SaysTables found (state store old).now version history shapes
-    pub says : (layout : Layout) → IsFound found layout → (c : Content)
-        → IsStored layout (state store old) c → TablesHave version c history
-    pub fails : FailsToSettle version found history read new
+    pub fails : FailsToSettle version history shapes read new
 
   -- the tables that were found are there, and one of them is not read, or that
   abbrev pub FailsWith : Found → Held S → Held S → Type 0
@@ -59,14 +62,12 @@ module _ {S : Type 0} (store : Ghosts S) where
 
   -- a call fails to open a register: the connection was shut before, or a table of the register is
   -- there unseen, or the disk failed during the call, or the engine refuses the query of a table
-  -- that is there, or a statement that makes or moves tables, which are made first where there is
-  -- none
+  -- that is there; or tables are not made those of version 3, where there was none as well
   abbrev pub FailsToOpen : Held S → Held S → Type 0
   FailsToOpen old new = ((state store old).is_open ≡ false) ⊎ ((hides_table old.schema ≡ true)
       ⊎ ((found : Found) × AreThere old.schema found
       × (((is_any found ≡ true) × FailsWith found old new)
-      ⊎ ((is_any found ≡ false)
-      × IsStopped store making_statements (record old { in_transaction = true }) new))))
+      ⊎ ((is_any found ≡ false) × FailsToSettle Third [] [] old new))))
 
   -- if the disk kept what was written, and this says that the database failed, there is a cause
   abbrev pub HasOpeningCause : Held S → Held S → Type 0 → Type 0

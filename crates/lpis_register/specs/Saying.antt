@@ -58,6 +58,12 @@ abbrev pub SaysHistory : Database → List Entry → Type 0
 SaysHistory db h = (found : Found) × AreThere db.schema found × (content : Content)
     × ShowsRows found db content × (version : Version) × TablesHave version content h
 
+-- the tables that it has show rows that say no history
+abbrev pub SaysNoHistory : Database → Type 0
+SaysNoHistory db = (found : Found) × AreThere db.schema found × (content : Content)
+    × ShowsRows found db content
+    × ((version : Version) (h : List Entry) → TablesHave version content h → ⊥)
+
 -- it has none of the register's tables, and this is the empty history, with no shape; or those that
 -- it has say this
 abbrev pub SaysRegister : Database → List Entry → List Shape → Type 0

@@ -1,6 +1,6 @@
 //! What the tables of a database of any version say, read. Nothing is changed.
 
-ghost use Rattle.std.specs.Prelude.{◌≡◌, ◌≢◌, false, IfOk, IfErr, IsTrue, List};
+ghost use Rattle.std.specs.Prelude.{◌≡◌, ◌≢◌, false, IfOk, IfErr, IsTrue, List, OnOk};
 ghost use Rattle.sqlite.specs.Held.{state};
 ghost use Rattle.sqlite.specs.State.{HasCleanDisk};
 ghost use Rattle.lpis_lineage.specs.declared.row.Entry.{Entry};
@@ -8,11 +8,10 @@ ghost use Rattle.lpis_lineage.specs.Lineage.{last_live};
 ghost use Rattle.lpis_lineage.specs.Order.{IsAscending};
 ghost use Rattle.lpis_register_rows.specs.Shapes.{AreLive, ShapesAre, TextsStand, shape_ids};
 ghost use Rattle.lpis_register_rows.specs.Histories.{TablesHave};
-ghost use Rattle.lpis_register_sql.specs.Unread.{IsUnread};
+ghost use Rattle.lpis_register_sql.specs.Quiet.{LeavesAll};
 ghost use Rattle.lpis_register.specs.Faults.{IsOpeningFault};
-ghost use Rattle.lpis_register.specs.Opening.{HasRegister, texts_at};
 ghost use Rattle.lpis_register.specs.Saying.{SaysNoShapes, SaysNoTables, SaysShapes, SaysTables};
-ghost use Rattle.lpis_register.specs.private.Finding.{HasNoRegister, ReadsFound, SeesFound};
+ghost use Rattle.lpis_register.specs.private.Finding.{SeesFound};
 ghost use Rattle.lpis_register.specs.private.Finding.{SeesHistory};
 ghost use Rattle.lpis_register.specs.private.Finding.{SeesNoHistory, TellsFound};
 ghost use Rattle.lpis_register_rows.specs.declared.version.Version.TheVariants.{Third};
@@ -22,8 +21,7 @@ use crate::fault::PublishFault;
 use crate::opening::{Loaded, fault_of};
 use lpis_lineage::History;
 use lpis_register_rows::{
-    Rows, RowsFault, TextRow, Version, history_of, order_of_rows_is_free, shapes_of,
-    tables_have_one_history, texts_keep_one_list_of_shapes,
+    Rows, RowsFault, TextRow, Version, history_of, shapes_of, texts_keep_one_list_of_shapes,
 };
 use lpis_register_sql::{Found, load_found, load_texts};
 use lpis_rings::Polygon;
@@ -64,17 +62,14 @@ pub(crate) fn find_rows<S: Alter>(
 ) -> Result<(History, Version), PublishFault>
     requires autocommit { conn.old.in_transaction ≡ false }
     ensures autocommit { conn.new.in_transaction ≡ false }
-    ensures finds { ReadsFound found.now (λ c it. TablesHave it.1 c it.0)
-        (λ c. (version : _) (h : _) → TablesHave version c h → ⊥)
-        (state S.Store conn.old) (state S.Store conn.new) result }
-    ensures cause { IfErr result (λ fault. fault ≡ Store → HasCleanDisk (state S.Store conn.new)
-        → IsTrue (state S.Store conn.old).is_open
-        → IsUnread found.now (state S.Store conn.old) (state S.Store conn.new)) }
+    ensures reads { LeavesAll (state S.Store conn.old) (state S.Store conn.new) result }
+    ensures kinds { IfErr result IsOpeningFault }
     ensures tells { TellsFound found.now (state S.Store conn.old) (state S.Store conn.new) result }
     ensures sees { SeesFound (SeesHistory found.now) (SeesNoHistory found.now)
         (state S.Store conn.old) (state S.Store conn.new) result }
+    ensures was_open { IsTrue found.now.format → HasCleanDisk (state S.Store conn.new)
+        → OnOk result (IsTrue (state S.Store conn.old).is_open) }
 {
-    order_of_rows_is_free();
     match load_found(alloc, conn, found) {
         Ok(rows) => history_at(alloc, &rows),
         Err(error) => Err(fault_of(error)),
@@ -110,17 +105,14 @@ fn find_texts<S: Alter>(
 ) -> Result<Vec<(Id, Polygon)>, PublishFault>
     requires autocommit { conn.old.in_transaction ≡ false }
     ensures autocommit { conn.new.in_transaction ≡ false }
-    ensures finds { ReadsFound found.now
-        (λ c shapes. ShapesAre c.texts shapes.items × AreLive (last_live history.now) shapes.items)
-        (λ c. TextsStand c.texts (last_live history.now) → ⊥)
-        (state S.Store conn.old) (state S.Store conn.new) result }
+    ensures reads { LeavesAll (state S.Store conn.old) (state S.Store conn.new) result }
+    ensures kinds { IfErr result IsOpeningFault }
     ensures ascend { IfOk result (λ shapes. IsAscending (shape_ids shapes.items)) }
     ensures tells { TellsFound found.now (state S.Store conn.old) (state S.Store conn.new) result }
     ensures sees { SeesFound (λ db shapes. SaysShapes Third found.now db history.now shapes.items)
         (λ db. SaysNoShapes Third found.now db history.now)
         (state S.Store conn.old) (state S.Store conn.new) result }
 {
-    texts_keep_one_list_of_shapes();
     match load_texts(alloc, conn, found) {
         Ok(texts) => shapes_at(alloc, history, texts),
         Err(error) => Err(fault_of(error)),
@@ -137,11 +129,8 @@ fn find_shapes<S: Alter>(
 ) -> Result<Vec<(Id, Polygon)>, PublishFault>
     requires autocommit { conn.old.in_transaction ≡ false }
     ensures autocommit { conn.new.in_transaction ≡ false }
-    ensures finds { ReadsFound found.now
-        (λ c shapes. ShapesAre (texts_at version c) shapes.items
-        × AreLive (last_live history.now) shapes.items)
-        (λ c. TextsStand (texts_at version c) (last_live history.now) → ⊥)
-        (state S.Store conn.old) (state S.Store conn.new) result }
+    ensures reads { LeavesAll (state S.Store conn.old) (state S.Store conn.new) result }
+    ensures kinds { IfErr result IsOpeningFault }
     ensures ascend { IfOk result (λ shapes. IsAscending (shape_ids shapes.items)) }
     ensures tells { TellsFound found.now (state S.Store conn.old) (state S.Store conn.new) result }
     ensures sees { SeesFound (λ db shapes. SaysShapes version found.now db history.now shapes.items)
@@ -163,14 +152,14 @@ pub(crate) fn find_loaded<S: Alter>(
 ) -> Result<(Loaded, Version), PublishFault>
     requires autocommit { conn.old.in_transaction ≡ false }
     ensures autocommit { conn.new.in_transaction ≡ false }
-    ensures finds { ReadsFound found.now
-        (λ c it. HasRegister it.1 c it.0.history it.0.shapes.items) HasNoRegister
-        (state S.Store conn.old) (state S.Store conn.new) result }
+    ensures reads { LeavesAll (state S.Store conn.old) (state S.Store conn.new) result }
+    ensures kinds { IfErr result IsOpeningFault }
     ensures tells { TellsFound found.now (state S.Store conn.old) (state S.Store conn.new) result }
     ensures sees { SeesFound (λ db it. SaysTables found.now db it.1 it.0.history it.0.shapes.items)
         (SaysNoTables found.now) (state S.Store conn.old) (state S.Store conn.new) result }
+    ensures was_open { IsTrue found.now.format → HasCleanDisk (state S.Store conn.new)
+        → OnOk result (IsTrue (state S.Store conn.old).is_open) }
 {
-    tables_have_one_history();
     let (history, version) = find_rows(alloc, conn, found)?;
     let shapes = find_shapes(alloc, conn, found, version, &history)?;
     Ok((Loaded { history, shapes }, version))

@@ -1,6 +1,6 @@
 //! Laws of the definitions: functions that do nothing, and whose contracts say them.
 
-ghost use Rattle.std.specs.Prelude.{◌≡◌, ◌++◌, [], List};
+ghost use Rattle.std.specs.Prelude.{◌≡◌, ◌++◌, [], false, List};
 ghost use Rattle.sqlite.specs.Effect.{Database};
 ghost use Rattle.sqlite.specs.Held.{state};
 ghost use Rattle.sqlite.specs.State.{Opens};
@@ -8,21 +8,19 @@ ghost use Rattle.sqlite.specs.Tree.{Trees};
 ghost use Rattle.lpis_lineage_exact.specs.ExactLineage.{ShapesTurnOnce};
 ghost use Rattle.lpis_lineage_exact.specs.Shapes.{shape_named};
 ghost use Rattle.lpis_lineage.specs.declared.row.Entry.{Entry};
-ghost use Rattle.lpis_register_rows.specs.Content.{Content};
-ghost use Rattle.lpis_register_rows.specs.Histories.{IsSameHistory, TablesHave};
-ghost use Rattle.lpis_register_sql.specs.Layouts.{Origin};
+ghost use Rattle.lpis_register_rows.specs.Histories.{IsSameHistory};
 ghost use Rattle.lpis_register.specs.Calls.{AllLead, AreReleasesOf, Call, accepted};
-ghost use Rattle.lpis_register.specs.Histories.{HoldsRegister, LeavesRegister};
 ghost use Rattle.lpis_register.specs.Holdings.{Holdings, holdings};
-ghost use Rattle.lpis_register.specs.Saying.{IsSaid, LeavesSaid, SaysHistory, SaysNone};
-ghost use Rattle.lpis_register.specs.Saying.{SaysRegister};
+ghost use Rattle.lpis_register.specs.Saying.{IsSaid, LeavesSaid, SaysHistory, SaysNoHistory};
+ghost use Rattle.lpis_register.specs.Saying.{SaysNone, SaysRegister};
+ghost use Rattle.lpis_register_sql.specs.Presence.{AreThere, is_any};
+ghost use Rattle.lpis_register_sql.specs.declared.found.Found.{Found};
 ghost use Rattle.lpis_register_rows.specs.Shapes.{Shape};
-ghost use Rattle.lpis_register_rows.specs.declared.version.Version.{Version};
 
 use lpis_register_rows::{
     order_of_rows_is_free, tables_have_one_history, texts_keep_one_list_of_shapes,
 };
-use lpis_register_sql::{a_database_holds_one_content, a_table_has_one_answer};
+use lpis_register_sql::a_table_has_one_answer;
 use sqlite::{Alter, Connection};
 
 /// After any list of calls of `publish` the history is the one before them with the accepted
@@ -45,22 +43,6 @@ pub fn kept_shapes_turn_once()
         → AllLead calls (holdings [] []) after → ShapesTurnOnce (shape_named after.shapes) }
 {}
 
-/// Rows say one history, whichever version they are of.
-pub fn rows_have_one_history()
-    ensures { (c : Content) (h k : List Entry) (version other : Version)
-        → TablesHave version c h → TablesHave other c k → IsSameHistory h k }
-{
-    tables_have_one_history();
-}
-
-/// While a database holds a history and shapes, a crash leaves tables that hold them, and nothing
-/// else.
-pub fn a_crash_leaves_what_is_held<S: Alter>(conn: &Connection<S>)
-    ensures { (o : Origin) (h : List Entry) (shapes : List Shape)
-        → HoldsRegister o (state S.Store conn.now) h shapes → (db : Trees)
-        → (state S.Store conn.now).may_leave db → LeavesRegister o h shapes db }
-{}
-
 /// While the tables of a database say a history and shapes, a crash leaves tables that say them,
 /// and nothing else; and an opening of what a crash left finds what it says.
 pub fn a_crash_leaves_what_is_said<S: Alter>(conn: &Connection<S>)
@@ -74,38 +56,8 @@ pub fn a_crash_leaves_what_is_said<S: Alter>(conn: &Connection<S>)
     let _ = conn.schema();
 }
 
-/// A database says one history, and keeps one list of shapes.
-pub fn a_database_holds_one_register<S: Alter>(conn: &Connection<S>)
-    ensures history { (o p : Origin) (h k : List Entry) (shapes others : List Shape)
-        → HoldsRegister o (state S.Store conn.now) h shapes
-        → HoldsRegister p (state S.Store conn.now) k others → IsSameHistory h k }
-    ensures shapes { (o p : Origin) (h k : List Entry) (shapes others : List Shape)
-        → HoldsRegister o (state S.Store conn.now) h shapes
-        → HoldsRegister p (state S.Store conn.now) k others → shapes ≡ others }
-{
-    a_database_holds_one_content(conn);
-    order_of_rows_is_free();
-    texts_keep_one_list_of_shapes();
-    tables_have_one_history();
-}
-
-/// Whatever the tables of a register show to SELECT, they say the history and the shapes that it
-/// holds.
-pub fn a_register_says_what_it_holds<S: Alter>(conn: &Connection<S>)
-    ensures history { (o : Origin) (h k : List Entry) (shapes others : List Shape)
-        → HoldsRegister o (state S.Store conn.now) h shapes
-        → SaysRegister (state S.Store conn.now).now k others → IsSameHistory h k }
-    ensures shapes { (o : Origin) (h k : List Entry) (shapes others : List Shape)
-        → HoldsRegister o (state S.Store conn.now) h shapes
-        → SaysRegister (state S.Store conn.now).now k others → shapes ≡ others }
-{
-    order_of_rows_is_free();
-    texts_keep_one_list_of_shapes();
-    tables_have_one_history();
-}
-
 /// Whatever tables a database has, and in whatever order, they say one history and one list of
-/// shapes: where they say some, they do not say none.
+/// shapes: where they say some, they do not say none, unless none is there.
 pub fn a_database_says_one_register()
     ensures history { (db : Database) (h k : List Entry) (shapes others : List Shape)
         → SaysRegister db h shapes → SaysRegister db k others → IsSameHistory h k }
@@ -115,6 +67,9 @@ pub fn a_database_says_one_register()
         → SaysHistory db h → SaysRegister db k shapes → IsSameHistory h k }
     ensures some { (db : Database) (h : List Entry) (shapes : List Shape)
         → SaysRegister db h shapes → SaysNone db → ⊥ }
+    ensures unread { (db : Database) (h : List Entry) (shapes : List Shape)
+        → SaysRegister db h shapes → SaysNoHistory db
+        → (found : Found) × AreThere db.schema found × (is_any found ≡ false) }
 {
     a_table_has_one_answer();
     order_of_rows_is_free();

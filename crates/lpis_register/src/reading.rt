@@ -1,16 +1,13 @@
 //! The history that tables of version 3 say, read, and shapes, copied.
 
-ghost use Rattle.std.specs.Prelude.{◌≡◌, false, IfErr, IfOk, List};
+ghost use Rattle.std.specs.Prelude.{◌≡◌, false, IfErr, IfOk};
 ghost use Rattle.sqlite.specs.Held.{state};
-ghost use Rattle.lpis_lineage.specs.declared.row.Entry.{Entry};
-ghost use Rattle.lpis_register_rows.specs.Shapes.{Shape};
 ghost use Rattle.lpis_register.specs.Failing.{HasReadCause};
 ghost use Rattle.lpis_register.specs.Histories.{ReadsHistory};
 ghost use Rattle.lpis_register.specs.declared.fault.PublishFault.TheVariants.{Store};
 
 use crate::fault::PublishFault;
 use crate::finding::find_rows;
-use crate::laws::rows_have_one_history;
 use lpis_lineage::History;
 use lpis_register_sql::tables_in;
 use lpis_rings::Polygon;
@@ -25,12 +22,10 @@ pub(crate) fn read_history<S: Alter>(
 ) -> Result<History, PublishFault>
     requires autocommit { conn.old.in_transaction ≡ false }
     ensures autocommit { conn.new.in_transaction ≡ false }
-    ensures reads { (h : List Entry) (shapes : List Shape)
-        → ReadsHistory (state S.Store conn.old) (state S.Store conn.new) h shapes result }
+    ensures reads { ReadsHistory (state S.Store conn.old) (state S.Store conn.new) result }
     ensures cause { IfErr result (λ fault. HasReadCause (state S.Store conn.old)
         (state S.Store conn.new) (fault ≡ Store)) }
 {
-    rows_have_one_history();
     let found = tables_in(conn.schema());
     match find_rows(alloc, conn, &found) {
         Ok((history, _version)) => Ok(history),

@@ -240,7 +240,7 @@ impl<S: Alter> Register<S> {
     /// The history that the tables say, read from them. Nothing is changed.
     pub fn history(&mut self) -> Result<History, PublishFault>
         ensures reads { ReadsHistory (state S.Store self.old.conn) (state S.Store self.new.conn)
-            self.old.held.history self.old.held.shapes result }
+            result }
         // `Store` where the database was shut, its disk failed, or the engine refuses the query of
         // one of its tables.
         ensures cause { IfErr result (λ fault. HasReadCause (state S.Store self.old.conn)

@@ -1,128 +1,94 @@
-//! Tables of version 3, made of those that were found.
+//! Tables of version 3, made of those that were found, in one transaction in which they are read
+//! back.
 
-ghost use Rattle.std.specs.Prelude.{◌≡◌, false, Err};
+ghost use Rattle.std.specs.Prelude.{◌≡◌, false, true, IfErr, IsTrue};
 ghost use Rattle.sqlite.specs.Held.{state};
-ghost use Rattle.sqlite.specs.declared.error.Error.TheVariants.{SqliteFailure};
-ghost use Rattle.sqlite.specs.declared.error.ErrorCode.TheVariants.{OutOfMemory};
-ghost use Rattle.lpis_register.specs.declared.fault.PublishFault.TheVariants.{Memory};
+ghost use Rattle.sqlite.specs.State.{HasCleanDisk};
 ghost use Rattle.lpis_register_rows.specs.Histories.{AreSpansOf};
-ghost use Rattle.lpis_register.specs.private.Commits.{HasSettlingCause, IsReported, Settles};
-ghost use Rattle.lpis_register_rows.specs.declared.version.Version.TheVariants.{First, Second};
-ghost use Rattle.lpis_register_rows.specs.declared.version.Version.TheVariants.{Third};
+ghost use Rattle.lpis_register_rows.specs.declared.version.Version.TheVariants.{First as Oldest};
+ghost use Rattle.lpis_register.specs.Faults.{IsFailure, IsStoreFault};
+ghost use Rattle.lpis_register.specs.declared.fault.PublishFault.TheVariants.{Memory, Store};
+ghost use Rattle.lpis_register.specs.private.Commits.{Settles};
 
+use crate::confirming::confirm;
 use crate::fault::PublishFault;
-use crate::opening::fault_of;
-use lpis_lineage::History;
-use lpis_register_rows::{SpanRow, Version, moving_keeps_the_history, spans_of};
-use lpis_register_sql::{Found, write_missing, write_moved, write_raised};
-use sqlite::{Alter, Connection, Error};
+use crate::opening::{Loaded, fault_of};
+use lpis_register_rows::{SpanRow, Version, spans_of};
+use lpis_register_sql::{settle_tables, tables_in};
+use sqlite::{Alter, Connection};
 use std::alloc::Global;
 
-/// What became of a write, as the register reports it.
-fn reported(written: Result<(), Error>) -> Result<(), PublishFault>
-    ensures reports { IsReported written result }
-    ensures memory { written ≡ Err (SqliteFailure OutOfMemory) → result ≡ Err Memory }
-    ensures of_memory { result ≡ Err Memory → written ≡ Err (SqliteFailure OutOfMemory) }
+/// The fault of an opening of which the tables are not read back.
+fn fault_of_confirming(fault: PublishFault) -> PublishFault
+    requires kind { IsStoreFault fault }
+    ensures failure { IsFailure result }
+    ensures store { result ≡ Store → fault ≡ Store }
 {
-    match written {
+    match fault {
+        PublishFault::StoreMemory => PublishFault::Memory,
+        _ => PublishFault::Store,
+    }
+}
+
+/// Makes tables of version 3 of those of a version, which say this, and reads them back before that
+/// is committed. With an error they are as they were.
+fn settle_with<S: Alter>(
+    alloc: Global,
+    conn: &mut Connection<S>,
+    version: Version,
+    told: &Loaded,
+    spans: &[SpanRow],
+) -> Result<(), PublishFault>
+    requires autocommit { conn.old.in_transaction ≡ false }
+    requires spans { version ≡ Oldest → AreSpansOf spans.now told.now.history }
+    ensures autocommit { conn.new.in_transaction ≡ false }
+    ensures settles { Settles S.Store version told.now.history told.now.shapes.items conn.old
+        conn.new result }
+{
+    let found = tables_in(conn.schema());
+    if found.hidden {
+        return Err(PublishFault::Store);
+    }
+    let complete = found.completed();
+    let mut tx = conn.transaction();
+    match settle_tables(&mut tx, &found, version, spans) {
+        Ok(()) => {}
+        Err(error) => return Err(fault_of(error)),
+    }
+    match confirm(
+        alloc,
+        &mut tx,
+        &complete,
+        &told.history,
+        told.shapes.as_slice(),
+    ) {
+        Ok(()) => {}
+        Err(fault) => return Err(fault_of_confirming(fault)),
+    }
+    match tx.commit() {
         Ok(()) => Ok(()),
         Err(error) => Err(fault_of(error)),
     }
 }
 
-/// Moves tables of version 1, which say this history, to version 3, with these spans.
-fn move_with<S: Alter>(
-    conn: &mut Connection<S>,
-    found: &Found,
-    history: &History,
-    rows: &[SpanRow],
-) -> Result<(), PublishFault>
-    requires autocommit { conn.old.in_transaction ≡ false }
-    requires spans { AreSpansOf rows.now history.now }
-    ensures autocommit { conn.new.in_transaction ≡ false }
-    ensures settles { Settles found.now First history.now (state S.Store conn.old)
-        (state S.Store conn.new) result }
-    ensures cause { HasSettlingCause S.Store found.now First history.now conn.old conn.new
-        result }
-{
-    moving_keeps_the_history();
-    reported(write_moved(conn, found, rows))
-}
-
-/// Moves tables of version 1, which say this history, to version 3.
-fn move_first<S: Alter>(
-    alloc: Global,
-    conn: &mut Connection<S>,
-    found: &Found,
-    history: &History,
-) -> Result<(), PublishFault>
-    requires autocommit { conn.old.in_transaction ≡ false }
-    ensures autocommit { conn.new.in_transaction ≡ false }
-    ensures settles { Settles found.now First history.now (state S.Store conn.old)
-        (state S.Store conn.new) result }
-    ensures cause { HasSettlingCause S.Store found.now First history.now conn.old conn.new
-        result }
-{
-    match spans_of(alloc, history) {
-        Ok(rows) => move_with(conn, found, history, rows.as_slice()),
-        Err(_) => Err(PublishFault::Memory),
-    }
-}
-
-/// Moves tables of version 2, which say this history, to version 3.
-fn move_second<S: Alter>(
-    conn: &mut Connection<S>,
-    found: &Found,
-    history: &History,
-) -> Result<(), PublishFault>
-    requires autocommit { conn.old.in_transaction ≡ false }
-    ensures autocommit { conn.new.in_transaction ≡ false }
-    ensures settles { Settles found.now Second history.now (state S.Store conn.old)
-        (state S.Store conn.new) result }
-    ensures cause { HasSettlingCause S.Store found.now Second history.now conn.old conn.new
-        result }
-{
-    moving_keeps_the_history();
-    reported(write_raised(conn, found))
-}
-
-/// Makes the tables of version 3 that are not there, beside those that say this history.
-fn complete_third<S: Alter>(
-    conn: &mut Connection<S>,
-    found: &Found,
-    history: &History,
-) -> Result<(), PublishFault>
-    requires autocommit { conn.old.in_transaction ≡ false }
-    ensures autocommit { conn.new.in_transaction ≡ false }
-    ensures settles { Settles found.now Third history.now (state S.Store conn.old)
-        (state S.Store conn.new) result }
-    ensures cause { HasSettlingCause S.Store found.now Third history.now conn.old conn.new
-        result }
-{
-    if found.is_whole() {
-        return Ok(());
-    }
-    reported(write_missing(conn, found))
-}
-
-/// Makes tables of version 3 of those that say this history.
+/// Makes tables of version 3 of those of a version, which say this: of version 1 with the spans of
+/// its history.
 pub(crate) fn settle<S: Alter>(
     alloc: Global,
     conn: &mut Connection<S>,
-    found: &Found,
     version: Version,
-    history: &History,
+    told: &Loaded,
 ) -> Result<(), PublishFault>
     requires autocommit { conn.old.in_transaction ≡ false }
     ensures autocommit { conn.new.in_transaction ≡ false }
-    ensures settles { Settles found.now version history.now (state S.Store conn.old)
-        (state S.Store conn.new) result }
-    ensures cause { HasSettlingCause S.Store found.now version history.now conn.old conn.new
-        result }
+    ensures settles { Settles S.Store version told.now.history told.now.shapes.items conn.old
+        conn.new result }
 {
     match version {
-        Version::First => move_first(alloc, conn, found, history),
-        Version::Second => move_second(conn, found, history),
-        Version::Third => complete_third(conn, found, history),
+        Version::First => match spans_of(alloc, &told.history) {
+            Ok(spans) => settle_with(alloc, conn, version, told, spans.as_slice()),
+            Err(_) => Err(PublishFault::Memory),
+        },
+        Version::Second | Version::Third => settle_with(alloc, conn, version, told, &[]),
     }
 }

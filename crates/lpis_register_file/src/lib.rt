@@ -18,8 +18,8 @@ use std::rt::HostRuntime;
 /// Opens the register in the file at a path, or makes one; `start` stands for what the file holds.
 /// A file that is no database, that another program has locked, or whose disk fails is the
 /// register's failure to store. One that was not there begins with no release. Right after Ok a
-/// crash leaves the register that was opened, by the law `a_crash_leaves_what_is_held`, where the
-/// tables stand as `HoldsRegister` has them: the assumption K of `docs/PROOF.md`.
+/// crash leaves tables that say the register that was opened, by the law
+/// `a_crash_leaves_what_is_said`.
 ///
 /// Where the files were opened and the register in them was not, their connection comes back beside
 /// the fault; with none they were not opened.

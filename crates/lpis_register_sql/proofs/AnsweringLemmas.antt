@@ -1,5 +1,5 @@
 -- What the queries of the register's tables are in any schema.
-use Rattle.std.proofs.Common.{◌≡◌, ℕ, refl, sym, ◌∙◌, ap, [], List, false, None, Ok, Err, Option, Result, inl, inr, subst, subst₂, map, take, length, IfOk, Vec, Global}
+use Rattle.std.proofs.Common.{IsTrue, OnOk, ◌≡◌, ℕ, refl, sym, ◌∙◌, ap, [], List, false, None, Ok, Err, Option, Result, inl, inr, subst, subst₂, map, take, length, IfOk, Vec, Global}
 use Rattle.std.proofs.lemmas.Result.{IfOk-weaker}
 use Rattle.std.proofs.lemmas.Bool.{cases_Bool}
 use Rattle.sqlite.specs.Schema.{Schema}
@@ -126,14 +126,20 @@ answered_by t old new rows h =
     (record { compiled = c; is = h.1.is; reads = subst₂ (λ db params. Reads c.command db params rows) own (ap (λ f. with_time [] f h.1.now) plain.bare.1) got.2 }, got.3)
 
 -- rows of its table, read
-abbrev pub IsRead : {X : Type 0} → StoredTable → (Row → X) → (X → Row) → State → State → List X → Type 0
-IsRead t shown columns old new xs = (rows : List Row) × Shown (query_of t) [] old new rows × (xs ≡ map shown rows) × (map (take (length (kinds_of t))) rows ≡ map columns xs)
+abbrev pub IsRead : {X : Type 0} → StoredTable → (X → Row) → State → State → List X → Type 0
+IsRead t columns old new xs = (rows : List Row) × Shown (query_of t) [] old new rows × (map (take (length (kinds_of t))) rows ≡ map columns xs)
+
+-- a table that is read is read of an open connection
+pub opened_by : {X : Type 0} (t : StoredTable) (columns : X → Row) (old new : State) (r : Result (Vec X Global) Error)
+    → (IsPlainWhere old.now.schema (query_of t) → HasCleanDisk new → IfOk r (λ all. IsRead t columns old new all.items)) → HasCleanDisk new → OnOk r (IsTrue old.is_open)
+opened_by t columns old new (Ok all) read clean = let it = read (plain_where t old.now.schema) clean in (answered_by t old new it.0 it.1).1.0.was_open
+opened_by t columns old new (Err e) read clean = tt
 
 -- a table is read by its query
-pub shows_by : {X : Type 0} (t : StoredTable) (columns : X → Row) (shown : Row → X) (old new : State) (r : Result (Vec X Global) Error)
-    → (IsPlainWhere old.now.schema (query_of t) → HasCleanDisk new → IfOk r (λ all. IsRead t shown columns old new all.items))
+pub shows_by : {X : Type 0} (t : StoredTable) (columns : X → Row) (old new : State) (r : Result (Vec X Global) Error)
+    → (IsPlainWhere old.now.schema (query_of t) → HasCleanDisk new → IfOk r (λ all. IsRead t columns old new all.items))
     → Shows (λ db all. ShowsTable db t columns all.items) old new r
-shows_by t columns shown old new r read = record {
+shows_by t columns old new r read = record {
   ok = λ clean. IfOk-weaker r _ _ (λ all it.
-      let a = answered_by t old new it.0 it.1 in (record { rows = it.0; answers = a.0; are = it.3 }, (a.1.0.now_is, λ up. a.1))) (read (plain_where t old.now.schema) clean);
+      let a = answered_by t old new it.0 it.1 in (record { rows = it.0; answers = a.0; are = it.2 }, (a.1.0.now_is, λ up. a.1))) (read (plain_where t old.now.schema) clean);
 }

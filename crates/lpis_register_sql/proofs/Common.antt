@@ -1,11 +1,6 @@
 -- The names that most proofs of this crate cite, passed on from one place. Declares nothing.
-pub use Rattle.lpis_register_rows.specs.Content.{Content, Format, StoredSpan}
-pub use Rattle.lpis_register_sql.specs.Holding.{AreKeyed, HoldsRows, IsStored, format_row, line_row, live_row, mark_row, span_row, text_row, year_row}
-pub use Rattle.lpis_register_sql.specs.Layouts.{First, LessMarks, LessTexts, Moved, New, Origin, Layout, Whole, has_live, has_marks, has_spans, has_texts, is_moved, mark_tree, no_schema}
-pub use Rattle.lpis_register_sql.specs.Layouts.{origin_of, schema_of, span_tree, text_tree}
-pub use Rattle.lpis_register_sql.specs.Tables.{format_table, mark_table, span_table, text_table}
-pub use Rattle.lpis_register_sql.specs.private.Inside.{Inside}
-pub use Rattle.lpis_register_sql.specs.private.Indices.{mark_place, span_place, text_place}
+pub use Rattle.lpis_register_rows.specs.Content.{StoredSpan}
+pub use Rattle.lpis_register_sql.specs.Holding.{line_row, live_row, mark_row, span_row, text_row}
 pub use Rattle.lpis_register_sql.specs.private.Shown.{read_format, read_line_text, read_live, read_mark, read_release, read_span, read_text}
 pub use Rattle.sqlite.proofs.Callers.{statement_of}
 pub use Rattle.sqlite.specs.Command.TheVariants.{Update}

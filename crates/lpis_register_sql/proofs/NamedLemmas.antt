@@ -1,13 +1,6 @@
 -- The names of the tables.
-use Rattle.std.proofs.Common.{◌≡◌, ◌||◌, Bool, codes, true, false, List, [], ◌∷◌, refl}
-use Rattle.std.specs.List.{list_any}
-use Rattle.lpis_register_sql.proofs.Common.{New, Origin, Table, Layout, schema_of}
-use Rattle.std.specs.List.{AllByRecursion}
-use Rattle.sqlite_schema.specs.Names.{same_name}
-use Rattle.lpis_register_sql.specs.Standing.{Fits, IsBehind}
-use Rattle.lpis_register_sql.specs.Presence.{has_table}
-use Rattle.lpis_register_sql.specs.StoredTables.{Formats, Lines, Lives, Marks, Spans, StoredTable, Texts, Years, is_in, name_of}
-use Rattle.lpis_register_sql.proofs.MeaningLemmas.{in_all}
+use Rattle.std.proofs.Common.{◌≡◌, ◌||◌, Bool, true, false, refl}
+use Rattle.lpis_register_sql.specs.StoredTables.{Formats, Lines, Lives, Marks, Spans, StoredTable, Texts, Years}
 
 -- seven tests in turn are a walk over a list
 pub any_of_seven : (a b c d e f g : Bool) → (((((((a || b) || c) || d) || e) || f) || g)) ≡ (a || (b || (c || (d || (e || (f || (g || false)))))))
@@ -29,20 +22,3 @@ each_table P formats years spans lines lives texts marks Lines = lines
 each_table P formats years spans lines lives texts marks Lives = lives
 each_table P formats years spans lines lives texts marks Texts = texts
 each_table P formats years spans lines lives texts marks Marks = marks
-
--- no table behind has the name of one of version 1
-none_named : (o : Origin) (tables : List Table) → AllByRecursion (IsBehind o) tables → list_any (λ t. same_name t.name (codes "lpis_live")) tables ≡ false
-none_named o [] fits = refl
-none_named o (t ∷ tables) fits = rw (fits.0.named, none_named o tables fits.1) refl
-
--- in each order, the tables that can be found by name are those that it should have
-pub tables_there : (s : Layout) → Fits s → (t : StoredTable) → has_table (schema_of s) (name_of t) ≡ is_in s t
-unfolding same_name
-tables_there = in_all _
-    (λ x fits. each_table _ refl refl refl refl (none_named (New x) x.tables fits) refl refl)
-    (λ x fits. each_table _ refl refl refl refl refl refl refl)
-    (λ x fits. each_table _ refl refl refl refl refl refl refl)
-    (λ x fits. each_table _ refl refl refl refl refl refl refl)
-    (λ x fits. each_table _ refl refl refl refl refl refl refl)
-    (λ x fits. each_table _ refl refl refl refl refl refl refl)
-    (λ fits. each_table _ refl refl refl refl refl refl refl)

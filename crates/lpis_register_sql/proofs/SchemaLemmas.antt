@@ -1,26 +1,23 @@
 -- Trees list one schema, whatever it is.
 use Rattle.std.proofs.Common.{◌≡◌, inl, inr, ℕ, ◌+◌, ◌<◌, pos, List, [], ◌∷◌, ◌++◌, Bool, true, false, slice_get, Some, None, Ok, Result, refl, sym, ap, ap₂, subst, ◌∙◌, arith, true≢false, Option}
 use Rattle.std.proofs.Common.{MatchBool, bytes_eq, codes, filter}
-use Rattle.lpis_register_sql.proofs.Common.{nat_tests, Row, Database, State, Table, Schema, Trees, Has, table_defined_by, Content, HoldsRows, IsStored, Layout, no_schema, schema_of}
+use Rattle.lpis_register_sql.proofs.Common.{nat_tests, Row, Table, Schema, Trees, Has, table_defined_by}
 use Rattle.sqlite.specs.Order.{column}
-use Rattle.lpis_register_sql.specs.Holding.{Leaves}
 use Rattle.std.specs.List.{AllZip, AllByRecursion}
 use Rattle.std.specs.Fmt.{decimal}
 use Rattle.std.proofs.lemmas.Fmt.{decimal_injective}
 use Rattle.std.proofs.lemmas.List.{append_cancel_left}
 use Rattle.sqlite_value.specs.declared.value.Value.{Value}
 use Rattle.sqlite_value.specs.declared.value.Value.TheVariants.{Null, Int, Text}
-use Rattle.sqlite.specs.State.{Opens, IsLive}
 use Rattle.sqlite_schema.specs.declared.schema.Index.{Index}
 use Rattle.sqlite_schema.specs.declared.schema.View.{View}
 use Rattle.sqlite_schema.specs.Names.{same_name}
 use Rattle.sqlite_catalog.specs.Listing.{IsTableRow, IsIndexRow, IsViewRow, IsDefined, IsAside, IsForeign, IsReadable, automatic, IsSound}
-use Rattle.sqlite_catalog.specs.Listing.{is_index_row, is_table_row, is_view_row}
+use Rattle.sqlite_catalog.specs.Listing.{is_index_row}
 use Rattle.sqlite_catalog.proofs.StepLemmas.{same_itself}
 use Rattle.sqlite_trees.specs.Tree.{IsAscending}
 use Rattle.sqlite_trees.specs.Objects.{catalog_tree}
 use Rattle.sqlite.specs.Compile.{index_defined_by}
-use Rattle.lpis_register_sql.specs.Bare.{IsBare}
 
 same_ok : {A E : Type 0} (r : Result A E) (a b : A) → r ≡ Ok a → r ≡ Ok b → a ≡ b
 same_ok r a b p q = cc
@@ -166,30 +163,3 @@ one_of_trees a b trees p q =
     let views : a.views ≡ b.views = same_all IsViewRow same_view _ _ _ p.lists.listed.views q.lists.listed.views in
     let first : a ≡ record b { views = a.views } = ap₂ (λ ts is. record a { tables = ts; indexes = is }) tables indexes in
     first ∙ ap (λ vs. record b { views = vs }) views
-
--- and an empty list lists nothing
-empty_schema : (schema : Schema) (trees : Trees) → trees catalog_tree ≡ [] → IsSound schema trees → schema ≡ no_schema
-empty_schema schema trees none b =
-    let tables = subst (λ rows. AllZip IsTableRow (filter is_table_row rows) schema.tables) none b.lists.listed.tables in
-    let indexes = subst (λ rows. AllZip (IsIndexRow schema.tables) (filter is_index_row rows) schema.indexes) none b.lists.listed.indexes in
-    let views = subst (λ rows. AllZip IsViewRow (filter is_view_row rows) schema.views) none b.lists.listed.views in
-    ap₂ (λ ts is. record schema { tables = ts; indexes = is }) (same_all IsTableRow same_table [] _ [] tables tt)
-    (same_all (IsIndexRow schema.tables) (same_index same_itself schema.tables b.lists.listed.named) [] _ [] indexes tt)
-    ∙ ap (λ vs. record no_schema { views = vs }) (same_all IsViewRow same_view [] _ [] views tt)
-
--- what an open finds in trees that hold rows of the register
-pub opened_stored : (layout : Layout) (s : State) (c : Content) → Opens s → IsLive s → Leaves layout c s.committed.trees → IsStored layout s c
-opened_stored layout s c o live h =
-    let sound = (live o.is_open).1 in
-    let schema = one_of_trees s.committed.schema (schema_of layout) s.committed.trees sound h.sound in
-    let held : HoldsRows layout s.committed c = record { schema = schema; sound = sound; means = h.means } in
-    record { is_open = o.is_open; autocommit = o.autocommit; settled = o.clean; holds = subst (λ (d : Database). HoldsRows layout d c) (sym o.clean) held }
-
--- an open over an empty catalog finds no table, and no transaction
-pub opened_bare : (s : State) → Opens s → IsLive s → s.committed.trees catalog_tree ≡ [] → IsBare s
-opened_bare s o live none = record {
-  is_open = o.is_open;
-  autocommit = o.autocommit;
-  settled = o.clean;
-  schema = ap (λ (d : Database). d.schema) o.clean ∙ empty_schema s.committed.schema s.committed.trees none (live o.is_open).1;
-}

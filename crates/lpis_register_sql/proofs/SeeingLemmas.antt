@@ -1,5 +1,5 @@
 -- What calls that read one table after the other have shown of one database.
-use Rattle.std.proofs.Common.{◌≡◌, ◌∙◌, refl, subst, true, false, Bool, Ok, Err, Result, IsErrAnd, [], Vec, Global}
+use Rattle.std.proofs.Common.{◌≡◌, ◌∙◌, refl, subst, true, false, Bool, Ok, Err, Result, IsErrAnd, [], Vec, Global, OnOk}
 use Rattle.sqlite.specs.Effect.{Database}
 use Rattle.sqlite.specs.Order.{Row}
 use Rattle.sqlite.proofs.Callers.{unchanged_then}
@@ -39,6 +39,11 @@ seen {a = a} before made = record { ok = λ clean. let it = before.so_far clean 
 pub unseen : {Y E : Type 0} {All : Database → Y → Type 0} {a b : State} (e : E) (r : Result Y E) → IsErrAnd r (λ x. x ≡ e) → Shows All a b r
 unseen e (Ok y) is = absurd is
 unseen e (Err x) is = record { ok = λ clean. tt }
+
+-- nor does Ok say anything of it
+pub none_ok : {Y E : Type 0} (P : Type 0) (e : E) (r : Result Y E) → IsErrAnd r (λ x. x ≡ e) → OnOk r P
+none_ok P e (Ok y) is = absurd is
+none_ok P e (Err x) is = tt
 
 -- ---- a table, where it was found
 

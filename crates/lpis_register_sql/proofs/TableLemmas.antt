@@ -40,30 +40,30 @@ use Rattle.lpis_register_sql.specs.Stopping.{release_statements, row_statements,
 use Rattle.lpis_register_sql.specs.Within.{KeepsTables, Makes}
 
 -- the command writes rows of one table
-abbrev IsRowCommand : Command → Type 0
+abbrev pub IsRowCommand : Command → Type 0
 IsRowCommand (command.Insert at from) = ⊤
 IsRowCommand (command.Update at query) = ⊤
 IsRowCommand (command.Delete at query) = ⊤
 IsRowCommand _ = ⊥
 
 -- and its statement shows none
-record WritesRows (c : Compiled) : Type 0 where
-  rows : IsRowCommand c.command
-  shows_none : c.returning ≡ None
+pub record WritesRows (c : Compiled) : Type 0 where
+  pub rows : IsRowCommand c.command
+  pub shows_none : c.returning ≡ None
 
 -- what holds of the answer of a step, where it does not fail
-record Gives {A : Type 0} (P : A → Type 0) (r : Checked A) : Type 0 where
-  gives : (a : A) → r ≡ Ok a → P a
+pub record Gives {A : Type 0} (P : A → Type 0) (r : Checked A) : Type 0 where
+  pub gives : (a : A) → r ≡ Ok a → P a
 
 module _ {A : Type 0} (P : A → Type 0) where
-  done : (a : A) → P a → Gives P (Ok a)
+  pub done : (a : A) → P a → Gives P (Ok a)
   done a h = record { gives = λ b is. subst P (let same : a ≡ b = cc in same) h }
 
-  fails : (e : CompileError) → Gives P (Err e)
+  pub fails : (e : CompileError) → Gives P (Err e)
   fails e = record { gives = λ b is. absurd cc }
 
   -- it holds of what comes of a step, if it holds of what the rest makes of each answer
-  and_gives : {B : Type 0} (r : Checked B) (f : B → Checked A) → ((b : B) → Gives P (f b)) → Gives P (and_then r f)
+  pub and_gives : {B : Type 0} (r : Checked B) (f : B → Checked A) → ((b : B) → Gives P (f b)) → Gives P (and_then r f)
   and_gives (Ok b) f h = h b
   and_gives (Err e) f h = fails e
 
@@ -123,7 +123,7 @@ selected (Ok x) c known = elim (cases_Bool (is_select x.command)) [
 selected (Err e) c known = absurd cc
 
 -- what is understood is compiled over this schema, or is a SELECT
-own_or_select : (s : Schema) (sql : List ℕ) (c : Compiled) → understood s sql ≡ Ok c
+pub own_or_select : (s : Schema) (sql : List ℕ) (c : Compiled) → understood s sql ≡ Ok c
     → (compiled s sql ≡ Ok c) ⊎ ((compiled listing_schema sql ≡ Ok c) × (is_select c.command ≡ true))
 unfolding understood
 own_or_select s sql c known = elim (cases_Bool (reads_listing s sql)) [
@@ -136,7 +136,7 @@ select_writes (command.Select q names) is h = h
 select_writes _ is h = cc
 
 -- wherever the text is understood, it writes rows
-abbrev IsRowText : Schema → List ℕ → Type 0
+abbrev pub IsRowText : Schema → List ℕ → Type 0
 IsRowText s sql = (c : Compiled) → understood s sql ≡ Ok c → WritesRows c
 
 -- such a text does
@@ -147,12 +147,12 @@ writes_where s sql text c known = elim (own_or_select s sql c known) [
 ]
 
 module _ (s : Schema) (sql : List ℕ) (p : Parsed) where
-  writing : first sql ≡ Ok p → is_writing p.statement ≡ true → IsRowText s sql
+  pub writing : first sql ≡ Ok p → is_writing p.statement ≡ true → IsRowText s sql
   writing is writes = writes_where s sql (record { parsed = p; is = is; writes = writes })
 
 -- ---- the statements of a release
 
-abbrev IsRowStatement : BoundStatement → Type 0
+abbrev pub IsRowStatement : BoundStatement → Type 0
 IsRowStatement x = (s : Schema) → IsRowText s x.sql
 
 all_of : {Y : Type 0} (f : Y → BoundStatement) → ((y : Y) → IsRowStatement (f y)) → (ys : List Y) → AllByRecursion IsRowStatement (map f ys)
@@ -242,7 +242,7 @@ module _ (limit : Option ℕ) (mode : Mode) (params : Row) (db : Database) (text
   does_keep _ is h = absurd is
 
 -- the database of b is sound, and has the schema of a
-abbrev Keeps : State → State → Type 0
+abbrev pub Keeps : State → State → Type 0
 Keeps a b = (b.now.schema ≡ a.now.schema) × IsDatabase b.now
 
 module _ (a b : State) where
@@ -258,7 +258,7 @@ module _ (a b : State) where
     | inr runs ↦ runs_keep c.returning c.command _ params count writes.rows (rw runs at h)
   ]
 
-  executed_keeps : (sql : List ℕ) (values : Row) (count : ℕ) → IsRowText a.now.schema sql → ExecutesInside 0 sql values a b (Ok count) → Keeps a b
+  pub executed_keeps : (sql : List ℕ) (values : Row) (count : ℕ) → IsRowText a.now.schema sql → ExecutesInside 0 sql values a b (Ok count) → Keeps a b
   unfolding ExecutesIn
   executed_keeps sql values count text h = let run = h.0 in alone_keeps sql run.0 _ count (text run.0 run.1.is) run.2
 

@@ -18,8 +18,7 @@ use Rattle.lpis_register_sql.specs.declared.found.Found.{Found}
 use Rattle.lpis_register_sql.specs.StoredTables.{HasColumns, IsOfKind, ColumnKind, StoredTable, is_read, kinds_of, query_of}
 use Rattle.lpis_register_sql.specs.Unread.{IsRefusedQuery, IsUnanswered, IsUnread, Tells}
 use Rattle.lpis_register_sql.specs.private.Telling.{IsPlainWhere, TellsRows}
-use Rattle.lpis_register_rows.specs.Content.{Content}
-use Rattle.lpis_register_sql.specs.Quiet.{IsFound, ReadsRows}
+use Rattle.lpis_register_sql.specs.Quiet.{LeavesAll}
 use Rattle.lpis_register_sql.proofs.QuietLemmas.{Told, nothing_yet, then, then_fails}
 use Rattle.lpis_register_sql.proofs.StopLemmas.{failing, faults_kept, more_faults, unchanged}
 
@@ -163,40 +162,39 @@ unread_still found a b c low (inr h) = inr h
 
 -- ---- one call after the other
 
--- what the calls so far have answered, and what they have told
-pub record Loaded (found : Found) (Says : Content → Type 0) (a b : State) : Type 0 where
-  pub told : Told (IsFound found) Says a b
+-- what the calls so far have left, and what they have told
+pub record Loaded (found : Found) (a b : State) : Type 0 where
+  pub told : Told a b
   pub heard : HasCleanDisk b → IsTrue a.is_open → IsUnchanged a b ⊎ IsUnread found a b
   pub limit : b.step_limit ≡ a.step_limit
 
 -- before the first call
-pub none_loaded : {found : Found} {a : State} → Loaded found (λ c. Unit {0}) a a
+pub none_loaded : {found : Found} {a : State} → Loaded found a a
 none_loaded {a = a} = record { told = nothing_yet; heard = λ clean up. inl (unchanged a up); limit = refl }
 
-heard_on : {Says : Content → Type 0} (found : Found) (a b c : State) → Loaded found Says a b → (Cause : Type 0) → (HasCleanDisk c → HasCleanDisk b) → b.faults ≤ c.faults
+heard_on : (found : Found) (a b c : State) → Loaded found a b → (Cause : Type 0) → (HasCleanDisk c → HasCleanDisk b) → b.faults ≤ c.faults
     → (HasCleanDisk c → IsTrue b.is_open → (IsUnchanged a b → Cause) ⊎ IsUnread found b c) → HasCleanDisk c → IsTrue a.is_open → Cause ⊎ IsUnread found a c
 heard_on found a b c before Cause clean later more now up = elim (before.heard (clean now) up) [
   | inr unread ↦ inr (unread_still found a b c later unread)
   | inl same ↦ elim (more now same.0.is_open) [ inl cause ↦ inl (cause same) | inr unread ↦ inr (unread_before found a b c same before.limit before.told.survives.counts unread) ]
 ]
 
-module _ {found : Found} {Says : Content → Type 0} {X E : Type 0} {More : Content → X → Type 0} {a b c : State} (before : Loaded found Says a b) where
+module _ {found : Found} {X E : Type 0} {a b c : State} (before : Loaded found a b) where
   -- one call more
-  pub load : {x : X} → ReadsRows {E = E} (IsFound found) More b c (Ok x) → (HasCleanDisk c → IsTrue b.is_open → IsUnchanged b c ⊎ IsUnread found b c)
-      → Loaded found (λ content. Says content × More content x) a c
+  pub load : {x : X} → LeavesAll {E = E} b c (Ok x) → (HasCleanDisk c → IsTrue b.is_open → IsUnchanged b c ⊎ IsUnread found b c) → Loaded found a c
   load reads more = record {
-    told = then (λ s p. p) before.told reads;
+    told = then before.told reads;
     heard = heard_on found a b c before (IsUnchanged a c) (λ now. omega (arith, now, reads.survives.clean)) reads.survives.counts
         (λ clean up. elim (more clean up) [ inl still ↦ inl (λ same. unchanged_then a b c same still) | inr unread ↦ inr unread ]);
     limit = reads.survives.limit ∙ before.limit;
   }
 
   -- the last of them, which fails
-  pub load_fails : {Y : Type 0} {All : Content → Y → Type 0} {d : E} (e : Error) (r : Result Y Error) → IsErrAnd r (λ x. x ≡ e) → ReadsRows (IsFound found) More b c (Err d)
-      → (HasCleanDisk c → IsTrue b.is_open → (e ≡ SqliteFailure code.OutOfMemory) ⊎ IsUnread found b c) → ReadsRows (IsFound found) All a c r × Tells found a c r
+  pub load_fails : {Y : Type 0} {d : E} (e : Error) (r : Result Y Error) → IsErrAnd r (λ x. x ≡ e) → LeavesAll {X = X} b c (Err d)
+      → (HasCleanDisk c → IsTrue b.is_open → (e ≡ SqliteFailure code.OutOfMemory) ⊎ IsUnread found b c) → LeavesAll a c r × Tells found a c r
   load_fails e (Ok y) is reads more = absurd is
   load_fails e (Err x) is reads more = (
-    then_fails {Why = λ y. y ≡ e} (x, refl, is) (λ s p. p) before.told reads,
+    then_fails {Why = λ y. y ≡ e} (x, refl, is) before.told reads,
     λ clean up. subst (λ i. (i ≡ SqliteFailure code.OutOfMemory) ⊎ IsUnread found a c) (sym is)
         (heard_on found a b c before (e ≡ SqliteFailure code.OutOfMemory) (λ now. omega (arith, now, reads.survives.clean)) reads.survives.counts
         (λ clean up. elim (more clean up) [ inl memory ↦ inl (λ same. memory) | inr unread ↦ inr unread ]) clean up),

@@ -2,6 +2,8 @@
 use Rattle.std.specs.Prelude.{Bool, List, [], ◌∷◌, ◌++◌, ℕ, if◌then◌else◌, map}
 use Rattle.std.specs.List.{flat_map}
 use Rattle.lpis_register_rows.specs.Content.{StoredSpan}
+use Rattle.lpis_register_rows.specs.declared.version.Version.{Version}
+use Rattle.lpis_register_rows.specs.declared.version.Version.TheVariants.{First, Second, Third}
 use Rattle.lpis_register_sql.specs.Holding.{span_row}
 use Rattle.lpis_register_sql.specs.Statements.{clear_live, clear_mark, clear_span, clear_text}
 use Rattle.lpis_register_sql.specs.Statements.{insert_format, insert_whole_span, make_format}
@@ -56,3 +58,9 @@ raising_statements found = completing_statements found ++ version_in_place
 abbrev pub moving_statements : Found → List StoredSpan → List BoundStatement
 moving_statements found spans =
     completing_statements found ++ (spans_in_place found spans ++ version_in_place)
+
+-- from a version to version 3: of version 1 with these spans
+abbrev pub settling_statements : Version → Found → List StoredSpan → List BoundStatement
+settling_statements First found spans = moving_statements found spans
+settling_statements Second found spans = raising_statements found
+settling_statements Third found spans = completing_statements found

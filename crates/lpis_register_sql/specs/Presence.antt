@@ -1,5 +1,5 @@
 -- Which of the register's tables a database has.
-use Rattle.std.specs.Prelude.{ℕ, Bool, List, ◌≡◌, ◌||◌}
+use Rattle.std.specs.Prelude.{ℕ, Bool, List, true, ◌≡◌, ◌&&◌, ◌||◌}
 use Rattle.std.specs.List.{list_any}
 use Rattle.sqlite.specs.Schema.{Schema}
 use Rattle.sqlite_schema.specs.Names.{same_name}
@@ -18,3 +18,19 @@ abbrev pub is_any : Found → Bool
 is_any found =
     (((((found.format || found.years) || found.spans) || found.lines) || found.lives)
     || found.texts) || found.marks
+
+-- each table of version 3 is found
+abbrev pub is_whole : Found → Bool
+is_whole found =
+    ((((found.format && found.years) && found.spans) && found.lines) && found.texts) && found.marks
+
+-- all those of version 3 are found, and `lpis_live` where it was
+abbrev pub completed : Found → Found
+completed found = record found {
+  format = true;
+  years = true;
+  spans = true;
+  lines = true;
+  texts = true;
+  marks = true;
+}

@@ -1,10 +1,9 @@
 -- The tables of the register: their names, what is asked of each, and which are there.
-use Rattle.std.specs.Prelude.{◌≡◌, ◌∷◌, [], ℕ, Bool, true, IsUtf8, List, codes}
+use Rattle.std.specs.Prelude.{◌≡◌, ◌∷◌, [], ℕ, Bool, IsUtf8, List, codes}
 use Rattle.sqlite.specs.Order.{Row}
 use Rattle.sqlite.specs.Values.{IsInt}
 use Rattle.sqlite.specs.declared.types.Value.{Value}
 use Rattle.sqlite.specs.declared.types.Value.TheVariants.{Text}
-use Rattle.lpis_register_sql.specs.Layouts.{Layout, has_live, has_marks, has_spans, has_texts}
 use Rattle.lpis_register_sql.specs.declared.found.Found.{Found}
 
 -- a table of the register, of any version
@@ -70,11 +69,3 @@ is_read found Lines = found.lines
 is_read found Lives = found.lives
 is_read found Texts = found.texts
 is_read found Marks = found.marks
-
--- whether it is there in an order of the tables
-abbrev pub is_in : Layout → StoredTable → Bool
-is_in layout Spans = has_spans layout
-is_in layout Lives = has_live layout
-is_in layout Texts = has_texts layout
-is_in layout Marks = has_marks layout
-is_in layout _ = true

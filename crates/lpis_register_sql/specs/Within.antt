@@ -5,7 +5,9 @@ use Rattle.sqlite.specs.Held.{Held, state}
 use Rattle.sqlite.specs.State.{State, HasCleanDisk, KeepsCommit, Survives}
 use Rattle.sqlite.specs.declared.error.Error.{Error}
 use Rattle.sqlite_trees.specs.declared.store.Store.{Ghosts}
+use Rattle.lpis_register_sql.specs.Presence.{AreThere}
 use Rattle.lpis_register_sql.specs.Stopping.{BoundStatement, Ran, StopsWithin}
+use Rattle.lpis_register_sql.specs.declared.found.Found.{Found}
 
 -- nothing is committed, and a crash leaves what it left before
 pub record IsQuiet (old new : State) : Type 0 where
@@ -29,3 +31,8 @@ pub record Makes {S : Type 0} (store : Ghosts S) (xs : List BoundStatement) (old
 pub record KeepsTables (old new : State) : Type 0 where
   pub schema : new.now.schema ≡ old.now.schema
   pub sound : IsDatabase new.now
+
+-- the register's tables are those that are found so
+pub record HasTables (found : Found) (st : State) : Type 0 where
+  pub there : AreThere st.now.schema found
+  pub sound : IsDatabase st.now

@@ -2,10 +2,7 @@
 
 ghost use Rattle.std.specs.Prelude.{◌≡◌, true, false};
 ghost use Rattle.lpis_register_sql.specs.Hiding.{hides_table, is_table_name};
-ghost use Rattle.lpis_register_sql.specs.Presence.{AreThere, has_table, is_any};
-ghost use Rattle.lpis_register_sql.specs.Quiet.{IsFound};
-ghost use Rattle.lpis_register_sql.specs.Layouts.{has_marks, no_schema, schema_of};
-ghost use Rattle.lpis_register_sql.specs.Standing.{Stands};
+ghost use Rattle.lpis_register_sql.specs.Presence.{AreThere, completed, has_table, is_any, is_whole};
 
 use sqlite_schema::names::same_name;
 use sqlite_schema::schema::Schema;
@@ -41,9 +38,24 @@ impl Found {
 
     /// Whether each table of version 3 is there.
     pub fn is_whole(&self) -> bool
-        ensures { (layout : _) → IsFound self.now layout → result ≡ has_marks layout }
+        ensures { result ≡ is_whole self.now }
     {
         self.format & self.years & self.spans & self.lines & self.texts & self.marks
+    }
+
+    /// What is there once the tables of version 3 that lack are made.
+    pub fn completed(&self) -> Found
+        ensures { result ≡ completed self.now }
+    {
+        Found {
+            format: true,
+            years: true,
+            spans: true,
+            lines: true,
+            texts: true,
+            marks: true,
+            ..*self
+        }
     }
 }
 
@@ -86,11 +98,8 @@ fn hides_table(schema: &Schema) -> bool
 
 /// The tables that are there.
 pub fn tables_in(schema: &Schema) -> Found
-    ensures bare { schema.now ≡ no_schema → is_any result ≡ false }
     ensures hidden { result.hidden ≡ hides_table schema.now }
     ensures there { AreThere schema.now result }
-    ensures laid_out { (layout : _) (trees : _) → Stands layout trees
-        → schema.now ≡ schema_of layout → (is_any result ≡ true) × IsFound result layout }
 {
     let format = has_table(schema, "lpis_format");
     let years = has_table(schema, "lpis_release");

@@ -1,10 +1,9 @@
 //! The tables, read.
 
-ghost use Rattle.std.specs.Prelude.{◌≡◌, false, IsPermutation};
+ghost use Rattle.std.specs.Prelude.{◌≡◌, false, IsTrue, OnOk};
+ghost use Rattle.sqlite.specs.State.{HasCleanDisk};
 ghost use Rattle.sqlite.specs.Held.{state};
-ghost use Rattle.lpis_register_rows.specs.Content.{without_texts};
-ghost use Rattle.lpis_register_rows.specs.Histories.{IsSameContent};
-ghost use Rattle.lpis_register_sql.specs.Quiet.{IsFound, ReadsRows};
+ghost use Rattle.lpis_register_sql.specs.Quiet.{LeavesAll};
 ghost use Rattle.lpis_register_sql.specs.Showing.{Shows, ShowsFormats, ShowsRows, ShowsTexts};
 ghost use Rattle.lpis_register_sql.specs.Unread.{Tells};
 
@@ -23,11 +22,12 @@ fn load_formats<S: Alter>(
 ) -> Result<Vec<FormatRow>, Error>
     requires autocommit { conn.old.in_transaction ≡ false }
     ensures autocommit { conn.new.in_transaction ≡ false }
-    ensures reads { ReadsRows (IsFound found.now) (λ c all. IsPermutation c.formats all.items)
-        (state S.Store conn.old) (state S.Store conn.new) result }
+    ensures reads { LeavesAll (state S.Store conn.old) (state S.Store conn.new) result }
     ensures tells { Tells found.now (state S.Store conn.old) (state S.Store conn.new) result }
     ensures shows { Shows (λ db all. ShowsFormats found.now db all.items)
         (state S.Store conn.old) (state S.Store conn.new) result }
+    ensures was_open { IsTrue found.now.format → HasCleanDisk (state S.Store conn.new)
+        → OnOk result (IsTrue (state S.Store conn.old).is_open) }
 {
     if found.format {
         return load_rows(alloc, conn, found);
@@ -47,11 +47,12 @@ pub fn load_found<S: Alter>(
 ) -> Result<Rows, Error>
     requires autocommit { conn.old.in_transaction ≡ false }
     ensures autocommit { conn.new.in_transaction ≡ false }
-    ensures reads { ReadsRows (IsFound found.now) (λ c. IsSameContent (without_texts c))
-        (state S.Store conn.old) (state S.Store conn.new) result }
+    ensures reads { LeavesAll (state S.Store conn.old) (state S.Store conn.new) result }
     ensures tells { Tells found.now (state S.Store conn.old) (state S.Store conn.new) result }
     ensures shows { Shows (ShowsRows found.now) (state S.Store conn.old)
         (state S.Store conn.new) result }
+    ensures was_open { IsTrue found.now.format → HasCleanDisk (state S.Store conn.new)
+        → OnOk result (IsTrue (state S.Store conn.old).is_open) }
 {
     let formats = load_formats(alloc, conn, found)?;
     let years: Vec<i64> = load_rows(alloc, conn, found)?;
@@ -70,9 +71,7 @@ pub fn load_texts<S: Alter>(
 ) -> Result<Vec<TextRow>, Error>
     requires autocommit { conn.old.in_transaction ≡ false }
     ensures autocommit { conn.new.in_transaction ≡ false }
-    ensures reads { ReadsRows (IsFound found.now)
-        (λ c texts. IsPermutation c.texts texts.items) (state S.Store conn.old)
-        (state S.Store conn.new) result }
+    ensures reads { LeavesAll (state S.Store conn.old) (state S.Store conn.new) result }
     ensures tells { Tells found.now (state S.Store conn.old) (state S.Store conn.new) result }
     ensures shows { Shows (λ db texts. ShowsTexts found.now db texts.items) (state S.Store conn.old)
         (state S.Store conn.new) result }

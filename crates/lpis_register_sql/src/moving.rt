@@ -1,24 +1,23 @@
-//! Moving a database of version 1 or 2 to version 3, in one transaction.
+//! Tables of version 3, made of those of a version, inside a transaction.
 
-ghost use Rattle.std.specs.Prelude.{◌≡◌, ◌∷◌, [], false, true, IfErr, IsTrue, map};
+ghost use Rattle.std.specs.Prelude.{◌≡◌, ◌∷◌, [], false, IsTrue, OnOk, map};
+ghost use Rattle.sqlite.specs.Effect.{IsDatabase};
 ghost use Rattle.sqlite.specs.Held.{state};
 ghost use Rattle.sqlite.specs.State.{HasCleanDisk};
-ghost use Rattle.lpis_register_rows.specs.Content.{moved, raised};
-ghost use Rattle.lpis_register_sql.specs.Making.{completing_statements, lives_emptied};
-ghost use Rattle.lpis_register_sql.specs.Making.{moving_statements, raising_statements};
+ghost use Rattle.lpis_register_sql.specs.Hiding.{hides_table};
+ghost use Rattle.lpis_register_sql.specs.Making.{lives_emptied, moving_statements};
+ghost use Rattle.lpis_register_sql.specs.Making.{raising_statements, settling_statements};
 ghost use Rattle.lpis_register_sql.specs.Making.{spans_in_place};
 ghost use Rattle.lpis_register_sql.specs.Making.{version_in_place, whole_span_statement};
-ghost use Rattle.lpis_register_sql.specs.Quiet.{IsFound};
-ghost use Rattle.lpis_register_sql.specs.Stopping.{StopsWithin};
-ghost use Rattle.lpis_register_sql.specs.Within.{Makes};
+ghost use Rattle.lpis_register_sql.specs.Presence.{AreThere, completed};
+ghost use Rattle.lpis_register_sql.specs.Within.{HasTables, Makes};
 ghost use Rattle.lpis_register_sql.specs.private.Lines.{span_at};
-ghost use Rattle.lpis_register_sql.specs.Commits.{IsFoundOf, Rewrites};
 
 use crate::completing::complete;
 use crate::found::Found;
 use crate::statements::{run, run_all};
-use lpis_register_rows::SpanRow;
-use sqlite::{Alter, Connection, Error, Transaction, params};
+use lpis_register_rows::{SpanRow, Version};
+use sqlite::{Alter, Error, Transaction, params};
 
 /// One more span, its columns apart.
 fn insert_span_at<S: Alter>(
@@ -125,51 +124,27 @@ fn fill_raised<S: Alter>(tx: &mut Transaction<'_, S>, found: &Found) -> Result<(
     raise(tx)
 }
 
-/// Moves tables of version 1 to version 3 in one transaction, or leaves them as they are.
-pub fn write_moved<S: Alter>(
-    conn: &mut Connection<S>,
+/// Makes tables of version 3 of those of a version, inside a transaction: those that were not found
+/// are made; of version 1 or 2 there are no texts and marks then, and of version 1 these spans.
+pub fn settle_tables<S: Alter>(
+    tx: &mut Transaction<'_, S>,
     found: &Found,
+    version: Version,
     spans: &[SpanRow],
 ) -> Result<(), Error>
-    requires autocommit { conn.old.in_transaction ≡ false }
-    ensures autocommit { conn.new.in_transaction ≡ false }
-    ensures writes { Rewrites (IsFoundOf found.now 1) (moved spans.now)
-        (state S.Store conn.old) (state S.Store conn.new) result }
-    ensures stops { IsTrue (state S.Store conn.old).is_open → HasCleanDisk (state S.Store conn.new)
-        → IfErr result (StopsWithin S.Store (moving_statements found.now spans.now)
-        (record conn.old { in_transaction = true }) conn.new) }
+    ensures same_reference { tx.new.conn.ghost_name ≡ tx.old.conn.ghost_name }
+    ensures makes { Makes S.Store (settling_statements version found.now spans.now)
+        tx.old.conn.now tx.new.conn.now result }
+    ensures tables { HasCleanDisk (state S.Store tx.new.conn.now)
+        → IsTrue (state S.Store tx.old.conn.now).is_open → IsTrue tx.old.conn.now.in_transaction
+        → AreThere tx.old.conn.now.schema found.now
+        → hides_table tx.old.conn.now.schema ≡ false
+        → IsDatabase (state S.Store tx.old.conn.now).now
+        → OnOk result (HasTables (completed found.now) (state S.Store tx.new.conn.now)) }
 {
-    let mut tx = conn.transaction();
-    fill_moved(&mut tx, found, spans)?;
-    tx.commit()
-}
-
-/// Moves tables of version 2 to version 3 in one transaction, or leaves them as they are.
-pub fn write_raised<S: Alter>(conn: &mut Connection<S>, found: &Found) -> Result<(), Error>
-    requires autocommit { conn.old.in_transaction ≡ false }
-    ensures autocommit { conn.new.in_transaction ≡ false }
-    ensures writes { Rewrites (IsFoundOf found.now 2) raised
-        (state S.Store conn.old) (state S.Store conn.new) result }
-    ensures stops { IsTrue (state S.Store conn.old).is_open → HasCleanDisk (state S.Store conn.new)
-        → IfErr result (StopsWithin S.Store (raising_statements found.now)
-        (record conn.old { in_transaction = true }) conn.new) }
-{
-    let mut tx = conn.transaction();
-    fill_raised(&mut tx, found)?;
-    tx.commit()
-}
-
-/// Makes the tables of version 3 that are not there, in one transaction.
-pub fn write_missing<S: Alter>(conn: &mut Connection<S>, found: &Found) -> Result<(), Error>
-    requires autocommit { conn.old.in_transaction ≡ false }
-    ensures autocommit { conn.new.in_transaction ≡ false }
-    ensures writes { Rewrites (λ layout c. IsFound found.now layout) (λ c. c)
-        (state S.Store conn.old) (state S.Store conn.new) result }
-    ensures stops { IsTrue (state S.Store conn.old).is_open → HasCleanDisk (state S.Store conn.new)
-        → IfErr result (StopsWithin S.Store (completing_statements found.now)
-        (record conn.old { in_transaction = true }) conn.new) }
-{
-    let mut tx = conn.transaction();
-    complete(&mut tx, found)?;
-    tx.commit()
+    match version {
+        Version::First => fill_moved(tx, found, spans),
+        Version::Second => fill_raised(tx, found),
+        Version::Third => complete(tx, found),
+    }
 }

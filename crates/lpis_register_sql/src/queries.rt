@@ -6,16 +6,10 @@ use lpis_register_rows::{FormatRow, LineRow, LiveRow, MarkRow, SpanRow, TextRow}
 use sqlite::{Error, Row};
 
 impl Stored for FormatRow {
-    ghost use Rattle.std.proofs.Common.{rules};
     ghost use Rattle.lpis_register_sql.specs.Showing.{format_columns};
     ghost use Rattle.lpis_register_sql.specs.StoredTables.{Formats};
-    ghost use Rattle.lpis_register_sql.specs.private.Shown.{format_shown};
 
     ghost table = { Formats };
-
-    ghost rows = { λ c. c.formats };
-
-    ghost shown = { format_shown };
 
     ghost columns = { format_columns };
 
@@ -33,22 +27,14 @@ impl Stored for FormatRow {
         let version = row.get(1)?;
         Ok(FormatRow { one, version })
     }
-
-    ghost without_table = { Prim.search rules };
 }
 
 /// A year of a release.
 impl Stored for i64 {
-    ghost use Rattle.std.proofs.Common.{rules};
     ghost use Rattle.lpis_register_sql.specs.Showing.{year_columns};
     ghost use Rattle.lpis_register_sql.specs.StoredTables.{Years};
-    ghost use Rattle.lpis_register_sql.specs.private.Shown.{year_shown};
 
     ghost table = { Years };
-
-    ghost rows = { λ c. c.years };
-
-    ghost shown = { year_shown };
 
     ghost columns = { year_columns };
 
@@ -64,21 +50,13 @@ impl Stored for i64 {
     fn read(row: &Row) -> Result<i64, Error> {
         row.get(0)
     }
-
-    ghost without_table = { Prim.search rules };
 }
 
 impl Stored for SpanRow {
-    ghost use Rattle.std.proofs.Common.{rules};
     ghost use Rattle.lpis_register_sql.specs.Holding.{span_row};
     ghost use Rattle.lpis_register_sql.specs.StoredTables.{Spans};
-    ghost use Rattle.lpis_register_sql.specs.private.Shown.{span_shown};
 
     ghost table = { Spans };
-
-    ghost rows = { λ c. c.spans };
-
-    ghost shown = { span_shown };
 
     ghost columns = { span_row };
 
@@ -97,21 +75,13 @@ impl Stored for SpanRow {
         let until = row.get(2)?;
         Ok(SpanRow { id, since, until })
     }
-
-    ghost without_table = { Prim.search rules };
 }
 
 impl Stored for LineRow {
-    ghost use Rattle.std.proofs.Common.{rules};
     ghost use Rattle.lpis_register_sql.specs.Holding.{line_row};
     ghost use Rattle.lpis_register_sql.specs.StoredTables.{Lines};
-    ghost use Rattle.lpis_register_sql.specs.private.Shown.{line_shown};
 
     ghost table = { Lines };
-
-    ghost rows = { λ c. c.lines };
-
-    ghost shown = { line_shown };
 
     ghost columns = { line_row };
 
@@ -136,21 +106,13 @@ impl Stored for LineRow {
             new,
         })
     }
-
-    ghost without_table = { Prim.search rules };
 }
 
 impl Stored for LiveRow {
-    ghost use Rattle.std.proofs.Common.{rules};
     ghost use Rattle.lpis_register_sql.specs.Holding.{live_row};
     ghost use Rattle.lpis_register_sql.specs.StoredTables.{Lives};
-    ghost use Rattle.lpis_register_sql.specs.private.Shown.{live_shown};
 
     ghost table = { Lives };
-
-    ghost rows = { λ c. c.live };
-
-    ghost shown = { live_shown };
 
     ghost columns = { live_row };
 
@@ -168,21 +130,13 @@ impl Stored for LiveRow {
         let id = row.get(1)?;
         Ok(LiveRow { year, id })
     }
-
-    ghost without_table = { Prim.search rules };
 }
 
 impl Stored for TextRow {
-    ghost use Rattle.std.proofs.Common.{rules};
     ghost use Rattle.lpis_register_sql.specs.Holding.{text_row};
     ghost use Rattle.lpis_register_sql.specs.StoredTables.{Texts};
-    ghost use Rattle.lpis_register_sql.specs.private.Shown.{text_shown};
 
     ghost table = { Texts };
-
-    ghost rows = { λ c. c.texts };
-
-    ghost shown = { text_shown };
 
     ghost columns = { text_row };
 
@@ -200,21 +154,13 @@ impl Stored for TextRow {
         let wkt = row.get(1)?;
         Ok(TextRow { id, wkt })
     }
-
-    ghost without_table = { Prim.search rules };
 }
 
 impl Stored for MarkRow {
-    ghost use Rattle.std.proofs.Common.{rules};
     ghost use Rattle.lpis_register_sql.specs.Holding.{mark_row};
     ghost use Rattle.lpis_register_sql.specs.StoredTables.{Marks};
-    ghost use Rattle.lpis_register_sql.specs.private.Shown.{mark_shown};
 
     ghost table = { Marks };
-
-    ghost rows = { λ c. c.marks };
-
-    ghost shown = { mark_shown };
 
     ghost columns = { mark_row };
 
@@ -232,6 +178,4 @@ impl Stored for MarkRow {
         let position = row.get(1)?;
         Ok(MarkRow { year, position })
     }
-
-    ghost without_table = { Prim.search rules };
 }

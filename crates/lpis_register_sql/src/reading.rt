@@ -1,14 +1,13 @@
 //! The rows of a table, read one at a time, whichever it is: no list of what a query shows is made.
 
 ghost use Rattle.std.specs.Prelude.{◌≡◌, ◌⊎◌, [], List, length, map, take, false, true, IfOk};
-ghost use Rattle.std.specs.Prelude.{OnErr, OnOk};
-ghost use Rattle.std.specs.Prelude.{IsPermutation};
+ghost use Rattle.std.specs.Prelude.{IsTrue, OnErr, OnOk};
 ghost use Rattle.sqlite.specs.Held.{state};
 ghost use Rattle.sqlite.specs.State.{CommitsShowing, HasCleanDisk, IsRolledBack, IsUnchanged};
 ghost use Rattle.sqlite.specs.State.{Shown, Survives};
-ghost use Rattle.lpis_register_sql.specs.Quiet.{IsFound, ReadsRows};
+ghost use Rattle.lpis_register_sql.specs.Quiet.{LeavesAll};
 ghost use Rattle.lpis_register_sql.specs.Showing.{Shows, ShowsFound, ShowsTable};
-ghost use Rattle.lpis_register_sql.specs.StoredTables.{is_in, is_read, kinds_of, query_of};
+ghost use Rattle.lpis_register_sql.specs.StoredTables.{is_read, kinds_of, query_of};
 ghost use Rattle.lpis_register_sql.specs.Unread.{Tells};
 ghost use Rattle.lpis_register_sql.specs.private.Telling.{IsPlainWhere, TellsRows};
 
@@ -18,25 +17,15 @@ use std::alloc::Global;
 
 /// A row of a table of the register.
 pub(crate) trait Stored: Drop {
-    ghost use Rattle.std.specs.Prelude.{◌≡◌, ◌≢◌, true, false, IfErr, IfOk, IsPermutation, List};
+    ghost use Rattle.std.specs.Prelude.{◌≡◌, ◌≢◌, true, false, IfErr, IfOk};
     ghost use Rattle.std.specs.Prelude.{[], length, map, take};
-    ghost use Rattle.sqlite.specs.Effect.{Database};
     ghost use Rattle.sqlite.specs.Order.{Row};
-    ghost use Rattle.sqlite.specs.Tree.{Trees};
     ghost use Rattle.sqlite.specs.declared.error.Error.TheVariants.{SqliteFailure};
     ghost use Rattle.sqlite.specs.declared.error.ErrorCode.TheVariants.{OutOfMemory};
-    ghost use Rattle.lpis_register_rows.specs.Content.{Content};
-    ghost use Rattle.lpis_register_sql.specs.Holding.{HoldsRows, Means};
-    ghost use Rattle.lpis_register_sql.specs.Layouts.{Layout};
-    ghost use Rattle.lpis_register_sql.specs.Showing.{AnswersQuery};
-    ghost use Rattle.lpis_register_sql.specs.StoredTables.{HasColumns, StoredTable, is_in, is_read};
+    ghost use Rattle.lpis_register_sql.specs.StoredTables.{HasColumns, StoredTable, is_read};
     ghost use Rattle.lpis_register_sql.specs.StoredTables.{kinds_of, query_of};
 
     ghost table: { StoredTable };
-
-    ghost rows: { Content → List Self };
-
-    ghost shown: { Row → Self };
 
     ghost columns: { Self → Row };
 
@@ -46,20 +35,13 @@ pub(crate) trait Stored: Drop {
 
     /// The query that reads its table, and shows all its rows.
     fn query() -> &'static str
-        ensures text { result.now ≡ query_of table }
-        ensures shows { (layout : Layout) → is_in layout table ≡ true → (db : Database)
-            (c : Content) (seen : List Row) → HoldsRows layout db c
-            → AnswersQuery db (query_of table) seen → IsPermutation (rows c) (map shown seen) };
+        ensures { result.now ≡ query_of table };
 
     /// A row that the query showed.
     fn read(row: &Row) -> Result<Self, Error>
-        ensures shown { IfOk result (λ it. shown row.now ≡ it) }
         ensures columns { IfOk result (λ it. take (length (kinds_of table)) row.now ≡ columns it) }
         ensures misfit { IfErr result (λ e. e ≢ SqliteFailure OutOfMemory
             → ¬ HasColumns (kinds_of table) row.now) };
-
-    ghost without_table: { (layout : Layout) (trees : Trees) (c : Content) → Means layout trees c
-        → is_in layout table ≡ false → rows c ≡ [] };
 }
 
 /// Puts what a query shows into a list, one row after the other.
@@ -73,7 +55,6 @@ fn take_rows<T: Stored, S: Alter>(
     ensures shown { IsPlainWhere conn.old.schema sql.now
         → HasCleanDisk (state S.Store conn.new) → OnOk result ((rows : List Row)
         × Shown sql.now [] (state S.Store conn.old) (state S.Store conn.new) rows
-        × (all.new.items ≡ map T.shown rows)
         × (map (take (length (kinds_of T.table))) rows ≡ map T.columns all.new.items)) }
     ensures same { IsPlainWhere conn.old.schema sql.now
         → HasCleanDisk (state S.Store conn.new)
@@ -106,7 +87,6 @@ fn read_rows<T: Stored, S: Alter>(
     ensures shown { IsPlainWhere conn.old.schema sql.now
         → HasCleanDisk (state S.Store conn.new) → IfOk result (λ all. (rows : List Row)
         × Shown sql.now [] (state S.Store conn.old) (state S.Store conn.new) rows
-        × (all.items ≡ map T.shown rows)
         × (map (take (length (kinds_of T.table))) rows ≡ map T.columns all.items)) }
     ensures same { IsPlainWhere conn.old.schema sql.now
         → HasCleanDisk (state S.Store conn.new)
@@ -126,13 +106,13 @@ fn read_rows<T: Stored, S: Alter>(
 fn read_table<T: Stored, S: Alter>(alloc: Global, conn: &mut Connection<S>) -> Result<Vec<T>, Error>
     requires autocommit { conn.old.in_transaction ≡ false }
     ensures autocommit { conn.new.in_transaction ≡ false }
-    ensures reads { ReadsRows (λ layout. is_in layout T.table ≡ true)
-        (λ c all. IsPermutation (T.rows c) all.items)
-        (state S.Store conn.old) (state S.Store conn.new) result }
+    ensures reads { LeavesAll (state S.Store conn.old) (state S.Store conn.new) result }
     ensures tells { TellsRows (query_of T.table) (kinds_of T.table) (state S.Store conn.old)
         (state S.Store conn.new) result }
     ensures shows { Shows (λ db all. ShowsTable db T.table T.columns all.items)
         (state S.Store conn.old) (state S.Store conn.new) result }
+    ensures was_open { HasCleanDisk (state S.Store conn.new)
+        → OnOk result (IsTrue (state S.Store conn.old).is_open) }
 {
     read_rows(alloc, conn, T::query())
 }
@@ -145,11 +125,12 @@ pub(crate) fn load_rows<T: Stored, S: Alter>(
 ) -> Result<Vec<T>, Error>
     requires autocommit { conn.old.in_transaction ≡ false }
     ensures autocommit { conn.new.in_transaction ≡ false }
-    ensures reads { ReadsRows (IsFound found.now) (λ c all. IsPermutation (T.rows c) all.items)
-        (state S.Store conn.old) (state S.Store conn.new) result }
+    ensures reads { LeavesAll (state S.Store conn.old) (state S.Store conn.new) result }
     ensures tells { Tells found.now (state S.Store conn.old) (state S.Store conn.new) result }
     ensures shows { Shows (λ db all. ShowsFound (is_read found.now T.table) db T.table T.columns
         all.items) (state S.Store conn.old) (state S.Store conn.new) result }
+    ensures was_open { IsTrue (is_read found.now T.table) → HasCleanDisk (state S.Store conn.new)
+        → OnOk result (IsTrue (state S.Store conn.old).is_open) }
 {
     if T::was_found(found) {
         read_table(alloc, conn)

@@ -7,29 +7,10 @@ use Rattle.lpis_register_rows.specs.Content.{Content}
 use Rattle.lpis_register_rows.specs.Histories.{TablesHave}
 use Rattle.lpis_register_rows.specs.declared.version.Version.{Version}
 use Rattle.lpis_register_sql.specs.declared.found.Found.{Found}
-use Rattle.lpis_register_sql.specs.Layouts.{Layout}
-use Rattle.lpis_register_sql.specs.Holding.{IsStored}
-use Rattle.lpis_register_sql.specs.Quiet.{IsFound, ReadsRows}
 use Rattle.lpis_register_sql.specs.Showing.{Shows, ShowsRows, StaysSame}
 use Rattle.lpis_register_sql.specs.Unread.{IsUnread}
-use Rattle.lpis_register.specs.Faults.{IsOpeningFault}
-use Rattle.lpis_register.specs.Opening.{HasRegister}
-use Rattle.lpis_register_rows.specs.Shapes.{Shape}
 use Rattle.lpis_register.specs.declared.fault.PublishFault.{PublishFault}
 use Rattle.lpis_register.specs.declared.fault.PublishFault.TheVariants.{Store, Unlawful}
-
--- the rows say no history whose parcels' shapes they may keep
-abbrev pub HasNoRegister : Content → Type 0
-HasNoRegister c = (version : Version) (h : List Entry) (shapes : List Shape)
-    → HasRegister version c h shapes → ⊥
-
--- what their rows say is answered, and only rows that say none of it are refused
-pub record ReadsFound {X : Type 0} (found : Found) (Says : Content → X → Type 0)
-    (SaysNo : Content → Type 0) (old new : State) (r : Result X PublishFault) : Type 0 where
-  pub reads : ReadsRows (IsFound found) Says old new r
-  pub unlawful : HasCleanDisk new → (layout : Layout) → IsFound found layout → (c : Content)
-      → IsStored layout old c → IfErr r (λ e. e ≡ Unlawful → SaysNo c)
-  pub kinds : IfErr r IsOpeningFault
 
 -- with an answer nothing is changed, or a table that was found is not read; where the database
 -- failed, one is not

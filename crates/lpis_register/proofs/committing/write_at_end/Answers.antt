@@ -3,7 +3,7 @@ use Rattle.std.proofs.lemmas.Result.{err_from_is_err_and}
 use Rattle.lpis_register_sql.proofs.Shared.{undone_stops}
 use Rattle.lpis_register_sql.specs.Within.{Makes}
 use Rattle.lpis_register.proofs.CommittingLemmas.{statements_are, stopped_writing, unconfirmed_writing}
-use Rattle.lpis_register.proofs.WritingLemmas.{commit_fails, confirmed_writes, dropped, dropped_after, not_confirmed, ran_alone}
+use Rattle.lpis_register.proofs.WritingLemmas.{commit_fails, confirmed_writes, dropped, dropped_after, kept_tables, not_confirmed, ran_alone}
 use Rattle.lpis_register.specs.Holdings.{holdings}
 use Rattle.lpis_register.proofs.committing.write_at_end.Goals as goal
 
@@ -40,14 +40,14 @@ returns-in_err-confirm-clause-cause g c h due clean =
     rw (p.1, p.2) (λ is. unconfirmed_writing g.S.Store w (holdings h c.args.kept.now) c.args.conn.now c.conn-in_err-confirm-1.given.0 due.candidate c.args.history.now due.follows
     (not_confirmed g.S.Store c.args.conn.now c.transaction-tx.result.conn.now c.fill.new.tx.conn.now c.confirm.new.tx.conn.now
     c.conn-in_err-confirm-1.given.0 c.transaction-tx.ensures.begun _ c.in-Ok.field-0 made
-    c.in-Ok.ensures.tables c.tables_in-found.result (rw c.schema.ensures.value at c.tables_in-found.ensures.there) c.in_err-confirm.ensures.quiet c.args.history.now w.shapes.items
+    c.tables_in-found.result (kept_tables g.S.Store c.args.conn.now c.transaction-tx.result.conn.now c.fill.new.tx.conn.now c.transaction-tx.ensures.begun c.tables_in-found.result (rw c.schema.ensures.value at c.tables_in-found.ensures.there) c.in-Ok.ensures.tables) c.in_err-confirm.ensures.quiet c.args.history.now w.shapes.items
     (λ late up. (rw c.as_slice.ensures.value at (c.in_err-confirm.ensures.cause late up)) is) (rw same at c.drop-tx-in_err-confirm.ensures.survives) clean))
 
 pub returns-in-Ok-commit-clause-writes : goal.returns-in-Ok-commit-clause-writes
 returns-in-Ok-commit-clause-writes g c =
     let same : c.commit.new.self.0 ≡ c.conn-2-1.given.0 = search rules in
     rw (← same) (confirmed_writes g.S.Store c.args.conn.now c.transaction-tx.result.conn.now c.fill.new.tx.conn.now c.confirm.new.tx.conn.now c.commit.new.self.0 c.transaction-tx.ensures.begun
-    _ c.in-Ok.field-0 c.in-Ok.ensures.makes c.in-Ok.ensures.tables c.tables_in-found.result (rw c.schema.ensures.value at c.tables_in-found.ensures.there) c.in_ok-confirm.ensures.quiet
+    _ c.in-Ok.field-0 c.in-Ok.ensures.makes c.tables_in-found.result (kept_tables g.S.Store c.args.conn.now c.transaction-tx.result.conn.now c.fill.new.tx.conn.now c.transaction-tx.ensures.begun c.tables_in-found.result (rw c.schema.ensures.value at c.tables_in-found.ensures.there) c.in-Ok.ensures.tables) c.in_ok-confirm.ensures.quiet
     c.args.history.now c.args.writing.now.shapes.items (rw c.as_slice.ensures.value at c.in_ok-confirm.ensures.said) c.in-Ok-commit.ensures.survives (Ok c.in-Ok-commit.field-0)
     c.in-Ok-commit.ensures.err (Ok tt) (λ P h. h) (λ P h. h) c.in-Ok-commit.ensures.ok (λ up db may. g.met.S.Store.settled c.commit.new.self.0.store db up may))
 
@@ -55,7 +55,7 @@ pub returns-in-Err-commit-clause-writes : goal.returns-in-Err-commit-clause-writ
 returns-in-Err-commit-clause-writes g c =
     let same : c.commit.new.self.0 ≡ c.conn-2-1.given.0 = search rules in
     rw (← same) (confirmed_writes g.S.Store c.args.conn.now c.transaction-tx.result.conn.now c.fill.new.tx.conn.now c.confirm.new.tx.conn.now c.commit.new.self.0 c.transaction-tx.ensures.begun
-    _ c.in-Ok.field-0 c.in-Ok.ensures.makes c.in-Ok.ensures.tables c.tables_in-found.result (rw c.schema.ensures.value at c.tables_in-found.ensures.there) c.in_ok-confirm.ensures.quiet
+    _ c.in-Ok.field-0 c.in-Ok.ensures.makes c.tables_in-found.result (kept_tables g.S.Store c.args.conn.now c.transaction-tx.result.conn.now c.fill.new.tx.conn.now c.transaction-tx.ensures.begun c.tables_in-found.result (rw c.schema.ensures.value at c.tables_in-found.ensures.there) c.in-Ok.ensures.tables) c.in_ok-confirm.ensures.quiet
     c.args.history.now c.args.writing.now.shapes.items (rw c.as_slice.ensures.value at c.in_ok-confirm.ensures.said) c.in-Err-commit.ensures.survives (Err c.in-Err-commit.error)
     c.in-Err-commit.ensures.err (Err c.fault_of_writing-in-Err-commit.result) (λ P h. h) (λ P h. h) c.in-Err-commit.ensures.ok (λ up db may. g.met.S.Store.settled c.commit.new.self.0.store db up may))
 
@@ -69,7 +69,7 @@ returns-in-Err-commit-clause-cause g c h due clean is =
     c.fault_of_writing-in-Err-commit.ensures.memory is
     (λ up. commit_fails g.S.Store c.args.conn.now c.transaction-tx.result.conn.now c.fill.new.tx.conn.now c.confirm.new.tx.conn.now
     c.conn-2-1.given.0 c.transaction-tx.ensures.begun _ c.in-Ok.field-0 made
-    c.in-Ok.ensures.tables c.tables_in-found.result (rw c.schema.ensures.value at c.tables_in-found.ensures.there) c.in_ok-confirm.ensures.quiet c.args.history.now w.shapes.items
+    c.tables_in-found.result (kept_tables g.S.Store c.args.conn.now c.transaction-tx.result.conn.now c.fill.new.tx.conn.now c.transaction-tx.ensures.begun c.tables_in-found.result (rw c.schema.ensures.value at c.tables_in-found.ensures.there) c.in-Ok.ensures.tables) c.in_ok-confirm.ensures.quiet c.args.history.now w.shapes.items
     (rw c.as_slice.ensures.value at c.in_ok-confirm.ensures.said) (rw same at c.in-Err-commit.ensures.survives) (Err c.in-Err-commit.error) (rw same at c.in-Err-commit.ensures.err)
     c.in-Err-commit.error refl clean)
 
@@ -80,5 +80,5 @@ returns-in-Ok-commit-clause-ran g c h due clean =
     let made = subst (λ xs. Makes g.S.Store xs c.transaction-tx.result.conn.now c.fill.new.tx.conn.now (Ok c.in-Ok.field-0)) (statements_are w c.args.last h c.args.kept.now due.last_is)
     c.in-Ok.ensures.makes in
     ran_alone g.S.Store c.args.conn.now c.transaction-tx.result.conn.now c.fill.new.tx.conn.now c.confirm.new.tx.conn.now c.conn-2-1.given.0 c.transaction-tx.ensures.begun _ c.in-Ok.field-0 made
-    c.in-Ok.ensures.tables c.tables_in-found.result (rw c.schema.ensures.value at c.tables_in-found.ensures.there) c.in_ok-confirm.ensures.quiet c.args.history.now w.shapes.items
+    c.tables_in-found.result (kept_tables g.S.Store c.args.conn.now c.transaction-tx.result.conn.now c.fill.new.tx.conn.now c.transaction-tx.ensures.begun c.tables_in-found.result (rw c.schema.ensures.value at c.tables_in-found.ensures.there) c.in-Ok.ensures.tables) c.in_ok-confirm.ensures.quiet c.args.history.now w.shapes.items
     (rw c.as_slice.ensures.value at c.in_ok-confirm.ensures.said) (rw same at c.in-Ok-commit.ensures.survives) (Ok c.in-Ok-commit.field-0) (rw same at c.in-Ok-commit.ensures.ok) clean

@@ -2,7 +2,7 @@ use Rattle.lpis_register.proofs.Common.{state}
 use Rattle.lpis_register.proofs.FindingLemmas.{told_read, told_unread}
 use Rattle.lpis_register.proofs.ResultLemmas.{opening_failure}
 use Rattle.lpis_register.proofs.SayingLemmas.{history_seen, nothing_seen}
-use Rattle.lpis_register_sql.proofs.Shared.{where_ok}
+use Rattle.lpis_register.proofs.ResultLemmas.{where_ok}
 use Rattle.lpis_register.proofs.confirming.history_inside.Goals as goal
 
 pub returns-in-Ok-clause-tells : goal.returns-in-Ok-clause-tells

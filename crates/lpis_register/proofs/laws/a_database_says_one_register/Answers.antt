@@ -1,4 +1,4 @@
-use Rattle.lpis_register.proofs.OneRegisterLemmas.{says_history, says_one, says_some}
+use Rattle.lpis_register.proofs.OneRegisterLemmas.{says_history, says_one, says_some, says_unread}
 use Rattle.lpis_register.proofs.laws.a_database_says_one_register.Goals as goal
 
 pub returns-clause-history : goal.returns-clause-history
@@ -15,3 +15,6 @@ returns-clause-read c = says_history c.a_table_has_one_answer.ensures c.order_of
 pub returns-clause-some : goal.returns-clause-some
 returns-clause-some c = λ db h shapes says none.
     says_some c.a_table_has_one_answer.ensures c.order_of_rows_is_free.ensures.textless c.tables_have_one_history.ensures db c.texts_keep_one_list_of_shapes.ensures.reordered h shapes says none
+
+pub returns-clause-unread : goal.returns-clause-unread
+returns-clause-unread c = says_unread c.a_table_has_one_answer.ensures c.order_of_rows_is_free.ensures.textless c.tables_have_one_history.ensures

@@ -1,7 +1,7 @@
 use Rattle.std.proofs.Common.{◌∙◌, sym}
 use Rattle.sqlite.specs.Held.{state}
 use Rattle.lpis_register_sql.specs.StoredTables.{is_read}
-use Rattle.lpis_register_sql.proofs.QuietLemmas.{reads_found, reads_unfound}
+use Rattle.lpis_register_sql.proofs.QuietLemmas.{leaves_all}
 use Rattle.lpis_register_sql.proofs.SeeingLemmas.{found_shown, unfound_shown}
 use Rattle.lpis_register_sql.proofs.UnreadLemmas.{told_of}
 use Rattle.lpis_register_sql.proofs.reading.load_rows.Goals as goal
@@ -21,9 +21,5 @@ returns-else-was_found-clause-shows g c =
     unfound_shown (is_read c.args.found.now g.T.Stored.table) g.T.Stored.table g.T.Stored.columns (state g.S.Store c.args.conn.now) c.new.result
     (sym c.was_found.ensures ∙ c.if-was_found.false) c.new.ensures.items
 
-pub returns-then-was_found-clause-reads : goal.returns-then-was_found-clause-reads
-returns-then-was_found-clause-reads g c = reads_found c.args.found.now g.T.Stored.table (sym c.was_found.ensures ∙ c.if-was_found.true) c.read_table.ensures.reads
-
 pub returns-else-was_found-clause-reads : goal.returns-else-was_found-clause-reads
-returns-else-was_found-clause-reads g c =
-    reads_unfound c.args.found.now g.T.Stored.table (sym c.was_found.ensures ∙ c.if-was_found.false) g.met.T.Stored.without_table c.new.result c.new.ensures.items
+returns-else-was_found-clause-reads g c = leaves_all _

@@ -14,6 +14,5 @@ invariant-rows g l =
     (l.rows.conn.ghost_name ≡ l.initial.rows.conn.ghost_name)
     × Survives old now (CommitsShowing l.sql [] old)
     × (l.fn.conn.in_transaction ≡ false → l.rows.conn.now.in_transaction ≡ false)
-    × ((given : List Row) × (l.all.items ≡ map g.T.Stored.shown given)
-    × (map (take (length (kinds_of g.T.Stored.table))) given ≡ map g.T.Stored.columns l.all.items)
+    × ((given : List Row) × (map (take (length (kinds_of g.T.Stored.table))) given ≡ map g.T.Stored.columns l.all.items)
     × (IsPlainWhere l.fn.conn.schema l.sql → HasCleanDisk now → HasGiven g.S.Store l.sql [] l.rows.conn.now given × IsUnchanged old now))
