@@ -1,5 +1,5 @@
 -- A transaction in which statements are run, and tables are read back.
-use Rattle.std.proofs.Common.{false, ◌≡◌, ◌∙◌, inl, inr, true, List, Ok, Err, Result, OnErr, OnOk, IfErr, IsTrue, ap, arith, refl, subst, sym}
+use Rattle.std.proofs.Common.{false, ◌≡◌, ◌≤◌, ◌∙◌, inl, inr, true, List, Ok, Err, Result, OnErr, OnOk, IfErr, IsTrue, ap, arith, refl, subst, sym}
 use Rattle.sqlite.proofs.Callers.{survives_begin}
 use Rattle.sqlite.proofs.StateLemmas.{survives_then}
 use Rattle.sqlite.specs.Effect.{Database, IsDatabase}
@@ -130,13 +130,14 @@ module _ {S : Type 0} (g : store.Ghosts S) (held first mid last end : Held S) (b
   -- the tables are not read back, or don't say this
   pub not_confirmed : (HasCleanDisk (state g last) → IsTrue (state g mid).is_open → IsUnsaid found (state g mid) (state g last) h shapes)
       → Survives (state g last) (state g end) (λ _. ⊥) → HasCleanDisk (state g end) → IsTrue (state g held).is_open
-      → (reached : Held S) × Ran g xs (record held { in_transaction = true }) reached × (found : Found) × AreThere reached.schema found × IsUnsaid found (state g reached) (state g end) h shapes
+      → (reached : Held S) × Ran g xs (record held { in_transaction = true }) reached × ((state g held).faults ≤ (state g reached).faults) × (found : Found) × AreThere reached.schema found × IsUnsaid found (state g reached) (state g end) h shapes
   not_confirmed unsaid drops clean up =
       let late : HasCleanDisk (state g last) = omega (arith, clean, drops.clean) in
       let opened : IsTrue (state g first).is_open = subst (λ h. IsTrue (state g h).is_open) (sym begun) up in
       let ran = made.ends (before_reading late) opened inside in (
         mid,
         subst (λ h. Ran g xs h mid) begun ran,
+        subst (λ h. (state g h).faults ≤ (state g mid).faults) begun made.quiet.survives.counts,
         found,
         there_still (before_reading late) opened,
         unsaid_still found (state g mid) (state g last) (state g end) h shapes drops (unsaid late (ran_open g xs first mid ran opened inside).0),
