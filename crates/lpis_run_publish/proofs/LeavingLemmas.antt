@@ -1,6 +1,5 @@
 -- What a call that publishes a release leaves of a register and its database.
 use Rattle.std.proofs.Common.{◌≡◌, inl, inr, refl, arith, Result, Ok, Err, IfErr}
-use Rattle.std.specs.Prelude.{IsTrue}
 use Rattle.sqlite.specs.Held.{state}
 use Rattle.sqlite.specs.State.{HasCleanDisk, State, Survives}
 use Rattle.sqlite.specs.Tree.{Trees}

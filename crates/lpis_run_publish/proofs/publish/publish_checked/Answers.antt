@@ -1,5 +1,5 @@
 use Rattle.std.proofs.Common.{inl, inr, refl}
-use Rattle.lpis_run_publish.proofs.LeavingLemmas.{leaves_unreached, leaves_untouched}
+use Rattle.lpis_run_publish.proofs.LeavingLemmas.{leaves_unreached}
 use Rattle.lpis_run_publish.proofs.Common.{IfOk-weaker}
 use Rattle.lpis_run_publish.proofs.PublishLemmas.{fails-accepted}
 use Rattle.lpis_run_publish.specs.PublishAnswer.{candidate_of}
