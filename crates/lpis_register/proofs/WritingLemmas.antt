@@ -1,5 +1,5 @@
 -- A transaction in which statements are run, and tables are read back.
-use Rattle.std.proofs.Common.{false, ◌≡◌, ◌∙◌, inl, inr, true, List, Ok, Err, Result, OnErr, OnOk, IfErr, IsTrue, ap, arith, refl, subst, sym}
+use Rattle.std.proofs.Common.{false, ◌≡◌, ◌≤◌, ◌∙◌, inl, inr, true, List, Ok, Err, Result, OnErr, OnOk, IfErr, IsTrue, ap, arith, refl, subst, sym}
 use Rattle.sqlite.proofs.Callers.{survives_begin}
 use Rattle.sqlite.proofs.StateLemmas.{survives_then}
 use Rattle.sqlite.specs.Effect.{Database, IsDatabase}
@@ -151,8 +151,11 @@ module _ {S : Type 0} (g : store.Ghosts S) (held first mid last end : Held S) (b
   -- so there is such a state
   pub not_confirmed : (HasCleanDisk (state g last) → IsTrue (state g mid).is_open → IsUnsaid found (state g mid) (state g last) h shapes)
       → Survives (state g last) (state g end) (λ _. ⊥) → HasCleanDisk (state g end) → IsTrue (state g held).is_open
-      → (reached : Held S) × Ran g xs (record held { in_transaction = true }) reached × (found : Found) × AreThere reached.schema found × IsUnsaid found (state g reached) (state g end) h shapes
-  not_confirmed unsaid drops clean up = let it = unsaid_after unsaid drops clean up in (mid, it.0, found, it.1, it.2)
+      → (reached : Held S) × Ran g xs (record held { in_transaction = true }) reached × ((state g held).faults ≤ (state g reached).faults)
+      × (found : Found) × AreThere reached.schema found × IsUnsaid found (state g reached) (state g end) h shapes
+  not_confirmed unsaid drops clean up =
+      let it = unsaid_after unsaid drops clean up in
+      (mid, it.0, subst (λ h. (state g h).faults ≤ (state g mid).faults) begun made.quiet.survives.counts, found, it.1, it.2)
 
   -- they say it
   module _ (told : HasCleanDisk (state g last) → (is_any found ≡ true) × ((version : Version) × SaysTables found (state g mid).now version h shapes) × IsUnchanged (state g mid) (state g last)) where

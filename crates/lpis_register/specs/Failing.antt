@@ -1,11 +1,12 @@
 -- Why the database fails when a release is published, and when its tables are read.
-use Rattle.std.specs.Prelude.{◌≡◌, ◌⊎◌, false, pos, true, List}
+use Rattle.std.specs.Prelude.{◌≡◌, ◌≤◌, ◌⊎◌, false, pos, true, List}
 use Rattle.sqlite.specs.Effect.{Database}
 use Rattle.sqlite.specs.Held.{Held, state}
 use Rattle.sqlite.specs.State.{HasCleanDisk, State}
 use Rattle.sqlite_trees.specs.declared.store.Store.{Ghosts}
 use Rattle.lpis_lineage.specs.Lineage.{last_year}
 use Rattle.lpis_lineage.specs.declared.row.Entry.{Entry}
+use Rattle.lpis_register_rows.specs.Histories.{IsSameHistory}
 use Rattle.lpis_register_rows.specs.Shapes.{Shape, text_edits}
 use Rattle.lpis_register_rows.specs.declared.version.Version.{Version}
 use Rattle.lpis_register_sql.specs.Stopping.{BoundStatement, IsStopped, Ran}
@@ -26,11 +27,12 @@ writing_statements w before =
     release_statements (pos w.year) (pos (last_year before.history)) w.change.dropped_ids
     w.fresh.items w.change.rows (text_edits before.shapes w.shapes.items)
 
--- they say no register, or another than this
+-- they say no register, or another than this: a history that differs in a year, a set of identifiers
+-- or a row, or other shapes
 abbrev pub SaysOther : Found → Database → List Entry → List Shape → Type 0
 SaysOther found db h shapes = SaysNoTables found db ⊎ ((version : Version) × (k : List Entry)
     × (others : List Shape) × SaysTables found db version k others
-    × (k ≡ h → others ≡ shapes → ⊥))
+    × (IsSameHistory k h → others ≡ shapes → ⊥))
 
 -- the tables that were found don't say this: `lpis_release` is not among them, or one is not read,
 -- or they say something else
@@ -54,6 +56,7 @@ module _ {S : Type 0} (store : Ghosts S) where
     pub follows : FollowsHistory candidate before.history (holdings history w.shapes.items)
     pub reached : Held S
     pub ran : Ran store (writing_statements w before) (record old { in_transaction = true }) reached
+    pub counts : (state store old).faults ≤ (state store reached).faults
     pub found : Found
     pub there : AreThere reached.schema found
     pub unsaid : IsUnsaid found (state store reached) (state store new) history w.shapes.items

@@ -7,13 +7,14 @@ ghost use Rattle.sqlite.specs.declared.error.Error.TheVariants.{SqliteFailure};
 ghost use Rattle.sqlite.specs.declared.error.ErrorCode.TheVariants.{OutOfMemory};
 ghost use Rattle.lpis_lineage.specs.declared.row.Entry.{Entry};
 ghost use Rattle.lpis_register_rows.specs.Shapes.{text_edits};
-ghost use Rattle.lpis_register_sql.specs.Stopping.{RanAlone, release_statements};
+ghost use Rattle.lpis_register_sql.specs.Stopping.{release_statements};
 ghost use Rattle.lpis_register_sql.specs.Within.{KeepsTables, Makes};
 ghost use Rattle.lpis_register.specs.Accepting.{IsPrepared};
 ghost use Rattle.lpis_register.specs.Failing.{FailsToWrite, writing_statements};
 ghost use Rattle.lpis_register.specs.Faults.{IsStoreFault};
 ghost use Rattle.lpis_register.specs.Holdings.{Candidate, holdings};
 ghost use Rattle.lpis_register.specs.Publishing.{FollowsHistory};
+ghost use Rattle.lpis_register.specs.Running.{RunsAlone};
 ghost use Rattle.lpis_register.specs.Saying.{LeavesSaid};
 ghost use Rattle.lpis_register.specs.private.Writes.{Commits, FailsToCommit};
 ghost use Rattle.lpis_register.specs.private.Writes.{IsToWrite, WritesRelease, written};
@@ -77,9 +78,8 @@ fn write_at_end<S: Alter>(
     ensures writes { WritesRelease (written writing.now history.now)
         (LeavesSaid history.now writing.now.shapes.items)
         (state S.Store conn.old) (state S.Store conn.new) result }
-    ensures ran { (h : List Entry) → IsToWrite writing.now last h history.now
-        → HasCleanDisk (state S.Store conn.new) → OnOk result (RanAlone S.Store
-        (writing_statements writing.now (holdings h kept.now)) conn.old conn.new) }
+    ensures runs { (h : List Entry) → IsToWrite writing.now last h history.now → RunsAlone S.Store
+        (writing_statements writing.now (holdings h kept.now)) conn.old conn.new result }
     ensures failure { IfErr result IsStoreFault }
     ensures cause { (h : List Entry) → IsToWrite writing.now last h history.now
         → HasCleanDisk (state S.Store conn.new) → IfErr result (λ fault. fault ≡ Store
@@ -143,9 +143,8 @@ fn write_or_take_back<S: Alter>(
     ensures commits { (h : List Entry) (due : IsToWrite writing.now last h history.old)
         → Commits due.candidate (holdings h kept.now) (written writing.now history.new)
         (state S.Store conn.old) (state S.Store conn.new) result }
-    ensures ran { (h : List Entry) → IsToWrite writing.now last h history.old
-        → HasCleanDisk (state S.Store conn.new) → OnOk result (RanAlone S.Store
-        (writing_statements writing.now (holdings h kept.now)) conn.old conn.new) }
+    ensures runs { (h : List Entry) → IsToWrite writing.now last h history.old → RunsAlone S.Store
+        (writing_statements writing.now (holdings h kept.now)) conn.old conn.new result }
     ensures failure { IfErr result IsStoreFault }
     ensures cause { (h : List Entry) → IsToWrite writing.now last h history.old
         → HasCleanDisk (state S.Store conn.new) → IfErr result (λ fault. fault ≡ Store
@@ -178,8 +177,8 @@ pub(crate) fn commit_release<S: Alter>(
         → IsPrepared c history.old (record { live = live; writing = writing.now })
         → Commits c (holdings history.old kept.now) (written writing.now history.new)
         (state S.Store conn.old) (state S.Store conn.new) result }
-    ensures ran { HasCleanDisk (state S.Store conn.new) → OnOk result (RanAlone S.Store
-        (writing_statements writing.now (holdings history.old kept.now)) conn.old conn.new) }
+    ensures runs { RunsAlone S.Store (writing_statements writing.now
+        (holdings history.old kept.now)) conn.old conn.new result }
     ensures failure { IfErr result (FailsToCommit S.Store writing.now
         (holdings history.old kept.now) conn.old conn.new) }
 {

@@ -1,6 +1,9 @@
 //! Whether two histories, and two lists of shapes, are equal. No call takes memory.
 
-ghost use Rattle.std.specs.Prelude.{◌≡◌, IsTrue, ◌↔◌};
+ghost use Rattle.std.specs.Prelude.{◌≡◌, ◌↔◌, ℕ, IsTrue, List};
+ghost use Rattle.lpis_tables.specs.Ids.{has_id};
+ghost use Rattle.lpis_register_rows.specs.Histories.{IsSameHistory};
+ghost use Rattle.lpis_register.specs.private.Alike.{AreAlike, IsAlike};
 
 use lpis_lineage::{Entry, History, IdSet, Row};
 use lpis_release::is_same_polygon;
@@ -10,7 +13,8 @@ use lpis_tables::Id;
 
 /// Whether two sets have the same identifiers.
 fn are_same_ids(a: &IdSet, b: &IdSet) -> bool
-    ensures { IsTrue result ↔ (a.now ≡ b.now) }
+    ensures equal { IsTrue result ↔ (a.now ≡ b.now) }
+    ensures alike { ((q : List ℕ) → has_id a.now q ≡ has_id b.now q) → IsTrue result }
 {
     let mut rest = b.iter();
     for id in a.iter() {
@@ -43,7 +47,8 @@ fn are_same_rows(a: &[Row], b: &[Row]) -> bool
 
 /// Whether two releases have the same year, identifiers and rows.
 fn is_same_entry(a: &Entry, b: &Entry) -> bool
-    ensures { IsTrue result ↔ (a.now ≡ b.now) }
+    ensures equal { IsTrue result ↔ (a.now ≡ b.now) }
+    ensures alike { IsAlike a.now b.now → IsTrue result }
 {
     a.year == b.year
         && are_same_ids(&a.live, &b.live)
@@ -52,7 +57,8 @@ fn is_same_entry(a: &Entry, b: &Entry) -> bool
 
 /// Whether two lists of releases are equal.
 fn are_same_entries(a: &[Entry], b: &[Entry]) -> bool
-    ensures { IsTrue result ↔ (a.now ≡ b.now) }
+    ensures equal { IsTrue result ↔ (a.now ≡ b.now) }
+    ensures alike { AreAlike a.now b.now → IsTrue result }
 {
     let mut rest = b.iter();
     for entry in a {
@@ -65,7 +71,8 @@ fn are_same_entries(a: &[Entry], b: &[Entry]) -> bool
 
 /// Whether two histories have the same releases: years, identifiers and rows, in order.
 pub(crate) fn is_same_history(a: &History, b: &History) -> bool
-    ensures { IsTrue result ↔ (a.now ≡ b.now) }
+    ensures equal { IsTrue result ↔ (a.now ≡ b.now) }
+    ensures alike { IsSameHistory a.now b.now → IsTrue result }
 {
     are_same_entries(a.releases(), b.releases())
 }

@@ -4,6 +4,7 @@ ghost use Rattle.std.specs.Prelude.{◌≡◌, ◌↔◌, true, IfErr, IfOk, IsT
 ghost use Rattle.sqlite.specs.Held.{state};
 ghost use Rattle.sqlite.specs.State.{HasCleanDisk, IsUnchanged};
 ghost use Rattle.lpis_lineage.specs.Order.{IsAscending};
+ghost use Rattle.lpis_register_rows.specs.Histories.{IsSameHistory};
 ghost use Rattle.lpis_register_rows.specs.Shapes.{shape_ids};
 ghost use Rattle.lpis_register_rows.specs.declared.version.Version.TheVariants.{Third};
 ghost use Rattle.lpis_register_rows.specs.declared.version.Version.{Version as AnyVersion};
@@ -123,8 +124,10 @@ fn told_inside<S: Alter>(
 
 /// Whether this was told.
 fn is_told(told: &Loaded, history: &History, shapes: &[(Id, Polygon)]) -> bool
-    ensures { IsTrue result
+    ensures equal { IsTrue result
         ↔ ((told.now.history ≡ history.now) × (told.now.shapes.items ≡ shapes.now)) }
+    ensures alike { IsSameHistory told.now.history history.now
+        → told.now.shapes.items ≡ shapes.now → IsTrue result }
 {
     is_same_history(&told.history, history) && are_same_shapes(told.shapes.as_slice(), shapes)
 }
@@ -134,6 +137,7 @@ fn is_told(told: &Loaded, history: &History, shapes: &[(Id, Polygon)]) -> bool
 fn fault_of_reading(fault: PublishFault) -> PublishFault
     ensures failure { IsStoreFault result }
     ensures memory { fault ≡ Memory → result ≡ StoreMemory }
+    ensures of_memory { result ≡ StoreMemory → fault ≡ Memory }
 {
     match fault {
         PublishFault::Memory => PublishFault::StoreMemory,

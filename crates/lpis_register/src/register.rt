@@ -1,19 +1,17 @@
 //! The register.
 
-ghost use Rattle.std.specs.Prelude.{◌≡◌, ◌≢◌, ◌⊎◌, false, IfOk, IfErr, OnOk};
+ghost use Rattle.std.specs.Prelude.{◌≡◌, ◌≢◌, ◌⊎◌, false, IfOk, IfErr};
 ghost use Rattle.sqlite.specs.Held.{state};
-ghost use Rattle.sqlite.specs.State.{HasCleanDisk};
-ghost use Rattle.lpis_register_sql.specs.Stopping.{RanAlone};
 ghost use Rattle.lpis_lineage.specs.Order.{IsAscending};
 ghost use Rattle.lpis_release.specs.Release.{Contents};
 ghost use Rattle.lpis_register_rows.specs.Shapes.{shape_ids};
 ghost use Rattle.lpis_register.specs.Accepting.{IsAccepted, WasMadeFor};
 ghost use Rattle.lpis_register.specs.Failing.{FailsToStore, HasReadCause, HasStoreCause};
-ghost use Rattle.lpis_register.specs.Failing.{writing_statements};
 ghost use Rattle.lpis_register.specs.Faults.{IsStoreFault, PublishRefuses};
 ghost use Rattle.lpis_register.specs.Histories.{IsTrace, IsUnknown, ReadsHistory};
 ghost use Rattle.lpis_register.specs.Holdings.{Candidate, candidate, holdings};
 ghost use Rattle.lpis_register.specs.Publishing.{Publishes, Stores};
+ghost use Rattle.lpis_register.specs.Running.{RunsRelease};
 ghost use Rattle.lpis_register.specs.declared.fault.PublishFault.TheVariants.{Memory, Store};
 ghost use Rattle.lpis_register.specs.declared.fault.PublishFault.TheVariants.{StoreMemory, Unknown};
 
@@ -166,9 +164,9 @@ impl<S: Alter> Register<S> {
             → Publishes c self.old.held self.new.held result }
         ensures stores { (c : Candidate) → IsAccepted c self.old.held accepted
             → Stores S.Store c self.old self.new result }
-        // The engine ran the statements of the release, and no others, and committed that.
-        ensures ran { HasCleanDisk (state S.Store self.new.conn) → OnOk result (RanAlone S.Store
-            (writing_statements accepted.writing self.old.held) self.old.conn self.new.conn) }
+        // With Ok the engine ran the statements of the release, and no others, and committed that;
+        // and a crash leaves what it left before, or exactly that.
+        ensures runs { RunsRelease S.Store accepted self.old self.new result }
         ensures untouched { IfErr result (λ fault. IsStoreFault fault
             ⊎ ((fault ≡ Memory) × (self.new.conn ≡ self.old.conn))) }
         ensures cause { IfErr result (λ fault. HasStoreCause S.Store accepted self.old self.new

@@ -64,7 +64,8 @@ pub enum Failure {
     Write(Name),
     /// The database failed.
     Store,
-    /// The database itself ran out of memory; reported as a database that failed.
+    /// Memory ran out in the database, or while its tables are read back inside a transaction;
+    /// reported as a database that failed.
     StoreMemory,
 }
 

@@ -1,6 +1,7 @@
 pub mod Common
 pub mod BlocksLemmas
 pub mod ExactLemmas
+pub mod LeavingLemmas
 pub mod MarkedLemmas
 pub mod PublishLemmas
 pub mod RunLemmas

@@ -1,11 +1,8 @@
 -- What a history answers to a release, and what is known of a release that was added to it.
 use Rattle.std.proofs.Common.{◌≡◌, ◌∙◌, ◌++◌, ◌∷◌, [], append_assoc, inl, inr, refl, sym, ap, ap₂, subst, ℕ, List, Bool, Option, Result, Ok, Err, IfErr, IfOk, flat_map, true}
 use Rattle.lpis_run_publish.proofs.Common.{Answer, Cert, kind_at, lineage_line}
-use Rattle.sqlite.specs.Held.{state}
-use Rattle.sqlite.specs.State.{HasCleanDisk}
 use Rattle.sqlite_trees.specs.declared.store.Store.{Ghosts}
 use Rattle.std.specs.List.{list_any}
-use Rattle.std.specs.Prelude.{IsTrue}
 use Rattle.std.proofs.lemmas.Bool.{and_parts}
 use Rattle.std.proofs.lemmas.List.Concat.{flat_map-cons}
 use Rattle.lpis_tables.specs.Ids.{has_id}
@@ -25,10 +22,9 @@ use Rattle.lpis_lineage.proofs.Shared.{follows-from-clean, mono, counted-ended}
 use Rattle.lpis_checker.specs.GoodCertificate.{IsGood}
 use Rattle.lpis_checker.specs.SoundMap.{IsSoundMap}
 use Rattle.lpis_run_publish.specs.LineageLines.{is_left_exactly, dropped_lines, published_line}
-use Rattle.lpis_run.specs.declared.answer.Answer.{Answer as Answered}
 use Rattle.lpis_run.specs.declared.failure.Failure.{Failure}
 use Rattle.lpis_run.specs.declared.failure.Failure.TheVariants.{Store, StoreMemory}
-use Rattle.lpis_run_publish.specs.Publication.{IsContinued, IsMemoryOrStore, IsPublicationAnswer, IsReleasePublished, PublishLeaves}
+use Rattle.lpis_run_publish.specs.Publication.{IsContinued, IsPublicationAnswer, IsReleasePublished}
 use Rattle.lpis_run_publish.specs.PublishAnswer.{IsSoundSubmission, candidate_of}
 use Rattle.lpis_run_publish.specs.Stored.{IsStoreFailure}
 use Rattle.lpis_run_publish.specs.Submission.{IsSubmitted, SubmissionInputs, Submitted}
@@ -38,7 +34,7 @@ use Rattle.lpis_run_publish.proofs.MarkedLemmas.{left-exactly}
 use Rattle.lpis_register.specs.Accepting.{IsAccepted}
 use Rattle.lpis_register.specs.Failing.{FailsToStore, HasStoreCause}
 use Rattle.lpis_register.specs.Holdings.{Candidate, Holdings, RegisterState, candidate_ids}
-use Rattle.lpis_register.specs.Publishing.{FollowsHistory, IsLeftAlone, TablesSay}
+use Rattle.lpis_register.specs.Publishing.{FollowsHistory}
 use Rattle.lpis_register.specs.declared.accepting.Accepted.{Accepted}
 
 -- ---- the lines of a change
@@ -114,28 +110,6 @@ published-accepted c before after a change made is ascend follows once =
       unused = λ id i now held. known.not_used id i held now;
       ascend = subst IsAscending was.dropped_are ascend;
     }
-
--- ---- what a call leaves
-module _ {S : Type 0} (g : Ghosts S) (old new : RegisterState S) where
-  -- the database holds what was made of the register
-  pub leaves-committed : (a : Answered) → a.status ≡ done → (HasCleanDisk (state g new.conn) → TablesSay g new) → PublishLeaves g old new (Ok a)
-  leaves-committed a is say =
-      record { same = λ other. absurd (other is); failure = tt; stored = record { holds = λ clean opened. inl (say clean); served = λ other clean. inl (say clean) } }
-
-  -- or what it held
-  pub leaves-kept : (failure : Failure) → IsMemoryOrStore failure → new.held ≡ old.held
-      → (HasCleanDisk (state g new.conn) → IsTrue (state g new.conn).is_open → IsLeftAlone g old new)
-      → ((IsStoreFailure failure → ⊥) → IsLeftAlone g old new) → PublishLeaves g old new (Err failure)
-  leaves-kept failure stopped kept opened served =
-      record {
-        same = tt;
-        failure = (stopped, kept);
-        stored = record { holds = λ clean up. inr (kept, opened clean up); served = λ other clean. inr (kept, served other) };
-      }
-
-  -- a database that was not reached is as it was
-  pub still-settled : new.conn ≡ old.conn → IsLeftAlone g old new
-  still-settled same = rw same (λ was. (was, refl))
 
 -- ---- why the database failed
 -- that the database ran out of memory is not that it failed

@@ -14,8 +14,9 @@ use Rattle.lpis_run.specs.declared.failure.Name.TheVariants.{Out}
 use Rattle.lpis_run.specs.declared.folder.Submission.{Submission}
 use Rattle.lpis_run.proofs.Shared.{runs_stopped, runs_written, some_unread}
 use Rattle.lpis_run_publish.proofs.Common.{Appends}
+use Rattle.lpis_run_publish.proofs.LeavingLemmas.{stays_as, stays_untouched}
 use Rattle.lpis_run_publish.specs.Publication.{IsMemoryOrStore}
-use Rattle.lpis_run_publish.specs.PublishAnswer.{IsPublishAnswer, IsSoundSubmission, MovesRegister, RunsPublish, candidate_of}
+use Rattle.lpis_run_publish.specs.PublishAnswer.{IsHandedIn, IsPublishAnswer, IsSoundCandidate, IsSoundSubmission, MovesRegister, RunsPublish, candidate_of}
 use Rattle.lpis_run_publish.specs.Stored.{IsStoreFailure, Stays}
 use Rattle.lpis_run_publish.specs.Submission.{AreAllRead, SubmissionInputs, Submitted}
 
@@ -39,28 +40,28 @@ module _ {S : Type 0} (g : Ghosts S) (year : ℕ) (given : Submission Known) whe
   pub runs-unread : (old : RegisterState S) (out : Option (List ℕ)) (failure : Failure) → AreUnread (submission_named given) failure → RunsPublish g year given old old out out (Err failure)
   runs-unread old out failure unread = record {
     runs = runs_stopped _ _ out failure (record { stopped = inl unread; same = refl });
-    stored = record { holds = λ clean opened. inr (refl, λ was. (was, refl)); served = λ other clean. inr (refl, λ was. (was, refl)) };
+    stored = stays_untouched g (IsHandedIn year given) old (Err failure);
     cause = λ is. absurd (unread-no-store given failure unread is);
   }
 
   -- where memory ran out or the database failed nothing is written
   pub runs-failed : (old new : RegisterState S) (out : Option (List ℕ)) (x : SubmissionInputs) (failure : Failure) → AreAllRead given x
-      → IsMemoryOrStore failure × (new.held ≡ old.held) → Stays {A = Answered} g old new (Err failure)
+      → IsMemoryOrStore failure × (new.held ≡ old.held) → Stays g (IsSoundCandidate year x) old {A = Answered} new (Err failure)
       → (IsStoreFailure failure → (said : Submitted) × IsSoundSubmission x said × FailsToStore g (candidate_of year said) old new (failure ≡ Store))
       → RunsPublish g year given old new out out (Err failure)
   runs-failed old new out x failure read why stays fails = record {
     runs = runs_stopped _ _ out failure (record { stopped = no-answer-of given failure why.0; same = why.1 });
-    stored = record { holds = stays.holds; served = stays.served };
+    stored = stays_as g (IsSoundCandidate year x) (IsHandedIn year given) (λ c is. (x, read, is)) old new (Err failure) (Err failure) (λ other. other) stays;
     cause = λ is. let failed = fails is in record { submission = x; read = read; said = failed.0; proved = failed.1; fails = failed.2 };
   }
 
   -- where there is an answer it is written, or a beginning of it
   pub runs-written : (old new : RegisterState S) (before after : Option (List ℕ)) (x : SubmissionInputs) (text : List ℕ) (status : ℕ) (answered : Answered) (r : Result ℕ Failure)
-      → AreAllRead given x → IsPublishAnswer year x old.held (text, status) → MovesRegister year x old.held new.held status → Stays g old new (Ok answered)
+      → AreAllRead given x → IsPublishAnswer year x old.held (text, status) → MovesRegister year x old.held new.held status → Stays g (IsSoundCandidate year x) old new (Ok answered)
       → IfOk r (λ s. s ≡ status) → OnOk r (Appends before after text) → IfErr r (λ failure. (failure ≡ Write Out) × Begins before after text)
       → RunsPublish g year given old new before after r
   runs-written old new before after x text status answered r read answer moves stays is written begun = record {
     runs = runs_written _ _ text status before after r (record { submission = x; read = read; answer = answer; moves = moves }) is written begun;
-    stored = record { holds = stays.holds; served = λ other. stays.served tt };
+    stored = stays_as g (IsSoundCandidate year x) (IsHandedIn year given) (λ c is. (x, read, is)) old new (Ok answered) r (λ other. tt) stays;
     cause = IfErr-weaker r _ _ (λ failure part of. write-no-store failure part.0 of) begun;
   }

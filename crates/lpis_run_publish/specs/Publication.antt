@@ -70,10 +70,10 @@ pub record IsReleasePublished (c : Candidate) (before after : Holdings) : Type 0
 abbrev pub IsMemoryOrStore : Failure → Type 0
 IsMemoryOrStore failure = (failure ≡ Memory) ⊎ IsStoreFailure failure
 
--- what a run that ended so leaves of a register: what it holds became another only where the
--- release was published, and its database holds that
-pub record PublishLeaves {S : Type 0} (store : Ghosts S) (old new : RegisterState S)
-    (result : Result Printed Failure) : Type 0 where
+-- what a run that ended so, and was asked to publish one of these releases, leaves of a register:
+-- what it holds became another only where one was published, and its database holds that
+pub record PublishLeaves {S : Type 0} (store : Ghosts S) (IsAsked : Candidate → Type 0)
+    (old new : RegisterState S) (result : Result Printed Failure) : Type 0 where
   pub same : IfOk result (λ a. a.status ≢ done → new.held ≡ old.held)
   pub failure : IfErr result (λ failure. IsMemoryOrStore failure × (new.held ≡ old.held))
-  pub stored : Stays store old new result
+  pub stored : Stays store IsAsked old new result

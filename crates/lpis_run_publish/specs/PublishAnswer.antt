@@ -52,6 +52,16 @@ pub record IsSoundSubmission (x : SubmissionInputs) (said : Submitted) : Type 0 
   pub sound : IsSoundMap said.release
   pub good : IsGood said.release said.cert
 
+-- and that this release is to be published in a year
+abbrev pub IsSoundCandidate : ℕ → SubmissionInputs → Candidate → Type 0
+IsSoundCandidate year x c =
+    (said : Submitted) × IsSoundSubmission x said × (c ≡ candidate_of year said)
+
+-- which five readers gave, as far as it is known
+abbrev pub IsHandedIn : ℕ → Submission Known → Candidate → Type 0
+IsHandedIn year given c =
+    (x : SubmissionInputs) × AreAllRead given x × IsSoundCandidate year x c
+
 -- it was published in a year
 pub record IsPublished (year : ℕ) (x : SubmissionInputs) (before after : Holdings) : Type 0 where
   pub said : Submitted
@@ -98,6 +108,6 @@ module _ {S : Type 0} (store : Ghosts S) (year : ℕ) (given : Submission Known)
       (result : Result ℕ Failure) : Type 0 where
     pub runs : Runs (PublishStops year given old.held new.held)
         (Publishes year given old.held new.held) before after result
-    pub stored : Stays store old new result
+    pub stored : Stays store (IsHandedIn year given) old new result
     pub cause : IfErr result (λ failure. IsStoreFailure failure
         → FailsToPublish old new (failure ≡ Store))

@@ -21,7 +21,8 @@ ghost use Rattle.lpis_run_publish.specs.LineageLines.{lineage_line, published_li
 ghost use Rattle.lpis_run_publish.specs.Publication.{IsPublicationAnswer, IsReleasePublished};
 ghost use Rattle.lpis_run_publish.specs.Publication.{PublishLeaves};
 ghost use Rattle.lpis_run_publish.specs.PublishAnswer.{IsPublishAnswer};
-ghost use Rattle.lpis_run_publish.specs.PublishAnswer.{IsSoundSubmission, MovesRegister};
+ghost use Rattle.lpis_run_publish.specs.PublishAnswer.{IsSoundCandidate, IsSoundSubmission};
+ghost use Rattle.lpis_run_publish.specs.PublishAnswer.{MovesRegister};
 ghost use Rattle.lpis_run_publish.specs.PublishAnswer.{RunsPublish, candidate_of};
 ghost use Rattle.lpis_run_publish.specs.Stored.{IsStoreFailure};
 ghost use Rattle.lpis_run_publish.specs.Submission.{Submitted, submitted};
@@ -96,7 +97,8 @@ pub fn publish_accepted<S: Alter>(
         (a.text.items, a.status)) }
     ensures published { (c : Candidate) → IsAccepted c register.old.held accepted
         → IfOk result (λ _. IsReleasePublished c register.old.held register.new.held) }
-    ensures leaves { PublishLeaves S.Store register.old register.new result }
+    ensures leaves { (c : Candidate) → IsAccepted c register.old.held accepted
+        → PublishLeaves S.Store (λ asked. asked ≡ c) register.old register.new result }
     ensures cause { IfErr result (λ failure. HasStoreCause S.Store accepted register.old
         register.new (failure ≡ Store)) }
 {
@@ -124,7 +126,8 @@ fn publish_reported<S: Alter>(
         (a.text.items, a.status)) }
     ensures published { (c : Candidate) → IsAccepted c register.old.held accepted
         → IfOk result (λ _. IsReleasePublished c register.old.held register.new.held) }
-    ensures leaves { PublishLeaves S.Store register.old register.new result }
+    ensures leaves { (c : Candidate) → IsAccepted c register.old.held accepted
+        → PublishLeaves S.Store (λ asked. asked ≡ c) register.old register.new result }
     ensures cause { IfErr result (λ failure. HasStoreCause S.Store accepted register.old
         register.new (failure ≡ Store)) }
 {
@@ -146,7 +149,8 @@ fn publish_checked<S: Alter>(
         register.old.held (a.text.items, a.status)) }
     ensures published { IfOk result (λ a. a.status ≡ done → IsReleasePublished (candidate_of year
         (submitted yes.now cert.now rows.now)) register.old.held register.new.held) }
-    ensures leaves { PublishLeaves S.Store register.old register.new result }
+    ensures leaves { PublishLeaves S.Store (λ c. c ≡ candidate_of year
+        (submitted yes.now cert.now rows.now)) register.old register.new result }
     ensures cause { IfErr result (λ failure. IsStoreFailure failure → FailsToStore S.Store
         (candidate_of year (submitted yes.now cert.now rows.now)) register.old register.new
         (failure ≡ Store)) }
@@ -171,7 +175,9 @@ fn answer_to_submission<S: Alter>(
     ensures published { IfOk result (λ a. a.status ≡ done → IsSoundMap said.now.release
         × IsGood said.now.release said.now.cert × IsReleasePublished
         (candidate_of year (submitted_of said.now)) register.old.held register.new.held) }
-    ensures leaves { PublishLeaves S.Store register.old register.new result }
+    ensures leaves { PublishLeaves S.Store (λ c. IsSoundMap said.now.release
+        × IsGood said.now.release said.now.cert × (c ≡ candidate_of year (submitted_of said.now)))
+        register.old register.new result }
     ensures cause { IfErr result (λ failure. IsStoreFailure failure → IsSoundMap said.now.release
         × IsGood said.now.release said.now.cert × FailsToStore S.Store
         (candidate_of year (submitted_of said.now)) register.old register.new
@@ -201,7 +207,8 @@ fn answer_to<S: Alter>(
         register.old.held (a.text.items, a.status)) }
     ensures moves { IfOk result (λ a. MovesRegister year (submission_of submission)
         register.old.held register.new.held a.status) }
-    ensures leaves { PublishLeaves S.Store register.old register.new result }
+    ensures leaves { PublishLeaves S.Store (IsSoundCandidate year (submission_of submission))
+        register.old register.new result }
     ensures cause { IfErr result (λ failure. IsStoreFailure failure → (said : Submitted)
         × IsSoundSubmission (submission_of submission) said × FailsToStore S.Store
         (candidate_of year said) register.old register.new (failure ≡ Store)) }

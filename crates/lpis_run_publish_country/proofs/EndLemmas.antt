@@ -9,7 +9,7 @@ use Rattle.lpis_release.specs.Release.{Contents}
 use Rattle.lpis_country.specs.Country.{country_of}
 use Rattle.lpis_country.specs.Tree.{folders}
 use Rattle.lpis_register.specs.Failing.{FailsToStore}
-use Rattle.lpis_register.specs.Holdings.{RegisterState}
+use Rattle.lpis_register.specs.Holdings.{Candidate, RegisterState}
 use Rattle.lpis_run.proofs.Shared.{breaks_off_more, runs_stopped, runs_written}
 use Rattle.lpis_run.specs.CheckAnswer.{Answer}
 use Rattle.lpis_run.specs.Run.{BreaksOffIn}
@@ -26,11 +26,12 @@ use Rattle.lpis_run_country.specs.CountryFailures.{IsReadOf, IsStoppedBefore, St
 use Rattle.lpis_run_country.specs.Regions.{Texts}
 use Rattle.lpis_run_country.specs.RegionsOutcome.{IsRegionsRefusal, RegionsEnd, RegionsStop}
 use Rattle.lpis_run_country.proofs.Shared.{all_left}
+use Rattle.lpis_run_publish.proofs.LeavingLemmas.{stays_as}
 use Rattle.lpis_run_publish.specs.Publication.{IsMemoryOrStore, PublishLeaves}
 use Rattle.lpis_run_publish.specs.Stored.{IsStoreFailure, Stays}
 use Rattle.lpis_run_publish_country.specs.PublishCountryAnswer.{AreSaid, CountryRequest, CountrySaid, IsPublishCountryAnswer, IsUnionAnswer, PublishCountryInputs}
 use Rattle.lpis_run_publish_country.specs.PublishCountryAnswer.{setting_said, union_of}
-use Rattle.lpis_run_publish_country.specs.PublishCountryRuns.{FailsToPublishCountry, StopsBehind}
+use Rattle.lpis_run_publish_country.specs.PublishCountryRuns.{FailsToPublishCountry, IsUnion, StopsBehind}
 use Rattle.lpis_run_publish_country.specs.private.Deciding.{DecidesUnion, EndsUnion, PublishesCountry, RunsPrepared, StopsUnion}
 
 -- ---- writers
@@ -64,38 +65,27 @@ pub stop_no_store : (s : Setting) (old new : Option (List ℕ)) (f : Failure) �
 stop_no_store s old new f (inl (lines, (regions, left, reached, stopped), written)) = stopped-no-store s.texts left f stopped
 stop_no_store s old new f (inr (write, begun)) = none_of_store f (inr (inr write))
 
--- ---- a register
--- it holds what it held
-pub stays_same : {S : Type 0} (store : Ghosts S) (old : RegisterState S) (r : Result ℕ Failure) → Stays store old old r
-stays_same store old (Ok status) = record { holds = λ clean opened. inr (refl, λ was. (was, refl)); served = λ other clean. inr (refl, λ was. (was, refl)) }
-stays_same store old (Err failure) = record { holds = λ clean opened. inr (refl, λ was. (was, refl)); served = λ other clean. inr (refl, λ was. (was, refl)) }
-
--- a call that refuses leaves it so
-pub leaves_same : {S : Type 0} (store : Ghosts S) (old : RegisterState S) (a : Printed) → PublishLeaves store old old (Ok a)
-leaves_same store old a = record {
-  same = λ other. refl;
-  failure = tt;
-  stored = record { holds = λ clean opened. inr (refl, λ was. (was, refl)); served = λ other clean. inr (refl, λ was. (was, refl)) };
-}
-
 -- ---- the union
 module _ {S : Type 0} (store : Ghosts S) (asked : CountryRequest) (said : CountrySaid) (regions : List Contents) (old new : RegisterState S) where
+  abbrev It : Candidate → Type 0
+  It c = c ≡ union_of asked.year said regions
+
   -- memory runs out, or the database fails
-  pub union_stopped : (out : Option (List ℕ)) (failure : Failure) → IsMemoryOrStore failure × (new.held ≡ old.held) → Stays {A = Printed} store old new (Err failure)
+  pub union_stopped : (out : Option (List ℕ)) (failure : Failure) → IsMemoryOrStore failure × (new.held ≡ old.held) → Stays store It old {A = Printed} new (Err failure)
       → (IsStoreFailure failure → FailsToStore store (union_of asked.year said regions) old new (failure ≡ Store)) → EndsUnion store asked said regions old new out out (Err failure)
   union_stopped out failure why stays cause = record {
     runs = runs_stopped _ _ out failure why;
-    stored = record { holds = stays.holds; served = stays.served };
+    stored = stays_as store It It (λ c is. is) old new (Err failure) (Err failure) (λ other. other) stays;
     cause = cause;
   }
 
   -- the answer is written, or a beginning of it
   pub union_written : (before after : Option (List ℕ)) (a : Printed) (r : Result ℕ Failure) → IsUnionAnswer asked said regions old.held new.held (a.text.items, a.status)
-      → PublishLeaves store old new (Ok a) → IfOk r (λ s. s ≡ a.status) → OnOk r (Appends before after a.text.items)
+      → PublishLeaves store It old new (Ok a) → IfOk r (λ s. s ≡ a.status) → OnOk r (Appends before after a.text.items)
       → IfErr r (λ failure. (failure ≡ Write Out) × Begins before after a.text.items) → EndsUnion store asked said regions old new before after r
   union_written before after a r answer leaves is written begun = record {
     runs = runs_written _ _ a.text.items a.status before after r (answer, leaves.same) is written begun;
-    stored = record { holds = leaves.stored.holds; served = λ other. leaves.stored.served tt };
+    stored = stays_as store It It (λ c is. is) old new (Ok a) r (λ other. tt) leaves.stored;
     cause = IfErr-weaker r _ _ (λ failure part of. absurd (none_of_store failure (inr (inr part.0)) of)) begun;
   }
 
@@ -164,6 +154,9 @@ module _ {S : Type 0} (store : Ghosts S) (asked : CountryRequest) (x : PublishCo
         → IsStoreFailure f → FailsToPublishCountry store asked x old new (f ≡ Store)
     cause-union f told is = record { said = said; are_said = are_said; regions = regions; lines = lines; have_passed = passed; fails = told is }
 
+    stays_union : (r : Result ℕ Failure) → Stays store (λ c. c ≡ union_of asked.year said regions) old new r → Stays store (IsUnion asked x) old new r
+    stays_union r = stays_as store (λ c. c ≡ union_of asked.year said regions) (IsUnion asked x) (λ c is. (said, are_said, regions, lines, passed, is)) old new r r (λ other. other)
+
     -- all of it
     pub runs_union : (r : Result ℕ Failure) → EndsUnion store asked said regions old new now after r
         → RunsPrepared store asked x old new before after r
@@ -171,17 +164,17 @@ module _ {S : Type 0} (store : Ghosts S) (asked : CountryRequest) (x : PublishCo
         let (text, answer, written) = e.runs.answer in
         record {
           runs = record { answer = (lines ++ text, publishes-union (text, status) answer, Appends-trans before now after lines text printed written); failure = tt };
-          stored = e.stored;
+          stored = stays_union (Ok status) e.stored;
           cause = tt;
         }
     runs_union (Err f) e = record {
       runs = record { answer = tt; failure = inr (union-breaks-off f e.runs.failure) };
-      stored = e.stored;
+      stored = stays_union (Err f) e.stored;
       cause = cause-union f e.cause;
     }
 
   -- where a region is refused the register is as it was
-  pub runs_refused : (status : ℕ) → new.held ≡ old.held → Stays {A = ℕ} store old new (Ok status) → RegionsEnd here before after status × (status ≢ done)
+  pub runs_refused : (status : ℕ) → new.held ≡ old.held → Stays store (IsUnion asked x) old {A = ℕ} new (Ok status) → RegionsEnd here before after status × (status ≢ done)
       → RunsPrepared store asked x old new before after (Ok status)
   runs_refused status same stays ((text, answer, written), not_done) = record {
     runs = record { answer = (text, publishes-none same (text, status) (answer, not_done), written); failure = tt };
@@ -190,7 +183,7 @@ module _ {S : Type 0} (store : Ghosts S) (asked : CountryRequest) (x : PublishCo
   }
 
   -- where the run stops before its last region it is too
-  pub runs_stopped_in : (f : Failure) → new.held ≡ old.held → Stays {A = ℕ} store old new (Err f) → RegionsStop here before after f
+  pub runs_stopped_in : (f : Failure) → new.held ≡ old.held → Stays store (IsUnion asked x) old {A = ℕ} new (Err f) → RegionsStop here before after f
       → RunsPrepared store asked x old new before after (Err f)
   runs_stopped_in f same stays stop = record {
     runs = record {

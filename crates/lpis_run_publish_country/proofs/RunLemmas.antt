@@ -17,13 +17,14 @@ use Rattle.lpis_run.specs.declared.failure.Failure.{Failure}
 use Rattle.lpis_run.specs.declared.failure.Failure.TheVariants.{Memory, Read, Store, Write}
 use Rattle.lpis_run.specs.declared.failure.Name.{Name}
 use Rattle.lpis_run.specs.declared.failure.Name.TheVariants.{Lineage, Out}
+use Rattle.lpis_run_publish.proofs.LeavingLemmas.{stays_as, stays_untouched}
 use Rattle.lpis_run_publish.specs.LineageLines.{publish_refusal_text}
 use Rattle.lpis_run_publish.specs.Stored.{IsStoreFailure}
 use Rattle.lpis_run_publish_country.specs.CountryLineage.{IsUnreadTable}
 use Rattle.lpis_run_publish_country.specs.PublishCountryAnswer.{AreTopRead, CountryFiles, CountryRequest, IsRefusedBefore, PublishCountryInputs}
-use Rattle.lpis_run_publish_country.specs.PublishCountryRuns.{FailsToPublishCountry, RunsPublishCountry, StopsAtLineage, files_named}
+use Rattle.lpis_run_publish_country.specs.PublishCountryRuns.{FailsToPublishCountry, IsUnion, IsUnionRead, RunsPublishCountry, StopsAtLineage, files_named}
 use Rattle.lpis_run_publish_country.specs.private.Deciding.{RunsEarly, RunsPrepared}
-use Rattle.lpis_run_publish_country.proofs.EndLemmas.{none_of_store, read_no_store, stays_same}
+use Rattle.lpis_run_publish_country.proofs.EndLemmas.{none_of_store, read_no_store}
 
 -- ---- failures
 -- the database did not fail where a lineage table was not read
@@ -50,7 +51,7 @@ module _ {S : Type 0} (store : Ghosts S) (asked : CountryRequest) where
     pub runs_unprepared : (out : Option (List ℕ)) (f : Failure) → StopsAtLineage asked.given x f → RunsPrepared store asked x old old out out (Err f)
     runs_unprepared out f stopped = record {
       runs = runs_on_stopped _ _ _ out f (refl, stopped);
-      stored = stays_same store old (Err f);
+      stored = stays_untouched store (IsUnion asked x) old (Err f);
       cause = λ of. absurd (lineage-no-store asked.given x f stopped of);
     }
 
@@ -60,7 +61,7 @@ module _ {S : Type 0} (store : Ghosts S) (asked : CountryRequest) where
         → RunsPrepared store asked x old old before after r
     runs_faulty before after a r refusal is written begun = record {
       runs = runs_on_written _ _ _ a.text.items a.status before after r (inl refusal, λ other. refl) is written begun;
-      stored = stays_same store old r;
+      stored = stays_untouched store (IsUnion asked x) old r;
       cause = IfErr-weaker r _ _ (λ failure part of. absurd (none_of_store failure (inr (inr part.0)) of)) begun;
     }
 
@@ -85,7 +86,7 @@ module _ {S : Type 0} (store : Ghosts S) (asked : CountryRequest) where
     pub runs_early : (r : Result ℕ Failure) → RunsEarly last before after r → RunsPublishCountry store asked old old before after r
     runs_early r ran = record {
       runs = inl (not-above, refl, subst (λ (n : ℕ). RunsEarly n before after r) is_last ran);
-      stored = stays_same store old r;
+      stored = stays_untouched store (IsUnionRead asked) old r;
       cause = early-cause r ran;
     }
 
@@ -94,7 +95,7 @@ module _ {S : Type 0} (store : Ghosts S) (asked : CountryRequest) where
       → RunsPublishCountry store asked old old out out (Err f)
   runs_unread old out f later unread = record {
     runs = inr (later, runs_on_stopped _ _ _ out f (refl, inl unread));
-    stored = stays_same store old (Err f);
+    stored = stays_untouched store (IsUnionRead asked) old (Err f);
     cause = λ of. absurd (input-no-store asked.given f unread of);
   }
 
@@ -106,6 +107,6 @@ module _ {S : Type 0} (store : Ghosts S) (asked : CountryRequest) where
       later,
       runs_on_more _ _ _ _ _ _ before after r (λ f why. (why.0, inr (x, read, why.1))) (λ lines f why. (x, read, why)) (λ a is. ((x, read, is.0), is.1)) ran.runs,
     );
-    stored = ran.stored;
+    stored = stays_as store (IsUnion asked x) (IsUnionRead asked) (λ c is. (x, read, is)) old new r r (λ other. other) ran.stored;
     cause = IfErr-weaker r _ _ (λ f told of. (x, read, told of)) ran.cause;
   }

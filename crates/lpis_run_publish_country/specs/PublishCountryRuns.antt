@@ -7,7 +7,7 @@ use Rattle.lpis_cert.specs.declared.part.ExactBlock.{ExactBlock}
 use Rattle.lpis_country.specs.Tree.{folders}
 use Rattle.lpis_lineage.specs.Lineage.{last_year}
 use Rattle.lpis_register.specs.Failing.{FailsToStore}
-use Rattle.lpis_register.specs.Holdings.{Holdings, RegisterState}
+use Rattle.lpis_register.specs.Holdings.{Candidate, Holdings, RegisterState}
 use Rattle.lpis_register.specs.declared.fault.PublishFault.TheVariants.{Year}
 use Rattle.lpis_run.specs.Run.{OfRead, Runs, RunsOn}
 use Rattle.lpis_run.specs.Status.{done, refused}
@@ -75,6 +75,17 @@ EndsPublishCountry asked before after old new result =
     (λ a. OfRead AreTopRead asked.given (λ x. IsPublishCountryAnswer asked x before after a)
     × (a.1 ≢ done → after ≡ before)) old new result)
 
+-- the union of the regions, which all passed
+abbrev pub IsUnion : CountryRequest → PublishCountryInputs → Candidate → Type 0
+IsUnion asked x c = (said : CountrySaid) × AreSaid asked.given x said
+    × (regions : List Contents) × (lines : List ℕ)
+    × HavePassed (setting_said asked.given asked.detail said) (folders said.plan) regions lines
+    × (c ≡ union_of asked.year said regions)
+
+-- of what was read
+abbrev pub IsUnionRead : CountryRequest → Candidate → Type 0
+IsUnionRead asked c = OfRead AreTopRead asked.given (λ x. IsUnion asked x c)
+
 module _ {S : Type 0} (store : Ghosts S) (asked : CountryRequest) where
   -- the union of the regions, which all passed, was accepted, and the database failed to store it
   pub record FailsToPublishCountry (x : PublishCountryInputs) (old new : RegisterState S)
@@ -93,6 +104,6 @@ module _ {S : Type 0} (store : Ghosts S) (asked : CountryRequest) where
   pub record RunsPublishCountry (old new : RegisterState S) (before after : Known)
       (result : Result ℕ Failure) : Type 0 where
     pub runs : EndsPublishCountry asked old.held new.held before after result
-    pub stored : Stays store old new result
+    pub stored : Stays store (IsUnionRead asked) old new result
     pub cause : IfErr result (λ f. IsStoreFailure f → OfRead AreTopRead asked.given
         (λ x. FailsToPublishCountry x old new (f ≡ Store)))

@@ -49,7 +49,11 @@ fn publish_union<S: Alter>(
         → IsCountryJoined (setting_asked asked said) regions country
         → HasTables lineage.now said.tables → IfOk result (λ a. IsUnionAnswer asked said regions
         register.old.held register.new.held (a.text.items, a.status)) }
-    ensures leaves { PublishLeaves S.Store register.old register.new result }
+    ensures leaves { (asked : CountryRequest) (said : CountrySaid) (regions : List Contents)
+        → IsToPublish asked said year cert.now
+        → IsCountryJoined (setting_asked asked said) regions country
+        → HasTables lineage.now said.tables → PublishLeaves S.Store
+        (λ c. c ≡ union_of asked.year said regions) register.old register.new result }
     ensures cause { (asked : CountryRequest) (said : CountrySaid) (regions : List Contents)
         → IsToPublish asked said year cert.now
         → IsCountryJoined (setting_asked asked said) regions country

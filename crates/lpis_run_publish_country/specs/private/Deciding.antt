@@ -20,7 +20,7 @@ use Rattle.lpis_run_publish_country.specs.PublishCountryAnswer.{CountryRequest, 
 use Rattle.lpis_run_publish_country.specs.PublishCountryAnswer.{IsPublishCountryAnswer}
 use Rattle.lpis_run_publish_country.specs.PublishCountryAnswer.{IsUnionAnswer, PublishCountryInputs}
 use Rattle.lpis_run_publish_country.specs.PublishCountryAnswer.{setting_said, union_of}
-use Rattle.lpis_run_publish_country.specs.PublishCountryRuns.{FailsToPublishCountry}
+use Rattle.lpis_run_publish_country.specs.PublishCountryRuns.{FailsToPublishCountry, IsUnion}
 use Rattle.lpis_run_publish_country.specs.PublishCountryRuns.{StopsAtLineage, StopsBehind}
 
 -- ---- a year that is not above the last one
@@ -62,7 +62,7 @@ module _ {S : Type 0} (store : Ghosts S) where
       : Type 0 where
     pub runs : Runs (StopsUnion old.held new.held)
         (DecidesUnion asked said regions old.held new.held) before after result
-    pub stored : Stays store old new result
+    pub stored : Stays store (λ c. c ≡ union_of asked.year said regions) old new result
     pub cause : IfErr result (λ f. IsStoreFailure f
         → FailsToStore store (union_of asked.year said regions) old new (f ≡ Store))
 
@@ -77,6 +77,6 @@ module _ {S : Type 0} (store : Ghosts S) where
     pub runs : RunsOn (StopsPrepared asked x old.held new.held)
         (StopsBehind asked x old.held new.held) (PublishesCountry asked x old.held new.held)
         before after result
-    pub stored : Stays store old new result
+    pub stored : Stays store (IsUnion asked x) old new result
     pub cause : IfErr result (λ f. IsStoreFailure f
         → FailsToPublishCountry store asked x old new (f ≡ Store))

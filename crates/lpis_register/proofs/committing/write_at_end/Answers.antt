@@ -4,6 +4,8 @@ use Rattle.lpis_register_sql.proofs.Shared.{undone_stops}
 use Rattle.lpis_register_sql.specs.Within.{Makes}
 use Rattle.lpis_register.proofs.CommittingLemmas.{statements_are, stopped_writing, unconfirmed_writing}
 use Rattle.lpis_register.proofs.WritingLemmas.{commit_fails, confirmed_writes, dropped, dropped_after, kept_tables, not_confirmed, ran_alone}
+use Rattle.lpis_register.proofs.RunningLemmas.{committed_runs, dropped_runs, dropped_runs_after}
+use Rattle.lpis_register.specs.Failing.{writing_statements}
 use Rattle.lpis_register.specs.Holdings.{holdings}
 use Rattle.lpis_register.proofs.committing.write_at_end.Goals as goal
 
@@ -73,12 +75,37 @@ returns-in-Err-commit-clause-cause g c h due clean is =
     (rw c.as_slice.ensures.value at c.in_ok-confirm.ensures.said) (rw same at c.in-Err-commit.ensures.survives) (Err c.in-Err-commit.error) (rw same at c.in-Err-commit.ensures.err)
     c.in-Err-commit.error refl clean)
 
-pub returns-in-Ok-commit-clause-ran : goal.returns-in-Ok-commit-clause-ran
-returns-in-Ok-commit-clause-ran g c h due clean =
+pub returns-in-Err-clause-runs : goal.returns-in-Err-clause-runs
+returns-in-Err-clause-runs g c h due =
+    let same : c.drop-tx.new.self.0 ≡ c.conn-1.given.0 = search rules in
+    rw (← same) (dropped_runs g.S.Store c.args.conn.now c.transaction-tx.result.conn.now c.fill.new.tx.conn.now c.drop-tx.new.self.0 c.transaction-tx.ensures.begun c.in-Err.ensures.makes.quiet
+    (writing_statements c.args.writing.now (holdings h c.args.kept.now)) c.fault_of_writing.result c.drop-tx.ensures.survives)
+
+pub returns-in_err-confirm-clause-runs : goal.returns-in_err-confirm-clause-runs
+returns-in_err-confirm-clause-runs g c h due =
+    let p = err_from_is_err_and c.from_residual.result c.from_residual.ensures.1 in
+    let same : c.drop-tx-in_err-confirm.new.self.0 ≡ c.conn-in_err-confirm-1.given.0 = search rules in
+    rw (p.1, ← same) (dropped_runs_after g.S.Store c.args.conn.now c.transaction-tx.result.conn.now c.fill.new.tx.conn.now c.confirm.new.tx.conn.now c.drop-tx-in_err-confirm.new.self.0
+    c.transaction-tx.ensures.begun c.in-Ok.ensures.makes.quiet c.in_err-confirm.ensures.quiet (writing_statements c.args.writing.now (holdings h c.args.kept.now)) p.0
+    c.drop-tx-in_err-confirm.ensures.survives)
+
+pub returns-in-Ok-commit-clause-runs : goal.returns-in-Ok-commit-clause-runs
+returns-in-Ok-commit-clause-runs g c h due =
     let w = c.args.writing.now in
     let same : c.commit.new.self.0 ≡ c.conn-2-1.given.0 = search rules in
     let made = subst (λ xs. Makes g.S.Store xs c.transaction-tx.result.conn.now c.fill.new.tx.conn.now (Ok c.in-Ok.field-0)) (statements_are w c.args.last h c.args.kept.now due.last_is)
     c.in-Ok.ensures.makes in
-    ran_alone g.S.Store c.args.conn.now c.transaction-tx.result.conn.now c.fill.new.tx.conn.now c.confirm.new.tx.conn.now c.conn-2-1.given.0 c.transaction-tx.ensures.begun _ c.in-Ok.field-0 made
+    committed_runs g.S.Store c.args.conn.now c.transaction-tx.result.conn.now c.fill.new.tx.conn.now c.confirm.new.tx.conn.now c.conn-2-1.given.0 c.transaction-tx.ensures.begun _ c.in-Ok.field-0 made
+    c.in_ok-confirm.ensures.quiet (λ late. (c.in_ok-confirm.ensures.said late).2) (rw same at c.in-Ok-commit.ensures.survives) (Ok tt)
+    (λ clean. ran_alone g.S.Store c.args.conn.now c.transaction-tx.result.conn.now c.fill.new.tx.conn.now c.confirm.new.tx.conn.now c.conn-2-1.given.0 c.transaction-tx.ensures.begun _ c.in-Ok.field-0 made
     c.tables_in-found.result (kept_tables g.S.Store c.args.conn.now c.transaction-tx.result.conn.now c.fill.new.tx.conn.now c.transaction-tx.ensures.begun c.tables_in-found.result (rw c.schema.ensures.value at c.tables_in-found.ensures.there) c.in-Ok.ensures.tables) c.in_ok-confirm.ensures.quiet c.args.history.now w.shapes.items
-    (rw c.as_slice.ensures.value at c.in_ok-confirm.ensures.said) (rw same at c.in-Ok-commit.ensures.survives) (Ok c.in-Ok-commit.field-0) (rw same at c.in-Ok-commit.ensures.ok) clean
+    (rw c.as_slice.ensures.value at c.in_ok-confirm.ensures.said) (rw same at c.in-Ok-commit.ensures.survives) (Ok c.in-Ok-commit.field-0) (rw same at c.in-Ok-commit.ensures.ok) clean)
+
+pub returns-in-Err-commit-clause-runs : goal.returns-in-Err-commit-clause-runs
+returns-in-Err-commit-clause-runs g c h due =
+    let w = c.args.writing.now in
+    let same : c.commit.new.self.0 ≡ c.conn-2-1.given.0 = search rules in
+    let made = subst (λ xs. Makes g.S.Store xs c.transaction-tx.result.conn.now c.fill.new.tx.conn.now (Ok c.in-Ok.field-0)) (statements_are w c.args.last h c.args.kept.now due.last_is)
+    c.in-Ok.ensures.makes in
+    committed_runs g.S.Store c.args.conn.now c.transaction-tx.result.conn.now c.fill.new.tx.conn.now c.confirm.new.tx.conn.now c.conn-2-1.given.0 c.transaction-tx.ensures.begun _ c.in-Ok.field-0 made
+    c.in_ok-confirm.ensures.quiet (λ late. (c.in_ok-confirm.ensures.said late).2) (rw same at c.in-Err-commit.ensures.survives) (Err c.fault_of_writing-in-Err-commit.result) (λ clean. tt)

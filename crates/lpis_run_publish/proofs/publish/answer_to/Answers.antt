@@ -1,5 +1,6 @@
 use Rattle.std.proofs.Common.{◌∙◌, ℕ, refl, subst, sym}
 use Rattle.lpis_run_publish.proofs.Common.{IfOk-weaker}
+use Rattle.lpis_run_publish.proofs.LeavingLemmas.{leaves_as, leaves_untouched}
 use Rattle.lpis_run_publish.proofs.PublishLemmas.{both-ok, fails-submitted}
 use Rattle.lpis_run_publish.proofs.SubmissionLemmas.{submission-more, submission-said, submission-status}
 use Rattle.lpis_run_publish.specs.private.Submitting.{IsFaultAnswer, IsGoodAnswer, submission_of, submitted_of}
@@ -48,3 +49,11 @@ pub returns-in-Ok-clause-cause : goal.returns-in-Ok-clause-cause
 returns-in-Ok-clause-cause g c =
     fails-submitted g.S.Store (submission_of c.args.submission) c.args.year (submitted_of c.in-Ok.said) c.args.register.now c.answer_to_submission.new.register
     c.answer_to_submission.result c.in-Ok.ensures.said c.answer_to_submission.ensures.cause
+
+pub returns-in-Ok-clause-leaves : goal.returns-in-Ok-clause-leaves
+returns-in-Ok-clause-leaves g c =
+    leaves_as g.S.Store _ _ (λ x is. (submitted_of c.in-Ok.said, record { submitted = c.in-Ok.ensures.said; sound = is.0; good = is.1 }, is.2)) c.args.register.now
+    c.answer_to_submission.new.register c.answer_to_submission.result c.answer_to_submission.ensures.leaves
+
+pub returns-in_ok-into_answer-in-Err-clause-leaves : goal.returns-in_ok-into_answer-in-Err-clause-leaves
+returns-in_ok-into_answer-in-Err-clause-leaves g c = leaves_untouched g.S.Store _ c.args.register.now _

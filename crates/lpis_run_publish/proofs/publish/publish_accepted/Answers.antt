@@ -1,5 +1,7 @@
-use Rattle.std.proofs.Common.{inl, inr, refl}
-use Rattle.lpis_run_publish.proofs.PublishLemmas.{leaves-committed, leaves-kept, memory-no-store, publication-accepted, published-accepted, still-settled}
+use Rattle.std.proofs.Common.{◌≡◌, inl, inr, refl}
+use Rattle.std.proofs.lemmas.Result.{err_from_is_err_and}
+use Rattle.lpis_run_publish.proofs.LeavingLemmas.{leaves_committed, leaves_kept, leaves_unreached, still_settled}
+use Rattle.lpis_run_publish.proofs.PublishLemmas.{memory-no-store, publication-accepted, published-accepted}
 use Rattle.lpis_run_publish.proofs.publish.publish_accepted.Goals as goal
 
 pub returns-in-Ok-clause-answer : goal.returns-in-Ok-clause-answer
@@ -15,39 +17,41 @@ returns-in-Ok-clause-published g c candidate made =
     published.follows published.once
 
 pub returns-in-Ok-clause-leaves : goal.returns-in-Ok-clause-leaves
-returns-in-Ok-clause-leaves g c =
-    let made = c.requires.made in
-    leaves-committed g.S.Store c.args.register.now c.commit.new.self c.in_ok-answer.answer c.in_ok-answer.ensures.status (c.in-Ok.ensures.stores made.0 made.1).ok
+returns-in-Ok-clause-leaves g c candidate made =
+    leaves_committed g.S.Store (λ asked. asked ≡ candidate) c.args.register.now c.commit.new.self candidate refl c.args.accepted made c.in_ok-answer.answer _ c.in_ok-answer.ensures.status
+    (c.in-Ok.ensures.publishes candidate made).follows (c.in-Ok.ensures.stores candidate made) c.in-Ok.ensures.runs
+
+pub returns-in_err-answer-clause-leaves : goal.returns-in_err-answer-clause-leaves
+returns-in_err-answer-clause-leaves g c candidate made =
+    let p = err_from_is_err_and c.from_residual.result c.from_residual.ensures.1 in
+    rw p.1 (leaves_unreached g.S.Store (λ asked. asked ≡ candidate) c.args.register.now p.0 (inl p.2))
 
 pub returns-in-Err-Memory-clause-leaves : goal.returns-in-Err-Memory-clause-leaves
-returns-in-Err-Memory-clause-leaves g c =
-    let made = c.requires.made in
+returns-in-Err-Memory-clause-leaves g c candidate made =
     let old = c.args.register.now in
     let new = c.commit.new.self in
-    let kept = (c.in-Err-Memory.ensures.publishes made.0 made.1).refused in
-    leaves-kept g.S.Store old new _ (inl refl) kept (c.in-Err-Memory.ensures.stores made.0 made.1).err
+    leaves_kept g.S.Store (λ asked. asked ≡ candidate) old new candidate refl c.args.accepted made _ _ (inl refl) (c.in-Err-Memory.ensures.publishes candidate made).refused
+    (c.in-Err-Memory.ensures.stores candidate made) c.in-Err-Memory.ensures.runs
     (λ other. elim c.in-Err-Memory.ensures.untouched [
       | inl (inl e) ↦ cc e
       | inl (inr e) ↦ cc e
-      | inr p ↦ still-settled g.S.Store old new p.1
+      | inr p ↦ still_settled g.S.Store old new p.1
     ])
 
 pub returns-in-Err-Store-clause-leaves : goal.returns-in-Err-Store-clause-leaves
-returns-in-Err-Store-clause-leaves g c =
-    let made = c.requires.made in
-    leaves-kept g.S.Store c.args.register.now c.commit.new.self _ (inr (inl refl)) (c.in-Err-Store.ensures.publishes made.0 made.1).refused
-    (c.in-Err-Store.ensures.stores made.0 made.1).err (λ other. absurd (other (inl refl)))
+returns-in-Err-Store-clause-leaves g c candidate made =
+    leaves_kept g.S.Store (λ asked. asked ≡ candidate) c.args.register.now c.commit.new.self candidate refl c.args.accepted made _ _ (inr (inl refl))
+    (c.in-Err-Store.ensures.publishes candidate made).refused (c.in-Err-Store.ensures.stores candidate made) c.in-Err-Store.ensures.runs (λ other. absurd (other (inl refl)))
 
 pub returns-in-Err-Store-clause-cause : goal.returns-in-Err-Store-clause-cause
 returns-in-Err-Store-clause-cause g c clean is = c.in-Err-Store.ensures.cause clean c.in-Err-Store.field-0-is
 
 pub returns : goal.returns
-returns g c =
-    let made = c.requires.made in
-    record {
-      answer = λ candidate of_year it. tt;
-      published = λ candidate it. tt;
-      leaves = leaves-kept g.S.Store c.args.register.now c.commit.new.self _ (inr (inr refl)) (c.in-Err.ensures.publishes made.0 made.1).refused
-          (c.in-Err.ensures.stores made.0 made.1).err (λ other. absurd (other (inr refl)));
-      cause = λ clean is. memory-no-store is;
-    }
+returns g c = record {
+  answer = λ candidate of_year it. tt;
+  published = λ candidate it. tt;
+  leaves = λ candidate made.
+      leaves_kept g.S.Store (λ asked. asked ≡ candidate) c.args.register.now c.commit.new.self candidate refl c.args.accepted made _ _ (inr (inr refl))
+      (c.in-Err.ensures.publishes candidate made).refused (c.in-Err.ensures.stores candidate made) c.in-Err.ensures.runs (λ other. absurd (other (inr refl)));
+  cause = λ clean is. memory-no-store is;
+}

@@ -1,4 +1,5 @@
-use Rattle.std.proofs.Common.{inr, refl}
+use Rattle.std.proofs.Common.{inl, inr, refl}
+use Rattle.lpis_run_publish.proofs.LeavingLemmas.{leaves_unreached}
 use Rattle.lpis_run_publish.proofs.Common.{IfOk-weaker}
 use Rattle.lpis_run_publish.proofs.PublishLemmas.{fails-accepted}
 use Rattle.lpis_run_publish.specs.PublishAnswer.{candidate_of}
@@ -19,3 +20,10 @@ pub returns-in-Ok-clause-cause : goal.returns-in-Ok-clause-cause
 returns-in-Ok-clause-cause g c =
     fails-accepted g.S.Store (candidate_of c.args.year (submitted c.args.yes.now c.args.cert.now c.args.rows.now)) c.in-Ok.accepted c.args.register.now c.publish_reported.new.register
     c.publish_reported.result c.in-Ok.ensures.made c.publish_reported.ensures.cause
+
+pub returns-in-Ok-clause-leaves : goal.returns-in-Ok-clause-leaves
+returns-in-Ok-clause-leaves g c =
+    c.publish_reported.ensures.leaves (candidate_of c.args.year (submitted c.args.yes.now c.args.cert.now c.args.rows.now)) c.in-Ok.ensures.made
+
+pub returns-in-Err-Memory-clause-leaves : goal.returns-in-Err-Memory-clause-leaves
+returns-in-Err-Memory-clause-leaves g c = leaves_unreached g.S.Store _ c.args.register.now _ (inl refl)

@@ -7,11 +7,11 @@ returns-in_err-answer g c = λ asked said regions lines to all joined has.
     let told = c.in_err-answer.ensures in
     let p = err_from_is_err_and c.from_residual.result c.from_residual.ensures.1 in
     rw (p.1, p.2) (union_stopped g.S.Store asked said regions c.args.register.now c.publish_union.new.register (g.W.Write.contents c.args.out.now)
-    _ told.leaves.failure told.leaves.stored (told.cause asked said regions to joined has))
+    _ (told.leaves asked said regions to joined has).failure (told.leaves asked said regions to joined has).stored (told.cause asked said regions to joined has))
 
 pub returns : goal.returns
 returns g c = λ asked said regions lines to all joined has.
     let told = c.in_ok-answer.ensures in
     union_written g.S.Store asked said regions c.args.register.now c.publish_union.new.register (g.W.Write.contents c.args.out.now)
     (g.W.Write.contents c.write_to.new.out) c.in_ok-answer.answer c.write_to.result (told.answer asked said regions lines to all joined has)
-    told.leaves c.write_to.ensures.status c.write_to.ensures.text c.write_to.ensures.failure
+    (told.leaves asked said regions to joined has) c.write_to.ensures.status c.write_to.ensures.text c.write_to.ensures.failure

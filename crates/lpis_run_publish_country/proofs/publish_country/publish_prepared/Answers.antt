@@ -2,9 +2,11 @@ use Rattle.std.proofs.Common.{refl, subst}
 use Rattle.std.proofs.lemmas.Result.{err_from_is_err_and}
 use Rattle.lpis_run_country.specs.RegionsOutcome.{IsSettingOf, RegionsJoin}
 use Rattle.lpis_run_country.proofs.Shared.{setting_begun}
+use Rattle.lpis_run_publish.proofs.LeavingLemmas.{stays_untouched}
 use Rattle.lpis_run_publish_country.specs.PublishCountryAnswer.{CountryRequest, setting_said}
+use Rattle.lpis_run_publish_country.specs.PublishCountryRuns.{IsUnion}
 use Rattle.lpis_run_publish_country.specs.private.Preparing.{said_of}
-use Rattle.lpis_run_publish_country.proofs.EndLemmas.{runs_refused, runs_stopped_in, runs_union, stays_same}
+use Rattle.lpis_run_publish_country.proofs.EndLemmas.{runs_refused, runs_stopped_in, runs_union}
 use Rattle.lpis_run_publish_country.proofs.publish_country.publish_prepared.Goals as goal
 
 pub join_regions-requires : goal.join_regions-requires
@@ -21,7 +23,7 @@ returns-in_err-country g c = λ given x texts p.
     let is = subst (λ t. IsSettingOf s t c.args.detail c.args.prepared.begun) texts (setting_begun given.texts c.args.detail x.country c.args.prepared.begun p.begun) in
     let e = err_from_is_err_and c.from_residual.result c.from_residual.ensures.1 in
     rw (e.1, e.2) (runs_stopped_in g.S.Store asked x old old (g.W.Write.contents c.args.out.now) (g.W.Write.contents c.join_regions.new.out) said p.said
-    _ refl (stays_same g.S.Store old _) (c.in_err-country.ensures.failure s is))
+    _ refl (stays_untouched g.S.Store (IsUnion asked x) old _) (c.in_err-country.ensures.failure s is))
 
 pub returns-in-Joined : goal.returns-in-Joined
 returns-in-Joined g c = λ given x texts p.
@@ -45,4 +47,4 @@ returns g c = λ given x texts p.
     let start = g.W.Write.contents c.args.out.now in
     let now = g.W.Write.contents c.join_regions.new.out in
     runs_refused g.S.Store asked x old old start now said p.said c.in-Refused.status refl
-    (stays_same g.S.Store old _) (subst (λ r. RegionsJoin s start now r) c.in-Refused.is (c.in_ok-country.ensures.joins s is))
+    (stays_untouched g.S.Store (IsUnion asked x) old _) (subst (λ r. RegionsJoin s start now r) c.in-Refused.is (c.in_ok-country.ensures.joins s is))

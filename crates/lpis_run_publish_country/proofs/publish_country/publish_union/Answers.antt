@@ -4,7 +4,7 @@ use Rattle.lpis_country.specs.Country.{country_of}
 use Rattle.lpis_register.specs.declared.fault.PublishFault.TheVariants.{Memory}
 use Rattle.lpis_run_publish_country.specs.CountryLineage.{rows_in}
 use Rattle.lpis_run_publish_country.specs.PublishCountryAnswer.{union_of}
-use Rattle.lpis_run_publish_country.proofs.EndLemmas.{leaves_same}
+use Rattle.lpis_run_publish.proofs.LeavingLemmas.{leaves_untouched}
 use Rattle.lpis_run_publish_country.proofs.UnionLemmas.{accepted_by, fails_accepted, not_set_aside, refused_by, union_answered, union_refused}
 use Rattle.lpis_run_publish_country.proofs.publish_country.publish_union.Goals as goal
 
@@ -25,6 +25,13 @@ returns-in-Ok-clause-cause g c asked said regions to joined has =
     fails_accepted g.S.Store (union_of asked.year said regions) c.in-Ok.accepted c.args.register.now c.publish_accepted.new.register
     c.publish_accepted.result made c.publish_accepted.ensures.cause
 
+pub returns-in-Ok-clause-leaves : goal.returns-in-Ok-clause-leaves
+returns-in-Ok-clause-leaves g c asked said regions to joined has =
+    let union = country_of said.classes regions in
+    let made = accepted_by union c.args.register.now.held c.in-Ok.accepted asked.year c.args.year said.blocks c.args.cert.now.exact (rows_in said.tables) _ to.of_year to.of_blocks
+    (c.as_slice.ensures.value ∙ has.rows_are) (c.in-Ok.ensures.made union (sym joined.parcels_are)) in
+    c.publish_accepted.ensures.leaves (union_of asked.year said regions) made
+
 pub returns : goal.returns
 returns g c = record {
   answer = λ asked said regions lines to all joined has.
@@ -37,6 +44,6 @@ returns g c = record {
       (refused_by union old c.in-Err.fault asked.year c.args.year said.blocks c.args.cert.now.exact (rows_in said.tables) _ to.of_year to.of_blocks
       (c.as_slice.ensures.value ∙ has.rows_are) (c.in-Err.ensures.tells union (sym joined.parcels_are)))
       (not_set_aside c.in-Err.fault other c.in-Err.ensures.no_store) tells.0 tells.1;
-  leaves = leaves_same g.S.Store c.args.register.now c.in_ok-answer-in-Err.answer;
+  leaves = λ asked said regions to joined has. leaves_untouched g.S.Store _ c.args.register.now c.in_ok-answer-in-Err.answer;
   cause = λ asked said regions to joined has. tt;
 }

@@ -1,12 +1,9 @@
-use Rattle.std.proofs.Common.{ap, refl, subst}
-use Rattle.sqlite.specs.Held.{state}
-use Rattle.sqlite.specs.State.{HasCleanDisk}
-use Rattle.lpis_register_sql.specs.Stopping.{RanAlone}
-use Rattle.lpis_register.specs.Failing.{writing_statements}
+use Rattle.std.proofs.Common.{ap, refl}
 use Rattle.lpis_register.proofs.CommittingLemmas.{stored_err, stored_ok}
 use Rattle.lpis_register.proofs.FailingLemmas.{fails_as}
 use Rattle.lpis_register.proofs.ResultLemmas.{failure_refused}
-use Rattle.lpis_register.specs.Holdings.{RegisterState, holdings}
+use Rattle.lpis_register.proofs.RunningLemmas.{runs_err, runs_ok}
+use Rattle.lpis_register.specs.Holdings.{holdings}
 use Rattle.lpis_register.specs.private.Writes.{written}
 use Rattle.lpis_register.proofs.register.Register.commit.Goals as goal
 
@@ -48,8 +45,12 @@ returns-in-Err-clause-cause g c =
     fails_as g.S.Store c.args.accepted.writing (record { conn = c.self.inside.conn; held = holdings c.self.inside.history c.self.inside.shapes.items }) c.args.self.now
     c.commit_release.new.conn c.in-Err.fault c.self.view_is (rw c.as_slice-kept.ensures.value at c.in-Err.ensures.failure)
 
-pub returns-in-Ok-clause-ran : goal.returns-in-Ok-clause-ran
-returns-in-Ok-clause-ran g c = subst
-    (λ (old : RegisterState g.row.S.Denot). HasCleanDisk (state g.S.Store c.commit_release.new.conn)
-    → RanAlone g.S.Store (writing_statements c.args.accepted.writing old.held) old.conn c.commit_release.new.conn)
-    c.self.view_is (rw c.as_slice-kept.ensures.value at c.in-Ok.ensures.ran)
+pub returns-in-Ok-clause-runs : goal.returns-in-Ok-clause-runs
+returns-in-Ok-clause-runs g c =
+    runs_ok g.S.Store c.args.accepted.writing (record { conn = c.self.inside.conn; held = holdings c.self.inside.history c.self.inside.shapes.items }) c.args.self.now c.commit_release.new.conn
+    c.self.view_is _ _ (rw c.as_slice-kept.ensures.value at c.in-Ok.ensures.runs)
+
+pub returns-in-Err-clause-runs : goal.returns-in-Err-clause-runs
+returns-in-Err-clause-runs g c =
+    runs_err g.S.Store c.args.accepted.writing (record { conn = c.self.inside.conn; held = holdings c.self.inside.history c.self.inside.shapes.items }) c.args.self.now c.commit_release.new.conn
+    c.self.view_is c.in-Err.fault (rw c.as_slice-kept.ensures.value at c.in-Err.ensures.runs)
