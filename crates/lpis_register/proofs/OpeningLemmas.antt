@@ -1,5 +1,5 @@
 -- What the steps of an opening do, joined.
-use Rattle.std.proofs.Common.{◌≡◌, ◌∙◌, ◌⊎◌, ◌↔◌, ◌&&◌, ap, arith, refl, subst, sym, true≢false, inl, inr, Bool, List, Result, Ok, Err, IsTrue, [], ◌∷◌, false, true}
+use Rattle.std.proofs.Common.{◌≡◌, ◌∙◌, ◌⊎◌, ◌↔◌, ◌&&◌, ap, arith, refl, subst, sym, true≢false, inl, inr, Bool, List, Result, Ok, Err, IsTrue, [], false, true}
 use Rattle.std.proofs.lemmas.Bool.{cases_Bool}
 use Rattle.sqlite.proofs.StateLemmas.{survives_then}
 use Rattle.sqlite.specs.Effect.{Database}
@@ -11,7 +11,6 @@ use Rattle.lpis_register_sql.specs.Hiding.{hides_table}
 use Rattle.lpis_register_sql.specs.Presence.{AreThere, has_table, is_any, is_whole}
 use Rattle.lpis_register_sql.specs.Quiet.{LeavesAll}
 use Rattle.lpis_register_sql.specs.StoredTables.{Formats, Lines, Lives, Marks, Spans, StoredTable, Texts, Years, is_read, name_of}
-use Rattle.lpis_register_sql.specs.Stopping.{BoundStatement, Ran}
 use Rattle.lpis_register_sql.specs.Unread.{IsUnread}
 use Rattle.lpis_register_sql.specs.declared.found.Found.{Found}
 use Rattle.lpis_register.proofs.Common.{Entry, HasCleanDisk, PublishFault, Shape, Survives, Third, Version, state, survives_weaker}
@@ -64,11 +63,6 @@ says_nothing db h shapes bare (found, there, inl none) = (none.1, none.2)
 says_nothing db h shapes bare (found, there, inr it) = absurd (nothing_there db.schema found bare there it.0)
 
 module _ {S : Type 0} (g : store.Ghosts S) where
-  -- statements that were run were run on an open connection
-  ran_was_open : (xs : List BoundStatement) (a b : Held S) → Ran g xs a b → IsTrue (state g b).is_open → IsTrue (state g a).is_open
-  ran_was_open [] a b ran up = subst (λ h. IsTrue (state g h).is_open) (sym ran) up
-  ran_was_open (x ∷ xs) a b (mid, count, one, same, more) up = one.1.was_open
-
   -- where a table is there unseen, nothing is done
   pub unseen : (st : Held S) → hides_table st.schema ≡ true → Opens g st st (Err Store)
   unseen st hidden = record {

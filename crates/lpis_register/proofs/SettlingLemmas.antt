@@ -18,7 +18,6 @@ use Rattle.lpis_register_sql.specs.Stopping.{BoundStatement, StopsWithin}
 use Rattle.lpis_register_sql.specs.Within.{HasTables, IsQuiet, Makes}
 use Rattle.lpis_register_sql.specs.declared.found.Found.{Found}
 use Rattle.lpis_register.proofs.Common.{Entry, First, HasCleanDisk, IsFailure, PublishFault, Shape, Survives, Trees, Version, state}
-use Rattle.lpis_register.proofs.HoldingLemmas.{nothing_done}
 use Rattle.lpis_register.proofs.WritingLemmas.{commit_fails, confirmed_writes, dropped, dropped_after, ran_alone, unsaid_after}
 use Rattle.lpis_register.specs.Failing.{IsUnsaid}
 use Rattle.lpis_register.specs.FailingToOpen.{FailsToSettle}
@@ -27,15 +26,6 @@ use Rattle.lpis_register.specs.declared.fault.PublishFault.TheVariants.{Memory, 
 use Rattle.lpis_register.specs.private.Commits.{Settles}
 
 module _ {S : Type 0} (g : store.Ghosts S) (version : Version) (h : List Entry) (shapes : List Shape) (old : Held S) where
-  -- nothing is done, with a failure
-  pub settled_not : (e : PublishFault) → IsFailure e → (e ≡ Store → hides_table (state g old).now.schema ≡ false → ⊥) → Settles g version h shapes old old (Err e)
-  settled_not e failure never = record {
-    writes = record { ok = λ clean. tt; err = λ clean up was. (was, refl); crash = nothing_done (LeavesSaid h shapes) (state g old); durable = λ clean. tt };
-    ran = λ clean. tt;
-    failure = failure;
-    cause = λ clean up seen is. absurd (never is seen);
-  }
-
   module _ (found : Found) (there : AreThere old.schema found) (spans : List StoredSpan) (are : version ≡ First → AreSpansOf spans h) (first mid : Held S)
       (begun : first ≡ record old { in_transaction = true }) where
     abbrev xs : List BoundStatement

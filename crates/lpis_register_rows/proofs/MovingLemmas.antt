@@ -1,14 +1,11 @@
 -- Rows in another order; moving from version 1 to 3; tables with no release.
-use Rattle.std.proofs.Common.{◌≡◌, ◌∙◌, ◌↔◌, refl, sym, ap, subst, arith, ℕ, pos, zero, suc, List, [], ◌∷◌, length, map, IsPermutation, Contains}
-use Rattle.lpis_register_rows.proofs.Common.{IsPermutation-sym, Entry, Content, Live, Mark, StoredSpan, AreLiveOf, AreSpansOf, HasHistoryByLive, HasHistoryBySpans, only_format}
-use Rattle.std.proofs.lemmas.List.{append-nil}
+use Rattle.std.proofs.Common.{◌≡◌, ◌∙◌, ◌↔◌, refl, sym, ap, subst, arith, ℕ, pos, zero, suc, List, [], ◌∷◌, length, IsPermutation, Contains}
+use Rattle.lpis_register_rows.proofs.Common.{IsPermutation-sym, Entry, Content, Live, Mark, AreLiveOf, HasHistoryByLive, HasHistoryBySpans, only_format}
 use Rattle.std.proofs.lemmas.List.Sorted.{IsPermutation-refl, Contains-permutation, length_permutation}
-use Rattle.lpis_register_rows.specs.Content.{Format, at_version, moved, no_content, raised, without_live, without_spans, without_texts}
+use Rattle.lpis_register_rows.specs.Content.{Format, without_texts}
 use Rattle.lpis_register_rows.specs.Histories.{IsSameContent, TablesHave, HasHistory}
-use Rattle.lpis_register_rows.proofs.FoldLemmas.{rev-moved, rev_onto, whole-spans-made}
 use Rattle.lpis_register_rows.specs.declared.version.Version.{Version}
 use Rattle.lpis_register_rows.specs.declared.version.Version.TheVariants.{First, Second, Third}
-use Rattle.lpis_register_rows.proofs.MarkLemmas.{no-marks}
 use Rattle.lpis_register_rows.proofs.SpanRowLemmas.{spans-moved}
 use Rattle.lpis_register_rows.proofs.AscendingLemmas.{both-orders}
 
@@ -61,10 +58,6 @@ reordered First c d h m live marks t = reordered-tells-live c d h m live t
 reordered Second c d h m live marks t = reordered-tells 2 [] [] c d h m (IsPermutation-refl []) t
 reordered Third c d h m live marks t = reordered-tells 3 c.marks d.marks c d h m marks t
 
--- in each version, tables with the same rows in another order state the same history
-pub reordered-says : (version : Version) (c d : Content) (h : List Entry) → IsSameContent c d → TablesHave version c h → TablesHave version d h
-reordered-says version c d h m t = reordered version c d h (record { formats = m.formats; years = m.years; spans = m.spans; lines = m.lines }) m.live m.marks t
-
 back : (c d : Content) → IsSameHistoryRows c d → IsSameHistoryRows d c
 back c d m = record {
   formats = IsPermutation-sym c.formats d.formats m.formats;
@@ -82,63 +75,4 @@ textless-says version c d h m = (
   rows : IsSameHistoryRows c d
   rows = record { formats = m.formats; years = m.years; spans = m.spans; lines = m.lines }
 
--- tables of version 3 state the same histories without texts and live rows, in whatever order of rows
-pub lifeless-tells : (c d : Content) (h : List Entry) → IsSameContent (without_texts (without_live c)) d → HasHistory c h ↔ HasHistory d h
-lifeless-tells c d h m = (
-  λ t. reordered-tells 3 c.marks d.marks c d h rows m.marks t,
-  λ t. reordered-tells 3 d.marks c.marks d c h (back c d rows) (IsPermutation-sym c.marks d.marks m.marks) t,
-) where
-  rows : IsSameHistoryRows c d
-  rows = record { formats = m.formats; years = m.years; spans = m.spans; lines = m.lines }
-
 -- ---- moving
-
--- tables of version 1, moved to version 3 with the spans of their history, state that history
-pub moved-tells : (c : Content) (spans : List StoredSpan) (h : List Entry) → HasHistoryByLive c h → AreSpansOf spans h → HasHistory (moved spans c) h
-moved-tells c spans h t s =
-    let made = whole-spans-made spans (without_spans c) in
-    subst (λ (d : Content). HasHistory (raised (without_live d)) h) (sym made) (record {
-      kept = t.kept;
-      formats_are = ap (λ (fs : List Format). map (at_version (pos 3)) fs) t.formats_are;
-      years_are = t.years_are;
-      spans_are = spans-moved spans (rev_onto spans []) h (subst (λ (l : List StoredSpan). IsPermutation l (rev_onto spans [])) (append-nil spans) (rev-moved spans [])) s;
-      lines_are = t.lines_are;
-      marks_are = no-marks h t.unmarked;
-    })
-
--- tables moved from version 1 keep no text
-pub moved-texts : (c : Content) (spans : List StoredSpan) → (moved spans c).texts ≡ []
-moved-texts c spans = refl
-
--- tables of version 2, raised to version 3, state the same history
-pub raised-tells : (c : Content) (h : List Entry) → HasHistoryBySpans 2 [] c h → HasHistory (raised c) h
-raised-tells c h t = record {
-  kept = t.kept;
-  formats_are = ap (λ (fs : List Format). map (at_version (pos 3)) fs) t.formats_are;
-  years_are = t.years_are;
-  spans_are = t.spans_are;
-  lines_are = t.lines_are;
-  marks_are = t.marks_are;
-}
-
--- tables that were just made state the history with no release
-pub nothing-tells : HasHistory no_content []
-nothing-tells = record {
-  kept = record {
-    lawful = record {
-      first_year = λ lt. absurd (omega arith);
-      years_rise = λ i j lt le. absurd (omega arith);
-      consecutive = λ id i j k a b hi hk. cc hi;
-      continued = λ id i d. absurd (let lt = d.0 in omega arith);
-      successors = λ id i n. cc n;
-    };
-    fits = record { first = refl; once = λ row i. omega arith; of_dropped = λ id i n. cc n; marked = λ i. refl };
-    ids = λ id i held. cc held;
-    years = λ i. omega arith;
-  };
-  formats_are = refl;
-  years_are = IsPermutation-refl [];
-  spans_are = record { once = λ id. omega arith; right = tt; whole = λ id i held. cc held };
-  lines_are = IsPermutation-refl [];
-  marks_are = IsPermutation-refl [];
-}

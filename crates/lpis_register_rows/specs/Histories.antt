@@ -1,5 +1,5 @@
 -- What the tables say as a history: relations over whole lists, up to the order of rows.
-use Rattle.std.specs.Prelude.{◌≡◌, ◌<◌, ◌≤◌, ◌&&◌, ◌++◌, true, not, ℕ, ℤ, pos, List, []}
+use Rattle.std.specs.Prelude.{◌≡◌, ◌<◌, ◌≤◌, ◌++◌, true, ℕ, ℤ, pos, List, []}
 use Rattle.std.specs.Prelude.{◌∷◌, length, Option, None, Some, IsPermutation}
 use Rattle.std.specs.List.{AllByRecursion, Contains, filter, list_any}
 use Rattle.lpis_tables.specs.Ids.{has_id, is_id, same_id}
@@ -8,7 +8,6 @@ use Rattle.lpis_lineage.specs.declared.span.Span.{Span as Years}
 use Rattle.lpis_lineage.specs.Lawful.{IsLawful, RowsFit}
 use Rattle.lpis_lineage.specs.Lineage.{entry_at, holds, last_live}
 use Rattle.lpis_lineage.specs.Spans.{span_of}
-use Rattle.lpis_lineage.specs.Steps.{AreFresh}
 use Rattle.lpis_register_rows.specs.Content.{Content, Format, Line, Live, Mark, StoredSpan}
 use Rattle.lpis_register_rows.specs.Content.{lines_from, marks_from}
 use Rattle.lpis_register_rows.specs.declared.version.Version.{Version}
@@ -116,8 +115,3 @@ pub record IsSameHistory (h k : List Entry) : Type 0 where
   pub years : (i : ℕ) → (entry_at h i).year ≡ (entry_at k i).year
   pub sets : (i : ℕ) (id : List ℕ) → holds h i id ≡ holds k i id
   pub rows : (i : ℕ) → (entry_at h i).rows ≡ (entry_at k i).rows
-
--- what publishing writes: the identifiers that the release drops, and those that no release held
-pub record IsWriting (h : List Entry) (live gone fresh : List (List ℕ)) : Type 0 where
-  pub gone_are : (q : List ℕ) → has_id gone q ≡ (has_id (last_live h) q && not (has_id live q))
-  pub fresh_are : AreFresh h live fresh

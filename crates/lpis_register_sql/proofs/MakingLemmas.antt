@@ -1,18 +1,15 @@
 -- Calls that make statements in a loop, and the transaction that is theirs.
-use Rattle.std.proofs.Common.{true, ◌≡◌, ◌++◌, ◌+◌, ◌<◌, ◌∷◌, ◌∙◌, [], ℕ, List, Ok, Err, Result, OnOk, IfErr, IsTrue, IsErrAnd, ap, arith, drop, get_or, length, map, refl, subst, sym, take}
+use Rattle.std.proofs.Common.{true, ◌≡◌, ◌++◌, ◌+◌, ◌<◌, ◌∷◌, ◌∙◌, [], ℕ, List, Ok, Err, Result, IfErr, IsTrue, IsErrAnd, ap, arith, drop, get_or, length, map, refl, subst, sym, take}
 use Rattle.std.specs.List.{flat_map}
 use Rattle.std.proofs.Math.Seq.{take-length}
 use Rattle.std.proofs.lemmas.Grind.{flat_map-append}
 use Rattle.std.proofs.lemmas.List.{append-nil, append_assoc, map-append, map_more, take-append-drop, take_more}
 use Rattle.sqlite.specs.Held.{Held}
-use Rattle.sqlite.specs.State.{Commits}
-use Rattle.sqlite.specs.Steps.{FailsToCommit}
 use Rattle.sqlite_trees.specs.declared.store.Store as store
-use Rattle.lpis_register_sql.specs.Stopping.{BoundStatement, Ran, RanAlone, StopsWithin}
+use Rattle.lpis_register_sql.specs.Stopping.{BoundStatement, StopsWithin}
 use Rattle.lpis_register_sql.specs.Within.{Makes}
-use Rattle.lpis_register_sql.proofs.Common.{Error, HasCleanDisk, Survives, Trees, state}
-use Rattle.lpis_register_sql.proofs.StepLemmas.{IsCommitted}
-use Rattle.lpis_register_sql.proofs.StopLemmas.{failed_commit, fails, stops_still, then}
+use Rattle.lpis_register_sql.proofs.Common.{Error, HasCleanDisk, Survives, state}
+use Rattle.lpis_register_sql.proofs.StopLemmas.{fails, stops_still, then}
 
 -- what is made of the first items and of one more
 parts_are : {X : Type 0} (f : X → List BoundStatement) (xs : List X) (i : ℕ) (d x : X) → i < length xs → x ≡ get_or xs i d → flat_map f (take i xs) ++ f x ≡ flat_map f (take (i + 1) xs)
@@ -73,25 +70,9 @@ module _ {S : Type 0} (g : store.Ghosts S) (held first end new : Held S) (begun 
       (h (subst (λ x. IsTrue (state g x).is_open) (sym begun) up) (subst (λ x. IsTrue x.in_transaction) (sym begun) refl) (subst (λ x. HasCleanDisk (state g x)) (sym same) clean)))
 
 module _ {S : Type 0} {g : store.Ghosts S} {xs : List BoundStatement} (held : Held S) {first last end new : Held S} (begun : first ≡ record held { in_transaction = true }) (same : end ≡ new) where
-  -- its statements were run, and it is not committed
-  pub commit_stops : {x : Unit {0}} {P : Trees → Type 0} (r : Result (Unit {0}) Error) → Makes g xs first last (Ok x) → Survives (state g last) (state g end) P
-      → (HasCleanDisk (state g end) → IfErr r (FailsToCommit (state g last) (state g end)))
-      → IsTrue (state g held).is_open → HasCleanDisk (state g new) → IfErr r (StopsWithin g xs (record held { in_transaction = true }) new)
-  commit_stops (Ok _) made ends err = λ up clean. tt
-  commit_stops (Err e) made ends err = seen_outside g held first end new begun same (λ a b. StopsWithin g xs a b e)
-      (λ up within clean. failed_commit g xs first last end e made.quiet.survives.counts (made.ends (omega (arith, ends.clean)) up within) up within (err clean))
-
   -- its statements failed, and it is dropped
   pub undone_stops : {e : Error} (r : Result (Unit {0}) Error) → IsErrAnd r (λ x. x ≡ e) → Makes g xs first last (Err e) → Survives (state g last) (state g end) (λ _. ⊥)
       → IsTrue (state g held).is_open → HasCleanDisk (state g new) → IfErr r (StopsWithin g xs (record held { in_transaction = true }) new)
   undone_stops (Ok _) is made drops = λ up clean. tt
   undone_stops {e = e} (Err y) is made drops = seen_outside g held first end new begun same (λ a b. StopsWithin g xs a b y)
       (λ up within clean. subst (StopsWithin g xs first end) (sym is) (stops_still g xs first last end e drops.counts (made.ends (omega (arith, drops.clean)) up within)))
-
-  -- it is committed
-  pub committed_alone : {x : Unit {0}} {P : Trees → Type 0} (r : Result (Unit {0}) Error) → Makes g xs first last (Ok x) → Survives (state g last) (state g end) P
-      → (HasCleanDisk (state g end) → IsCommitted (state g last) (state g end) r)
-      → IsTrue (state g held).is_open → HasCleanDisk (state g new) → OnOk r (RanAlone g xs held new)
-  committed_alone (Err e) made ends ok = λ up clean. tt
-  committed_alone (Ok y) made ends ok = seen_outside g held first end new begun same (λ a b. (mid : Held S) × Ran g xs a mid × Commits (state g mid) (state g b))
-      (λ up within clean. let it = ok clean in (last, made.ends (omega (arith, ends.clean)) up within, (it.1, it.2, it.3)))

@@ -32,12 +32,6 @@ fails_same sql params old new e plain (inr h) =
     let none = (plain h.0 h.1.is).0 in
     let it = subst (FailsToShow old new sql h.0 (timed params h.0.formats h.1.now) e) none h.2 in inl it.3
 
--- one row more is read
-pub one_read : {X : Type 0} (shown : Row → X) (all next : List X) (rows : List Row) (row : Row) (it : X) → next ≡ all ++ it ∷ [] → shown row ≡ it → all ≡ map shown rows
-    → next ≡ map shown (rows ++ row ∷ [])
-one_read shown all next rows row it pushed read so_far =
-    pushed ∙ ap (λ l. l ++ it ∷ []) so_far ∙ ap (λ i. map shown rows ++ i ∷ []) (sym read) ∙ sym (map-append shown rows (row ∷ []))
-
 -- what is known anyway is known where there is an error
 pub where_err : {A E P : Type 0} (r : Result A E) → P → OnErr r P
 where_err (Ok _) p = tt

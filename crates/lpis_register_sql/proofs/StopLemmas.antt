@@ -6,7 +6,6 @@ use Rattle.std.proofs.Common.{◌≤◌}
 use Rattle.sqlite.specs.Held.{Held}
 use Rattle.sqlite.specs.State.{IsUnchanged, IsNotRun, ExecutesIn, RunsAlone, Fails, IsStatement, text_of, shows_rows}
 use Rattle.sqlite.specs.Clock.{timed}
-use Rattle.sqlite.specs.Steps.{FailsToCommit}
 use Rattle.sqlite_disk.specs.Disk.{MoreFaults}
 use Rattle.sqlite_resolve.specs.declared.compiled.Compiled.{Compiled}
 use Rattle.sqlite_trees.specs.declared.error.StoreError.TheVariants as cause
@@ -136,15 +135,6 @@ module _ {S : Type 0} (g : store.Ghosts S) where
       → MatchResult r (λ _. Ran g ys b c) (StopsWithin g ys b c) → MatchResult r (λ _. Ran g (xs ++ ys) a c) (StopsWithin g (xs ++ ys) a c)
   both_end xs ys a b c (Ok _) low first more = ran_then xs ys a b c first more
   both_end xs ys a b c (Err e) low first more = stops_after xs ys a b c e low first more
-
-  -- a transaction whose statements were run, and that is not committed
-  pub failed_commit : (xs : List BoundStatement) (a b c : Held S) (e : Error) → (state g a).faults ≤ (state g b).faults → Ran g xs a b → IsTrue (state g a).is_open → IsTrue a.in_transaction
-      → FailsToCommit (state g b) (state g c) e → StopsWithin g xs a c e
-  failed_commit xs a b c e low ran up within (inl failed) = elim (failing ⊥ (state g b) (state g c) e (ran_open g xs a b ran up within).0 failed) [
-    | inl memory ↦ inl memory
-    | inr disk ↦ inr (elim disk [ inl more ↦ inl (more_faults (state g a).faults (state g b).faults (state g c).faults low more) | inr never ↦ absurd never ])
-  ]
-  failed_commit xs a b c e low ran up within (inr late) = absurd (let on = (ran_open g xs a b ran up within).1 in let off = late.1 in cc)
 
   -- no later call takes a cause away
   pub stops_still : (xs : List BoundStatement) (a b c : Held S) (e : Error) → (state g b).faults ≤ (state g c).faults → StopsWithin g xs a b e → StopsWithin g xs a c e
