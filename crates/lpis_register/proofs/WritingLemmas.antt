@@ -130,7 +130,8 @@ module _ {S : Type 0} (g : store.Ghosts S) (held first mid last end : Held S) (b
   -- the tables are not read back, or don't say this
   pub not_confirmed : (HasCleanDisk (state g last) → IsTrue (state g mid).is_open → IsUnsaid found (state g mid) (state g last) h shapes)
       → Survives (state g last) (state g end) (λ _. ⊥) → HasCleanDisk (state g end) → IsTrue (state g held).is_open
-      → (reached : Held S) × Ran g xs (record held { in_transaction = true }) reached × ((state g held).faults ≤ (state g reached).faults) × (found : Found) × AreThere reached.schema found × IsUnsaid found (state g reached) (state g end) h shapes
+      → (reached : Held S) × Ran g xs (record held { in_transaction = true }) reached
+      × ((state g held).faults ≤ (state g reached).faults) × (found : Found) × AreThere reached.schema found × IsUnsaid found (state g reached) (state g end) h shapes
   not_confirmed unsaid drops clean up =
       let late : HasCleanDisk (state g last) = omega (arith, clean, drops.clean) in
       let opened : IsTrue (state g first).is_open = subst (λ h. IsTrue (state g h).is_open) (sym begun) up in

@@ -97,8 +97,8 @@ returns-in-Ok-commit-clause-runs g c h due =
     c.in-Ok.ensures.makes in
     committed_runs g.S.Store c.args.conn.now c.transaction-tx.result.conn.now c.fill.new.tx.conn.now c.confirm.new.tx.conn.now c.conn-2-1.given.0 c.transaction-tx.ensures.begun _ c.in-Ok.field-0 made
     c.in_ok-confirm.ensures.quiet (λ late. (c.in_ok-confirm.ensures.said late).2) (rw same at c.in-Ok-commit.ensures.survives) (Ok tt)
-    (λ clean. ran_alone g.S.Store c.args.conn.now c.transaction-tx.result.conn.now c.fill.new.tx.conn.now c.confirm.new.tx.conn.now c.conn-2-1.given.0 c.transaction-tx.ensures.begun _ c.in-Ok.field-0 made
-    c.in-Ok.ensures.tables c.tables_in-found.result (rw c.schema.ensures.value at c.tables_in-found.ensures.there) c.in_ok-confirm.ensures.quiet c.args.history.now w.shapes.items
+    (λ clean. ran_alone g.S.Store c.args.conn.now c.transaction-tx.result.conn.now c.fill.new.tx.conn.now c.confirm.new.tx.conn.now c.conn-2-1.given.0 c.transaction-tx.ensures.begun _ c.in-Ok.field-0
+    made c.in-Ok.ensures.tables c.tables_in-found.result (rw c.schema.ensures.value at c.tables_in-found.ensures.there) c.in_ok-confirm.ensures.quiet c.args.history.now w.shapes.items
     (rw c.as_slice.ensures.value at c.in_ok-confirm.ensures.said) (rw same at c.in-Ok-commit.ensures.survives) (Ok c.in-Ok-commit.field-0) (rw same at c.in-Ok-commit.ensures.ok) clean)
 
 pub returns-in-Err-commit-clause-runs : goal.returns-in-Err-commit-clause-runs
