@@ -121,7 +121,8 @@ module _ {S : Type 0} (g : store.Ghosts S) (w : Writing) (before : Holdings) (he
 
   -- or they were run, and the tables do not say it
   pub unconfirmed_writing : (c : Candidate) (history : List Entry) → FollowsHistory c before.history (holdings history w.shapes.items)
-      → (IsTrue (state g held).is_open → (reached : Held S) × Ran g (writing_statements w before) Begun reached × ((state g held).faults ≤ (state g reached).faults) × (found : Found) × AreThere reached.schema found
+      → (IsTrue (state g held).is_open → (reached : Held S) × Ran g (writing_statements w before) Begun reached
+      × ((state g held).faults ≤ (state g reached).faults) × (found : Found) × AreThere reached.schema found
       × IsUnsaid found (state g reached) (state g end) history w.shapes.items) → FailsToWrite g w before held end
   unconfirmed_writing c history follows unsaid = elim (or_shut (state g held).is_open unsaid) [
     | inl shut ↦ inl (inl shut)

@@ -19,6 +19,7 @@ has_by_order (x ∷ xs) q =
     ap (λ (b : Bool). b || list_any (λ k. is_eq (slice_cmp nat_cmp q k)) xs) (sym (same-by_order q x))
     ∙ ap (λ (b : Bool). same_id q x || b) (has_by_order xs q)
 
+-- lists that ascend and have the same identifiers are equal
 pub same_ids : (xs ys : List (List ℕ)) → IsAscending xs → IsAscending ys → ((q : List ℕ) → has_id xs q ≡ has_id ys q) → xs ≡ ys
 same_ids xs ys a b alike =
     btree_set_from_contains nat_list_cmp_total (record { keys = xs }) (record { keys = ys }) a b (λ q. has_by_order xs q ∙ alike q ∙ sym (has_by_order ys q)) exact_bytes

@@ -16,7 +16,8 @@ use Rattle.lpis_register.specs.Holdings.{RegisterState}
 use Rattle.lpis_register.specs.Running.{RanTo, RunsAlone}
 use Rattle.lpis_register.specs.declared.accepting.Writing.{Writing}
 
-module _ {S : Type 0} (g : store.Ghosts S) (held first last end : Held S) (begun : first ≡ record held { in_transaction = true }) (quiet : IsQuiet (state g first) (state g last)) (xs : List BoundStatement) where
+module _ {S : Type 0} (g : store.Ghosts S) (held first last end : Held S) (begun : first ≡ record held { in_transaction = true })
+    (quiet : IsQuiet (state g first) (state g last)) (xs : List BoundStatement) where
   -- one that is dropped leaves nothing new
   pub dropped_runs : {X E : Type 0} (e : E) → Survives (state g last) (state g end) (λ _. ⊥) → RunsAlone g {X = X} xs held end (Err e)
   dropped_runs e drops = record {

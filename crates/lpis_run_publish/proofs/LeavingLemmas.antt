@@ -38,6 +38,7 @@ both_left a b P Q R f one two = record {
 }
 
 -- ---- a register that was not reached
+-- it is as it was, however the call ended
 pub stays_untouched : {S A : Type 0} (g : Ghosts S) (Is : Candidate → Type 0) (old : RegisterState S) (r : Result A Failure) → Stays g Is old old r
 stays_untouched g Is old r = record {
   holds = λ clean up. inr (refl, λ was. (was, refl));
@@ -45,9 +46,11 @@ stays_untouched g Is old r = record {
   crash = nothing_left (IsReleaseLeft g Is old) (state g old.conn);
 }
 
+-- so it is where there is an answer
 pub leaves_untouched : {S : Type 0} (g : Ghosts S) (Is : Candidate → Type 0) (old : RegisterState S) (a : Answered) → PublishLeaves g Is old old (Ok a)
 leaves_untouched g Is old a = record { same = λ other. refl; failure = tt; stored = stays_untouched g Is old (Ok a) }
 
+-- or memory ran out
 pub leaves_unreached : {S : Type 0} (g : Ghosts S) (Is : Candidate → Type 0) (old : RegisterState S) (failure : Failure) → IsMemoryOrStore failure → PublishLeaves g Is old old (Err failure)
 leaves_unreached g Is old failure why = record { same = tt; failure = (why, refl); stored = stays_untouched g Is old (Err failure) }
 

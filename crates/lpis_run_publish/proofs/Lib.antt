@@ -5,5 +5,6 @@ pub mod LeavingLemmas
 pub mod MarkedLemmas
 pub mod PublishLemmas
 pub mod RunLemmas
+pub mod Shared
 pub mod SubmissionLemmas
 pub mod TraceLemmas

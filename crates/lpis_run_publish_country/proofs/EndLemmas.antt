@@ -26,7 +26,7 @@ use Rattle.lpis_run_country.specs.CountryFailures.{IsReadOf, IsStoppedBefore, St
 use Rattle.lpis_run_country.specs.Regions.{Texts}
 use Rattle.lpis_run_country.specs.RegionsOutcome.{IsRegionsRefusal, RegionsEnd, RegionsStop}
 use Rattle.lpis_run_country.proofs.Shared.{all_left}
-use Rattle.lpis_run_publish.proofs.LeavingLemmas.{stays_as}
+use Rattle.lpis_run_publish.proofs.Shared.{stays_as}
 use Rattle.lpis_run_publish.specs.Publication.{IsMemoryOrStore, PublishLeaves}
 use Rattle.lpis_run_publish.specs.Stored.{IsStoreFailure, Stays}
 use Rattle.lpis_run_publish_country.specs.PublishCountryAnswer.{AreSaid, CountryRequest, CountrySaid, IsPublishCountryAnswer, IsUnionAnswer, PublishCountryInputs}

@@ -17,7 +17,7 @@ use Rattle.lpis_run.specs.declared.failure.Failure.{Failure}
 use Rattle.lpis_run.specs.declared.failure.Failure.TheVariants.{Memory, Read, Store, Write}
 use Rattle.lpis_run.specs.declared.failure.Name.{Name}
 use Rattle.lpis_run.specs.declared.failure.Name.TheVariants.{Lineage, Out}
-use Rattle.lpis_run_publish.proofs.LeavingLemmas.{stays_as, stays_untouched}
+use Rattle.lpis_run_publish.proofs.Shared.{stays_as, stays_untouched}
 use Rattle.lpis_run_publish.specs.LineageLines.{publish_refusal_text}
 use Rattle.lpis_run_publish.specs.Stored.{IsStoreFailure}
 use Rattle.lpis_run_publish_country.specs.CountryLineage.{IsUnreadTable}

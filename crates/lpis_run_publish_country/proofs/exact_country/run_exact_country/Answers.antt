@@ -1,4 +1,4 @@
-use Rattle.std.proofs.Common.{Err, refl}
+use Rattle.std.proofs.Common.{refl}
 use Rattle.std.proofs.lemmas.Result.{err_from_is_err_and}
 use Rattle.lpis_run.specs.Folders.{top_by}
 use Rattle.lpis_run_publish_country.specs.PublishCountryRuns.{StopsAtLineage}

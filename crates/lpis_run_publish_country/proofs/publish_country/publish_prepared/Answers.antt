@@ -2,7 +2,7 @@ use Rattle.std.proofs.Common.{refl, subst}
 use Rattle.std.proofs.lemmas.Result.{err_from_is_err_and}
 use Rattle.lpis_run_country.specs.RegionsOutcome.{IsSettingOf, RegionsJoin}
 use Rattle.lpis_run_country.proofs.Shared.{setting_begun}
-use Rattle.lpis_run_publish.proofs.LeavingLemmas.{stays_untouched}
+use Rattle.lpis_run_publish.proofs.Shared.{stays_untouched}
 use Rattle.lpis_run_publish_country.specs.PublishCountryAnswer.{CountryRequest, setting_said}
 use Rattle.lpis_run_publish_country.specs.PublishCountryRuns.{IsUnion}
 use Rattle.lpis_run_publish_country.specs.private.Preparing.{said_of}

@@ -4,7 +4,7 @@ use Rattle.lpis_country.specs.Country.{country_of}
 use Rattle.lpis_register.specs.declared.fault.PublishFault.TheVariants.{Memory}
 use Rattle.lpis_run_publish_country.specs.CountryLineage.{rows_in}
 use Rattle.lpis_run_publish_country.specs.PublishCountryAnswer.{union_of}
-use Rattle.lpis_run_publish.proofs.LeavingLemmas.{leaves_untouched}
+use Rattle.lpis_run_publish.proofs.Shared.{leaves_untouched}
 use Rattle.lpis_run_publish_country.proofs.UnionLemmas.{accepted_by, fails_accepted, not_set_aside, refused_by, union_answered, union_refused}
 use Rattle.lpis_run_publish_country.proofs.publish_country.publish_union.Goals as goal
 
