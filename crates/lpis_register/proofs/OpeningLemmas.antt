@@ -13,15 +13,15 @@ use Rattle.lpis_register_sql.specs.Quiet.{LeavesAll}
 use Rattle.lpis_register_sql.specs.StoredTables.{Formats, Lines, Lives, Marks, Spans, StoredTable, Texts, Years, is_read, name_of}
 use Rattle.lpis_register_sql.specs.Unread.{IsUnread}
 use Rattle.lpis_register_sql.specs.declared.found.Found.{Found}
-use Rattle.lpis_register.proofs.Common.{Entry, HasCleanDisk, PublishFault, Shape, Survives, Third, Version, state, survives_weaker}
+use Rattle.lpis_register.proofs.Common.{Entry, HasCleanDisk, PublishFault, Shape, State, Survives, Third, Trees, Version, state, survives_weaker}
 use Rattle.lpis_register.proofs.FailingLemmas.{or_shut}
 use Rattle.lpis_register.proofs.HoldingLemmas.{nothing_done}
 use Rattle.lpis_register.proofs.ResultLemmas.{failure_lawful, opening_failure}
 use Rattle.lpis_register.proofs.SayingLemmas.{SeesLoaded}
 use Rattle.lpis_register.specs.FailingToOpen.{FailsAfterReading}
 use Rattle.lpis_register.specs.Faults.{IsOpeningFault}
-use Rattle.lpis_register.specs.Opening.{LeavesOpened}
-use Rattle.lpis_register.specs.Saying.{IsWhole, SaysRegister}
+use Rattle.lpis_register.specs.Opening.{LeavesOpened, RanSettlingTo}
+use Rattle.lpis_register.specs.Saying.{LeavesSaid, IsWhole, SaysRegister}
 use Rattle.lpis_register.specs.declared.fault.PublishFault.TheVariants.{Store}
 use Rattle.lpis_register.specs.declared.opening.Loaded.{Loaded}
 use Rattle.lpis_register.specs.private.Commits.{Settles}
@@ -62,6 +62,17 @@ pub says_nothing : (db : Database) (h : List Entry) (shapes : List Shape) → db
 says_nothing db h shapes bare (found, there, inl none) = (none.1, none.2)
 says_nothing db h shapes bare (found, there, inr it) = absurd (nothing_there db.schema found bare there it.0)
 
+-- where a crash leaves such trees, and such, it leaves those that are both
+both_left : (a b : State) (P Q R : Trees → Type 0) → (HasCleanDisk b → (db : Trees) → P db → Q db → R db) → Survives a b P → Survives a b Q → Survives a b R
+both_left a b P Q R f one two = record {
+  clean = one.clean;
+  shield = one.shield;
+  counts = one.counts;
+  limit = one.limit;
+  closes = one.closes;
+  crash = λ clean db may. elim (one.crash clean db may) [ inl before ↦ inl before | inr p ↦ elim (two.crash clean db may) [ inl before ↦ inl before | inr q ↦ inr (f clean db p q) ] ];
+}
+
 module _ {S : Type 0} (g : store.Ghosts S) where
   -- where a table is there unseen, nothing is done
   pub unseen : (st : Held S) → hides_table st.schema ≡ true → Opens g st st (Err Store)
@@ -72,11 +83,10 @@ module _ {S : Type 0} (g : store.Ghosts S) where
       refused = λ is. absurd (let e = is in cc);
       seen = λ is. absurd (let e = is in cc);
       untouched = λ is. absurd (let e = is in cc);
-      crash = nothing_done (LeavesOpened (state g st)) (state g st);
+      crash = nothing_done (LeavesOpened g st) (state g st);
       kind = tt;
     };
     cause = λ clean is. inr (inl hidden);
-    ran = tt;
   }
 
   module _ (old : Held S) (found : Found) (there : AreThere old.schema found) (seen : hides_table old.schema ≡ false) where
@@ -86,8 +96,9 @@ module _ {S : Type 0} (g : store.Ghosts S) where
       bare_says : SaysRegister (state g old).now told.history told.shapes.items
       bare_says = (found, there, inl (none, no_release, no_shapes))
 
-      bare_left : {r : Result (Unit {0}) PublishFault} → Settles g Third told.history told.shapes.items old new r → Survives (state g old) (state g new) (LeavesOpened (state g old))
-      bare_left settles = survives_weaker (state g old) (state g new) _ _ (λ clean db left. (told.history, told.shapes.items, bare_says, left)) settles.writes.crash
+      bare_left : {r : Result (Unit {0}) PublishFault} → Settles g Third told.history told.shapes.items old new r → Survives (state g old) (state g new) (LeavesOpened g old)
+      bare_left settles = both_left (state g old) (state g new) _ _ _
+          (λ clean db leaves led. record { history = told.history; shapes = told.shapes.items; said = bare_says; leaves = leaves; ran = (old, refl, (Third, led)) }) settles.writes.crash settles.left
 
       -- which succeeds
       pub bare_opens : (x : Unit {0}) → Settles g Third told.history told.shapes.items old new (Ok x) → Opens g old new (Ok told)
@@ -96,13 +107,12 @@ module _ {S : Type 0} (g : store.Ghosts S) where
           said = λ clean. bare_says;
           says = settles.writes.ok;
           stays = λ clean. (found, there, λ whole. absurd (true≢false (sym (whole_any found whole) ∙ none)));
+          ran = λ clean. inr (old, refl, (Third, settles.ran clean));
           seen = seen;
           crash = bare_left settles;
         };
         unopened = tt;
         cause = tt;
-        ran = λ clean. let it = settles.ran clean in
-            inr (record { read = old; same = refl; found = it.found; there = it.there; version = Third; spans = it.spans; are = it.are; ran = it.ran });
       }
 
       -- or fails
@@ -119,7 +129,6 @@ module _ {S : Type 0} (g : store.Ghosts S) where
         };
         cause = λ clean is. or_shut (state g old).is_open
             (λ up. inr (found, there, inr (none, rw (no_release, no_shapes) at (settles.cause clean up seen is))));
-        ran = tt;
       }
 
     -- ---- where one is there, they are read
@@ -139,7 +148,6 @@ module _ {S : Type 0} (g : store.Ghosts S) where
           kind = kind;
         };
         cause = λ clean is. or_shut (state g old).is_open (λ up. inr (found, there, inl (any, inl (tells clean up is))));
-        ran = tt;
       }
 
       module _ (mid : Held S) (told : Loaded) (version : Version) (reads : LeavesAll {X = Loaded × Version} {E = PublishFault} (state g old) (state g mid) (Ok (told, version)))
@@ -160,19 +168,29 @@ module _ {S : Type 0} (g : store.Ghosts S) where
                   says = subst (λ db. SaysRegister db told.history told.shapes.items) (sym same.0) (read_says clean);
                 };
             stays = λ clean. let it = sees.shows.ok clean in (found, there, λ whole. (version, it.0, λ is. it.1.0));
+            ran = λ clean. inl (sees.shows.ok clean).1.0;
             seen = seen;
             crash = survives_weaker (state g old) (state g mid) _ _ (λ clean db never. absurd never) reads.survives;
           };
           unopened = tt;
           cause = tt;
-          ran = λ clean. inl (sees.shows.ok clean).1.0;
         }
 
         -- or they are made those of version 3
         module _ (new : Held S) (busy : version ≡ Third → is_whole found ≡ false) where
-          settled_left : {r : Result (Unit {0}) PublishFault} → Settles g version told.history told.shapes.items mid new r → Survives (state g old) (state g new) (LeavesOpened (state g old))
-          settled_left settles = survives_then (state g old) (state g mid) (state g new) _ _ _ (λ clean db never. absurd never)
-              (λ clean db left. (told.history, told.shapes.items, read_says (omega (arith, clean, settles.writes.crash.clean)), left)) reads.survives settles.writes.crash
+          settled_left : {r : Result (Unit {0}) PublishFault} → Settles g version told.history told.shapes.items mid new r → Survives (state g old) (state g new) (LeavesOpened g old)
+          settled_left settles = survives_then (state g old) (state g mid) (state g new) (λ _. ⊥) (LeavesOpened g old) (LeavesOpened g old) (λ _ db never. absurd never) (λ _ db left. left)
+              reads.survives (both_left (state g mid) (state g new) _ _ (LeavesOpened g old) made settles.writes.crash settles.left)
+            where
+              made : HasCleanDisk (state g new) → (db : Trees) → LeavesSaid told.history told.shapes.items db → RanSettlingTo g version told.history mid db → LeavesOpened g old db
+              made clean db leaves led =
+                  let at_mid : HasCleanDisk (state g mid) = omega (arith, clean, settles.writes.crash.clean) in record {
+                    history = told.history;
+                    shapes = told.shapes.items;
+                    said = read_says at_mid;
+                    leaves = leaves;
+                    ran = (mid, (sees.shows.ok at_mid).1.0, (version, led));
+                  }
 
           pub settled_opens : (x : Unit {0}) → Settles g version told.history told.shapes.items mid new (Ok x) → Opens g old new (Ok told)
           settled_opens x settles = record {
@@ -182,14 +200,12 @@ module _ {S : Type 0} (g : store.Ghosts S) where
               stays = λ clean.
                   let it = sees.shows.ok (omega (arith, clean, settles.writes.crash.clean)) in
                   (found, there, λ whole. (version, it.0, λ third. absurd (true≢false (sym (whole_is found whole) ∙ busy third))));
+              ran = λ clean. inr (mid, (sees.shows.ok (omega (arith, clean, settles.writes.crash.clean))).1.0, (version, settles.ran clean));
               seen = seen;
               crash = settled_left settles;
             };
             unopened = tt;
             cause = tt;
-            ran = λ clean. let it = settles.ran clean in
-                let same = (sees.shows.ok (omega (arith, clean, settles.writes.crash.clean))).1.0 in
-                inr (record { read = mid; same = same; found = it.found; there = it.there; version = version; spans = it.spans; are = it.are; ran = it.ran });
           }
 
           pub settled_fails : (e : PublishFault) → TellsFound {X = Loaded × Version} found (state g old) (state g mid) (Ok (told, version))
@@ -205,7 +221,6 @@ module _ {S : Type 0} (g : store.Ghosts S) where
               kind = opening_failure e settles.failure;
             };
             cause = λ clean is. or_shut (state g old).is_open (λ up. inr (found, there, inl (any, after clean is up)));
-            ran = tt;
           }
             where
               after : HasCleanDisk (state g new) → e ≡ Store → IsTrue (state g old).is_open → IsUnread found (state g old) (state g new) ⊎ FailsAfterReading g found old new

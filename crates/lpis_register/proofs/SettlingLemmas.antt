@@ -1,5 +1,5 @@
 -- Tables of version 3, made of those that were found, and read back.
-use Rattle.std.proofs.Common.{◌≡◌, ◌≤◌, inl, inr, false, refl, subst, sym, true, List, Ok, Err, IsTrue}
+use Rattle.std.proofs.Common.{◌≡◌, ◌≤◌, inl, inr, false, refl, subst, sym, true, List, Ok, Err, IsTrue, Result, OnOk}
 use Rattle.sqlite.specs.Effect.{IsDatabase}
 use Rattle.sqlite.specs.Held.{Held}
 use Rattle.sqlite.specs.State.{IsRolledBack, IsUnchanged}
@@ -14,13 +14,16 @@ use Rattle.lpis_register_sql.proofs.Shared.{IsCommitted, undone_stops}
 use Rattle.lpis_register_sql.specs.Hiding.{hides_table}
 use Rattle.lpis_register_sql.specs.Making.{settling_statements}
 use Rattle.lpis_register_sql.specs.Presence.{AreThere, completed, is_any}
-use Rattle.lpis_register_sql.specs.Stopping.{BoundStatement, StopsWithin}
+use Rattle.lpis_register_sql.specs.Stopping.{BoundStatement, RanAlone, StopsWithin}
 use Rattle.lpis_register_sql.specs.Within.{HasTables, IsQuiet, Makes}
 use Rattle.lpis_register_sql.specs.declared.found.Found.{Found}
-use Rattle.lpis_register.proofs.Common.{Entry, First, HasCleanDisk, IsFailure, PublishFault, Shape, Survives, Trees, Version, state}
+use Rattle.lpis_register.proofs.Common.{Entry, First, HasCleanDisk, IsFailure, PublishFault, Shape, Survives, Trees, Version, state, survives_weaker}
+use Rattle.lpis_register.proofs.RunningLemmas.{committed_runs, dropped_runs, dropped_runs_after}
 use Rattle.lpis_register.proofs.WritingLemmas.{commit_fails, confirmed_writes, dropped, dropped_after, ran_alone, unsaid_after}
 use Rattle.lpis_register.specs.Failing.{IsUnsaid}
 use Rattle.lpis_register.specs.FailingToOpen.{FailsToSettle}
+use Rattle.lpis_register.specs.Opening.{RanSettlingTo, Settling}
+use Rattle.lpis_register.specs.Running.{RanTo, RunsAlone}
 use Rattle.lpis_register.specs.Saying.{LeavesSaid, SaysTables}
 use Rattle.lpis_register.specs.declared.fault.PublishFault.TheVariants.{Memory, Store}
 use Rattle.lpis_register.specs.private.Commits.{Settles}
@@ -28,13 +31,19 @@ use Rattle.lpis_register.specs.private.Commits.{Settles}
 module _ {S : Type 0} (g : store.Ghosts S) (version : Version) (h : List Entry) (shapes : List Shape) (old : Held S) where
   module _ (found : Found) (there : AreThere old.schema found) (spans : List StoredSpan) (are : version ≡ First → AreSpansOf spans h) (first mid : Held S)
       (begun : first ≡ record old { in_transaction = true }) where
+    abbrev settling : Settling version h old
+    settling = record { found = found; there = there; spans = spans; are = are }
+
     abbrev xs : List BoundStatement
     xs = settling_statements version found spans
 
     stopped : (end : Held S) (e : Error) (fault : PublishFault) → (e ≡ SqliteFailure OutOfMemory → fault ≡ Memory) → fault ≡ Store → StopsWithin g xs (record old { in_transaction = true }) end e
         → FailsToSettle g version h shapes old end
     stopped end e fault memory is (inl refused) = absurd (let m = memory refused in cc)
-    stopped end e fault memory is (inr stops) = record { found = found; there = there; spans = spans; are = are; fails = inl stops }
+    stopped end e fault memory is (inr stops) = record { by = settling; fails = inl stops }
+
+    led : (end : Held S) → Survives (state g old) (state g end) (RanTo g xs old) → Survives (state g old) (state g end) (RanSettlingTo g version h old)
+    led end left = survives_weaker (state g old) (state g end) _ _ (λ clean db to. (settling, to)) left
 
     -- its statements fail
     pub unmade_settles : (end : Held S) (e : Error) (fault : PublishFault) → (e ≡ SqliteFailure OutOfMemory → fault ≡ Memory) → IsFailure fault → Makes g xs first mid (Err e)
@@ -42,6 +51,7 @@ module _ {S : Type 0} (g : store.Ghosts S) (version : Version) (h : List Entry) 
     unmade_settles end e fault memory failure made drops undone = record {
       writes = dropped g old first mid end begun made.quiet h shapes fault (LeavesSaid h shapes) drops undone;
       ran = λ clean. tt;
+      left = led end (dropped_runs g old first mid end begun made.quiet xs {X = Unit {0}} fault drops).left;
       failure = failure;
       cause = λ clean up seen is. stopped end e fault memory is (undone_stops old {end = end} begun refl (Err e) refl made drops up clean);
     }
@@ -63,26 +73,25 @@ module _ {S : Type 0} (g : store.Ghosts S) (version : Version) (h : List Entry) 
       unsaid_settles end fault failure unsaid drops undone = record {
         writes = dropped_after g old first mid last end begun made.quiet quiet h shapes fault (LeavesSaid h shapes) drops undone;
         ran = λ clean. tt;
+        left = led end (dropped_runs_after {X = Unit {0}} g old first mid last end begun made.quiet quiet xs fault drops).left;
         failure = failure;
         cause = λ clean up visible is.
             let it = unsaid_after g old first mid last end begun xs x made (completed found) complete_there quiet h shapes (λ late on. unsaid late on is) drops clean up in
-            record { found = found; there = there; spans = spans; are = are; fails = inr (record { reached = mid; counts = counts; ran = it.0; found = completed found; there = it.1; unsaid = it.2 }) };
+            record { by = settling; fails = inr (record { reached = mid; counts = counts; ran = it.0; found = completed found; there = it.1; unsaid = it.2 }) };
       }
 
       module _ (told : HasCleanDisk (state g last) → (is_any (completed found) ≡ true) × ((version : Version) × SaysTables (completed found) (state g mid).now version h shapes)
           × IsUnchanged (state g mid) (state g last)) (end : Held S) (ends : Survives (state g last) (state g end) (λ db. db ≡ (state g last).now.trees))
           (law : IsTrue (state g end).is_open → (db : Trees) → (state g end).may_leave db → db ≡ (state g end).committed.trees) where
+        runs : (answer : Result (Unit {0}) PublishFault) → (HasCleanDisk (state g end) → OnOk answer (RanAlone g xs old end)) → RunsAlone g xs old end answer
+        runs answer ran = committed_runs g old first mid last end begun xs x made quiet (λ late. (told late).2) ends answer ran
+
         -- that is committed
         pub said_settles : (y z : Unit {0}) → (HasCleanDisk (state g end) → IsCommitted (state g last) (state g end) (Ok y)) → Settles g version h shapes old end (Ok z)
         said_settles y z ok = record {
           writes = confirmed_writes g old first mid last end begun xs x made (completed found) complete_there quiet h shapes told ends (Ok y) (λ clean. tt) (Ok z) (λ P p. p) (λ P p. p) ok law;
-          ran = λ clean. record {
-            found = found;
-            there = there;
-            spans = spans;
-            are = are;
-            ran = ran_alone g old first mid last end begun xs x made (completed found) complete_there quiet h shapes told ends (Ok y) ok clean;
-          };
+          ran = λ clean. (settling, ran_alone g old first mid last end begun xs x made (completed found) complete_there quiet h shapes told ends (Ok y) ok clean);
+          left = led end (runs (Ok z) (ran_alone g old first mid last end begun xs x made (completed found) complete_there quiet h shapes told ends (Ok y) ok)).left;
           failure = tt;
           cause = λ clean up visible. tt;
         }
@@ -93,6 +102,7 @@ module _ {S : Type 0} (g : store.Ghosts S) (version : Version) (h : List Entry) 
         uncommitted_settles e fault memory failure err = record {
           writes = confirmed_writes g old first mid last end begun xs x made (completed found) complete_there quiet h shapes told ends (Err e) err (Err fault) (λ P p. p) (λ P p. p) (λ clean. tt) law;
           ran = λ clean. tt;
+          left = led end (runs (Err fault) (λ clean. tt)).left;
           failure = failure;
           cause = λ clean up visible is. stopped end e fault memory is
               (commit_fails g old first mid last end begun xs x made (completed found) complete_there quiet h shapes told ends (Err e) err e refl clean);

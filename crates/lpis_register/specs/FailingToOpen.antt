@@ -4,11 +4,9 @@ use Rattle.sqlite.specs.Held.{Held, state}
 use Rattle.sqlite.specs.State.{HasCleanDisk, IsUnchanged}
 use Rattle.sqlite_trees.specs.declared.store.Store.{Ghosts}
 use Rattle.lpis_lineage.specs.declared.row.Entry.{Entry}
-use Rattle.lpis_register_rows.specs.Content.{StoredSpan}
-use Rattle.lpis_register_rows.specs.Histories.{AreSpansOf}
 use Rattle.lpis_register_rows.specs.Shapes.{Shape}
 use Rattle.lpis_register_rows.specs.declared.version.Version.{Version}
-use Rattle.lpis_register_rows.specs.declared.version.Version.TheVariants.{First, Third}
+use Rattle.lpis_register_rows.specs.declared.version.Version.TheVariants.{Third}
 use Rattle.lpis_register_sql.specs.Hiding.{hides_table}
 use Rattle.lpis_register_sql.specs.Making.{settling_statements}
 use Rattle.lpis_register_sql.specs.Presence.{AreThere, is_any}
@@ -16,6 +14,7 @@ use Rattle.lpis_register_sql.specs.Stopping.{BoundStatement, IsStopped, Ran}
 use Rattle.lpis_register_sql.specs.Unread.{IsUnread}
 use Rattle.lpis_register_sql.specs.declared.found.Found.{Found}
 use Rattle.lpis_register.specs.Failing.{IsUnsaid}
+use Rattle.lpis_register.specs.Opening.{Settling}
 use Rattle.lpis_register.specs.Saying.{SaysTables}
 
 module _ {S : Type 0} (store : Ghosts S) where
@@ -34,13 +33,10 @@ module _ {S : Type 0} (store : Ghosts S) where
   -- something else
   pub record FailsToSettle (version : Version) (h : List Entry) (shapes : List Shape)
       (old new : Held S) : Type 0 where
-    pub found : Found
-    pub there : AreThere old.schema found
-    pub spans : List StoredSpan
-    pub are : version ≡ First → AreSpansOf spans h
-    pub fails : IsStopped store (settling_statements version found spans)
+    pub by : Settling version h old
+    pub fails : IsStopped store (settling_statements version by.found by.spans)
         (record old { in_transaction = true }) new
-        ⊎ RunsUnsaid (settling_statements version found spans) h shapes old new
+        ⊎ RunsUnsaid (settling_statements version by.found by.spans) h shapes old new
 
   -- so it is with the tables that were found, once they were read, which changed nothing: with the
   -- version, the history and the shapes that they say

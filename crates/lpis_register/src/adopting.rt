@@ -1,13 +1,11 @@
 //! A register over a database that is there.
 
 ghost use Rattle.std.specs.Prelude.{◌≡◌, ◌↔◌, false, true, IfOk, IfErr, IsTrue};
-ghost use Rattle.sqlite.specs.Held.{state};
-ghost use Rattle.sqlite.specs.State.{HasCleanDisk};
 ghost use Rattle.lpis_register_rows.specs.declared.version.Version.TheVariants.{Third};
 ghost use Rattle.lpis_register_sql.specs.Hiding.{hides_table};
 ghost use Rattle.lpis_register_sql.specs.Presence.{AreThere, is_any, is_whole};
 ghost use Rattle.lpis_register.specs.FailingToOpen.{HasOpeningCause};
-ghost use Rattle.lpis_register.specs.Opening.{IsOpened, IsUnopened, RanToOpen};
+ghost use Rattle.lpis_register.specs.Opening.{IsOpened, IsUnopened};
 ghost use Rattle.lpis_register.specs.private.Opens.{Opens};
 ghost use Rattle.lpis_register.specs.declared.fault.PublishFault.TheVariants.{Store};
 
@@ -104,15 +102,11 @@ impl<S: Alter + Drop> Register<S> {
         mut connection: Connection<S>,
     ) -> Result<Register<S>, (Connection<S>, PublishFault)>
         requires autocommit { connection.in_transaction ≡ false }
-        ensures opened { IfOk result (λ it. IsOpened (state S.Store connection)
-            (state S.Store it.conn) it.held.history it.held.shapes) }
-        ensures unopened { IfErr result (λ e. IsUnopened (state S.Store connection)
-            (state S.Store e.0) e.1) }
+        ensures opened { IfOk result (λ it. IsOpened S.Store connection it.conn it.held.history
+            it.held.shapes) }
+        ensures unopened { IfErr result (λ e. IsUnopened S.Store connection e.0 e.1) }
         ensures cause { IfErr result (λ e. HasOpeningCause S.Store connection e.0 (e.1 ≡ Store)) }
         ensures autocommit { IfErr result (λ e. e.0.in_transaction ≡ false) }
-        // The engine ran the statements that make tables of version 3, if any, and no others.
-        ensures ran { IfOk result (λ it. HasCleanDisk (state S.Store it.conn)
-            → RanToOpen S.Store it.held.history connection it.conn) }
     {
         match open_tables(alloc, &mut connection) {
             Ok(told) => Ok(Register::of(alloc, connection, told)),

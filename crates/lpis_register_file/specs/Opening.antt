@@ -24,12 +24,12 @@ module _ {S : Type 0} (store : Ghosts S) where
   pub record OpensInFiles (image : Image) (it : RegisterState S) : Type 0 where
     pub opened : Held S
     pub over : IsOver image opened
-    pub opens : IsOpened (state store opened) (state store it.conn) it.held.history it.held.shapes
+    pub opens : IsOpened store opened it.conn it.held.history it.held.shapes
 
   -- they were, and the register in them was not: what is left of their connection, and where the
   -- database failed there is a cause
   pub record FailsInFiles (image : Image) (left : Held S) (fault : PublishFault) : Type 0 where
     pub opened : Held S
     pub over : IsOver image opened
-    pub unopened : IsUnopened (state store opened) (state store left) fault
+    pub unopened : IsUnopened store opened left fault
     pub cause : HasOpeningCause store opened left (fault ≡ Store)

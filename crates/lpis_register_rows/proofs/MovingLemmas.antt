@@ -3,7 +3,7 @@ use Rattle.std.proofs.Common.{◌≡◌, ◌∙◌, ◌↔◌, refl, sym, ap, su
 use Rattle.lpis_register_rows.proofs.Common.{IsPermutation-sym, Entry, Content, Live, Mark, AreLiveOf, HasHistoryByLive, HasHistoryBySpans, only_format}
 use Rattle.std.proofs.lemmas.List.Sorted.{IsPermutation-refl, Contains-permutation, length_permutation}
 use Rattle.lpis_register_rows.specs.Content.{Format, without_texts}
-use Rattle.lpis_register_rows.specs.Histories.{IsSameContent, TablesHave, HasHistory}
+use Rattle.lpis_register_rows.specs.Histories.{IsSameContent, TablesHave}
 use Rattle.lpis_register_rows.specs.declared.version.Version.{Version}
 use Rattle.lpis_register_rows.specs.declared.version.Version.TheVariants.{First, Second, Third}
 use Rattle.lpis_register_rows.proofs.SpanRowLemmas.{spans-moved}

@@ -1,5 +1,5 @@
 -- Publishing: what the tables say after it.
-use Rattle.std.proofs.Common.{◌≡◌, ◌∙◌, ◌≤◌, ◌+◌, refl, sym, ap, arith, ℕ, suc, ℤ, pos, List, [], ◌∷◌, ◌++◌, Bool, true, false, cond, length, Option, None, Some}
+use Rattle.std.proofs.Common.{◌≡◌, ◌∙◌, ◌≤◌, refl, sym, ap, arith, ℕ, suc, ℤ, pos, List, [], ◌∷◌, ◌++◌, Bool, true, false, cond, length, Option, None, Some}
 use Rattle.std.proofs.Common.{◌||◌, is_some, filter, is_eq, nat_cmp, Less}
 use Rattle.lpis_register_rows.proofs.Common.{AllByRecursion, slice_cmp, has_id, same_id, Entry}
 use Rattle.lpis_register_rows.proofs.Common.{holds, last_live, first_held, last_held, span_of}

@@ -1,5 +1,5 @@
 -- Shapes in the order of their identifiers, and the texts that keep them.
-use Rattle.std.proofs.Common.{◌≡◌, ◌∙◌, ◌≤◌, ◌+◌, refl, sym, ap, ap₂, subst, arith, ℕ, List, [], ◌∷◌, ◌++◌, true, length, map, take, Result, Ok, Err}
+use Rattle.std.proofs.Common.{◌≡◌, ◌∙◌, ◌≤◌, refl, sym, ap, ap₂, subst, arith, ℕ, List, [], ◌∷◌, ◌++◌, true, length, map, take, Result, Ok, Err}
 use Rattle.std.proofs.Common.{IsPermutation, Less, is_lt, nat_cmp, IsSortedByKey}
 use Rattle.lpis_register_rows.proofs.Common.{AllByRecursion, IsPermutation-sym, IsPermutation-trans, has_id, is_id, or_left, or_right, same-refl, same_id, slice_cmp}
 use Rattle.lpis_lineage.proofs.Shared.{same-sym}

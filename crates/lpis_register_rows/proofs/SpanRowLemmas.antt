@@ -1,7 +1,7 @@
 -- Rows of spans against a history.
 use Rattle.std.proofs.Common.{◌≡◌, ◌∙◌, sym, arith, List, Bool, length, IsPermutation, filter}
 use Rattle.std.proofs.lemmas.List.Sorted.{list_any-IsPermutation}
-use Rattle.lpis_register_rows.proofs.Common.{list_any, same_id, Entry, StoredSpan, IsSpanRow, AreSpansOf}
+use Rattle.lpis_register_rows.proofs.Common.{same_id, Entry, StoredSpan, IsSpanRow, AreSpansOf}
 use Rattle.std.proofs.lemmas.List.Sums.{length-filter}
 use Rattle.std.proofs.lemmas.List.Sorted.{sum_by-IsPermutation}
 use Rattle.lpis_register_rows.proofs.AscendingLemmas.{all-moved}

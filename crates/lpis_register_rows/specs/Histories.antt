@@ -2,11 +2,11 @@
 use Rattle.std.specs.Prelude.{◌≡◌, ◌<◌, ◌≤◌, ◌++◌, true, ℕ, ℤ, pos, List, []}
 use Rattle.std.specs.Prelude.{◌∷◌, length, Option, None, Some, IsPermutation}
 use Rattle.std.specs.List.{AllByRecursion, Contains, filter, list_any}
-use Rattle.lpis_tables.specs.Ids.{has_id, is_id, same_id}
+use Rattle.lpis_tables.specs.Ids.{is_id, same_id}
 use Rattle.lpis_lineage.specs.declared.row.Entry.{Entry}
 use Rattle.lpis_lineage.specs.declared.span.Span.{Span as Years}
 use Rattle.lpis_lineage.specs.Lawful.{IsLawful, RowsFit}
-use Rattle.lpis_lineage.specs.Lineage.{entry_at, holds, last_live}
+use Rattle.lpis_lineage.specs.Lineage.{entry_at, holds}
 use Rattle.lpis_lineage.specs.Spans.{span_of}
 use Rattle.lpis_register_rows.specs.Content.{Content, Format, Line, Live, Mark, StoredSpan}
 use Rattle.lpis_register_rows.specs.Content.{lines_from, marks_from}
