@@ -2,13 +2,12 @@
 pub use Rattle.lpis_lineage.specs.declared.row.Entry.{Entry}
 pub use Rattle.lpis_lineage.specs.Lineage.{last_live}
 pub use Rattle.lpis_register_rows.specs.Content.{Content}
-pub use Rattle.lpis_register_rows.specs.Shapes.{AreLive, Shape, ShapesAre}
+pub use Rattle.lpis_register_rows.specs.Shapes.{Shape}
 pub use Rattle.lpis_register_rows.specs.Histories.{TablesHave}
 pub use Rattle.lpis_register_rows.specs.declared.version.Version.{Version}
 pub use Rattle.lpis_register_rows.specs.declared.version.Version.TheVariants.{First, Third}
 pub use Rattle.lpis_register.specs.Faults.{IsFailure}
 pub use Rattle.lpis_register.specs.declared.fault.PublishFault.{PublishFault}
-pub use Rattle.lpis_register.specs.declared.fault.PublishFault.TheVariants.{Unlawful}
 pub use Rattle.sqlite.proofs.StateLemmas.{survives_weaker}
 pub use Rattle.sqlite.specs.Held.{state}
 pub use Rattle.sqlite.specs.State.{HasCleanDisk, State, Survives}

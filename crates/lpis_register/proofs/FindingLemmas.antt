@@ -20,7 +20,8 @@ use Rattle.lpis_register.specs.private.Finding.{SeesFound, SeesHistory, SeesNoHi
 -- ---- the history, read again
 
 module _ (old new : State) (found : Found) (is : AreThere old.now.schema found) where
-  pub read_again : (k : List Entry) (version : Version) → SeesFound (SeesHistory found) (SeesNoHistory found) old new (Ok (k, version)) → LeavesAll {X = List Entry × Version} {E = PublishFault} old new (Ok (k, version))
+  pub read_again : (k : List Entry) (version : Version) → SeesFound (SeesHistory found) (SeesNoHistory found) old new (Ok (k, version))
+      → LeavesAll {X = List Entry × Version} {E = PublishFault} old new (Ok (k, version))
       → ReadsHistory old new (Ok k)
   read_again k version sees reads = record {
     said = λ clean. let rows = (sees.shows.ok clean).0 in (found, is, rows.0, rows.1, version, rows.2);

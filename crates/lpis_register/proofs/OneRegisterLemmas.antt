@@ -13,10 +13,11 @@ use Rattle.lpis_register_sql.specs.Showing.{AnswersQuery, ShowsRows, ShowsTable,
 use Rattle.lpis_register_sql.specs.StoredTables.{Formats, Lines, Lives, Marks, Spans, StoredTable, Texts, Years, is_read, kinds_of, name_of, query_of}
 use Rattle.lpis_register_sql.specs.declared.found.Found.{Found}
 use Rattle.lpis_register_sql.specs.private.Shown.{format_shown, line_shown, live_shown, mark_shown, span_shown, text_shown, year_shown}
-use Rattle.lpis_register.proofs.Common.{Content, Entry, First, Shape, ShapesAre, TablesHave, Third, Version}
+use Rattle.lpis_register.proofs.Common.{Content, Entry, First, Shape, TablesHave, Third, Version}
 use Rattle.lpis_register.proofs.AgreeingLemmas.{format_cut, line_cut, live_cut, mark_cut, rows_are, span_cut, text_cut, year_cut}
 use Rattle.lpis_register.proofs.OneHistoryLemmas.{One, one_said, same_itself, same_live}
 use Rattle.lpis_register.specs.Saying.{SaysHistory, SaysNoHistory, SaysNoShapes, SaysNone, SaysRegister, SaysShapes}
+use Rattle.lpis_register_rows.specs.Shapes.{ShapesAre}
 
 -- two answers to the query of a table that is there are the same rows
 abbrev OneAnswer : Type 0

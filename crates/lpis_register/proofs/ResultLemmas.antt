@@ -2,8 +2,8 @@
 use Rattle.std.proofs.Common.{◌≡◌, ◌⊎◌, inl, inr, refl, sym, subst, Err, Ok, OnOk, Result}
 use Rattle.lpis_register.specs.Faults.{IsStoreFault, IsRefused, IsOpeningFault}
 use Rattle.lpis_register.specs.Holdings.{Candidate, Holdings}
-use Rattle.lpis_register.specs.declared.fault.PublishFault.TheVariants.{Memory, Year, Lineage, NotKept, Exact, Store, StoreMemory, Unknown}
-use Rattle.lpis_register.proofs.Common.{IsFailure, PublishFault, Unlawful}
+use Rattle.lpis_register.specs.declared.fault.PublishFault.TheVariants.{Memory, Year, Lineage, NotKept, Exact, Store, StoreMemory, Unknown, Unlawful}
+use Rattle.lpis_register.proofs.Common.{IsFailure, PublishFault}
 
 -- a failure is no refusal
 pub opening_failure : (e : PublishFault) → IsFailure e → IsOpeningFault e

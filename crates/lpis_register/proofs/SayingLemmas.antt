@@ -3,15 +3,16 @@ use Rattle.std.proofs.Common.{◌≡◌, inl, inr, List, Result, Ok, Err, IfOk, 
 use Rattle.sqlite.specs.declared.error.Error.{Error}
 use Rattle.sqlite.specs.Effect.{Database}
 use Rattle.lpis_register_rows.specs.Content.{StoredText}
-use Rattle.lpis_register_rows.specs.Shapes.{TextsStand}
+use Rattle.lpis_register_rows.specs.Shapes.{TextsStand, AreLive, ShapesAre}
 use Rattle.lpis_register_sql.specs.Showing.{Shows, ShowsRows, ShowsTexts}
 use Rattle.lpis_register_sql.specs.declared.found.Found.{Found}
 use Rattle.lpis_register_sql.proofs.Shared.{stays_then}
-use Rattle.lpis_register.proofs.Common.{AreLive, Content, Entry, HasCleanDisk, IsFailure, PublishFault, Shape, ShapesAre, State, TablesHave, Third, Unlawful, Version, last_live}
+use Rattle.lpis_register.proofs.Common.{Content, Entry, HasCleanDisk, IsFailure, PublishFault, Shape, State, TablesHave, Third, Version, last_live}
 use Rattle.lpis_register.proofs.ResultLemmas.{failure_lawful}
 use Rattle.lpis_register.specs.Saying.{SaysNoShapes, SaysNoTables, SaysShapes, SaysTables}
 use Rattle.lpis_register.specs.declared.opening.Loaded.{Loaded}
 use Rattle.lpis_register.specs.private.Finding.{SeesFound, SeesHistory, SeesNoHistory}
+use Rattle.lpis_register.specs.declared.fault.PublishFault.TheVariants.{Unlawful}
 
 -- a failure shows nothing
 pub nothing_seen : {X : Type 0} {Says : Database → X → Type 0} {SaysNo : Database → Type 0} (a b : State) (e : PublishFault) → IsFailure e → SeesFound Says SaysNo a b (Err e)

@@ -60,7 +60,8 @@ module _ {S : Type 0} (g : store.Ghosts S) (version : Version) (h : List Entry) 
         (tables : HasCleanDisk (state g mid) → IsTrue (state g first).is_open → IsTrue first.in_transaction → AreThere first.schema found → hides_table first.schema ≡ false
         → IsDatabase (state g first).now → HasTables (completed found) (state g mid)) (seen : hides_table old.schema ≡ false) (last : Held S) (quiet : IsQuiet (state g mid) (state g last)) where
       complete_there : HasCleanDisk (state g mid) → IsTrue (state g first).is_open → IsTrue first.in_transaction → HasTables (completed found) (state g mid)
-      complete_there clean up within = tables clean up within (subst (λ (h : Held S). AreThere h.schema found) (sym begun) there) (subst (λ (h : Held S). hides_table h.schema ≡ false) (sym begun) seen)
+      complete_there clean up within = tables clean up within
+          (subst (λ (h : Held S). AreThere h.schema found) (sym begun) there) (subst (λ (h : Held S). hides_table h.schema ≡ false) (sym begun) seen)
           (subst (λ h. IsDatabase (state g h).now) (sym begun) (sound (subst (λ h. IsTrue (state g h).is_open) begun up)))
 
       counts : (state g old).faults ≤ (state g mid).faults

@@ -1,7 +1,6 @@
 -- The names that most proofs of this crate cite, passed on from one place. Declares nothing.
 pub use Rattle.lpis_tables.specs.Ids.{has_id, is_id, same_id}
-pub use Rattle.lpis_lineage.proofs.Shared.{above-zero, entry-after, entry-before, entry-here, filter-none, in-history, longer, before-at-after, same-exact, same-refl, take-at}
-pub use Rattle.lpis_lineage.specs.Accepts.{Adds}
+pub use Rattle.lpis_lineage.proofs.Shared.{above-zero, filter-none, in-history, before-at-after, same-exact, same-refl, take-at}
 pub use Rattle.lpis_lineage.specs.Lawful.{IsLawful, RowsFit}
 pub use Rattle.lpis_lineage.specs.Lineage.{entry_at, holds, last_live, names_successor}
 pub use Rattle.lpis_lineage.specs.Spans.{first_held, last_held, span_of}
@@ -9,7 +8,7 @@ pub use Rattle.lpis_lineage.specs.declared.row.Entry.{Entry}
 pub use Rattle.lpis_lineage.specs.declared.row.Row.{Row}
 pub use Rattle.lpis_register_rows.specs.Content.{Content, Line, Live, Mark, StoredSpan, lines_from, successor_text}
 pub use Rattle.lpis_register_rows.specs.Histories.{IsKeptHistory, IsSameHistory, IsSpanRow, AreLiveOf, AreSpansOf, HasHistoryByLive}
-pub use Rattle.lpis_register_rows.specs.Histories.{HasHistoryBySpans, last_of_years, lineage_lines, marks_of, only_format, shown_span}
+pub use Rattle.lpis_register_rows.specs.Histories.{HasHistoryBySpans, last_of_years, lineage_lines, marks_of, only_format}
 pub use Rattle.lpis_register_rows.specs.Histories.{years_of}
 pub use Rattle.lpis_register_rows.specs.declared.known.KnownLine.{KnownLine}
 pub use Rattle.lpis_register_rows.specs.declared.known.KnownSpan.{KnownSpan}
@@ -17,7 +16,6 @@ pub use Rattle.lpis_register_rows.specs.private.Covering.{covers}
 pub use Rattle.lpis_register_rows.specs.private.Fronts.{HasKnownHistory}
 pub use Rattle.lpis_register_rows.specs.private.Known.{HasText, SetsAre, all_live, known_from, known_of, line_in, one_year, span_in}
 pub use Rattle.lpis_register_rows.specs.private.Marking.{marks_in, walked}
-pub use Rattle.std.proofs.Math.Bool.{and-false}
 pub use Rattle.std.proofs.lemmas.Bool.{or_left, or_right}
 pub use Rattle.std.proofs.lemmas.Bool.Decides.{nat_tests}
 pub use Rattle.std.proofs.lemmas.List.{map-append}

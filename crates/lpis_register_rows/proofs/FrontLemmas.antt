@@ -2,16 +2,16 @@
 use Rattle.std.proofs.Common.{◌≡◌, ◌∙◌, ◌<◌, ◌≤◌, ◌+◌, inl, inr, refl, sym, ap, ap₂, subst, arith, ℕ, zero, suc, ℤ, pos, List, [], ◌∷◌, ◌++◌, Bool, true, cond, nat_lt, Option, None, Some, Err, ◌||◌}
 use Rattle.std.proofs.Common.{length, map, take, get_or}
 use Rattle.std.proofs.Common.{length-append, ◌&&◌, filter}
-use Rattle.lpis_register_rows.proofs.Common.{AllByRecursion, list_any, map-append, has_id, same_id, Entry, Row, Adds, IsLawful, RowsFit, entry_at, holds, last_live, names_successor}
+use Rattle.lpis_register_rows.proofs.Common.{AllByRecursion, list_any, map-append, has_id, same_id, Entry, Row, IsLawful, RowsFit, entry_at, holds, last_live, names_successor}
 use Rattle.lpis_register_rows.proofs.Common.{first_held}
-use Rattle.lpis_register_rows.proofs.Common.{last_held, span_of, entry-after, entry-before, entry-here, in-history, longer, before-at-after, take-at, KnownSpan}
+use Rattle.lpis_register_rows.proofs.Common.{last_held, span_of, in-history, before-at-after, take-at, KnownSpan}
 use Rattle.lpis_register_rows.proofs.Common.{KnownLine, StoredSpan, known_from, IsSameHistory}
 use Rattle.lpis_register_rows.proofs.Common.{known_of, years_of, covers, HasKnownHistory, span_in}
 use Rattle.std.proofs.lemmas.List.{append-nil, append_assoc, append_cancel_left, length-take-le, get_or_default, take-append-le}
 use Rattle.lpis_lineage.specs.declared.fault.LineageFault.{LineageFault}
 use Rattle.lpis_lineage.specs.declared.fault.AddFault.{AddFault}
 use Rattle.lpis_lineage.specs.declared.fault.AddFault.TheVariants.{Memory as WantsMemory, Year, Lineage}
-use Rattle.lpis_lineage.specs.Accepts.{AddRefuses}
+use Rattle.lpis_lineage.specs.Accepts.{AddRefuses, Adds}
 use Rattle.lpis_lineage.specs.Faults.{faults, first}
 use Rattle.lpis_lineage.specs.Lawful.{IsAnswered}
 use Rattle.lpis_lineage.specs.declared.kind.Kind.{Kind}
@@ -19,7 +19,7 @@ use Rattle.lpis_lineage.specs.declared.kind.Kind.TheVariants.{Kept, Ended}
 use Rattle.lpis_lineage.specs.ExactGroups.{MarksHold, is_outside}
 use Rattle.lpis_lineage.specs.Kinds.{by_counts, named_successors, kind, predecessors, successors, id_times}
 use Rattle.lpis_lineage.specs.Lineage.{is_ended, is_row_of, last_year, same_row}
-use Rattle.lpis_lineage.proofs.Shared.{never-follows}
+use Rattle.lpis_lineage.proofs.Shared.{never-follows, entry-after, entry-before, entry-here, longer}
 use Rattle.lpis_register_rows.specs.private.Fronts.{IsDue, IsFront, IsRun}
 use Rattle.lpis_register_rows.specs.private.Known.{known_line_at}
 use Rattle.lpis_register_rows.proofs.AscendingLemmas.{Ascends, number_below, below-alone}

@@ -1,12 +1,12 @@
 -- Rows with their identifiers read, one more.
 use Rattle.std.proofs.Common.{◌≡◌, ◌∙◌, ◌<◌, ◌≤◌, ◌+◌, sym, ap, ap₂, subst, arith, ℕ, ℤ, pos, zero, suc, List, [], ◌∷◌, ◌++◌, Bool, true, false, length, map, take, drop, get_or, ◌||◌}
 use Rattle.std.proofs.Common.{◌&&◌, add-one, drop-cons, nat_lt, All}
-use Rattle.lpis_register_rows.proofs.Common.{list_any, nat_tests, map-append, All-push, and-false, has_id, same_id, Row, take-at, KnownLine}
+use Rattle.lpis_register_rows.proofs.Common.{list_any, nat_tests, map-append, All-push, has_id, same_id, Row, take-at, KnownLine}
 use Rattle.lpis_register_rows.proofs.Common.{KnownSpan}
 use Rattle.lpis_register_rows.proofs.Common.{covers, known_from, span_in}
 use Rattle.std.proofs.lemmas.Grind.{common_steps}
 use Rattle.std.proofs.lemmas.List.{append_assoc}
-use Rattle.std.proofs.Math.Bool.{and-true, or-false}
+use Rattle.std.proofs.Math.Bool.{and-true, or-false, and-false}
 use Rattle.lpis_lineage.proofs.Shared.{any-push}
 use Rattle.lpis_register_rows.specs.private.Known.{known_line_at}
 

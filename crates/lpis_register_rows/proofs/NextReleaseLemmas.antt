@@ -1,11 +1,13 @@
 -- A history with one release more, put together from rows.
 use Rattle.std.proofs.Common.{◌≡◌, ◌∙◌, ◌<◌, inl, inr, refl, sym, ap, ap₂, subst, arith, ℕ, pos, List, [], ◌∷◌, ◌++◌, Bool, length, map, ◌&&◌, ◌||◌}
-use Rattle.lpis_register_rows.proofs.Common.{list_any, has_id, same_id, Entry, Row, Adds, entry_at, holds, entry-before, entry-here, longer}
+use Rattle.lpis_register_rows.proofs.Common.{list_any, has_id, same_id, Entry, Row, entry_at, holds}
 use Rattle.lpis_register_rows.proofs.Common.{before-at-after, KnownLine, KnownSpan, StoredSpan, known_from, known_of}
 use Rattle.lpis_register_rows.proofs.Common.{years_of, covers, SetsAre, span_in}
 use Rattle.lpis_register_rows.proofs.KnownLemmas.{AreLive}
 use Rattle.lpis_register_rows.proofs.PublishingLemmas.{years-of-append}
 use Rattle.std.proofs.lemmas.List.{append-nil, append_assoc}
+use Rattle.lpis_lineage.specs.Accepts.{Adds}
+use Rattle.lpis_lineage.proofs.Shared.{entry-before, entry-here, longer}
 
 -- adding a release adds its year after the others of the history
 pub year-added : (h k : List Entry) (y : ℕ) (live : List (List ℕ)) (rows : List Row) → Adds h k y live rows → years_of k ≡ years_of h ++ pos y ∷ []

@@ -1,24 +1,25 @@
 -- Tables say one history.
 use Rattle.std.proofs.Common.{◌≡◌, ◌∙◌, ◌<◌, ◌≤◌, inl, inr, refl, sym, ap, ap₂, subst, arith, ℕ, zero, suc, ℤ, pos, List, [], ◌∷◌, ◌++◌, Bool, true, false, length, Option, None, Some, ◌&&◌, ◌||◌}
 use Rattle.std.proofs.Common.{nat_le, nat_eq, IsPermutation, int_eq}
-use Rattle.lpis_register_rows.proofs.Common.{AllByRecursion, list_any, nat_tests, both_ways, and-false, has_id, same_id, Entry, IsLawful, entry_at, holds}
+use Rattle.lpis_register_rows.proofs.Common.{AllByRecursion, list_any, nat_tests, both_ways, has_id, same_id, Entry, IsLawful, entry_at, holds}
 use Rattle.lpis_register_rows.proofs.Common.{span_of}
-use Rattle.lpis_register_rows.proofs.Common.{entry-after, in-history, same-exact, before-at-after, Content, Live, StoredSpan}
+use Rattle.lpis_register_rows.proofs.Common.{in-history, same-exact, before-at-after, Content, Live, StoredSpan}
 use Rattle.lpis_register_rows.proofs.Common.{IsKeptHistory, IsSameHistory, IsSpanRow, AreLiveOf, AreSpansOf, HasHistoryBySpans}
-use Rattle.lpis_register_rows.proofs.Common.{HasHistoryByLive, lineage_lines, shown_span, years_of, covers, Mark, known_from, known_of, marks_of}
+use Rattle.lpis_register_rows.proofs.Common.{HasHistoryByLive, lineage_lines, years_of, covers, Mark, known_from, known_of, marks_of}
 use Rattle.std.specs.Int.Signed.{le_z}
 use Rattle.std.proofs.lemmas.Int.{ints}
 use Rattle.lpis_lineage.specs.declared.span.Span.{Span as Years}
 use Rattle.lpis_lineage.specs.Spans.{in_span}
-use Rattle.lpis_lineage.proofs.Shared.{span-tells}
+use Rattle.lpis_lineage.proofs.Shared.{span-tells, entry-after}
 use Rattle.lpis_register_rows.proofs.AscendingLemmas.{Ascends, number_below, below-alone, same-ascending, both-orders}
-use Rattle.lpis_register_rows.specs.Histories.{TablesHave}
+use Rattle.lpis_register_rows.specs.Histories.{TablesHave, shown_span}
 use Rattle.lpis_register_rows.specs.declared.version.Version.{Version}
 use Rattle.lpis_register_rows.specs.declared.version.Version.TheVariants.{First, Second, Third}
 use Rattle.lpis_register_rows.proofs.KnownRowLemmas.{known-above, rows-apart}
 use Rattle.lpis_register_rows.proofs.MarkLemmas.{known-same, no-marks, mark-alone, mark_below, marks-ascend}
 use Rattle.lpis_register_rows.proofs.YearLemmas.{line-alone, line_below, lines-ascend, years-ascend}
 use Rattle.lpis_register_rows.proofs.SayingLemmas.{later_years}
+use Rattle.std.proofs.Math.Bool.{and-false}
 
 -- ---- sets
 

@@ -4,7 +4,7 @@ use Rattle.std.proofs.Common.{IsSorted, All, filter, nat_cmp}
 use Rattle.lpis_register_rows.proofs.Common.{AllByRecursion, list_any, All-from_recursion, All-permutation, IsPermutation-sym, or_left, or_right, is_id, same_id, Entry, Row, entry_at, names_successor}
 use Rattle.lpis_register_rows.proofs.Common.{span_of}
 use Rattle.lpis_register_rows.proofs.Common.{same-refl, above-zero, KnownLine, KnownSpan, Content, Line, StoredSpan, lines_from, successor_text, IsKeptHistory, IsSameHistory, IsSpanRow, AreSpansOf}
-use Rattle.lpis_register_rows.proofs.Common.{HasHistoryBySpans, lineage_lines, shown_span}
+use Rattle.lpis_register_rows.proofs.Common.{HasHistoryBySpans, lineage_lines}
 use Rattle.lpis_register_rows.proofs.Common.{years_of, HasKnownHistory, Mark, SetsAre, known_of, span_in}
 use Rattle.lpis_lineage.specs.declared.span.Span.{Span as Years}
 use Rattle.lpis_lineage.specs.Lineage.{is_row_of, is_this}
@@ -17,6 +17,7 @@ use Rattle.lpis_register_rows.proofs.SayingLemmas.{count-map}
 use Rattle.lpis_register_rows.proofs.SpanRowLemmas.{spans-moved}
 use Rattle.lpis_register_rows.proofs.SortingLemmas.{sorted-years}
 use Rattle.lpis_register_rows.proofs.YearLemmas.{all-entries, years-ascend}
+use Rattle.lpis_register_rows.specs.Histories.{shown_span}
 
 all-moved-from : {A : Type 0} (P : A → Type 0) (xs ys : List A) → IsPermutation xs ys → AllByRecursion P ys → All P xs
 all-moved-from P xs ys p all = All-permutation P ys xs (IsPermutation-sym xs ys p) (All-from_recursion P ys all)

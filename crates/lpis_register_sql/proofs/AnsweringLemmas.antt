@@ -30,7 +30,7 @@ use Rattle.lpis_register_sql.specs.Showing.{AnswersQuery, Shows, ShowsTable}
 use Rattle.lpis_register_sql.specs.StoredTables.{StoredTable, kinds_of, query_of}
 use Rattle.lpis_register_sql.specs.private.Telling.{IsPlainWhere}
 use Rattle.lpis_register_sql.proofs.NamedLemmas.{each_table}
-use Rattle.lpis_register_sql.proofs.Common.{read_format, read_line_text, read_live, read_mark, read_release, read_span, read_text}
+use Rattle.lpis_register_sql.specs.private.Shown.{read_format, read_line_text, read_live, read_mark, read_release, read_span, read_text}
 
 -- a text that is a SELECT
 pub record IsSelect (sql : List ℕ) (s : Select) (p : Parsed) : Type 0 where

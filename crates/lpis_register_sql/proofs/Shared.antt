@@ -6,4 +6,3 @@ pub use Rattle.lpis_register_sql.proofs.QuietLemmas.{answered, err_on, leaves_al
 pub use Rattle.lpis_register_sql.proofs.StepLemmas.{IsCommitted, begun_over, dropped_settled, quiet_none, quiet_on, ran_open, undone_settled}
 pub use Rattle.lpis_register_sql.proofs.StopLemmas.{failing, more_faults, unchanged}
 pub use Rattle.lpis_register_sql.proofs.UnreadLemmas.{unread_before, unread_still}
-pub use Rattle.lpis_register_sql.proofs.NamedLemmas.{each_table}

@@ -4,7 +4,7 @@ use Rattle.std.proofs.Common.{None, IsErrAnd, MatchResult}
 use Rattle.std.proofs.lemmas.List.{append_assoc}
 use Rattle.std.proofs.Common.{◌≤◌}
 use Rattle.sqlite.specs.Held.{Held}
-use Rattle.sqlite.specs.State.{IsUnchanged, IsNotRun, ExecutesIn, RunsAlone, Fails, IsStatement, text_of, shows_rows}
+use Rattle.sqlite.specs.State.{IsUnchanged, IsNotRun, ExecutesIn, RunsAlone, Fails, IsStatement, text_of, shows_rows, mode_of}
 use Rattle.sqlite.specs.Clock.{timed}
 use Rattle.sqlite_disk.specs.Disk.{MoreFaults}
 use Rattle.sqlite_resolve.specs.declared.compiled.Compiled.{Compiled}
@@ -13,10 +13,11 @@ use Rattle.sqlite_trees.specs.declared.store.Store as store
 use Rattle.sqlite.specs.declared.error.Error.TheVariants.{SqliteFailure}
 use Rattle.sqlite.specs.declared.error.ErrorCode.TheVariants as code
 use Rattle.lpis_register_sql.specs.Within.{Ends, Makes}
-use Rattle.lpis_register_sql.proofs.Common.{Does, Error, State, mode_of, state}
+use Rattle.lpis_register_sql.proofs.Common.{Error, State, state}
 use Rattle.sqlite.specs.State.{ExecutesInside}
 use Rattle.lpis_register_sql.proofs.StepLemmas.{quiet_none, quiet_on, ran_open}
 use Rattle.lpis_register_sql.specs.Stopping.{BoundStatement, IsRefusedIn, Ran, StopsWithin}
+use Rattle.sqlite.specs.Does.{Does}
 
 -- ---- one statement
 

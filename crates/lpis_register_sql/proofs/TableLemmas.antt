@@ -152,6 +152,7 @@ module _ (s : Schema) (sql : List ℕ) (p : Parsed) where
 
 -- ---- the statements of a release
 
+-- a statement that writes rows of one table, in any schema
 abbrev pub IsRowStatement : BoundStatement → Type 0
 IsRowStatement x = (s : Schema) → IsRowText s x.sql
 

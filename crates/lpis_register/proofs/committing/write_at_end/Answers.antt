@@ -34,6 +34,8 @@ returns-in_err-confirm-clause-writes g c =
 
 pub returns-in_err-confirm-clause-cause : goal.returns-in_err-confirm-clause-cause
 returns-in_err-confirm-clause-cause g c h due clean =
+    let tables = kept_tables g.S.Store c.args.conn.now c.transaction-tx.result.conn.now c.fill.new.tx.conn.now c.transaction-tx.ensures.begun c.tables_in-found.result
+    (rw c.schema.ensures.value at c.tables_in-found.ensures.there) c.in-Ok.ensures.tables in
     let w = c.args.writing.now in
     let p = err_from_is_err_and c.from_residual.result c.from_residual.ensures.1 in
     let same : c.drop-tx-in_err-confirm.new.self.0 ≡ c.conn-in_err-confirm-1.given.0 = search rules in
@@ -42,27 +44,33 @@ returns-in_err-confirm-clause-cause g c h due clean =
     rw (p.1, p.2) (λ is. unconfirmed_writing g.S.Store w (holdings h c.args.kept.now) c.args.conn.now c.conn-in_err-confirm-1.given.0 due.candidate c.args.history.now due.follows
     (not_confirmed g.S.Store c.args.conn.now c.transaction-tx.result.conn.now c.fill.new.tx.conn.now c.confirm.new.tx.conn.now
     c.conn-in_err-confirm-1.given.0 c.transaction-tx.ensures.begun _ c.in-Ok.field-0 made
-    c.tables_in-found.result (kept_tables g.S.Store c.args.conn.now c.transaction-tx.result.conn.now c.fill.new.tx.conn.now c.transaction-tx.ensures.begun c.tables_in-found.result (rw c.schema.ensures.value at c.tables_in-found.ensures.there) c.in-Ok.ensures.tables) c.in_err-confirm.ensures.quiet c.args.history.now w.shapes.items
+    c.tables_in-found.result tables c.in_err-confirm.ensures.quiet c.args.history.now w.shapes.items
     (λ late up. (rw c.as_slice.ensures.value at (c.in_err-confirm.ensures.cause late up)) is) (rw same at c.drop-tx-in_err-confirm.ensures.survives) clean))
 
 pub returns-in-Ok-commit-clause-writes : goal.returns-in-Ok-commit-clause-writes
 returns-in-Ok-commit-clause-writes g c =
+    let tables = kept_tables g.S.Store c.args.conn.now c.transaction-tx.result.conn.now c.fill.new.tx.conn.now c.transaction-tx.ensures.begun c.tables_in-found.result
+    (rw c.schema.ensures.value at c.tables_in-found.ensures.there) c.in-Ok.ensures.tables in
     let same : c.commit.new.self.0 ≡ c.conn-2-1.given.0 = search rules in
     rw (← same) (confirmed_writes g.S.Store c.args.conn.now c.transaction-tx.result.conn.now c.fill.new.tx.conn.now c.confirm.new.tx.conn.now c.commit.new.self.0 c.transaction-tx.ensures.begun
-    _ c.in-Ok.field-0 c.in-Ok.ensures.makes c.tables_in-found.result (kept_tables g.S.Store c.args.conn.now c.transaction-tx.result.conn.now c.fill.new.tx.conn.now c.transaction-tx.ensures.begun c.tables_in-found.result (rw c.schema.ensures.value at c.tables_in-found.ensures.there) c.in-Ok.ensures.tables) c.in_ok-confirm.ensures.quiet
+    _ c.in-Ok.field-0 c.in-Ok.ensures.makes c.tables_in-found.result tables c.in_ok-confirm.ensures.quiet
     c.args.history.now c.args.writing.now.shapes.items (rw c.as_slice.ensures.value at c.in_ok-confirm.ensures.said) c.in-Ok-commit.ensures.survives (Ok c.in-Ok-commit.field-0)
     c.in-Ok-commit.ensures.err (Ok tt) (λ P h. h) (λ P h. h) c.in-Ok-commit.ensures.ok (λ up db may. g.met.S.Store.settled c.commit.new.self.0.store db up may))
 
 pub returns-in-Err-commit-clause-writes : goal.returns-in-Err-commit-clause-writes
 returns-in-Err-commit-clause-writes g c =
+    let tables = kept_tables g.S.Store c.args.conn.now c.transaction-tx.result.conn.now c.fill.new.tx.conn.now c.transaction-tx.ensures.begun c.tables_in-found.result
+    (rw c.schema.ensures.value at c.tables_in-found.ensures.there) c.in-Ok.ensures.tables in
     let same : c.commit.new.self.0 ≡ c.conn-2-1.given.0 = search rules in
     rw (← same) (confirmed_writes g.S.Store c.args.conn.now c.transaction-tx.result.conn.now c.fill.new.tx.conn.now c.confirm.new.tx.conn.now c.commit.new.self.0 c.transaction-tx.ensures.begun
-    _ c.in-Ok.field-0 c.in-Ok.ensures.makes c.tables_in-found.result (kept_tables g.S.Store c.args.conn.now c.transaction-tx.result.conn.now c.fill.new.tx.conn.now c.transaction-tx.ensures.begun c.tables_in-found.result (rw c.schema.ensures.value at c.tables_in-found.ensures.there) c.in-Ok.ensures.tables) c.in_ok-confirm.ensures.quiet
+    _ c.in-Ok.field-0 c.in-Ok.ensures.makes c.tables_in-found.result tables c.in_ok-confirm.ensures.quiet
     c.args.history.now c.args.writing.now.shapes.items (rw c.as_slice.ensures.value at c.in_ok-confirm.ensures.said) c.in-Err-commit.ensures.survives (Err c.in-Err-commit.error)
     c.in-Err-commit.ensures.err (Err c.fault_of_writing-in-Err-commit.result) (λ P h. h) (λ P h. h) c.in-Err-commit.ensures.ok (λ up db may. g.met.S.Store.settled c.commit.new.self.0.store db up may))
 
 pub returns-in-Err-commit-clause-cause : goal.returns-in-Err-commit-clause-cause
 returns-in-Err-commit-clause-cause g c h due clean is =
+    let tables = kept_tables g.S.Store c.args.conn.now c.transaction-tx.result.conn.now c.fill.new.tx.conn.now c.transaction-tx.ensures.begun c.tables_in-found.result
+    (rw c.schema.ensures.value at c.tables_in-found.ensures.there) c.in-Ok.ensures.tables in
     let w = c.args.writing.now in
     let same : c.commit.new.self.0 ≡ c.conn-2-1.given.0 = search rules in
     let made = subst (λ xs. Makes g.S.Store xs c.transaction-tx.result.conn.now c.fill.new.tx.conn.now (Ok c.in-Ok.field-0)) (statements_are w c.args.last h c.args.kept.now due.last_is)
@@ -71,7 +79,7 @@ returns-in-Err-commit-clause-cause g c h due clean is =
     c.fault_of_writing-in-Err-commit.ensures.memory is
     (λ up. commit_fails g.S.Store c.args.conn.now c.transaction-tx.result.conn.now c.fill.new.tx.conn.now c.confirm.new.tx.conn.now
     c.conn-2-1.given.0 c.transaction-tx.ensures.begun _ c.in-Ok.field-0 made
-    c.tables_in-found.result (kept_tables g.S.Store c.args.conn.now c.transaction-tx.result.conn.now c.fill.new.tx.conn.now c.transaction-tx.ensures.begun c.tables_in-found.result (rw c.schema.ensures.value at c.tables_in-found.ensures.there) c.in-Ok.ensures.tables) c.in_ok-confirm.ensures.quiet c.args.history.now w.shapes.items
+    c.tables_in-found.result tables c.in_ok-confirm.ensures.quiet c.args.history.now w.shapes.items
     (rw c.as_slice.ensures.value at c.in_ok-confirm.ensures.said) (rw same at c.in-Err-commit.ensures.survives) (Err c.in-Err-commit.error) (rw same at c.in-Err-commit.ensures.err)
     c.in-Err-commit.error refl clean)
 
@@ -91,14 +99,17 @@ returns-in_err-confirm-clause-runs g c h due =
 
 pub returns-in-Ok-commit-clause-runs : goal.returns-in-Ok-commit-clause-runs
 returns-in-Ok-commit-clause-runs g c h due =
+    let tables = kept_tables g.S.Store c.args.conn.now c.transaction-tx.result.conn.now c.fill.new.tx.conn.now c.transaction-tx.ensures.begun c.tables_in-found.result
+    (rw c.schema.ensures.value at c.tables_in-found.ensures.there) c.in-Ok.ensures.tables in
     let w = c.args.writing.now in
     let same : c.commit.new.self.0 ≡ c.conn-2-1.given.0 = search rules in
     let made = subst (λ xs. Makes g.S.Store xs c.transaction-tx.result.conn.now c.fill.new.tx.conn.now (Ok c.in-Ok.field-0)) (statements_are w c.args.last h c.args.kept.now due.last_is)
     c.in-Ok.ensures.makes in
     committed_runs g.S.Store c.args.conn.now c.transaction-tx.result.conn.now c.fill.new.tx.conn.now c.confirm.new.tx.conn.now c.conn-2-1.given.0 c.transaction-tx.ensures.begun _ c.in-Ok.field-0 made
     c.in_ok-confirm.ensures.quiet (λ late. (c.in_ok-confirm.ensures.said late).2) (rw same at c.in-Ok-commit.ensures.survives) (Ok tt)
-    (λ clean. ran_alone g.S.Store c.args.conn.now c.transaction-tx.result.conn.now c.fill.new.tx.conn.now c.confirm.new.tx.conn.now c.conn-2-1.given.0 c.transaction-tx.ensures.begun _ c.in-Ok.field-0 made
-    c.tables_in-found.result (kept_tables g.S.Store c.args.conn.now c.transaction-tx.result.conn.now c.fill.new.tx.conn.now c.transaction-tx.ensures.begun c.tables_in-found.result (rw c.schema.ensures.value at c.tables_in-found.ensures.there) c.in-Ok.ensures.tables) c.in_ok-confirm.ensures.quiet c.args.history.now w.shapes.items
+    (λ clean. ran_alone g.S.Store c.args.conn.now c.transaction-tx.result.conn.now c.fill.new.tx.conn.now c.confirm.new.tx.conn.now
+    c.conn-2-1.given.0 c.transaction-tx.ensures.begun _ c.in-Ok.field-0 made
+    c.tables_in-found.result tables c.in_ok-confirm.ensures.quiet c.args.history.now w.shapes.items
     (rw c.as_slice.ensures.value at c.in_ok-confirm.ensures.said) (rw same at c.in-Ok-commit.ensures.survives) (Ok c.in-Ok-commit.field-0) (rw same at c.in-Ok-commit.ensures.ok) clean)
 
 pub returns-in-Err-commit-clause-runs : goal.returns-in-Err-commit-clause-runs

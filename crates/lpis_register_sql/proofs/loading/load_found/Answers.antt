@@ -8,20 +8,38 @@ use Rattle.lpis_register_sql.proofs.loading.load_found.Goals as goal
 pub returns-in_err-formats : goal.returns-in_err-formats
 returns-in_err-formats g c =
     let it = load_fails (none_loaded {found = c.args.found.now}) _ c.from_residual.result c.from_residual.ensures.1 c.in_err-formats.ensures.reads c.in_err-formats.ensures.tells in
-    record { autocommit = c.in_err-formats.ensures.autocommit; reads = it.0; tells = it.1; shows = unseen _ c.from_residual.result c.from_residual.ensures.1; was_open = λ there clean. none_ok _ _ c.from_residual.result c.from_residual.ensures.1 }
+    record {
+      autocommit = c.in_err-formats.ensures.autocommit;
+      reads = it.0;
+      tells = it.1;
+      shows = unseen _ c.from_residual.result c.from_residual.ensures.1;
+      was_open = λ there clean. none_ok _ _ c.from_residual.result c.from_residual.ensures.1;
+    }
 
 pub returns-in_err-years : goal.returns-in_err-years
 returns-in_err-years g c =
     let formats = load (none_loaded {found = c.args.found.now}) c.in_ok-formats.ensures.reads c.in_ok-formats.ensures.tells in
     let it = load_fails formats _ c.from_residual-in_err-years.result c.from_residual-in_err-years.ensures.1 c.in_err-years.ensures.reads c.in_err-years.ensures.tells in
-    record { autocommit = c.in_err-years.ensures.autocommit; reads = it.0; tells = it.1; shows = unseen _ c.from_residual-in_err-years.result c.from_residual-in_err-years.ensures.1; was_open = λ there clean. none_ok _ _ c.from_residual-in_err-years.result c.from_residual-in_err-years.ensures.1 }
+    record {
+      autocommit = c.in_err-years.ensures.autocommit;
+      reads = it.0;
+      tells = it.1;
+      shows = unseen _ c.from_residual-in_err-years.result c.from_residual-in_err-years.ensures.1;
+      was_open = λ there clean. none_ok _ _ c.from_residual-in_err-years.result c.from_residual-in_err-years.ensures.1;
+    }
 
 pub returns-in_err-spans : goal.returns-in_err-spans
 returns-in_err-spans g c =
     let formats = load (none_loaded {found = c.args.found.now}) c.in_ok-formats.ensures.reads c.in_ok-formats.ensures.tells in
     let years = load formats c.in_ok-years.ensures.reads c.in_ok-years.ensures.tells in
     let it = load_fails years _ c.from_residual-in_err-spans.result c.from_residual-in_err-spans.ensures.1 c.in_err-spans.ensures.reads c.in_err-spans.ensures.tells in
-    record { autocommit = c.in_err-spans.ensures.autocommit; reads = it.0; tells = it.1; shows = unseen _ c.from_residual-in_err-spans.result c.from_residual-in_err-spans.ensures.1; was_open = λ there clean. none_ok _ _ c.from_residual-in_err-spans.result c.from_residual-in_err-spans.ensures.1 }
+    record {
+      autocommit = c.in_err-spans.ensures.autocommit;
+      reads = it.0;
+      tells = it.1;
+      shows = unseen _ c.from_residual-in_err-spans.result c.from_residual-in_err-spans.ensures.1;
+      was_open = λ there clean. none_ok _ _ c.from_residual-in_err-spans.result c.from_residual-in_err-spans.ensures.1;
+    }
 
 pub returns-in_err-lines : goal.returns-in_err-lines
 returns-in_err-lines g c =
@@ -29,7 +47,13 @@ returns-in_err-lines g c =
     let years = load formats c.in_ok-years.ensures.reads c.in_ok-years.ensures.tells in
     let spans = load years c.in_ok-spans.ensures.reads c.in_ok-spans.ensures.tells in
     let it = load_fails spans _ c.from_residual-in_err-lines.result c.from_residual-in_err-lines.ensures.1 c.in_err-lines.ensures.reads c.in_err-lines.ensures.tells in
-    record { autocommit = c.in_err-lines.ensures.autocommit; reads = it.0; tells = it.1; shows = unseen _ c.from_residual-in_err-lines.result c.from_residual-in_err-lines.ensures.1; was_open = λ there clean. none_ok _ _ c.from_residual-in_err-lines.result c.from_residual-in_err-lines.ensures.1 }
+    record {
+      autocommit = c.in_err-lines.ensures.autocommit;
+      reads = it.0;
+      tells = it.1;
+      shows = unseen _ c.from_residual-in_err-lines.result c.from_residual-in_err-lines.ensures.1;
+      was_open = λ there clean. none_ok _ _ c.from_residual-in_err-lines.result c.from_residual-in_err-lines.ensures.1;
+    }
 
 pub returns-in_err-lives : goal.returns-in_err-lives
 returns-in_err-lives g c =
@@ -38,7 +62,13 @@ returns-in_err-lives g c =
     let spans = load years c.in_ok-spans.ensures.reads c.in_ok-spans.ensures.tells in
     let lines = load spans c.in_ok-lines.ensures.reads c.in_ok-lines.ensures.tells in
     let it = load_fails lines _ c.from_residual-in_err-lives.result c.from_residual-in_err-lives.ensures.1 c.in_err-lives.ensures.reads c.in_err-lives.ensures.tells in
-    record { autocommit = c.in_err-lives.ensures.autocommit; reads = it.0; tells = it.1; shows = unseen _ c.from_residual-in_err-lives.result c.from_residual-in_err-lives.ensures.1; was_open = λ there clean. none_ok _ _ c.from_residual-in_err-lives.result c.from_residual-in_err-lives.ensures.1 }
+    record {
+      autocommit = c.in_err-lives.ensures.autocommit;
+      reads = it.0;
+      tells = it.1;
+      shows = unseen _ c.from_residual-in_err-lives.result c.from_residual-in_err-lives.ensures.1;
+      was_open = λ there clean. none_ok _ _ c.from_residual-in_err-lives.result c.from_residual-in_err-lives.ensures.1;
+    }
 
 pub returns-in_err-marks : goal.returns-in_err-marks
 returns-in_err-marks g c =
@@ -48,7 +78,13 @@ returns-in_err-marks g c =
     let lines = load spans c.in_ok-lines.ensures.reads c.in_ok-lines.ensures.tells in
     let lives = load lines c.in_ok-lives.ensures.reads c.in_ok-lives.ensures.tells in
     let it = load_fails lives _ c.from_residual-in_err-marks.result c.from_residual-in_err-marks.ensures.1 c.in_err-marks.ensures.reads c.in_err-marks.ensures.tells in
-    record { autocommit = c.in_err-marks.ensures.autocommit; reads = it.0; tells = it.1; shows = unseen _ c.from_residual-in_err-marks.result c.from_residual-in_err-marks.ensures.1; was_open = λ there clean. none_ok _ _ c.from_residual-in_err-marks.result c.from_residual-in_err-marks.ensures.1 }
+    record {
+      autocommit = c.in_err-marks.ensures.autocommit;
+      reads = it.0;
+      tells = it.1;
+      shows = unseen _ c.from_residual-in_err-marks.result c.from_residual-in_err-marks.ensures.1;
+      was_open = λ there clean. none_ok _ _ c.from_residual-in_err-marks.result c.from_residual-in_err-marks.ensures.1;
+    }
 
 pub returns : goal.returns
 returns g c =
