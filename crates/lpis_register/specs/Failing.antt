@@ -27,8 +27,8 @@ writing_statements w before =
     release_statements (pos w.year) (pos (last_year before.history)) w.change.dropped_ids
     w.fresh.items w.change.rows (text_edits before.shapes w.shapes.items)
 
--- they say no register, or another than this: a history that differs in a year, a set of identifiers
--- or a row, or other shapes
+-- they say no register, or another than this: a history that differs in a year, a set of
+-- identifiers or a row, or other shapes
 abbrev pub SaysOther : Found → Database → List Entry → List Shape → Type 0
 SaysOther found db h shapes = SaysNoTables found db ⊎ ((version : Version) × (k : List Entry)
     × (others : List Shape) × SaysTables found db version k others

@@ -53,8 +53,8 @@ pub record IsUnopened (old new : State) (fault : PublishFault) : Type 0 where
 -- ---- what an opening runs
 
 module _ {S : Type 0} (store : Ghosts S) where
-  -- once the tables were read, which changed nothing, the engine ran the statements that make tables
-  -- of version 3 of those that were found, and no others, and committed that
+  -- once the tables were read, which changed nothing, the engine ran the statements that make
+  -- tables of version 3 of those that were found, and no others, and committed that
   pub record RanToSettle (h : List Entry) (old new : Held S) : Type 0 where
     pub read : Held S
     pub same : (state store read).now ≡ (state store old).now
