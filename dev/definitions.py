@@ -66,14 +66,15 @@ class Spec:
 
     def read(self, lines):
         """A definition within a module of parameters has the module's head, whose lines count for the first of them."""
-        comment, current, head, is_open = [], None, "", False
+        comment, current, head, is_open, edge = [], None, "", False, ""
         for line in lines:
             if line.startswith("module ") or is_open:
-                head, is_open = (head if is_open else "") + line + "\n", not line.rstrip().endswith("where")
+                head, is_open, edge = (head if is_open else "") + line + "\n", not line.rstrip().endswith("where"), ""
                 continue
             if line.strip() and not line.startswith((" ", "--")):
                 head = ""
-            line = line[2:] if head and line.startswith("  ") else line
+            edge = edge or re.match(" *", line)[0]
+            line = line.removeprefix(edge) if head else line
             if line.startswith("--"):
                 comment.append(line)
             elif line.strip() and not re.match(r"(pub )?(use|mod|infix[lr]?)\b", line):

@@ -212,7 +212,7 @@ def test_hiding(tmp_path):
 
 
 def test_guests_at_first(tmp_path):
-    """Tables of others that were there before the register's, and registers that are moved or completed with such tables behind: not proved."""
+    """Tables of others that were there before the register's, and registers that are moved or completed with such tables behind."""
     apart = {name: script for name, script in GUESTS.items() if "lpis_" not in script}
     older = {name: script for name, script in GUESTS.items() if not any(table in script for table in ("lpis_text", "lpis_mark", "lpis_span"))}
     new = bases(tmp_path)["new"]

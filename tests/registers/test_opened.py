@@ -200,6 +200,19 @@ def test_found(tmp_path):
         expect(f"tables without {name}: the tables", sorted(names_of(path)), sorted(NEW))
 
 
+def test_read_back(tmp_path):
+    """A move that would take rows of lineage with it: the tables are read back before it is committed, and nothing is changed."""
+    keyed = ROW.replace("PRIMARY KEY", "text TEXT REFERENCES lpis_text (id) ON DELETE CASCADE, PRIMARY KEY")
+    path = made(tmp_path / "keyed.db", TABLES[2].replace(ROW, keyed), TEXT, "INSERT INTO lpis_format VALUES (1, 2); INSERT INTO lpis_release VALUES (2024), (2025);"
+                "INSERT INTO lpis_text VALUES ('B', ''); INSERT INTO lpis_row VALUES (2025, 0, 'A', 'B', 'B'), (2025, 1, 'A', 'C', NULL);", SPANS)
+    before = dump(path)
+    expect("rows that would go", lpis("trace", path, "A"), ("2> failed store\n", 3))
+    expect("rows that would go: nothing is changed", dump(path), before)
+    made(path, "UPDATE lpis_row SET text = NULL")
+    expect("rows that stay", lpis("trace", path, "A"), ("B\nC\n", 0))
+    expect("rows that stay: what it says", said(path), (HISTORY, []))
+
+
 def marked_year(folder, name, path, shapes):
     """B is split in a copy of a register which SQLite wrote: exactly, where its shape is kept; else the split is refused."""
     copy, out = path.with_suffix(".copy.db"), folder / "out.txt"

@@ -16,16 +16,11 @@ use Rattle.lpis_register_sql.specs.declared.found.Found.{Found}
 abbrev pub plain_statement : List ℕ → BoundStatement
 plain_statement sql = record { sql = sql; values = [] }
 
--- where no table of the register is there: the tables of version 3, and the version
-abbrev pub making_statements : List BoundStatement
-making_statements = map plain_statement (make_format ∷ make_release ∷ make_span ∷ make_row
-    ∷ make_text ∷ make_mark ∷ insert_format ∷ [])
-
--- where one is there: a statement, where its table was not found
+-- a statement, where its table was not found
 abbrev pub unless : Bool → List ℕ → List BoundStatement
 unless found sql = if found then [] else plain_statement sql ∷ []
 
--- the tables that are missing, each before those that refer to it, and the version
+-- the tables that lack, each before those that refer to it, and the version where none was found
 abbrev pub completing_statements : Found → List BoundStatement
 completing_statements found = flat_map (λ (it : Bool × List ℕ). unless it.0 it.1)
     ((found.format, make_format) ∷ (found.years, make_release) ∷ (found.spans, make_span)

@@ -1,4 +1,4 @@
--- The tables of the register: their names, what is asked of each, and which are there.
+-- The tables of the register: their names, what is asked of each, and which were found.
 use Rattle.std.specs.Prelude.{◌≡◌, ◌∷◌, [], ℕ, Bool, IsUtf8, List, codes}
 use Rattle.sqlite.specs.Order.{Row}
 use Rattle.sqlite.specs.Values.{IsInt}
