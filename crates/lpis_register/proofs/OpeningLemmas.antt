@@ -20,7 +20,7 @@ use Rattle.lpis_register.proofs.ResultLemmas.{failure_lawful, opening_failure}
 use Rattle.lpis_register.proofs.SayingLemmas.{SeesLoaded}
 use Rattle.lpis_register.specs.FailingToOpen.{FailsAfterReading}
 use Rattle.lpis_register.specs.Faults.{IsOpeningFault}
-use Rattle.lpis_register.specs.Opening.{LeavesOpened, RanSettlingTo}
+use Rattle.lpis_register.specs.Opening.{AreOfVersion, LeavesOpened, RanSettlingTo}
 use Rattle.lpis_register.specs.Saying.{LeavesSaid, IsWhole, SaysRegister}
 use Rattle.lpis_register.specs.declared.fault.PublishFault.TheVariants.{Store}
 use Rattle.lpis_register.specs.declared.opening.Loaded.{Loaded}
@@ -42,6 +42,13 @@ whole_format found whole = by found.format found.years found.spans found.lines f
     by : (a b c d e f : Bool) → (((((a && b) && c) && d) && e) && f) ≡ true → a ≡ true
     by true b c d e f is = refl
     by false b c d e f is = absurd cc
+
+all_whole : (found : Found) → is_whole found ≡ true → IsWhole found
+all_whole found whole = by found.format found.years found.spans found.lines found.texts found.marks refl refl refl refl refl refl whole
+  where
+    by : (a b c d e f : Bool) → found.format ≡ a → found.years ≡ b → found.spans ≡ c → found.lines ≡ d → found.texts ≡ e → found.marks ≡ f → (((((a && b) && c) && d) && e) && f) ≡ true → IsWhole found
+    by true true true true true true a b c d e f is = record { format = a; years = b; spans = c; lines = d; texts = e; marks = f }
+    by _ _ _ _ _ _ a b c d e f is = absurd cc
 
 -- what is not settled so is to be made
 pub not_both : (found : Found) (version : Version) (settled : Bool) → (settled ≡ true) ↔ ((version ≡ Third) × (is_whole found ≡ true)) → settled ≡ false → version ≡ Third → is_whole found ≡ false
@@ -96,9 +103,12 @@ module _ {S : Type 0} (g : store.Ghosts S) where
       bare_says : SaysRegister (state g old).now told.history told.shapes.items
       bare_says = (found, there, inl (none, no_release, no_shapes))
 
+      bare_version : AreOfVersion (state g old).now Third told.history told.shapes.items
+      bare_version = (found, there, inl (none, refl))
+
       bare_left : {r : Result (Unit {0}) PublishFault} → Settles g Third told.history told.shapes.items old new r → Survives (state g old) (state g new) (LeavesOpened g old)
       bare_left settles = both_left (state g old) (state g new) _ _ _
-          (λ clean db leaves led. record { history = told.history; shapes = told.shapes.items; said = bare_says; leaves = leaves; ran = (old, refl, (Third, led)) }) settles.writes.crash settles.left
+          (λ clean db leaves led. record { history = told.history; shapes = told.shapes.items; said = bare_says; leaves = leaves; ran = (old, refl, (Third, bare_version, led)) }) settles.writes.crash settles.left
 
       -- which succeeds
       pub bare_opens : (x : Unit {0}) → Settles g Third told.history told.shapes.items old new (Ok x) → Opens g old new (Ok told)
@@ -107,7 +117,8 @@ module _ {S : Type 0} (g : store.Ghosts S) where
           said = λ clean. bare_says;
           says = settles.writes.ok;
           stays = λ clean. (found, there, λ whole. absurd (true≢false (sym (whole_any found whole) ∙ none)));
-          ran = λ clean. inr (old, refl, (Third, settles.ran clean));
+          whole = settles.whole;
+          ran = λ clean. inr (old, refl, (Third, bare_version, settles.ran clean));
           seen = seen;
           crash = bare_left settles;
         };
@@ -155,10 +166,13 @@ module _ {S : Type 0} (g : store.Ghosts S) where
         read_says : HasCleanDisk (state g mid) → SaysRegister (state g old).now told.history told.shapes.items
         read_says clean = (found, there, inr (any, version, (sees.shows.ok clean).0))
 
+        read_version : HasCleanDisk (state g mid) → AreOfVersion (state g old).now version told.history told.shapes.items
+        read_version clean = (found, there, inr (sees.shows.ok clean).0)
+
         -- all of version 3 are there, and nothing is done
-        pub whole_opens : version ≡ Third → (HasCleanDisk (state g mid) → IsTrue (state g old).is_open) → mid.in_transaction ≡ false
+        pub whole_opens : is_whole found ≡ true → (HasCleanDisk (state g mid) → IsTrue (state g old).is_open) → mid.in_transaction ≡ false
             → (IsTrue (state g mid).is_open → (state g mid).now ≡ (state g mid).committed) → Opens g old mid (Ok told)
-        whole_opens third on autocommit settled = record {
+        whole_opens all on autocommit settled = record {
           opened = record {
             said = read_says;
             says = λ clean.
@@ -168,6 +182,11 @@ module _ {S : Type 0} (g : store.Ghosts S) where
                   says = subst (λ db. SaysRegister db told.history told.shapes.items) (sym same.0) (read_says clean);
                 };
             stays = λ clean. let it = sees.shows.ok clean in (found, there, λ whole. (version, it.0, λ is. it.1.0));
+            whole = λ clean. (
+              found,
+              subst (λ (d : Database). AreThere d.schema found) (sym (sees.shows.ok clean).1.0) there,
+              all_whole found all,
+            );
             ran = λ clean. inl (sees.shows.ok clean).1.0;
             seen = seen;
             crash = survives_weaker (state g old) (state g mid) _ _ (λ clean db never. absurd never) reads.survives;
@@ -189,7 +208,7 @@ module _ {S : Type 0} (g : store.Ghosts S) where
                     shapes = told.shapes.items;
                     said = read_says at_mid;
                     leaves = leaves;
-                    ran = (mid, (sees.shows.ok at_mid).1.0, (version, led));
+                    ran = (mid, (sees.shows.ok at_mid).1.0, (version, read_version at_mid, led));
                   }
 
           pub settled_opens : (x : Unit {0}) → Settles g version told.history told.shapes.items mid new (Ok x) → Opens g old new (Ok told)
@@ -200,7 +219,10 @@ module _ {S : Type 0} (g : store.Ghosts S) where
               stays = λ clean.
                   let it = sees.shows.ok (omega (arith, clean, settles.writes.crash.clean)) in
                   (found, there, λ whole. (version, it.0, λ third. absurd (true≢false (sym (whole_is found whole) ∙ busy third))));
-              ran = λ clean. inr (mid, (sees.shows.ok (omega (arith, clean, settles.writes.crash.clean))).1.0, (version, settles.ran clean));
+              whole = settles.whole;
+              ran = λ clean.
+                  let at_mid : HasCleanDisk (state g mid) = omega (arith, clean, settles.writes.crash.clean) in
+                  inr (mid, (sees.shows.ok at_mid).1.0, (version, read_version at_mid, settles.ran clean));
               seen = seen;
               crash = settled_left settles;
             };

@@ -1,6 +1,6 @@
 -- Tables of version 3, made of those that were found, and read back.
-use Rattle.std.proofs.Common.{◌≡◌, ◌≤◌, inl, inr, false, refl, subst, sym, true, List, Ok, Err, IsTrue, Result, OnOk}
-use Rattle.sqlite.specs.Effect.{IsDatabase}
+use Rattle.std.proofs.Common.{arith, ◌∙◌, ◌≡◌, ◌≤◌, inl, inr, false, refl, subst, sym, true, List, Ok, Err, IsTrue, Result, OnOk}
+use Rattle.sqlite.specs.Effect.{Database, IsDatabase}
 use Rattle.sqlite.specs.Held.{Held}
 use Rattle.sqlite.specs.State.{IsRolledBack, IsUnchanged}
 use Rattle.sqlite.specs.Steps.{FailsToCommit}
@@ -24,7 +24,7 @@ use Rattle.lpis_register.specs.Failing.{IsUnsaid}
 use Rattle.lpis_register.specs.FailingToOpen.{FailsToSettle}
 use Rattle.lpis_register.specs.Opening.{RanSettlingTo, Settling}
 use Rattle.lpis_register.specs.Running.{RanTo, RunsAlone}
-use Rattle.lpis_register.specs.Saying.{LeavesSaid, SaysTables}
+use Rattle.lpis_register.specs.Saying.{HasWhole, LeavesSaid, SaysTables}
 use Rattle.lpis_register.specs.declared.fault.PublishFault.TheVariants.{Memory, Store}
 use Rattle.lpis_register.specs.private.Commits.{Settles}
 
@@ -50,6 +50,7 @@ module _ {S : Type 0} (g : store.Ghosts S) (version : Version) (h : List Entry) 
         → Survives (state g mid) (state g end) (λ _. ⊥) → (HasCleanDisk (state g end) → IsRolledBack (state g mid) (state g end)) → Settles g version h shapes old end (Err fault)
     unmade_settles end e fault memory failure made drops undone = record {
       writes = dropped g old first mid end begun made.quiet h shapes fault (LeavesSaid h shapes) drops undone;
+      whole = λ clean. tt;
       ran = λ clean. tt;
       left = led end (dropped_runs g old first mid end begun made.quiet xs {X = Unit {0}} fault drops).left;
       failure = failure;
@@ -73,6 +74,7 @@ module _ {S : Type 0} (g : store.Ghosts S) (version : Version) (h : List Entry) 
           → Survives (state g last) (state g end) (λ _. ⊥) → (HasCleanDisk (state g end) → IsRolledBack (state g last) (state g end)) → Settles g version h shapes old end (Err fault)
       unsaid_settles end fault failure unsaid drops undone = record {
         writes = dropped_after g old first mid last end begun made.quiet quiet h shapes fault (LeavesSaid h shapes) drops undone;
+        whole = λ clean. tt;
         ran = λ clean. tt;
         left = led end (dropped_runs_after {X = Unit {0}} g old first mid last end begun made.quiet quiet xs fault drops).left;
         failure = failure;
@@ -87,10 +89,22 @@ module _ {S : Type 0} (g : store.Ghosts S) (version : Version) (h : List Entry) 
         runs : (answer : Result (Unit {0}) PublishFault) → (HasCleanDisk (state g end) → OnOk answer (RanAlone g xs old end)) → RunsAlone g xs old end answer
         runs answer ran = committed_runs g old first mid last end begun xs x made quiet (λ late. (told late).2) ends answer ran
 
+        all_there : (y : Unit {0}) → HasCleanDisk (state g end) → IsCommitted (state g last) (state g end) (Ok y) → HasWhole (state g end).now
+        all_there y clean done =
+            let late : HasCleanDisk (state g last) = omega (arith, clean, ends.clean) in
+            let before : HasCleanDisk (state g mid) = omega (arith, late, quiet.survives.clean) in
+            let same = (told late).2.0 in
+            let there = complete_there before ((made.quiet.kept before).was_open same.was_open) (subst (λ h. IsTrue h.in_transaction) (sym begun) refl) in (
+              completed found,
+              subst (λ (d : Database). AreThere d.schema (completed found)) (sym (done.1.now_is ∙ same.now_is)) there.there,
+              record { format = refl; years = refl; spans = refl; lines = refl; texts = refl; marks = refl },
+            )
+
         -- that is committed
         pub said_settles : (y z : Unit {0}) → (HasCleanDisk (state g end) → IsCommitted (state g last) (state g end) (Ok y)) → Settles g version h shapes old end (Ok z)
         said_settles y z ok = record {
           writes = confirmed_writes g old first mid last end begun xs x made (completed found) complete_there quiet h shapes told ends (Ok y) (λ clean. tt) (Ok z) (λ P p. p) (λ P p. p) ok law;
+          whole = λ clean. all_there y clean (ok clean);
           ran = λ clean. (settling, ran_alone g old first mid last end begun xs x made (completed found) complete_there quiet h shapes told ends (Ok y) ok clean);
           left = led end (runs (Ok z) (ran_alone g old first mid last end begun xs x made (completed found) complete_there quiet h shapes told ends (Ok y) ok)).left;
           failure = tt;
@@ -102,6 +116,7 @@ module _ {S : Type 0} (g : store.Ghosts S) (version : Version) (h : List Entry) 
             → (HasCleanDisk (state g end) → FailsToCommit (state g last) (state g end) e) → Settles g version h shapes old end (Err fault)
         uncommitted_settles e fault memory failure err = record {
           writes = confirmed_writes g old first mid last end begun xs x made (completed found) complete_there quiet h shapes told ends (Err e) err (Err fault) (λ P p. p) (λ P p. p) (λ clean. tt) law;
+          whole = λ clean. tt;
           ran = λ clean. tt;
           left = led end (runs (Err fault) (λ clean. tt)).left;
           failure = failure;

@@ -1,5 +1,6 @@
 -- What an opening finds, what the engine runs in it, and what it leaves.
 use Rattle.std.specs.Prelude.{◌≡◌, ◌⊎◌, false, List, IsTrue}
+use Rattle.sqlite.specs.Effect.{Database}
 use Rattle.sqlite.specs.Held.{Held, state}
 use Rattle.sqlite.specs.Tree.{Trees}
 use Rattle.sqlite.specs.State.{HasCleanDisk, Survives}
@@ -9,17 +10,18 @@ use Rattle.lpis_register_rows.specs.Content.{StoredSpan}
 use Rattle.lpis_register_rows.specs.Histories.{AreSpansOf}
 use Rattle.lpis_register_rows.specs.Shapes.{Shape}
 use Rattle.lpis_register_rows.specs.declared.version.Version.{Version}
-use Rattle.lpis_register_rows.specs.declared.version.Version.TheVariants.{First}
+use Rattle.lpis_register_rows.specs.declared.version.Version.TheVariants.{First, Third}
 use Rattle.lpis_register_sql.specs.Hiding.{hides_table}
 use Rattle.lpis_register_sql.specs.Making.{settling_statements}
-use Rattle.lpis_register_sql.specs.Presence.{AreThere}
+use Rattle.lpis_register_sql.specs.Presence.{AreThere, is_any}
 use Rattle.lpis_register_sql.specs.Quiet.{StaysSettled}
 use Rattle.lpis_register_sql.specs.Showing.{StaysSame}
 use Rattle.lpis_register_sql.specs.Stopping.{RanAlone}
 use Rattle.lpis_register_sql.specs.declared.found.Found.{Found}
 use Rattle.lpis_register.specs.Faults.{IsOpeningFault}
 use Rattle.lpis_register.specs.Running.{RanTo}
-use Rattle.lpis_register.specs.Saying.{IsSaid, LeavesSaid, SaysNone, SaysRegister, StaysWhole}
+use Rattle.lpis_register.specs.Saying.{HasWhole, IsSaid, LeavesSaid, SaysNone, SaysRegister, SaysTables}
+use Rattle.lpis_register.specs.Saying.{StaysWhole}
 use Rattle.lpis_register.specs.declared.fault.PublishFault.{PublishFault}
 use Rattle.lpis_register.specs.declared.fault.PublishFault.TheVariants.{Unlawful}
 
@@ -30,6 +32,11 @@ pub record Settling {S : Type 0} (version : Version) (h : List Entry) (conn : He
   pub there : AreThere conn.schema found
   pub spans : List StoredSpan
   pub are : version ≡ First → AreSpansOf spans h
+
+-- the tables that are there say this in this version; where none is there, that is version 3
+abbrev pub AreOfVersion : Database → Version → List Entry → List Shape → Type 0
+AreOfVersion db version h shapes = (found : Found) × AreThere db.schema found
+    × (((is_any found ≡ false) × (version ≡ Third)) ⊎ SaysTables found db version h shapes)
 
 module _ {S : Type 0} (store : Ghosts S) where
   -- the engine ran the statements that make them, and no others, and committed that
@@ -47,10 +54,11 @@ module _ {S : Type 0} (store : Ghosts S) where
   AfterReading old Then = (read : Held S) × ((state store read).now ≡ (state store old).now)
       × Then read
 
-  -- the engine ran nothing, or these statements once the tables were read
-  abbrev pub RanToOpen : List Entry → Held S → Held S → Type 0
-  RanToOpen h old new = ((state store new).now ≡ (state store old).now)
-      ⊎ AfterReading old (λ read. (version : Version) × RanSettling version h read new)
+  -- the engine ran nothing, or these statements once the tables were read, which are of this version
+  abbrev pub RanToOpen : List Entry → List Shape → Held S → Held S → Type 0
+  RanToOpen h shapes old new = ((state store new).now ≡ (state store old).now)
+      ⊎ AfterReading old (λ read. (version : Version)
+      × AreOfVersion (state store old).now version h shapes × RanSettling version h read new)
 
   -- what an opening commits, if anything: tables that say what those said that were there, as these
   -- statements made them
@@ -59,8 +67,9 @@ module _ {S : Type 0} (store : Ghosts S) where
     pub shapes : List Shape
     pub said : SaysRegister (state store old).now history shapes
     pub leaves : LeavesSaid history shapes trees
-    pub ran : AfterReading old (λ read. (version : Version) × RanSettlingTo version history read
-        trees)
+    pub ran : AfterReading old (λ read. (version : Version)
+        × AreOfVersion (state store old).now version history shapes
+        × RanSettlingTo version history read trees)
 
   -- an opening that made this history and these shapes of a database
   pub record IsOpened (old new : Held S) (h : List Entry) (shapes : List Shape) : Type 0 where
@@ -71,7 +80,9 @@ module _ {S : Type 0} (store : Ghosts S) where
     -- where all of version 3 were there, nothing is changed, whatever stands beside
     pub stays : HasCleanDisk (state store new)
         → StaysWhole (state store old).now (state store new).now h shapes
-    pub ran : HasCleanDisk (state store new) → RanToOpen h old new
+    -- each of version 3 is there then
+    pub whole : HasCleanDisk (state store new) → HasWhole (state store new).now
+    pub ran : HasCleanDisk (state store new) → RanToOpen h shapes old new
     -- no table of the register is there unseen
     pub seen : hides_table old.schema ≡ false
     pub crash : Survives (state store old) (state store new) (LeavesOpened old)

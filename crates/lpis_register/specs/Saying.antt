@@ -80,6 +80,10 @@ pub record IsWhole (found : Found) : Type 0 where
   pub texts : found.texts ≡ true
   pub marks : found.marks ≡ true
 
+-- each table of version 3 is there
+abbrev pub HasWhole : Database → Type 0
+HasWhole db = (found : Found) × AreThere db.schema found × IsWhole found
+
 -- where it has each of these, and they say this as version 3, it is shown still
 abbrev pub StaysWhole : Database → Database → List Entry → List Shape → Type 0
 StaysWhole db now h shapes = (found : Found) × AreThere db.schema found × (IsWhole found

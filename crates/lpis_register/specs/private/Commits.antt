@@ -11,7 +11,7 @@ use Rattle.lpis_register.specs.FailingToOpen.{FailsToSettle}
 use Rattle.lpis_register.specs.Faults.{IsFailure}
 use Rattle.lpis_register.specs.Holdings.{holdings}
 use Rattle.lpis_register.specs.Opening.{RanSettling, RanSettlingTo}
-use Rattle.lpis_register.specs.Saying.{LeavesSaid}
+use Rattle.lpis_register.specs.Saying.{HasWhole, LeavesSaid}
 use Rattle.lpis_register.specs.declared.fault.PublishFault.{PublishFault}
 use Rattle.lpis_register.specs.declared.fault.PublishFault.TheVariants.{Store}
 use Rattle.lpis_register.specs.private.Writes.{WritesRelease}
@@ -21,6 +21,7 @@ pub record Settles {S : Type 0} (store : Ghosts S) (version : Version) (h : List
     (shapes : List Shape) (old new : Held S) (r : Result (Unit {0}) PublishFault) : Type 0 where
   pub writes : WritesRelease (holdings h shapes) (LeavesSaid h shapes) (state store old)
       (state store new) r
+  pub whole : HasCleanDisk (state store new) → OnOk r (HasWhole (state store new).now)
   pub ran : HasCleanDisk (state store new) → OnOk r (RanSettling store version h old new)
   pub left : Survives (state store old) (state store new) (RanSettlingTo store version h old)
   pub failure : IfErr r IsFailure
