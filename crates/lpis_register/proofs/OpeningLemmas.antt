@@ -108,7 +108,14 @@ module _ {S : Type 0} (g : store.Ghosts S) where
 
       bare_left : {r : Result (Unit {0}) PublishFault} → Settles g Third told.history told.shapes.items old new r → Survives (state g old) (state g new) (LeavesOpened g old)
       bare_left settles = both_left (state g old) (state g new) _ _ _
-          (λ clean db leaves led. record { history = told.history; shapes = told.shapes.items; said = bare_says; leaves = leaves; ran = (old, refl, (Third, bare_version, led)) }) settles.writes.crash settles.left
+          (λ clean db leaves led. record {
+            history = told.history;
+            shapes = told.shapes.items;
+            said = bare_says;
+            leaves = leaves;
+            ran = (old, refl, (Third, bare_version, led));
+          })
+          settles.writes.crash settles.left
 
       -- which succeeds
       pub bare_opens : (x : Unit {0}) → Settles g Third told.history told.shapes.items old new (Ok x) → Opens g old new (Ok told)

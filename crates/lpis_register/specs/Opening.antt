@@ -20,8 +20,8 @@ use Rattle.lpis_register_sql.specs.Stopping.{RanAlone}
 use Rattle.lpis_register_sql.specs.declared.found.Found.{Found}
 use Rattle.lpis_register.specs.Faults.{IsOpeningFault}
 use Rattle.lpis_register.specs.Running.{RanTo}
-use Rattle.lpis_register.specs.Saying.{HasWhole, IsSaid, LeavesSaid, SaysNone, SaysRegister, SaysTables}
-use Rattle.lpis_register.specs.Saying.{StaysWhole}
+use Rattle.lpis_register.specs.Saying.{HasWhole, IsSaid, LeavesSaid, SaysNone, SaysRegister}
+use Rattle.lpis_register.specs.Saying.{SaysTables, StaysWhole}
 use Rattle.lpis_register.specs.declared.fault.PublishFault.{PublishFault}
 use Rattle.lpis_register.specs.declared.fault.PublishFault.TheVariants.{Unlawful}
 
@@ -54,7 +54,8 @@ module _ {S : Type 0} (store : Ghosts S) where
   AfterReading old Then = (read : Held S) × ((state store read).now ≡ (state store old).now)
       × Then read
 
-  -- the engine ran nothing, or these statements once the tables were read, which are of this version
+  -- the engine ran nothing; or these statements once the tables were read, which were of this
+  -- version
   abbrev pub RanToOpen : List Entry → List Shape → Held S → Held S → Type 0
   RanToOpen h shapes old new = ((state store new).now ≡ (state store old).now)
       ⊎ AfterReading old (λ read. (version : Version)
