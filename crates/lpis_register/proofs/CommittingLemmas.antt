@@ -121,12 +121,20 @@ module _ {S : Type 0} (g : store.Ghosts S) (w : Writing) (before : Holdings) (he
 
   -- or they were run, and the tables do not say it
   pub unconfirmed_writing : (c : Candidate) (history : List Entry) → FollowsHistory c before.history (holdings history w.shapes.items)
+      → (live : List (List ℕ)) → IsPrepared c before.history (record { live = live; writing = w })
       → (IsTrue (state g held).is_open → (reached : Held S) × Ran g (writing_statements w before) Begun reached
       × ((state g held).faults ≤ (state g reached).faults) × (found : Found) × AreThere reached.schema found
       × IsUnsaid found (state g reached) (state g end) history w.shapes.items) → FailsToWrite g w before held end
-  unconfirmed_writing c history follows unsaid = elim (or_shut (state g held).is_open unsaid) [
+  unconfirmed_writing c history follows live made unsaid = elim (or_shut (state g held).is_open unsaid) [
     | inl shut ↦ inl (inl shut)
-    | inr it ↦ inr (record { candidate = c; history = history; follows = follows; reached = it.0; ran = it.1; counts = it.2; found = it.3; there = it.4; unsaid = it.5 })
+    | inr it ↦ inr (record {
+      candidate = c;
+      live = live;
+      made = made;
+      history = history;
+      follows = follows;
+      unsaid = record { reached = it.0; ran = it.1; counts = it.2; found = it.3; there = it.4; unsaid = it.5 };
+    })
   ]
 
 -- what is written are the statements of the release

@@ -6,7 +6,7 @@ use Rattle.sqlite.specs.Effect.{Database}
 use Rattle.sqlite.specs.Held.{Held}
 use Rattle.sqlite.specs.Schema.{Schema}
 use Rattle.sqlite_trees.specs.declared.store.Store as store
-use Rattle.lpis_register_sql.proofs.Shared.{settled_then, unread_still}
+use Rattle.lpis_register_sql.proofs.Shared.{settled_then, stays, unread_still}
 use Rattle.lpis_register_sql.specs.Hiding.{hides_table}
 use Rattle.lpis_register_sql.specs.Presence.{AreThere, has_table, is_any, is_whole}
 use Rattle.lpis_register_sql.specs.Quiet.{LeavesAll}
@@ -21,7 +21,7 @@ use Rattle.lpis_register.proofs.SayingLemmas.{SeesLoaded}
 use Rattle.lpis_register.specs.FailingToOpen.{FailsAfterReading}
 use Rattle.lpis_register.specs.Faults.{IsOpeningFault}
 use Rattle.lpis_register.specs.Opening.{AreOfVersion, LeavesOpened, RanSettlingTo}
-use Rattle.lpis_register.specs.Saying.{LeavesSaid, IsWhole, SaysRegister}
+use Rattle.lpis_register.specs.Saying.{LeavesSaid, IsWhole, SaysRegister, SaysTables}
 use Rattle.lpis_register.specs.declared.fault.PublishFault.TheVariants.{Store}
 use Rattle.lpis_register.specs.declared.opening.Loaded.{Loaded}
 use Rattle.lpis_register.specs.private.Commits.{Settles}
@@ -113,7 +113,7 @@ module _ {S : Type 0} (g : store.Ghosts S) where
             shapes = told.shapes.items;
             said = bare_says;
             leaves = leaves;
-            ran = (old, refl, (Third, bare_version, led));
+            ran = (old, stays (state g old), refl, (Third, bare_version, led));
           })
           settles.writes.crash settles.left
 
@@ -125,7 +125,7 @@ module _ {S : Type 0} (g : store.Ghosts S) where
           says = settles.writes.ok;
           stays = λ clean. (found, there, λ whole. absurd (true≢false (sym (whole_any found whole) ∙ none)));
           whole = settles.whole;
-          ran = λ clean. inr (old, refl, (Third, bare_version, settles.ran clean));
+          ran = λ clean. inr (old, stays (state g old), refl, (Third, bare_version, settles.ran clean));
           seen = seen;
           crash = bare_left settles;
         };
@@ -177,9 +177,9 @@ module _ {S : Type 0} (g : store.Ghosts S) where
         read_version clean = (found, there, inr (sees.shows.ok clean).0)
 
         -- all of version 3 are there, and nothing is done
-        pub whole_opens : is_whole found ≡ true → (HasCleanDisk (state g mid) → IsTrue (state g old).is_open) → mid.in_transaction ≡ false
+        pub whole_opens : version ≡ Third → is_whole found ≡ true → (HasCleanDisk (state g mid) → IsTrue (state g old).is_open) → mid.in_transaction ≡ false
             → (IsTrue (state g mid).is_open → (state g mid).now ≡ (state g mid).committed) → Opens g old mid (Ok told)
-        whole_opens all on autocommit settled = record {
+        whole_opens third all on autocommit settled = record {
           opened = record {
             said = read_says;
             says = λ clean.
@@ -194,7 +194,8 @@ module _ {S : Type 0} (g : store.Ghosts S) where
               subst (λ (d : Database). AreThere d.schema found) (sym (sees.shows.ok clean).1.0) there,
               all_whole found all,
             );
-            ran = λ clean. inl (sees.shows.ok clean).1.0;
+            ran = λ clean. let it = sees.shows.ok clean in
+                inl ((found, there, all_whole found all, subst (λ v. SaysTables found (state g old).now v told.history told.shapes.items) third it.0), it.1.0);
             seen = seen;
             crash = survives_weaker (state g old) (state g mid) _ _ (λ clean db never. absurd never) reads.survives;
           };
@@ -215,7 +216,7 @@ module _ {S : Type 0} (g : store.Ghosts S) where
                     shapes = told.shapes.items;
                     said = read_says at_mid;
                     leaves = leaves;
-                    ran = (mid, (sees.shows.ok at_mid).1.0, (version, read_version at_mid, led));
+                    ran = (mid, (sees.shows.ok at_mid).1, reads.survives.limit, (version, read_version at_mid, led));
                   }
 
           pub settled_opens : (x : Unit {0}) → Settles g version told.history told.shapes.items mid new (Ok x) → Opens g old new (Ok told)
@@ -229,7 +230,7 @@ module _ {S : Type 0} (g : store.Ghosts S) where
               whole = settles.whole;
               ran = λ clean.
                   let at_mid : HasCleanDisk (state g mid) = omega (arith, clean, settles.writes.crash.clean) in
-                  inr (mid, (sees.shows.ok at_mid).1.0, (version, read_version at_mid, settles.ran clean));
+                  inr (mid, (sees.shows.ok at_mid).1, reads.survives.limit, (version, read_version at_mid, settles.ran clean));
               seen = seen;
               crash = settled_left settles;
             };

@@ -9,11 +9,13 @@ use Rattle.sqlite_trees.specs.declared.store.Store as store
 use Rattle.lpis_register_sql.proofs.Shared.{quiet_on}
 use Rattle.lpis_register_sql.specs.Stopping.{BoundStatement, Ran, RanAlone}
 use Rattle.lpis_register_sql.specs.Within.{IsQuiet, Makes}
-use Rattle.lpis_register.proofs.Common.{HasCleanDisk, Survives, state}
+use Rattle.lpis_register.proofs.Common.{HasCleanDisk, Survives, state, survives_weaker}
 use Rattle.lpis_register.proofs.HoldingLemmas.{nothing_done}
 use Rattle.lpis_register.specs.Failing.{writing_statements}
-use Rattle.lpis_register.specs.Holdings.{RegisterState}
-use Rattle.lpis_register.specs.Running.{RanTo, RunsAlone}
+use Rattle.lpis_register.specs.Accepting.{IsAccepted}
+use Rattle.lpis_register.specs.Holdings.{Candidate, RegisterState}
+use Rattle.lpis_register.specs.Running.{RanRelease, RanTo, RunsAccepted, RunsAlone, RunsRelease}
+use Rattle.lpis_register.specs.declared.accepting.Accepted.{Accepted}
 use Rattle.lpis_register.specs.declared.accepting.Writing.{Writing}
 
 module _ {S : Type 0} (g : store.Ghosts S) (held first last end : Held S) (begun : first ≡ record held { in_transaction = true })
@@ -73,3 +75,19 @@ module _ {S : Type 0} (g : store.Ghosts S) (w : Writing) (it old : RegisterState
   runs_err {X = X} e runs =
       let r = subst (λ s. RunsAlone g {X = X} (writing_statements w s.held) s.conn conn (Err e)) same runs in
       record { ran = λ clean. tt; left = r.left }
+
+module _ {S X E : Type 0} (g : store.Ghosts S) (c : Candidate) where
+  -- a release that was accepted is written
+  pub runs_accepted : (a : Accepted) (old new : RegisterState S) (answer : Result X E) → IsAccepted c old.held a → RunsRelease g a old new answer → RunsAccepted g c old new answer
+  runs_accepted a old new answer made runs = record {
+    ran = λ clean. by answer (runs.ran clean);
+    left = survives_weaker (state g old.conn) (state g new.conn) _ _ (λ clean db to. (a, made, to)) runs.left;
+  }
+    where
+      by : (answer : Result X E) → OnOk answer (RanRelease g a old new) → OnOk answer ((a : Accepted) × IsAccepted c old.held a × RanRelease g a old new)
+      by (Ok x) ran = (a, made, ran)
+      by (Err e) ran = tt
+
+  -- one that was not is not
+  pub runs_not_accepted : (it : RegisterState S) (e : E) → RunsAccepted g {X = X} c it it (Err e)
+  runs_not_accepted it e = record { ran = λ clean. tt; left = nothing_done _ (state g it.conn) }

@@ -1,5 +1,5 @@
 -- Why the database fails when a release is published, and when its tables are read.
-use Rattle.std.specs.Prelude.{◌≡◌, ◌≤◌, ◌⊎◌, false, pos, true, List}
+use Rattle.std.specs.Prelude.{◌≡◌, ◌≤◌, ◌⊎◌, false, pos, true, List, ℕ}
 use Rattle.sqlite.specs.Effect.{Database}
 use Rattle.sqlite.specs.Held.{Held, state}
 use Rattle.sqlite.specs.State.{HasCleanDisk, State}
@@ -14,7 +14,7 @@ use Rattle.lpis_register_sql.specs.Stopping.{release_statements}
 use Rattle.lpis_register_sql.specs.Presence.{AreThere}
 use Rattle.lpis_register_sql.specs.Unread.{IsUnread}
 use Rattle.lpis_register_sql.specs.declared.found.Found.{Found}
-use Rattle.lpis_register.specs.Accepting.{IsAccepted}
+use Rattle.lpis_register.specs.Accepting.{IsAccepted, IsPrepared}
 use Rattle.lpis_register.specs.Holdings.{Candidate, Holdings, RegisterState, holdings}
 use Rattle.lpis_register.specs.Publishing.{FollowsHistory}
 use Rattle.lpis_register.specs.Saying.{SaysNoTables, SaysTables}
@@ -48,18 +48,25 @@ module _ {S : Type 0} (store : Ghosts S) where
   FailsToRun xs old new = ((state store old).is_open ≡ false)
       ⊎ IsStopped store xs (record old { in_transaction = true }) new
 
+  -- the engine ran these statements, and the tables then do not say this
+  pub record RunsUnsaid (xs : List BoundStatement) (h : List Entry) (shapes : List Shape)
+      (old new : Held S) : Type 0 where
+    pub reached : Held S
+    pub counts : (state store old).faults ≤ (state store reached).faults
+    pub ran : Ran store xs (record old { in_transaction = true }) reached
+    pub found : Found
+    pub there : AreThere reached.schema found
+    pub unsaid : IsUnsaid found (state store reached) (state store new) h shapes
+
   -- the engine ran the statements of an accepted release, and the tables then do not say the
   -- history with the release at its end, and its shapes
   pub record IsUnconfirmed (w : Writing) (before : Holdings) (old new : Held S) : Type 0 where
     pub candidate : Candidate
+    pub live : List (List ℕ)
+    pub made : IsPrepared candidate before.history (record { live = live; writing = w })
     pub history : List Entry
     pub follows : FollowsHistory candidate before.history (holdings history w.shapes.items)
-    pub reached : Held S
-    pub ran : Ran store (writing_statements w before) (record old { in_transaction = true }) reached
-    pub counts : (state store old).faults ≤ (state store reached).faults
-    pub found : Found
-    pub there : AreThere reached.schema found
-    pub unsaid : IsUnsaid found (state store reached) (state store new) history w.shapes.items
+    pub unsaid : RunsUnsaid (writing_statements w before) history w.shapes.items old new
 
   -- an accepted release is not written: its statements are not run, or the tables then say
   -- something else
@@ -79,7 +86,8 @@ module _ {S : Type 0} (store : Ghosts S) where
       (a : Accepted) × IsAccepted c old.held a × HasStoreCause a old new Failed
 
 -- a call fails to read the register's tables: the connection was shut before, or the disk failed
--- during the call, or the engine refuses the query of one of the tables that are there
+-- during the call, or the engine refuses the query of one of the tables that are there, as it may
+-- where the connection has a limit of steps
 abbrev pub FailsToRead : State → State → Type 0
 FailsToRead old new = (old.is_open ≡ false)
     ⊎ ((found : Found) × AreThere old.now.schema found × IsUnread found old new)

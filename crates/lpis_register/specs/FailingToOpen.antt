@@ -10,24 +10,14 @@ use Rattle.lpis_register_rows.specs.declared.version.Version.TheVariants.{Third}
 use Rattle.lpis_register_sql.specs.Hiding.{hides_table}
 use Rattle.lpis_register_sql.specs.Making.{settling_statements}
 use Rattle.lpis_register_sql.specs.Presence.{AreThere, is_any}
-use Rattle.lpis_register_sql.specs.Stopping.{BoundStatement, IsStopped, Ran}
+use Rattle.lpis_register_sql.specs.Stopping.{IsStopped}
 use Rattle.lpis_register_sql.specs.Unread.{IsUnread}
 use Rattle.lpis_register_sql.specs.declared.found.Found.{Found}
-use Rattle.lpis_register.specs.Failing.{IsUnsaid}
+use Rattle.lpis_register.specs.Failing.{RunsUnsaid}
 use Rattle.lpis_register.specs.Opening.{Settling}
 use Rattle.lpis_register.specs.Saying.{SaysTables}
 
 module _ {S : Type 0} (store : Ghosts S) where
-  -- the engine ran these statements, and the tables then do not say this
-  pub record RunsUnsaid (xs : List BoundStatement) (h : List Entry) (shapes : List Shape)
-      (old new : Held S) : Type 0 where
-    pub reached : Held S
-    pub counts : (state store old).faults ≤ (state store reached).faults
-    pub ran : Ran store xs (record old { in_transaction = true }) reached
-    pub found : Found
-    pub there : AreThere reached.schema found
-    pub unsaid : IsUnsaid found (state store reached) (state store new) h shapes
-
   -- tables that say this do not become those of version 3: the disk failed during the call, or the
   -- engine refuses one of the statements; or it ran them, and the tables then are not read, or say
   -- something else
@@ -36,7 +26,7 @@ module _ {S : Type 0} (store : Ghosts S) where
     pub by : Settling version h old
     pub fails : IsStopped store (settling_statements version by.found by.spans)
         (record old { in_transaction = true }) new
-        ⊎ RunsUnsaid (settling_statements version by.found by.spans) h shapes old new
+        ⊎ RunsUnsaid store (settling_statements version by.found by.spans) h shapes old new
 
   -- so it is with the tables that were found, once they were read, which changed nothing: with the
   -- version, the history and the shapes that they say

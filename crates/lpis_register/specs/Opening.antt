@@ -20,8 +20,8 @@ use Rattle.lpis_register_sql.specs.Stopping.{RanAlone}
 use Rattle.lpis_register_sql.specs.declared.found.Found.{Found}
 use Rattle.lpis_register.specs.Faults.{IsOpeningFault}
 use Rattle.lpis_register.specs.Running.{RanTo}
-use Rattle.lpis_register.specs.Saying.{HasWhole, IsSaid, LeavesSaid, SaysNone, SaysRegister}
-use Rattle.lpis_register.specs.Saying.{SaysTables, StaysWhole}
+use Rattle.lpis_register.specs.Saying.{HasWhole, IsSaid, IsWhole, LeavesSaid, SaysNone}
+use Rattle.lpis_register.specs.Saying.{SaysRegister, SaysTables, StaysWhole}
 use Rattle.lpis_register.specs.declared.fault.PublishFault.{PublishFault}
 use Rattle.lpis_register.specs.declared.fault.PublishFault.TheVariants.{Unlawful}
 
@@ -32,6 +32,11 @@ pub record Settling {S : Type 0} (version : Version) (h : List Entry) (conn : He
   pub there : AreThere conn.schema found
   pub spans : List StoredSpan
   pub are : version ≡ First → AreSpansOf spans h
+
+-- all tables of version 3 are there, and say this as such
+abbrev pub IsSettledSo : Database → List Entry → List Shape → Type 0
+IsSettledSo db h shapes = (found : Found) × AreThere db.schema found × IsWhole found
+    × SaysTables found db Third h shapes
 
 -- the tables that are there say this in this version; where none is there, that is version 3
 abbrev pub AreOfVersion : Database → Version → List Entry → List Shape → Type 0
@@ -51,13 +56,14 @@ module _ {S : Type 0} (store : Ghosts S) where
 
   -- once the tables were read, which changed nothing
   abbrev pub AfterReading : Held S → (Held S → Type 0) → Type 0
-  AfterReading old Then = (read : Held S) × ((state store read).now ≡ (state store old).now)
-      × Then read
+  AfterReading old Then = (read : Held S) × StaysSame (state store old) (state store read)
+      × (read.step_limit ≡ old.step_limit) × Then read
 
-  -- the engine ran nothing; or these statements once the tables were read, which were of this
-  -- version
+  -- all tables of version 3 were there and said this, and nothing is changed; or the engine ran
+  -- these statements once the tables were read, which were of this version
   abbrev pub RanToOpen : List Entry → List Shape → Held S → Held S → Type 0
-  RanToOpen h shapes old new = ((state store new).now ≡ (state store old).now)
+  RanToOpen h shapes old new = (IsSettledSo (state store old).now h shapes
+      × ((state store new).now ≡ (state store old).now))
       ⊎ AfterReading old (λ read. (version : Version)
       × AreOfVersion (state store old).now version h shapes × RanSettling version h read new)
 
@@ -78,7 +84,8 @@ module _ {S : Type 0} (store : Ghosts S) where
     pub said : HasCleanDisk (state store new) → SaysRegister (state store old).now h shapes
     -- and the tables say it afterwards
     pub says : HasCleanDisk (state store new) → IsSaid (state store new) h shapes
-    -- where all of version 3 were there, nothing is changed, whatever stands beside
+    -- where all of version 3 were there and said this as such, nothing is changed, whatever stands
+    -- beside
     pub stays : HasCleanDisk (state store new)
         → StaysWhole (state store old).now (state store new).now h shapes
     -- each of version 3 is there then

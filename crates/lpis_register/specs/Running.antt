@@ -6,7 +6,8 @@ use Rattle.sqlite.specs.Tree.{Trees}
 use Rattle.sqlite_trees.specs.declared.store.Store.{Ghosts}
 use Rattle.lpis_register_sql.specs.Stopping.{BoundStatement, Ran, RanAlone}
 use Rattle.lpis_register.specs.Failing.{writing_statements}
-use Rattle.lpis_register.specs.Holdings.{RegisterState}
+use Rattle.lpis_register.specs.Accepting.{IsAccepted}
+use Rattle.lpis_register.specs.Holdings.{Candidate, RegisterState}
 use Rattle.lpis_register.specs.declared.accepting.Accepted.{Accepted}
 
 module _ {S : Type 0} (store : Ghosts S) where
@@ -36,3 +37,11 @@ module _ {S : Type 0} (store : Ghosts S) where
   -- these trees are those at their end
   abbrev pub RanReleaseTo : Accepted → RegisterState S → Trees → Type 0
   RanReleaseTo a old = RanTo (writing_statements a.writing old.held) old.conn
+
+  -- so it is of a release that was accepted
+  pub record RunsAccepted {X E : Type 0} (c : Candidate) (old new : RegisterState S)
+      (answer : Result X E) : Type 0 where
+    pub ran : HasCleanDisk (state store new.conn) → OnOk answer ((a : Accepted)
+        × IsAccepted c old.held a × RanRelease a old new)
+    pub left : Survives (state store old.conn) (state store new.conn) (λ trees. (a : Accepted)
+        × IsAccepted c old.held a × RanReleaseTo a old trees)

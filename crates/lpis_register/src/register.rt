@@ -11,7 +11,7 @@ ghost use Rattle.lpis_register.specs.Faults.{IsStoreFault, PublishRefuses};
 ghost use Rattle.lpis_register.specs.Histories.{IsTrace, IsUnknown, ReadsHistory};
 ghost use Rattle.lpis_register.specs.Holdings.{Candidate, candidate, holdings};
 ghost use Rattle.lpis_register.specs.Publishing.{Publishes, Stores};
-ghost use Rattle.lpis_register.specs.Running.{RunsRelease};
+ghost use Rattle.lpis_register.specs.Running.{RunsAccepted, RunsRelease};
 ghost use Rattle.lpis_register.specs.declared.fault.PublishFault.TheVariants.{Memory, Store};
 ghost use Rattle.lpis_register.specs.declared.fault.PublishFault.TheVariants.{StoreMemory, Unknown};
 
@@ -209,6 +209,9 @@ impl<S: Alter> Register<S> {
         ensures publishes { Publishes (candidate year yes.now cert.now.exact rows.now)
             self.old.held self.new.held result }
         ensures stores { Stores S.Store (candidate year yes.now cert.now.exact rows.now)
+            self.old self.new result }
+        // The engine ran the statements of the release, and no others, and committed that.
+        ensures runs { RunsAccepted S.Store (candidate year yes.now cert.now.exact rows.now)
             self.old self.new result }
         ensures untouched { IfErr result (λ fault. IsStoreFault fault
             ⊎ (self.new.conn ≡ self.old.conn)) }

@@ -41,7 +41,7 @@ returns-in_err-confirm-clause-cause g c h due clean =
     let same : c.drop-tx-in_err-confirm.new.self.0 ≡ c.conn-in_err-confirm-1.given.0 = search rules in
     let made = subst (λ xs. Makes g.S.Store xs c.transaction-tx.result.conn.now c.fill.new.tx.conn.now (Ok c.in-Ok.field-0)) (statements_are w c.args.last h c.args.kept.now due.last_is)
     c.in-Ok.ensures.makes in
-    rw (p.1, p.2) (λ is. unconfirmed_writing g.S.Store w (holdings h c.args.kept.now) c.args.conn.now c.conn-in_err-confirm-1.given.0 due.candidate c.args.history.now due.follows
+    rw (p.1, p.2) (λ is. unconfirmed_writing g.S.Store w (holdings h c.args.kept.now) c.args.conn.now c.conn-in_err-confirm-1.given.0 due.candidate c.args.history.now due.follows due.live due.made
     (not_confirmed g.S.Store c.args.conn.now c.transaction-tx.result.conn.now c.fill.new.tx.conn.now c.confirm.new.tx.conn.now
     c.conn-in_err-confirm-1.given.0 c.transaction-tx.ensures.begun _ c.in-Ok.field-0 made
     c.tables_in-found.result tables c.in_err-confirm.ensures.quiet c.args.history.now w.shapes.items
