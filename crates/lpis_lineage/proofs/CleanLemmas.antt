@@ -1,6 +1,6 @@
 -- A release follows a history exactly where its lineage has no fault.
 use Rattle.std.proofs.Common.{◌≡◌, ◌∙◌, ◌≤◌, ◌+◌, ◌⊎◌, inl, inr, refl, sym, ap, subst, arith, ℕ, zero, suc, List, [], ◌∷◌, ◌++◌, length, Bool, true, false, Option, None, Some, cond, append_assoc}
-use Rattle.std.proofs.Common.{◌&&◌, ◌||◌, not, is_some, filter}
+use Rattle.std.proofs.Common.{◌&&◌, ◌||◌, append-nil, not, is_some, filter}
 use Rattle.lpis_lineage.proofs.Common.{list_any, option_or, list_any-append, or_left, cases_Bool, Row, Entry, LineageFault, has_id, same_id, holds, is_ended, succeeded, names_successor, is_row_of}
 use Rattle.lpis_lineage.proofs.Common.{is_this, same_row, last_live, IsAnswered, Follows, fault_before, clashes, lineage_row_faults, dropped_faults, used_faults, faults, faults_but_marks, first, kind}
 use Rattle.lpis_lineage.proofs.Common.{last_held, marked_row_faults}
@@ -9,7 +9,6 @@ use Rattle.lpis_lineage.specs.declared.fault.LineageCode.TheVariants.{MarkedOuts
 use Rattle.lpis_lineage.specs.declared.fault.LineageFault.TheVariants.{OfRow}
 use Rattle.lpis_lineage.specs.ExactGroups.{is_outside}
 use Rattle.lpis_lineage.specs.Lineage.{same_new}
-use Rattle.std.proofs.lemmas.List.{append-nil}
 use Rattle.std.proofs.lemmas.Bool.{and_parts, and_from, not_from_true, not-false, or_cases, or_right}
 use Rattle.lpis_lineage.specs.Faults.{is_missing, used_fault_before}
 use Rattle.lpis_lineage.proofs.IdentifierLemmas.{same-exact, same-refl}

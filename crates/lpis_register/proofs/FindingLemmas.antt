@@ -72,3 +72,8 @@ module _ {P Q : Trees → Type 0} (found : Found) (a b c : State) (one : Survive
     | inr unread ↦ unread_still found a b c two.counts unread
     | inl same ↦ unread_before found a b c same one.limit one.counts (more clean same.0.is_open is)
   ]
+
+  -- so whatever it comes to
+  pub told_last : {Y : Type 0} (r : Result Y PublishFault) → TellsFound found b c r → TellsFound found a c r
+  told_last (Ok y) more = told_then more
+  told_last (Err fault) more = told_then_not fault more

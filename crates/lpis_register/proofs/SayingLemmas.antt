@@ -1,5 +1,5 @@
 -- From what tables show to what they say.
-use Rattle.std.proofs.Common.{◌≡◌, inl, inr, List, Result, Ok, Err, IfOk, IfErr, Vec, Global, subst}
+use Rattle.std.proofs.Common.{◌≡◌, inl, inr, Bool, List, Result, Ok, Err, IfOk, IfErr, Vec, Global, subst}
 use Rattle.sqlite.specs.declared.error.Error.{Error}
 use Rattle.sqlite.specs.Effect.{Database}
 use Rattle.lpis_register_rows.specs.Content.{StoredText}
@@ -11,7 +11,7 @@ use Rattle.lpis_register.proofs.Common.{Content, Entry, HasCleanDisk, IsFailure,
 use Rattle.lpis_register.proofs.ResultLemmas.{failure_lawful}
 use Rattle.lpis_register.specs.Saying.{SaysNoShapes, SaysNoTables, SaysShapes, SaysTables}
 use Rattle.lpis_register.specs.declared.opening.Loaded.{Loaded}
-use Rattle.lpis_register.specs.private.Finding.{SeesFound, SeesHistory, SeesNoHistory}
+use Rattle.lpis_register.specs.private.Finding.{IsTold, SeesFound, SeesHistory, SeesNoHistory, SeesTold}
 use Rattle.lpis_register.specs.declared.fault.PublishFault.TheVariants.{Unlawful}
 
 -- a failure shows nothing
@@ -52,17 +52,23 @@ abbrev pub SeesLoaded : Found → State → State → Result (Loaded × Version)
 SeesLoaded found = SeesFound (λ db (it : Loaded × Version). SaysTables found db it.1 it.0.history it.0.shapes.items) (SaysNoTables found)
 
 -- rows that say none are refused
-pub rows_refused : (found : Found) (a b : State) (e : PublishFault) → SeesFound (SeesHistory found) (SeesNoHistory found) a b (Err e) → SeesLoaded found a b (Err e)
+pub rows_refused : {X : Type 0} {Says : Database → X → Type 0} (found : Found) (a b : State) (e : PublishFault) → SeesFound (SeesHistory found) (SeesNoHistory found) a b (Err e)
+    → SeesFound Says (SaysNoTables found) a b (Err e)
 rows_refused found a b e sees = record {
   shows = record { ok = λ clean. tt };
   refuses = λ clean is. let no = sees.refuses clean is in (record { content = no.0.0; shown = no.0.1; none = inl no.0.2 }, no.1);
 }
 
+-- whether the shapes that are kept beside a history are these, and it is this one
+abbrev SeesKept : Found → Version → List Entry → List Entry → List Shape → State → State → Result Bool PublishFault → Type 0
+SeesKept found version told h shapes =
+    SeesFound (λ db is. (others : List Shape) × SaysShapes version found db told others × IsTold told h others shapes is) (λ db. SaysNoShapes version found db told)
+
 module _ (found : Found) (a b c : State) (h : List Entry) (version : Version) (one : SeesFound (SeesHistory found) (SeesNoHistory found) a b (Ok (h, version)))
     (clean : HasCleanDisk c → HasCleanDisk b) where
   -- so are texts of no such shapes
-  pub texts_refused : (e : PublishFault) → SeesFound {X = Vec Shape Global} (λ db shapes. SaysShapes version found db h shapes.items) (λ db. SaysNoShapes version found db h) b c (Err e)
-      → SeesLoaded found a c (Err e)
+  pub texts_refused : {X Y : Type 0} {Says : Database → X → Type 0} {SaysAlso : Database → Y → Type 0} (e : PublishFault) → SeesFound Says (λ db. SaysNoShapes version found db h) b c (Err e)
+      → SeesFound SaysAlso (SaysNoTables found) a c (Err e)
   texts_refused e two = record {
     shows = record { ok = λ late. tt };
     refuses = λ late is.
@@ -71,7 +77,21 @@ module _ (found : Found) (a b c : State) (h : List Entry) (version : Version) (o
         (record { content = rows.0.0; shown = rows.0.1; none = inr (version, h, rows.0.2, subst (λ db. SaysNoShapes version found db h) rows.1.0 no.0) }, stays_then a b c rows.1 no.1);
   }
 
-  -- and else both are said
+  -- and else it is told whether both are these
+  pub told_seen : (k : List Entry) (shapes : List Shape) (r : Result Bool PublishFault) → SeesKept found version h k shapes b c r → SeesTold found k shapes a c r
+  told_seen k shapes (Err e) two = texts_refused e two
+  told_seen k shapes (Ok is) two = record {
+    shows = record {
+      ok = λ late.
+          let rows = one.shows.ok (clean late) in
+          let kept = two.shows.ok late in
+          let keeps = subst (λ db. SaysShapes version found db h kept.0.0) rows.1.0 kept.0.1 in
+          ((version, h, kept.0.0, record { content = rows.0.0; shown = rows.0.1; says = rows.0.2; keeps = keeps }, kept.0.2), stays_then a b c rows.1 kept.1);
+    };
+    refuses = λ late. tt;
+  }
+
+  -- or both are said
   pub loaded_seen : (told : Loaded) → told.history ≡ h → SeesFound (λ db shapes. SaysShapes version found db h shapes.items) (λ db. SaysNoShapes version found db h) b c (Ok told.shapes)
       → SeesLoaded found a c (Ok (told, version))
   loaded_seen told same two = record {

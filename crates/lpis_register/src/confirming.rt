@@ -1,27 +1,26 @@
 //! What was written, read back inside its transaction.
 
-ghost use Rattle.std.specs.Prelude.{◌≡◌, ◌↔◌, true, IfErr, IfOk, IsTrue, OnOk};
+ghost use Rattle.std.specs.Prelude.{◌≡◌, true, IfErr, IfOk, IsTrue, List, OnOk};
 ghost use Rattle.sqlite.specs.Held.{state};
 ghost use Rattle.sqlite.specs.State.{HasCleanDisk, IsUnchanged};
 ghost use Rattle.lpis_lineage.specs.Order.{IsAscending};
-ghost use Rattle.lpis_register_rows.specs.Histories.{IsSameHistory};
-ghost use Rattle.lpis_register_rows.specs.Shapes.{shape_ids};
+ghost use Rattle.lpis_register_rows.specs.Shapes.{Shape, shape_ids};
 ghost use Rattle.lpis_register_rows.specs.declared.version.Version.TheVariants.{Third};
 ghost use Rattle.lpis_register_rows.specs.declared.version.Version.{Version as AnyVersion};
 ghost use Rattle.lpis_register_sql.specs.Presence.{is_any};
 ghost use Rattle.lpis_register_sql.specs.Within.{IsQuiet};
 ghost use Rattle.lpis_register.specs.Failing.{IsUnsaid};
 ghost use Rattle.lpis_register.specs.Faults.{IsOpeningFault, IsStoreFault};
-ghost use Rattle.lpis_register.specs.Saying.{SaysNoShapes, SaysNoTables, SaysShapes, SaysTables};
-ghost use Rattle.lpis_register.specs.private.Finding.{SeesFound, SeesHistory, SeesNoHistory};
-ghost use Rattle.lpis_register.specs.private.Finding.{TellsFound};
+ghost use Rattle.lpis_register.specs.Saying.{SaysNoShapes, SaysShapes, SaysTables};
+ghost use Rattle.lpis_register.specs.private.Finding.{IsTold, SeesFound, SeesHistory};
+ghost use Rattle.lpis_register.specs.private.Finding.{SeesNoHistory, SeesTold, TellsFound};
 ghost use Rattle.lpis_register.specs.declared.fault.PublishFault.TheVariants.{Memory, Store};
 ghost use Rattle.lpis_register.specs.declared.fault.PublishFault.TheVariants.{StoreMemory};
 
 use crate::comparing::{are_same_shapes, is_same_history};
 use crate::fault::PublishFault;
 use crate::finding::{history_at, shapes_at};
-use crate::opening::{Loaded, fault_of};
+use crate::opening::fault_of;
 use lpis_lineage::History;
 use lpis_register_rows::{Version, texts_keep_one_list_of_shapes};
 use lpis_register_sql::{Found, load_found_inside, load_texts_inside};
@@ -29,6 +28,7 @@ use lpis_rings::Polygon;
 use lpis_tables::Id;
 use sqlite::{Alter, Transaction};
 use std::alloc::Global;
+use std::mem::drop;
 
 /// The history that the tables say, and their version.
 fn history_inside<S: Alter>(
@@ -47,7 +47,7 @@ fn history_inside<S: Alter>(
         → OnOk result (IsTrue (state S.Store tx.old.conn.now).is_open) }
 {
     match load_found_inside(alloc, tx, found) {
-        Ok(rows) => history_at(alloc, &rows),
+        Ok(rows) => history_at(alloc, rows),
         Err(error) => Err(fault_of(error)),
     }
 }
@@ -100,36 +100,57 @@ fn shapes_inside<S: Alter>(
     }
 }
 
-/// What the tables say, and their version.
-fn told_inside<S: Alter>(
+/// Whether the history that the tables say is this one, and the shapes that they keep beside it are
+/// these. A history that is this one is let go before the texts are read.
+fn shapes_told<S: Alter>(
     alloc: Global,
     tx: &mut Transaction<'_, S>,
     found: &Found,
-) -> Result<(Loaded, Version), PublishFault>
+    version: Version,
+    told: History,
+    history: &History,
+    shapes: &[(Id, Polygon)],
+) -> Result<bool, PublishFault>
     ensures same_reference { tx.new.conn.ghost_name ≡ tx.old.conn.ghost_name }
     ensures quiet { IsQuiet (state S.Store tx.old.conn.now) (state S.Store tx.new.conn.now) }
     ensures tells { TellsFound found.now (state S.Store tx.old.conn.now)
         (state S.Store tx.new.conn.now) result }
-    ensures sees { SeesFound (λ db it. SaysTables found.now db it.1 it.0.history it.0.shapes.items)
-        (SaysNoTables found.now)
+    ensures sees { SeesFound (λ db is. (others : List Shape) × SaysShapes version found.now db told
+        others × IsTold told history.now others shapes.now is)
+        (λ db. SaysNoShapes version found.now db told)
         (state S.Store tx.old.conn.now) (state S.Store tx.new.conn.now) result }
+    ensures kinds { IfErr result IsOpeningFault }
+{
+    if is_same_history(&told, history) {
+        drop(told);
+        let others = shapes_inside(alloc, tx, found, version, history)?;
+        Ok(are_same_shapes(others.as_slice(), shapes))
+    } else {
+        let _others = shapes_inside(alloc, tx, found, version, &told)?;
+        Ok(false)
+    }
+}
+
+/// Whether the tables say this history, and keep these shapes.
+fn told_inside<S: Alter>(
+    alloc: Global,
+    tx: &mut Transaction<'_, S>,
+    found: &Found,
+    history: &History,
+    shapes: &[(Id, Polygon)],
+) -> Result<bool, PublishFault>
+    ensures same_reference { tx.new.conn.ghost_name ≡ tx.old.conn.ghost_name }
+    ensures quiet { IsQuiet (state S.Store tx.old.conn.now) (state S.Store tx.new.conn.now) }
+    ensures tells { TellsFound found.now (state S.Store tx.old.conn.now)
+        (state S.Store tx.new.conn.now) result }
+    ensures sees { SeesTold found.now history.now shapes.now (state S.Store tx.old.conn.now)
+        (state S.Store tx.new.conn.now) result }
     ensures kinds { IfErr result IsOpeningFault }
     ensures open { IsTrue found.now.years → HasCleanDisk (state S.Store tx.new.conn.now)
         → OnOk result (IsTrue (state S.Store tx.old.conn.now).is_open) }
 {
-    let (history, version) = history_inside(alloc, tx, found)?;
-    let shapes = shapes_inside(alloc, tx, found, version, &history)?;
-    Ok((Loaded { history, shapes }, version))
-}
-
-/// Whether this was told.
-fn is_told(told: &Loaded, history: &History, shapes: &[(Id, Polygon)]) -> bool
-    ensures equal { IsTrue result
-        ↔ ((told.now.history ≡ history.now) × (told.now.shapes.items ≡ shapes.now)) }
-    ensures alike { IsSameHistory told.now.history history.now
-        → told.now.shapes.items ≡ shapes.now → IsTrue result }
-{
-    is_same_history(&told.history, history) && are_same_shapes(told.shapes.as_slice(), shapes)
+    let (told, version) = history_inside(alloc, tx, found)?;
+    shapes_told(alloc, tx, found, version, told, history, shapes)
 }
 
 /// The fault of a publication of which the tables are not read back: want of memory is the
@@ -170,12 +191,9 @@ pub(crate) fn confirm<S: Alter>(
     if !found.years {
         return Err(PublishFault::Store);
     }
-    match told_inside(alloc, tx, found) {
-        Ok((told, _version)) => if is_told(&told, history, shapes) {
-            Ok(())
-        } else {
-            Err(PublishFault::Store)
-        },
+    match told_inside(alloc, tx, found, history, shapes) {
+        Ok(true) => Ok(()),
+        Ok(false) => Err(PublishFault::Store),
         Err(fault) => Err(fault_of_reading(fault)),
     }
 }

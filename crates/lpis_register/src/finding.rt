@@ -14,6 +14,7 @@ ghost use Rattle.lpis_register.specs.Saying.{SaysNoShapes, SaysNoTables, SaysSha
 ghost use Rattle.lpis_register.specs.private.Finding.{SeesFound};
 ghost use Rattle.lpis_register.specs.private.Finding.{SeesHistory};
 ghost use Rattle.lpis_register.specs.private.Finding.{SeesNoHistory, TellsFound};
+ghost use Rattle.lpis_register_rows.specs.declared.fault.RowsFault.TheVariants.{Unlawful as NoHistory};
 ghost use Rattle.lpis_register_rows.specs.declared.version.Version.TheVariants.{Third};
 ghost use Rattle.lpis_register.specs.declared.fault.PublishFault.TheVariants.{Store, Unlawful};
 
@@ -29,28 +30,29 @@ use lpis_tables::Id;
 use sqlite::{Alter, Connection};
 use std::alloc::Global;
 
+/// Why rows are not read.
+fn fault_of_rows(fault: RowsFault) -> PublishFault
+    ensures unlawful { result ≡ Unlawful → fault ≡ NoHistory }
+    ensures no_store { result ≢ Store }
+    ensures kind { IsOpeningFault result }
+{
+    match fault {
+        RowsFault::Memory => PublishFault::Memory,
+        RowsFault::Unlawful => PublishFault::Unlawful,
+    }
+}
+
 /// The history of rows, and their version.
-pub(crate) fn history_at(alloc: Global, rows: &Rows) -> Result<(History, Version), PublishFault>
-    ensures says { IfOk result (λ found. TablesHave found.1 rows.now found.0) }
+pub(crate) fn history_at(alloc: Global, rows: Rows) -> Result<(History, Version), PublishFault>
+    ensures says { IfOk result (λ found. TablesHave found.1 rows found.0) }
     ensures unlawful { IfErr result (λ e. e ≡ Unlawful → (version : _) (h : List Entry)
-        → TablesHave version rows.now h → ⊥) }
+        → TablesHave version rows h → ⊥) }
     ensures no_store { IfErr result (λ e. e ≢ Store) }
     ensures kinds { IfErr result IsOpeningFault }
 {
-    match history_of(alloc, rows, Version::Third) {
-        Ok(history) => return Ok((history, Version::Third)),
-        Err(RowsFault::Memory) => return Err(PublishFault::Memory),
-        Err(RowsFault::Unlawful) => {}
-    }
-    match history_of(alloc, rows, Version::Second) {
-        Ok(history) => return Ok((history, Version::Second)),
-        Err(RowsFault::Memory) => return Err(PublishFault::Memory),
-        Err(RowsFault::Unlawful) => {}
-    }
-    match history_of(alloc, rows, Version::First) {
-        Ok(history) => Ok((history, Version::First)),
-        Err(RowsFault::Memory) => Err(PublishFault::Memory),
-        Err(RowsFault::Unlawful) => Err(PublishFault::Unlawful),
+    match history_of(alloc, rows) {
+        Ok(told) => Ok(told),
+        Err(fault) => Err(fault_of_rows(fault)),
     }
 }
 
@@ -71,7 +73,7 @@ pub(crate) fn find_rows<S: Alter>(
         → OnOk result (IsTrue (state S.Store conn.old).is_open) }
 {
     match load_found(alloc, conn, found) {
-        Ok(rows) => history_at(alloc, &rows),
+        Ok(rows) => history_at(alloc, rows),
         Err(error) => Err(fault_of(error)),
     }
 }
@@ -91,8 +93,7 @@ pub(crate) fn shapes_at(
 {
     match shapes_of(alloc, texts, history) {
         Ok(shapes) => Ok(shapes),
-        Err(RowsFault::Memory) => Err(PublishFault::Memory),
-        Err(RowsFault::Unlawful) => Err(PublishFault::Unlawful),
+        Err(fault) => Err(fault_of_rows(fault)),
     }
 }
 

@@ -77,27 +77,29 @@ fn read_span(alloc: Global, row: &SpanRow) -> Result<KnownSpan, RowsFault>
 }
 
 /// The spans with their identifiers, ascending by them.
-pub(crate) fn read_spans(alloc: Global, rows: &[SpanRow]) -> Result<Vec<KnownSpan>, RowsFault>
-    ensures same { IfOk result (λ v. IsPermutation rows.now (map span_in v.items)) }
+pub(crate) fn read_spans(alloc: Global, rows: Vec<SpanRow>) -> Result<Vec<KnownSpan>, RowsFault>
+    ensures same { IfOk result (λ v. IsPermutation rows.items (map span_in v.items)) }
     ensures sorted { IfOk result (λ v. IsSortedByKey (λ (s : KnownSpan). s.id) (slice_cmp nat_cmp)
         v.items) }
     ensures ids { IfOk result (λ v. All (λ s. is_id s.id ≡ true) v.items) }
-    ensures refused { IfErr result (λ e. e ≡ Unlawful → All (λ s. is_id s.id ≡ true) rows.now → ⊥) }
+    ensures refused { IfErr result (λ e. e ≡ Unlawful → All (λ s. is_id s.id ≡ true) rows.items
+        → ⊥) }
 {
     let mut spans = known_spans(alloc, rows)?;
     sort(&mut spans);
     Ok(spans)
 }
 
-/// The spans with their identifiers, in their order.
-fn known_spans(alloc: Global, rows: &[SpanRow]) -> Result<Vec<KnownSpan>, RowsFault>
-    ensures same { IfOk result (λ v. map span_in v.items ≡ rows.now) }
+/// The spans with their identifiers, in their order. Each row is let go once it is read.
+fn known_spans(alloc: Global, rows: Vec<SpanRow>) -> Result<Vec<KnownSpan>, RowsFault>
+    ensures same { IfOk result (λ v. map span_in v.items ≡ rows.items) }
     ensures ids { IfOk result (λ v. All (λ s. is_id s.id ≡ true) v.items) }
-    ensures refused { IfErr result (λ e. e ≡ Unlawful → All (λ s. is_id s.id ≡ true) rows.now → ⊥) }
+    ensures refused { IfErr result (λ e. e ≡ Unlawful → All (λ s. is_id s.id ≡ true) rows.items
+        → ⊥) }
 {
-    let mut spans = Vec::new(alloc);
+    let mut spans = Vec::with_capacity(alloc, rows.len())?;
     for row in rows {
-        let span = read_span(alloc, row)?;
+        let span = read_span(alloc, &row)?;
         spans.push(span)?;
     }
     Ok(spans)

@@ -32,7 +32,7 @@ pub(crate) fn live_ids(alloc: Global, spans: &[KnownSpan], year: u16) -> Result<
     ensures { IfOk result (λ v. (id : List ℕ) → has_id v.items id ≡ list_any (λ s. same_id id s.id
         && covers (span_in s) year) spans.now) }
 {
-    let mut ids = Vec::new(alloc);
+    let mut ids = Vec::with_capacity(alloc, spans.len())?;
     for span in spans {
         if span.covers(year) {
             let id = span.id.copy()?;

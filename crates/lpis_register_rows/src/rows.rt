@@ -2,7 +2,9 @@
 
 ghost use Rattle.std.specs.Prelude.{◌≡◌, ◌↔◌, IsTrue, [], pos};
 
+use std::alloc::Global;
 use std::marker::Model;
+use std::mem::replace;
 
 /// A row of `lpis_format`.
 #[derive(Drop)]
@@ -202,11 +204,12 @@ impl Rows {
         self.years.as_slice()
     }
 
-    /// The rows of `lpis_span`.
-    pub(crate) fn spans(&self) -> &[SpanRow]
-        ensures { result.now ≡ self.now.spans }
+    /// The rows of `lpis_span`, taken out.
+    pub(crate) fn take_spans(&mut self, alloc: Global) -> Vec<SpanRow>
+        ensures taken { result.items ≡ self.old.spans }
+        ensures left { self.new ≡ record self.old { spans = [] } }
     {
-        self.spans.as_slice()
+        replace(&mut self.spans, Vec::new(alloc))
     }
 
     /// The rows of `lpis_row`.

@@ -1,7 +1,7 @@
 -- Reading tables inside a transaction, one after the other.
-use Rattle.std.proofs.Common.{drop, get_or, ◌+◌, ◌<◌, ◌≡◌, ◌≢◌, ◌⊎◌, ◌++◌, ◌∷◌, ◌∙◌, [], inl, inr, ℕ, List, Ok, Err, Result, IfOk, IfErr, IsTrue}
-use Rattle.std.proofs.Common.{IsErrAnd, OnOk, Vec, Global, ap, arith, length, map, refl, subst, sym, take}
-use Rattle.std.proofs.lemmas.List.{append_assoc, take-append-drop, take_more}
+use Rattle.std.proofs.Common.{◌≡◌, ◌≢◌, ◌⊎◌, ◌++◌, ◌∷◌, ◌∙◌, [], inl, inr, List, Ok, Err, Result, IfOk, IfErr, IsTrue}
+use Rattle.std.proofs.Common.{IsErrAnd, OnOk, Vec, Global, arith, length, map, refl, subst, sym, take}
+use Rattle.std.proofs.lemmas.List.{append_assoc}
 use Rattle.sqlite_value.specs.Order.{Row}
 use Rattle.sqlite.specs.Effect.{Database, Reads, ReadsFirst}
 use Rattle.sqlite.specs.Clock.{timed}
@@ -60,11 +60,6 @@ begun_by t a b rows front tail are h =
     let none = (plain_where t a.now.schema c h.1.is).0 in
     let got = subst (ShowsRows a b (query_of t) c (timed [] c.formats h.1.now) rows) none h.2 in
     (c, h.1, none, got.0, got.1, front_read c.command got.0 (timed [] c.formats h.1.now) front tail (subst (Reads c.command got.0 (timed [] c.formats h.1.now)) are got.2))
-
--- an item stands between those before it and those after
-pub around : {X : Type 0} (xs : List X) (i : ℕ) (d x : X) → i < length xs → x ≡ get_or xs i d → xs ≡ take i xs ++ x ∷ drop (i + 1) xs
-around xs i d x low is = sym (take-append-drop (i + 1) xs)
-    ∙ ap (λ l. l ++ drop (i + 1) xs) (take_more xs i d low ∙ ap (λ y. take i xs ++ y ∷ []) (sym is)) ∙ append_assoc (take i xs) (x ∷ []) (drop (i + 1) xs)
 
 -- a row that is not read
 pub item_misfit : {X : Type 0} (kinds : List ColumnKind) (rows before after : List Row) (row : Row) (e : Error) (r : Result X Error) → IsErrAnd r (λ x. x ≡ e) → rows ≡ before ++ row ∷ after

@@ -19,17 +19,17 @@ use lpis_register_rows::{FormatRow, LineRow, LiveRow, MarkRow, Rows, SpanRow, Te
 use sqlite::{Alter, Error, Row, Transaction};
 use std::alloc::Global;
 
-/// The rows of a table, of what its query showed.
-fn items_of<T: Stored>(alloc: Global, rows: &[Row]) -> Result<Vec<T>, Error>
-    ensures columns { IfOk result (λ all. map (take (length (kinds_of T.table))) rows.now
+/// The rows of a table, of what its query showed. Each row is let go once it is read.
+fn items_of<T: Stored>(alloc: Global, rows: Vec<Row>) -> Result<Vec<T>, Error>
+    ensures columns { IfOk result (λ all. map (take (length (kinds_of T.table))) rows.items
         ≡ map T.columns all.items) }
     ensures misfit { IfErr result (λ e. e ≢ SqliteFailure OutOfMemory → (before : List Values)
-        × (row : Values) × (after : List Values) × (rows.now ≡ before ++ row ∷ after)
+        × (row : Values) × (after : List Values) × (rows.items ≡ before ++ row ∷ after)
         × ¬ HasColumns (kinds_of T.table) row) }
 {
     let mut all = Vec::with_capacity(alloc, rows.len())?;
     for row in rows {
-        let item = T::read(row)?;
+        let item = T::read(&row)?;
         all.push(item)?;
     }
     Ok(all)
@@ -54,7 +54,7 @@ fn rows_inside<T: Stored, S: Alter>(
         return Ok(Vec::new(alloc));
     }
     let rows = tx.query_all(T::query(), &[])?;
-    items_of(alloc, rows.as_slice())
+    items_of(alloc, rows)
 }
 
 /// The versions that the tables tell, read inside a transaction.

@@ -32,6 +32,7 @@ use lpis_run_publish::{publish_accepted, refuse};
 use sqlite::Alter;
 use std::alloc::Global;
 use std::io::{Read, Write};
+use std::mem::drop;
 
 /// Publishes the country of regions that all passed, where the register lets it follow and these
 /// blocks show what its marked rows ask for. What is printed is in memory before.
@@ -67,7 +68,11 @@ fn publish_union<S: Alter>(
         text,
     } = country;
     match register.accept_country(year, &parcels, lineage.rows.as_slice(), cert) {
-        Ok(accepted) => publish_accepted(alloc, register, year, text, accepted),
+        Ok(accepted) => {
+            // What is accepted has copies of their shapes.
+            drop(parcels);
+            publish_accepted(alloc, register, year, text, accepted)
+        }
         Err(PublishFault::Memory) => Err(Failure::Memory),
         Err(fault) => {
             let counts = lineage.counts.as_slice();

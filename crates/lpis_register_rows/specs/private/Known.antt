@@ -15,7 +15,15 @@ use Rattle.lpis_register_rows.specs.declared.known.KnownLine.{KnownLine}
 use Rattle.lpis_register_rows.specs.Content.{Line, Live, StoredSpan, successor_text}
 use Rattle.lpis_register_rows.specs.Histories.{last_of_years}
 use Rattle.lpis_register_rows.specs.Shapes.{Shape}
+use Rattle.lpis_register_rows.specs.declared.version.Version.{Version}
+use Rattle.lpis_register_rows.specs.declared.version.Version.TheVariants.{First, Second, Third}
 use Rattle.lpis_register_rows.specs.private.Covering.{covers}
+
+-- the number of a version, which the row of `lpis_format` tells
+abbrev pub number_of : Version → ℕ
+number_of First = 1
+number_of Second = 2
+number_of Third = 3
 
 abbrev pub span_in : KnownSpan → StoredSpan
 span_in s = record { id = s.id; since = s.since; until = s.until }

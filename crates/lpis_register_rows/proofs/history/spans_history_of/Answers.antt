@@ -11,7 +11,7 @@ pub returns-clause-ok : goal.returns-clause-ok
 returns-clause-ok c =
     let h = c.in_ok-history.history in
     let read : Content = record c.args.rows.now { spans = map span_in c.in_ok-spans.spans.items } in
-    spans-told read c.args.rows.now.spans h (IsPermutation-sym c.args.rows.now.spans _ (rw c.spans.ensures at c.in_ok-spans.ensures.same))
+    spans-told read c.args.spans.items h (IsPermutation-sym c.args.spans.items _ c.in_ok-spans.ensures.same)
     (rows-say-history c.args.version c.args.marks.now read h c.in_ok-years.years.items c.in_ok-spans.spans.items c.in_ok-lines.lines.items c.releases.ensures.lawful c.releases.ensures.fits
     (recursion_from_All (λ (y : ℕ). y ≤ last_of_years) c.in_ok-years.years.items c.in_ok-years.ensures.small)
     (sym c.formats.ensures ∙ c.has_version.ensures.0 c.if-not-has_version.false)
@@ -37,7 +37,7 @@ pub returns-in_err-spans-clause-unlawful : goal.returns-in_err-spans-clause-unla
 returns-in_err-spans-clause-unlawful c =
     let p = err_from_is_err_and c.from_residual-in_err-spans.result c.from_residual-in_err-spans.ensures.1 in
     rw (p.1, p.2)
-    (λ e h t. c.in_err-spans.ensures.refused e (rw c.spans.ensures (told-ids h c.args.rows.now.spans t.kept t.spans_are)))
+    (λ e h t. c.in_err-spans.ensures.refused e (told-ids h c.args.spans.items t.kept t.spans_are))
 
 pub returns-in_err-lines-clause-unlawful : goal.returns-in_err-lines-clause-unlawful
 returns-in_err-lines-clause-unlawful c =
@@ -46,7 +46,7 @@ returns-in_err-lines-clause-unlawful c =
 
 pub returns-then-not-ascend-clause-unlawful : goal.returns-then-not-ascend-clause-unlawful
 returns-then-not-ascend-clause-unlawful c = λ _ h t.
-    let u = spans-told c.args.rows.now (map span_in c.in_ok-spans.spans.items) h (rw c.spans.ensures at c.in_ok-spans.ensures.same) t in
+    let u = spans-told (record c.args.rows.now { spans = c.args.spans.items }) (map span_in c.in_ok-spans.spans.items) h c.in_ok-spans.ensures.same t in
     no-both c.ascend.result (c.ascend.ensures.1 (rw c.as_slice.ensures.value
     (spans-ascend c.in_ok-spans.spans.items c.in_ok-spans.ensures.sorted (told-few h c.in_ok-spans.spans.items _ refl u.spans_are)))) c.if-not-ascend.true
 
@@ -54,7 +54,7 @@ pub returns-in_err-history-clause-unlawful : goal.returns-in_err-history-clause-
 returns-in_err-history-clause-unlawful c =
     let p = err_from_is_err_and c.from_residual-in_err-history.result c.from_residual-in_err-history.ensures.1 in
     rw (p.1, p.2) (λ e h t.
-    let u = spans-told c.args.rows.now (map span_in c.in_ok-spans.spans.items) h (rw c.spans.ensures at c.in_ok-spans.ensures.same) t in
+    let u = spans-told (record c.args.rows.now { spans = c.args.spans.items }) (map span_in c.in_ok-spans.spans.items) h c.in_ok-spans.ensures.same t in
     let said = told-said (record c.args.rows.now { spans = map span_in c.in_ok-spans.spans.items }) h c.in_ok-spans.spans.items c.in_ok-lines.lines.items u refl
     (c.in_ok-lines.ensures.told h t.kept (rw c.lines.ensures t.lines_are) t.marks_are) in
     let years = told-sorted-years h c.args.rows.now.years c.in_ok-years.years.items t.kept c.in_ok-years.ensures.sorted
@@ -64,7 +64,7 @@ returns-in_err-history-clause-unlawful c =
 
 pub returns-then-not-are_told-clause-unlawful : goal.returns-then-not-are_told-clause-unlawful
 returns-then-not-are_told-clause-unlawful c = λ _ h t.
-    let u = spans-told c.args.rows.now (map span_in c.in_ok-spans.spans.items) h (rw c.spans.ensures at c.in_ok-spans.ensures.same) t in
+    let u = spans-told (record c.args.rows.now { spans = c.args.spans.items }) (map span_in c.in_ok-spans.spans.items) h c.in_ok-spans.ensures.same t in
     let said = told-said (record c.args.rows.now { spans = map span_in c.in_ok-spans.spans.items }) h c.in_ok-spans.spans.items c.in_ok-lines.lines.items u refl
     (c.in_ok-lines.ensures.told h t.kept (rw c.lines.ensures t.lines_are) t.marks_are) in
     let years = told-sorted-years h c.args.rows.now.years c.in_ok-years.years.items t.kept c.in_ok-years.ensures.sorted

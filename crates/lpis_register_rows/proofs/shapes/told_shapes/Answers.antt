@@ -1,20 +1,13 @@
-use Rattle.std.proofs.Common.{◌≡◌, ◌∙◌, ◌++◌, ◌∷◌, [], List, ap, append-nil, append_assoc, arith, length, refl, rules, subst, sym}
+use Rattle.std.proofs.Common.{◌≡◌, ◌∙◌, ◌++◌, ◌∷◌, [], List, ap, arith, length, refl, rules, subst, sym}
 use Rattle.std.specs.List.{AllZip}
 use Rattle.std.specs.Vec.Iter.{into_iter_items, into_iter_len}
 use Rattle.lpis_register_rows.proofs.Common.{err_from_is_err_and, AllByRecursion}
 use Rattle.lpis_register_rows.proofs.ShapeLemmas.{all-push, zip-among, zip-push}
+use Rattle.lpis_register_rows.proofs.TakingLemmas.{all_read, one_read}
 use Rattle.lpis_register_rows.specs.Content.{StoredText}
 use Rattle.lpis_register_rows.specs.Shapes.{IsTextOfShape}
 use Rattle.lpis_register_rows.specs.private.Known.{HasId}
 use Rattle.lpis_register_rows.proofs.shapes.told_shapes.Goals as goal
-
-nothing_left : {X : Type 0} (l : List X) → length l ≡ 0 → l ≡ []
-nothing_left [] h = refl
-nothing_left (x ∷ xs) h = absurd (omega arith)
-
--- what is left of a list once one more is read
-one_read : (read left next all : List StoredText) (x : StoredText) → left ≡ x ∷ next → read ++ left ≡ all → (read ++ x ∷ []) ++ next ≡ all
-one_read read left next all x steps so_far = append_assoc read (x ∷ []) next ∙ ap (λ l. read ++ l) (sym steps) ∙ so_far
 
 pub loop-text-init : goal.loop-text-init
 loop-text-init c =
@@ -57,7 +50,6 @@ pub returns-clause-spelled : goal.returns-clause-spelled
 returns-clause-spelled c =
     let at = c.loop-text in
     let inv = at.invariant.0 in
-    let none = c.in-None.ensures.steps in
-    let empty : into_iter_items at.text-iterator ≡ [] = nothing_left _ (sym at.invariant.2 ∙ none.0) in
-    let whole : inv.0 ≡ c.args.texts.items = sym (append-nil inv.0) ∙ rw empty at inv.1 ∙ c.into_iter-text-iterator.ensures.into_iter_gives.0 in
+    let whole : inv.0 ≡ c.args.texts.items =
+    all_read inv.0 _ _ (sym at.invariant.2 ∙ c.in-None.ensures.steps.0) inv.1 ∙ c.into_iter-text-iterator.ensures.into_iter_gives.0 in
     subst (λ (l : List StoredText). AllZip IsTextOfShape l at.shapes.items) whole inv.2

@@ -25,7 +25,7 @@ pub returns-clause-tells : goal.returns-clause-tells
 returns-clause-tells g c =
     let read : is_read c.args.found.now g.T.Stored.table ≡ true = sym c.was_found.ensures ∙ c.if-not-was_found.false in
     items_told c.args.found.now g.T.Stored.table read (state g.S.Store c.args.tx.now.conn.now) (state g.S.Store c.query_all.new.self.conn.now) c.in_ok-rows.rows.items c.items_of.result
-    (rw c.query.ensures at c.in_ok-rows.ensures.ok) (rw c.as_slice.ensures.value at c.items_of.ensures.misfit)
+    (rw c.query.ensures at c.in_ok-rows.ensures.ok) c.items_of.ensures.misfit
 
 pub returns-clause-shows : goal.returns-clause-shows
 returns-clause-shows g c =
@@ -34,7 +34,7 @@ returns-clause-shows g c =
     let read : is_read c.args.found.now g.T.Stored.table ≡ true = sym c.was_found.ensures ∙ c.if-not-was_found.false in
     found_shown (is_read c.args.found.now g.T.Stored.table) g.T.Stored.table g.T.Stored.columns a b c.items_of.result read
     (items_shown c.args.found.now g.T.Stored.table read a b g.T.Stored.columns c.in_ok-rows.rows.items c.items_of.result
-    (rw c.query.ensures at c.in_ok-rows.ensures.ok) (rw c.as_slice.ensures.value at c.items_of.ensures.columns))
+    (rw c.query.ensures at c.in_ok-rows.ensures.ok) c.items_of.ensures.columns)
 
 pub returns-clause-open : goal.returns-clause-open
 returns-clause-open g c there =
