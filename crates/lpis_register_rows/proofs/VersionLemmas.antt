@@ -30,4 +30,6 @@ one_version Third Second e = absurd (omega (arith, e))
 
 -- so a history that tables say is said as the version that they tell
 pub told_once : (v version : Version) (c : Content) (h : List Entry) → c.formats ≡ only_format (number_of v) → TablesHave version c h → TablesHave v c h
-told_once v version c h is t = subst (λ (w : Version). TablesHave w c h) (one_version version v (let same : pos (number_of version) ≡ pos (number_of v) = ap version_in (sym (told_formats version c h t) ∙ is) in cc)) t
+told_once v version c h is t =
+    let same : pos (number_of version) ≡ pos (number_of v) = ap version_in (sym (told_formats version c h t) ∙ is) in
+    subst (λ (w : Version). TablesHave w c h) (one_version version v cc) t
