@@ -86,31 +86,6 @@ def before():
     return [os.path.realpath(os.environ["BEFORE"])] if "BEFORE" in os.environ else []
 
 
-def proved(folder, name, source, uses, words=()):
-    """The path of a small program of bench/, proved and built in a folder over copies of the crates that it stands on, with what
-    earlier checks kept in their out/. The words are for its first run, in which rt links it."""
-    with open(os.path.join(TOP, "crates.txt"), encoding="utf-8") as file:
-        lines = dict(line.split(":", 1) for line in file if ":" in line)
-    needed = [crate for crate in uses if crate in lines]
-    for crate in needed:
-        needed += [it for it in lines[crate].split() if it in lines and it not in needed]
-    crates = os.path.join(folder, "crates")
-    for crate in needed:
-        shutil.copytree(os.path.join(TOP, "crates", crate), os.path.join(crates, crate))
-    os.makedirs(os.path.join(crates, name, "src"))
-    shutil.copy(os.path.join(HERE, source), os.path.join(crates, name, "src", "main.rt"))
-    shutil.copy(os.path.join(TOP, "HANDLES"), folder)
-    with open(os.path.join(folder, "crates.txt"), "w", encoding="utf-8") as file:
-        file.writelines([f"{crate}:{lines[crate]}" for crate in needed] + [f"{name}: {' '.join(uses)}\n"])
-    print(f"proving and building {name} ..", file=sys.stderr, flush=True)
-    rt = shutil.which("rt") or "/opt/rattle/bin/rt"
-    _, *said = answer([rt, "run", "--", *words], os.path.join(crates, name))
-    path = os.path.join(crates, name, "out", name)
-    if not os.path.exists(path):
-        sys.exit("".join(said))
-    return path
-
-
 # Runs.
 
 # A run's peak counts that of the process that starts it, so a small one does: a floor of about 10 MB.
