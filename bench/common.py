@@ -20,7 +20,7 @@ import textwrap
 HERE = os.path.dirname(os.path.realpath(__file__))
 TOP = os.path.dirname(HERE)
 HELPERS = os.path.join(TOP, "tests", "helpers")  # what tests and benches share: registers, years, lands
-sys.path.append(HELPERS)
+sys.path += [HELPERS, os.path.join(TOP, "tools")]
 MEGABYTE = 1_000_000
 RUNS, WIDTH, MOST_FAULTS = 3, 120, 20
 IN_MEMORY = "/dev/shm" if os.access("/dev/shm", os.W_OK) else None  # a folder for files that are written and synced often
@@ -39,6 +39,12 @@ def options(*flags, words=""):
         print(sys.modules["__main__"].__doc__)
         sys.exit(0 if others[0] in ("-h", "--help") else 2)
     return *(flag in given for flag in flags), others
+
+
+def sized(sizes, of_few):
+    """Whether --few is on the command line, and the sizes that are; where none is, these."""
+    few, words = options("--few", words="SIZE")
+    return few, sorted(int(word.replace(",", "")) for word in words) or (of_few if few else sizes)
 
 
 def temporary(where=None):
@@ -168,24 +174,21 @@ def has_postgis(database):
     return dropped(database) and answer(psql("postgres", f"create database {database}"))[0] == 0 and answer(psql(database, "create extension postgis"))[0] == 0
 
 
-def best(words, runs=RUNS, folder=None):
-    """The least seconds and the greatest peak of some runs that have to end well and to print the same."""
-    return bests([words], runs, folder)[0]
+def in_turns(works, runs=RUNS):
+    """The best run of each of some works, which take turns, since a machine is not as quick in each minute."""
+    turns = [[work() for work in works] for _ in range(runs)]
+    return [least(made) for made in zip(*turns)]
 
 
-def bests(commands, runs=RUNS, folder=None):
-    """The same of some commands that are held against one another: they take turns, since a machine is not as quick in each minute."""
-    turns = [[done(words, folder) for words in commands] for _ in range(runs)]
-    found = []
-    for words, made in zip(commands, zip(*turns)):
-        if len({it.text for it in made}) != 1:
-            sys.exit(f"{' '.join(map(str, words))}: the runs print different texts")
-        found.append(least(made))
-    return found
+def bests(commands):
+    """The best run of each of some commands, which have to end well."""
+    return in_turns([functools.partial(done, words) for words in commands])
 
 
 def least(runs):
-    """The least seconds and the greatest peak of runs of one command."""
+    """The least seconds and the greatest peak of runs of one command, which have to print the same."""
+    if len({it.text for it in runs}) != 1:
+        sys.exit(f"the runs print different texts: {[it.text[-200:] for it in runs]}")
     return runs[0]._replace(seconds=min(it.seconds for it in runs), wall=min(it.wall for it in runs), peak=max(it.peak for it in runs))
 
 
@@ -244,6 +247,11 @@ def megabytes(value):
     return f"{value / MEGABYTE:.1f} MB"
 
 
+def both(run):
+    """Seconds of wall, and of the processor in brackets."""
+    return f"{run.wall:.2f} s ({run.seconds:.2f})"
+
+
 def counted(passed, failed):
     """The last line of a bench that judges answers; answers its status."""
     print(f"{passed} passed, {failed} failed")
@@ -259,26 +267,6 @@ def side_by_side(judged, numbers, answers):
             yield *found, faults
             if answers.failed == MOST_FAULTS:
                 return
-
-
-def shares(words, steps):
-    """Where `perf` is there, the share of each step in the samples of one run, as a text: a step lasts from its first sample to that of the
-    next. A step is a name with words, of which its first sample has one."""
-    if not shutil.which("perf"):
-        return "not measured, there is no `perf`"
-    with temporary() as folder:
-        data = os.path.join(folder, "perf.data")
-        status, _, told = answer(["perf", "record", "-q", "-F", "4999", "-o", data, *words])
-        if status != 0:
-            return f"not measured, `perf` ended with {status}: {(told.strip().splitlines() or ['?'])[-1][:100]}"
-        _, script, _ = answer(["perf", "script", "-i", data, "-F", "ip,sym"])
-    samples = [line for line in script.splitlines() if line.strip()]
-    step, counts = 0, [0] * len(steps)
-    for sample in samples:
-        while step + 1 < len(steps) and any(word in sample for word in steps[step + 1][1]):
-            step += 1
-        counts[step] += 1
-    return ", ".join(f"{name} {100 * count / max(1, len(samples)):.0f}" for (name, _), count in zip(steps, counts)) + " of 100"
 
 
 class Answers:
