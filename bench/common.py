@@ -10,6 +10,7 @@ import functools
 import json
 import multiprocessing
 import os
+import random
 import resource
 import shutil
 import subprocess
@@ -267,6 +268,27 @@ def side_by_side(judged, numbers, answers):
             yield *found, faults
             if answers.failed == MOST_FAULTS:
                 return
+
+
+class Judge:
+    """Answers of the program about the years of a number, held against what is true. Each call of `wrong` is a fault."""
+
+    def __init__(self, name, number, folder):
+        self.name, self.folder, self.faults, self.numbers = name, folder, [], random.Random(-1 - number)
+        self.register, self.copies = self.path("years.db"), 0
+
+    def path(self, *names):
+        return os.path.join(self.folder, *names)
+
+    def wrong(self, what, found, wanted):
+        self.faults.append(f"{self.name}: {what}: {found!r} in place of {wanted!r}")
+
+    def cut(self, folder):
+        """Writes the certificate of a release into its folder; whether there is one."""
+        status, text, told = answer([lpis(), "cut", folder, os.path.join(folder, CERT)])
+        if status != 0:
+            self.wrong(f"cut of {folder}", text + told, "a certificate")
+        return status == 0
 
 
 class Answers:
