@@ -1,4 +1,4 @@
-"""What is known of a built program, and where it is put: imported by `dev/carry`, `dev/carried`, `dev/package`, `dev/page` and `dev/wheels.py`."""
+"""What is known of a built program, and where it is put: imported by `dev/carry`, `dev/carried`, `dev/lint`, `dev/package` and `dev/wheels.py`."""
 
 import hashlib
 import os
@@ -12,6 +12,7 @@ CARRIED = TOP / "program" / "lpis"  # for those who have no kit
 BUILT = TOP / "out" / "program" / "lpis"  # by ./lpis build
 LINKED = TOP / "crates" / "lpis" / "out" / "lpis"  # by rt itself
 RUN = TOP / "tools" / "run.sh"
+RELEASE_BYTES = 7_000_000  # the most that release/ may have
 
 
 def output(*words, folder=TOP):
