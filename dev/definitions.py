@@ -23,11 +23,11 @@ class Node:
 
 
 class Definition(Node):
-    """A definition of a file of specs/, with the number of its lines, its comment among them."""
+    """A definition of a file of specs/."""
 
     def __init__(self, spec, name):
         super().__init__(spec.crate, f"{spec.key}.{name}")
-        self.spec, self.name, self.lines, self.comment, self.text, self.head = spec, name, 0, "", "", ""
+        self.spec, self.name, self.comment, self.text, self.head = spec, name, "", "", ""
         self.written = []  # its lines as they stand, its comment among them
 
     def law(self):
@@ -65,7 +65,7 @@ class Spec:
         return re.split(r"\.(?:\s|$)", self.head, maxsplit=1)[0]
 
     def read(self, lines):
-        """A definition within a module of parameters has the module's head, whose lines count for the first of them."""
+        """A definition within a module of parameters has the module's head."""
         comment, current, head, is_open, edge = [], None, "", False, ""
         for line in lines:
             if line.startswith("module ") or is_open:
@@ -80,10 +80,7 @@ class Spec:
             elif line.strip() and not re.match(r"(pub )?(use|mod|infix[lr]?)\b", line):
                 if not re.match(r"[\s(}]", line):
                     current = self.define(line)
-                    if head and current.head != head:
-                        current.head = head
-                        current.lines += 0 if any(it.head == head for it in self.definitions.values() if it is not current) else head.count("\n")
-                current.lines += 1 + len(comment)
+                    current.head = head or current.head
                 current.comment += " ".join(line[2:].strip() for line in comment)
                 current.text += line + "\n"
                 current.written += [*comment, line]
