@@ -160,6 +160,12 @@ def done(words, folder=None):
     return found
 
 
+def counts_in(text):
+    """What a program counted: names and numbers, in turn."""
+    words = text.split()
+    return dict(zip(words[::2], map(int, words[1::2])))
+
+
 def psql(database, *statements):
     """The words by which psql has statements done in a database."""
     return ["psql", "-X", "-q", "-A", "-t", "-v", "ON_ERROR_STOP=1", "-d", database, *(word for statement in statements for word in ("-c", statement))]
