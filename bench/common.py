@@ -66,10 +66,10 @@ def compiled(folder, name):
     return program
 
 
-def certified(size, folder, kind="straight"):
-    """A release of so many parcels with T-junctions and holes, or of another kind, and its certificate; what `lpis cut` printed."""
-    make("make_parcels.py", size, folder, kind)
-    return done([lpis(), "cut", folder, os.path.join(folder, CERT)]).text
+def certified(size, folder):
+    """A release of so many parcels with T-junctions and holes, and its certificate."""
+    make("make_parcels.py", size, folder, "straight")
+    done([lpis(), "cut", folder, os.path.join(folder, CERT)])
 
 
 def bytes_of(folder, names):
@@ -146,9 +146,9 @@ def run(words, folder=None, limits=(), wall=None):
     return Run(status, *texts, *rest)
 
 
-def answer(words, folder=None):
+def answer(words):
     """Status, standard output and standard error of a run of which no figure is wanted: it starts sooner."""
-    found = subprocess.run([str(word) for word in words], cwd=folder, stdin=subprocess.DEVNULL, capture_output=True, text=True, check=False)
+    found = subprocess.run([str(word) for word in words], stdin=subprocess.DEVNULL, capture_output=True, text=True, check=False)
     return found.returncode, found.stdout, found.stderr
 
 
@@ -236,8 +236,8 @@ class Wanted:
         """The text says what was got, which stands in place of its braces."""
         self.judged(round(got, places) <= most, f"{most} or less", got, text, places)
 
-    def least(self, least, got, text, places=1):
-        self.judged(round(got, places) >= least, f"{least} or more", got, text, places)
+    def least(self, least, got, text):
+        self.judged(round(got, 1) >= least, f"{least} or more", got, text, 1)
 
     def judged(self, is_met, wanted, got, text, places):
         self.line(f"{text.format(f'{got:.{places}f}')} (wanted: {wanted}{'' if is_met else '; not met'})")
