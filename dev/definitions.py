@@ -3,12 +3,11 @@
 What the promises of the program (roots.py) lead to is to be believed. What only other promises lead to is between crates: it is proved, and in no page."""
 
 import re
-from pathlib import Path
 
 import roots
+from facts import TOP, crates
 from modules import NAME, Module, Scope, closing, items, without_generics
 
-TOP = Path(__file__).resolve().parent.parent
 WORD = re.compile(rf"(\.)?({NAME})(?:\.({NAME}))?(\s*=(?![=>]))?")
 
 
@@ -209,10 +208,7 @@ class Trust:
     """All crates, and what each name leads to."""
 
     def __init__(self):
-        self.crates = {}
-        for line in (TOP / "crates.txt").read_text(encoding="utf-8").split("\n"):
-            if match := re.match(r"(\w+)[^#:]*:", line):
-                self.crates[match.group(1)] = Crate(match.group(1))
+        self.crates = {name: Crate(name) for name in crates()}
         self.faults = []
         promises = [node for crate in self.crates.values() for node in crate.nodes.values() if node.is_promise]
         self.proved = self.follow(promises)
