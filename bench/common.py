@@ -10,6 +10,7 @@ import functools
 import json
 import multiprocessing
 import os
+import random
 import resource
 import shutil
 import subprocess
@@ -20,7 +21,7 @@ import textwrap
 HERE = os.path.dirname(os.path.realpath(__file__))
 TOP = os.path.dirname(HERE)
 HELPERS = os.path.join(TOP, "tests", "helpers")  # what tests and benches share: registers, years, lands
-sys.path.append(HELPERS)
+sys.path += [HELPERS, os.path.join(TOP, "tools")]
 MEGABYTE = 1_000_000
 RUNS, WIDTH, MOST_FAULTS = 3, 120, 20
 IN_MEMORY = "/dev/shm" if os.access("/dev/shm", os.W_OK) else None  # a folder for files that are written and synced often
@@ -41,6 +42,12 @@ def options(*flags, words=""):
     return *(flag in given for flag in flags), others
 
 
+def sized(sizes, of_few):
+    """Whether --few is on the command line, and the sizes that are; where none is, these."""
+    few, words = options("--few", words="SIZE")
+    return few, sorted(int(word.replace(",", "")) for word in words) or (of_few if few else sizes)
+
+
 def temporary(where=None):
     """A folder that is gone at the end of a `with`."""
     return tempfile.TemporaryDirectory(prefix="lpis-bench-", dir=where)
@@ -59,10 +66,10 @@ def compiled(folder, name):
     return program
 
 
-def certified(size, folder, kind="straight"):
-    """A release of so many parcels with T-junctions and holes, or of another kind, and its certificate; what `lpis cut` printed."""
-    make("make_parcels.py", size, folder, kind)
-    return done([lpis(), "cut", folder, os.path.join(folder, CERT)]).text
+def certified(size, folder):
+    """A release of so many parcels with T-junctions and holes, and its certificate."""
+    make("make_parcels.py", size, folder, "straight")
+    done([lpis(), "cut", folder, os.path.join(folder, CERT)])
 
 
 def bytes_of(folder, names):
@@ -84,31 +91,6 @@ def lpis():
 def before():
     """The words that begin a command of the earlier program, or none where no such program is named."""
     return [os.path.realpath(os.environ["BEFORE"])] if "BEFORE" in os.environ else []
-
-
-def proved(folder, name, source, uses, words=()):
-    """The path of a small program of bench/, proved and built in a folder over copies of the crates that it stands on, with what
-    earlier checks kept in their out/. The words are for its first run, in which rt links it."""
-    with open(os.path.join(TOP, "crates.txt"), encoding="utf-8") as file:
-        lines = dict(line.split(":", 1) for line in file if ":" in line)
-    needed = [crate for crate in uses if crate in lines]
-    for crate in needed:
-        needed += [it for it in lines[crate].split() if it in lines and it not in needed]
-    crates = os.path.join(folder, "crates")
-    for crate in needed:
-        shutil.copytree(os.path.join(TOP, "crates", crate), os.path.join(crates, crate))
-    os.makedirs(os.path.join(crates, name, "src"))
-    shutil.copy(os.path.join(HERE, source), os.path.join(crates, name, "src", "main.rt"))
-    shutil.copy(os.path.join(TOP, "HANDLES"), folder)
-    with open(os.path.join(folder, "crates.txt"), "w", encoding="utf-8") as file:
-        file.writelines([f"{crate}:{lines[crate]}" for crate in needed] + [f"{name}: {' '.join(uses)}\n"])
-    print(f"proving and building {name} ..", file=sys.stderr, flush=True)
-    rt = shutil.which("rt") or "/opt/rattle/bin/rt"
-    _, *said = answer([rt, "run", "--", *words], os.path.join(crates, name))
-    path = os.path.join(crates, name, "out", name)
-    if not os.path.exists(path):
-        sys.exit("".join(said))
-    return path
 
 
 # Runs.
@@ -164,9 +146,9 @@ def run(words, folder=None, limits=(), wall=None):
     return Run(status, *texts, *rest)
 
 
-def answer(words, folder=None):
+def answer(words):
     """Status, standard output and standard error of a run of which no figure is wanted: it starts sooner."""
-    found = subprocess.run([str(word) for word in words], cwd=folder, stdin=subprocess.DEVNULL, capture_output=True, text=True, check=False)
+    found = subprocess.run([str(word) for word in words], stdin=subprocess.DEVNULL, capture_output=True, text=True, check=False)
     return found.returncode, found.stdout, found.stderr
 
 
@@ -176,6 +158,12 @@ def done(words, folder=None):
     if found.status != 0:
         sys.exit(f"{' '.join(map(str, words))}: status {found.status}: {(found.text + found.told)[-300:]}")
     return found
+
+
+def counts_in(text):
+    """What a program counted: names and numbers, in turn."""
+    words = text.split()
+    return dict(zip(words[::2], map(int, words[1::2])))
 
 
 def psql(database, *statements):
@@ -193,24 +181,21 @@ def has_postgis(database):
     return dropped(database) and answer(psql("postgres", f"create database {database}"))[0] == 0 and answer(psql(database, "create extension postgis"))[0] == 0
 
 
-def best(words, runs=RUNS, folder=None):
-    """The least seconds and the greatest peak of some runs that have to end well and to print the same."""
-    return bests([words], runs, folder)[0]
+def in_turns(works, runs=RUNS):
+    """The best run of each of some works, which take turns, since a machine is not as quick in each minute."""
+    turns = [[work() for work in works] for _ in range(runs)]
+    return [least(made) for made in zip(*turns)]
 
 
-def bests(commands, runs=RUNS, folder=None):
-    """The same of some commands that are held against one another: they take turns, since a machine is not as quick in each minute."""
-    turns = [[done(words, folder) for words in commands] for _ in range(runs)]
-    found = []
-    for words, made in zip(commands, zip(*turns)):
-        if len({it.text for it in made}) != 1:
-            sys.exit(f"{' '.join(map(str, words))}: the runs print different texts")
-        found.append(least(made))
-    return found
+def bests(commands):
+    """The best run of each of some commands, which have to end well."""
+    return in_turns([functools.partial(done, words) for words in commands])
 
 
 def least(runs):
-    """The least seconds and the greatest peak of runs of one command."""
+    """The least seconds and the greatest peak of runs of one command, which have to print the same."""
+    if len({it.text for it in runs}) != 1:
+        sys.exit(f"the runs print different texts: {[it.text[-200:] for it in runs]}")
     return runs[0]._replace(seconds=min(it.seconds for it in runs), wall=min(it.wall for it in runs), peak=max(it.peak for it in runs))
 
 
@@ -251,8 +236,8 @@ class Wanted:
         """The text says what was got, which stands in place of its braces."""
         self.judged(round(got, places) <= most, f"{most} or less", got, text, places)
 
-    def least(self, least, got, text, places=1):
-        self.judged(round(got, places) >= least, f"{least} or more", got, text, places)
+    def least(self, least, got, text):
+        self.judged(round(got, 1) >= least, f"{least} or more", got, text, 1)
 
     def judged(self, is_met, wanted, got, text, places):
         self.line(f"{text.format(f'{got:.{places}f}')} (wanted: {wanted}{'' if is_met else '; not met'})")
@@ -267,6 +252,11 @@ def seconds(value):
 
 def megabytes(value):
     return f"{value / MEGABYTE:.1f} MB"
+
+
+def both(run):
+    """Seconds of wall, and of the processor in brackets."""
+    return f"{run.wall:.2f} s ({run.seconds:.2f})"
 
 
 def counted(passed, failed):
@@ -286,24 +276,25 @@ def side_by_side(judged, numbers, answers):
                 return
 
 
-def shares(words, steps):
-    """Where `perf` is there, the share of each step in the samples of one run, as a text: a step lasts from its first sample to that of the
-    next. A step is a name with words, of which its first sample has one."""
-    if not shutil.which("perf"):
-        return "not measured, there is no `perf`"
-    with temporary() as folder:
-        data = os.path.join(folder, "perf.data")
-        status, _, told = answer(["perf", "record", "-q", "-F", "4999", "-o", data, *words])
+class Judge:
+    """Answers of the program about the years of a number, held against what is true. Each call of `wrong` is a fault."""
+
+    def __init__(self, name, number, folder):
+        self.name, self.folder, self.faults, self.numbers = name, folder, [], random.Random(-1 - number)
+        self.register, self.copies = self.path("years.db"), 0
+
+    def path(self, *names):
+        return os.path.join(self.folder, *names)
+
+    def wrong(self, what, found, wanted):
+        self.faults.append(f"{self.name}: {what}: {found!r} in place of {wanted!r}")
+
+    def cut(self, folder):
+        """Writes the certificate of a release into its folder; whether there is one."""
+        status, text, told = answer([lpis(), "cut", folder, os.path.join(folder, CERT)])
         if status != 0:
-            return f"not measured, `perf` ended with {status}: {(told.strip().splitlines() or ['?'])[-1][:100]}"
-        _, script, _ = answer(["perf", "script", "-i", data, "-F", "ip,sym"])
-    samples = [line for line in script.splitlines() if line.strip()]
-    step, counts = 0, [0] * len(steps)
-    for sample in samples:
-        while step + 1 < len(steps) and any(word in sample for word in steps[step + 1][1]):
-            step += 1
-        counts[step] += 1
-    return ", ".join(f"{name} {100 * count / max(1, len(samples)):.0f}" for (name, _), count in zip(steps, counts)) + " of 100"
+            self.wrong(f"cut of {folder}", text + told, "a certificate")
+        return status == 0
 
 
 class Answers:

@@ -32,13 +32,6 @@ class Given:
     def region(self):
         return self.numbers.choice(self.regions)
 
-    def edit(self, pattern, new, *names):
-        """Replaces the first match in a file; answers whether there is one."""
-        text = "\n".join([*self.lines(*names), ""])
-        changed, count = re.subn(pattern, new, text, count=1)
-        Path(self.path(*names)).write_text(changed, encoding="ascii")
-        return count == 1
-
     def rows(self):
         """Each row of lineage: its region, its line's place in the table, and its fields."""
         return [(region, place, line.split(",")) for region in self.regions for place, line in enumerate(self.lines(region, "lineage.csv")) if place]

@@ -6,6 +6,9 @@ import shutil
 from hostile_pages import NAME
 from registers import SQUARE, TEXT, made
 
+TEXT_COLUMNS, MARK_COLUMNS = "id TEXT NOT NULL, wkt TEXT NOT NULL", "year INTEGER NOT NULL, pos INTEGER NOT NULL"
+KEYS = {"lpis_text": (TEXT_COLUMNS, "id"), "lpis_mark": (MARK_COLUMNS, "year, pos")}
+
 
 def changed(folder, base, script, of="small"):
     """A register, after statements of SQLite that mind no rule."""
@@ -24,20 +27,38 @@ def with_text(table, text):
     return f"UPDATE sqlite_schema SET sql = '{quoted}' WHERE name = '{table}'"
 
 
-def beside(table, columns, key, rows):
+def beside(table, rows, keyed="other"):
     """Other rows of a table, under its key or without it: sqlite3 writes them to tables of other names, whose pages take its place."""
-    return (f"CREATE TABLE other ({columns}) STRICT; INSERT INTO other {rows}; CREATE TABLE another ({columns}) STRICT; {key};"
+    columns, key = KEYS[table]
+    return (f"CREATE TABLE other ({columns}) STRICT; INSERT INTO other {rows}; CREATE TABLE another ({columns}) STRICT; CREATE INDEX key ON {keyed} ({key});"
             f"UPDATE sqlite_schema SET rootpage = (SELECT rootpage FROM sqlite_schema WHERE name = 'other') WHERE name = '{table}';"
             "UPDATE sqlite_schema SET rootpage = (SELECT rootpage FROM sqlite_schema WHERE name = 'key')"
             f" WHERE name = 'sqlite_autoindex_{table}_1'; DELETE FROM sqlite_schema WHERE tbl_name IN ('other', 'another')")
 
 
-def beside_texts(rows, keyed="other"):
-    return beside("lpis_text", "id TEXT NOT NULL, wkt TEXT NOT NULL", f"CREATE INDEX key ON {keyed} (id)", rows)
+def many(table, first, count, columns):
+    """So many rows of a table, by numbers i from the first on."""
+    return f"WITH n(i) AS (SELECT {first} UNION ALL SELECT i + 1 FROM n LIMIT {count}) INSERT INTO {table} SELECT {columns} FROM n;"
 
 
-def beside_marks(rows, keyed="other"):
-    return beside("lpis_mark", "year INTEGER NOT NULL, pos INTEGER NOT NULL", f"CREATE INDEX key ON {keyed} (year, pos)", rows)
+def endless(view, columns, first=1):
+    """A view that never ends, by numbers i."""
+    return f"CREATE VIEW {view} AS WITH RECURSIVE n(i) AS (SELECT {first} UNION ALL SELECT i + 1 FROM n) SELECT {columns} FROM n"
+
+
+def anew(table, columns, kind="STRICT"):
+    """An empty table in place of one that is there."""
+    return f"DROP TABLE {table}; CREATE TABLE {table} ({columns}) {kind};"
+
+
+def twice(table, columns):
+    """Each row of a table twice, in one without its key."""
+    insert = f"INSERT INTO {table} SELECT * FROM other;"
+    return f"CREATE TABLE other AS SELECT * FROM {table}; {anew(table, columns)} {insert} {insert} DROP TABLE other"
+
+
+def cases(base, texts, of="small"):
+    return [(name, functools.partial(changed, base=base, script=text, of=of)) for name, text in texts.items()]
 
 
 def schemas(base):
@@ -47,30 +68,23 @@ def schemas(base):
         "a view of itself": with_object("view", "v", "CREATE VIEW v AS SELECT * FROM v"),
         "two views of each other":
             ";".join(with_object("view", one, f"CREATE VIEW {one} AS SELECT * FROM {other}") for one, other in ("vw", "wv")),
-        "a view that never ends": "CREATE VIEW v AS WITH RECURSIVE n(i) AS (SELECT 1 UNION ALL SELECT i + 1 FROM n) SELECT i FROM n",
+        "a view that never ends": endless("v", "i"),
         "spans are a view": "DROP TABLE lpis_span; CREATE VIEW lpis_span AS SELECT 'north' AS id, 2024 AS since, 0 AS until",
-        "spans are a view that never ends":
-            "DROP TABLE lpis_span; CREATE VIEW lpis_span AS WITH RECURSIVE n(i) AS (SELECT 1 UNION ALL SELECT i + 1 FROM n) "
-            "SELECT 'n' || i AS id, 2024 AS since, 0 AS until FROM n",
+        "spans are a view that never ends": "DROP TABLE lpis_span;" + endless("lpis_span", "'n' || i AS id, 2024 AS since, 0 AS until"),
         "a trigger that calls itself":
             "CREATE TRIGGER t AFTER INSERT ON lpis_release BEGIN INSERT INTO lpis_release VALUES (new.year + 1); END",
         "a trigger that takes back": "CREATE TRIGGER t AFTER INSERT ON lpis_span BEGIN DELETE FROM lpis_span WHERE id = new.id; END",
         "spans without a row's number":
-            "DROP TABLE lpis_span; CREATE TABLE lpis_span (id TEXT NOT NULL PRIMARY KEY, since INTEGER NOT NULL, until INTEGER NOT NULL) "
-            "WITHOUT ROWID",
+            anew("lpis_span", "id TEXT NOT NULL PRIMARY KEY, since INTEGER NOT NULL, until INTEGER NOT NULL", "WITHOUT ROWID"),
         "texts are a view": f"DROP TABLE lpis_text; CREATE VIEW lpis_text AS SELECT 'grove' AS id, '{SQUARE}' AS wkt",
-        "texts are a view that never ends":
-            "DROP TABLE lpis_text; CREATE VIEW lpis_text AS WITH RECURSIVE n(i) AS (SELECT 1 UNION ALL SELECT i + 1 FROM n) "
-            f"SELECT 'n' || i AS id, '{SQUARE}' AS wkt FROM n",
-        "texts without their key, each twice":
-            "CREATE TABLE other AS SELECT * FROM lpis_text; DROP TABLE lpis_text; CREATE TABLE lpis_text (id TEXT NOT NULL, wkt TEXT NOT NULL) STRICT;"
-            "INSERT INTO lpis_text SELECT * FROM other; INSERT INTO lpis_text SELECT * FROM other; DROP TABLE other",
-        "texts that may be numbers": "DROP TABLE lpis_text; CREATE TABLE lpis_text (id PRIMARY KEY, wkt); INSERT INTO lpis_text VALUES ('grove', 1), (2, 'x')",
-        "a text twice under its key": beside_texts("SELECT * FROM lpis_text UNION ALL SELECT * FROM lpis_text WHERE id = 'grove'"),
+        "texts are a view that never ends": "DROP TABLE lpis_text;" + endless("lpis_text", f"'n' || i AS id, '{SQUARE}' AS wkt"),
+        "texts without their key, each twice": twice("lpis_text", TEXT_COLUMNS),
+        "texts that may be numbers": anew("lpis_text", "id PRIMARY KEY, wkt", "") + "INSERT INTO lpis_text VALUES ('grove', 1), (2, 'x')",
+        "a text twice under its key": beside("lpis_text", "SELECT * FROM lpis_text UNION ALL SELECT * FROM lpis_text WHERE id = 'grove'"),
         "two texts of an identifier under its key":
-            beside_texts(f"SELECT * FROM lpis_text UNION ALL SELECT id, '{SQUARE}' FROM lpis_text WHERE id = 'grove'"),
-        "a text that its key does not have": beside_texts("SELECT * FROM lpis_text", "another"),
-        "a key of texts that are gone": "CREATE TABLE other (id TEXT NOT NULL, wkt TEXT NOT NULL) STRICT;"
+            beside("lpis_text", f"SELECT * FROM lpis_text UNION ALL SELECT id, '{SQUARE}' FROM lpis_text WHERE id = 'grove'"),
+        "a text that its key does not have": beside("lpis_text", "SELECT * FROM lpis_text", "another"),
+        "a key of texts that are gone": f"CREATE TABLE other ({TEXT_COLUMNS}) STRICT;"
             "UPDATE sqlite_schema SET rootpage = (SELECT rootpage FROM sqlite_schema WHERE name = 'other') WHERE name = 'lpis_text';"
             "DELETE FROM sqlite_schema WHERE name = 'other'",
         "no table lpis_text": "DROP TABLE lpis_text",
@@ -80,12 +94,12 @@ def schemas(base):
         "no tables but texts and marks": "DROP TABLE lpis_format; DROP TABLE lpis_release; DROP TABLE lpis_span; DROP TABLE lpis_row",
         **{f"no table {table}": f"DROP TABLE {table}" for table in ("lpis_format", "lpis_release", "lpis_span", "lpis_row")},
         "marks before texts": f"DROP TABLE lpis_text; {TEXT}",
-        "texts without a row's number": "DROP TABLE lpis_text; CREATE TABLE lpis_text (id TEXT NOT NULL PRIMARY KEY, wkt TEXT NOT NULL) "
-            f"STRICT, WITHOUT ROWID; INSERT INTO lpis_text VALUES ('grove', '{SQUARE}')",
-        "marks of no table": "DROP TABLE lpis_mark; CREATE TABLE lpis_mark (year INTEGER NOT NULL, pos INTEGER NOT NULL, PRIMARY KEY (year, pos), "
-            "FOREIGN KEY (year, pos) REFERENCES other (year, pos)) STRICT",
-        "marks that refer to themselves": "DROP TABLE lpis_mark; CREATE TABLE lpis_mark (year INTEGER NOT NULL, pos INTEGER NOT NULL, PRIMARY KEY (year, pos), "
-            "FOREIGN KEY (pos, year) REFERENCES lpis_mark (year, pos)) STRICT; INSERT INTO lpis_mark VALUES (2025, 2025)",
+        "texts without a row's number": anew("lpis_text", "id TEXT NOT NULL PRIMARY KEY, wkt TEXT NOT NULL", "STRICT, WITHOUT ROWID")
+            + f"INSERT INTO lpis_text VALUES ('grove', '{SQUARE}')",
+        "marks of no table": anew("lpis_mark", f"{MARK_COLUMNS}, PRIMARY KEY (year, pos), FOREIGN KEY (year, pos) REFERENCES other (year, pos)"),
+        "marks that refer to themselves":
+            anew("lpis_mark", f"{MARK_COLUMNS}, PRIMARY KEY (year, pos), FOREIGN KEY (pos, year) REFERENCES lpis_mark (year, pos)")
+            + "INSERT INTO lpis_mark VALUES (2025, 2025)",
         "a trigger that puts texts back": "CREATE TRIGGER t AFTER DELETE ON lpis_text BEGIN INSERT INTO lpis_text VALUES (old.id, old.wkt); END",
         "version 2 with texts and marks": "UPDATE lpis_format SET version = 2; UPDATE lpis_text SET wkt = 'no polygon'; INSERT INTO lpis_mark VALUES (2025, 0)",
         "a column more": "ALTER TABLE lpis_span ADD COLUMN more TEXT DEFAULT 'x'",
@@ -123,7 +137,7 @@ def schemas(base):
         for name, rule in (("cases", f"{'NOT ' * depth} 0"), ("sums", f"1{' + 1' * depth}")):
             texts[f"{depth} {name} in a rule"] = with_text(
                 "lpis_release", f"CREATE TABLE lpis_release (year INTEGER NOT NULL PRIMARY KEY CHECK ({rule})) STRICT")
-    return [(name, functools.partial(changed, base=base, script=text)) for name, text in texts.items()]
+    return cases(base, texts)
 
 
 def contents(base):
@@ -131,22 +145,16 @@ def contents(base):
     texts = {
         "an identifier of a megabyte": f"INSERT INTO lpis_span VALUES ('{'x' * 1_000_000}', 2024, 0)",
         "an old identifier of a megabyte": f"INSERT INTO lpis_row VALUES (2025, 5, '{'x' * 1_000_000}', 'valley')",
-        "20,000 releases": "WITH n(i) AS (SELECT 50000 UNION ALL SELECT i + 1 FROM n LIMIT 20000) INSERT INTO lpis_release SELECT i FROM n",
-        "2,000 releases": "WITH n(i) AS (SELECT 2026 UNION ALL SELECT i + 1 FROM n LIMIT 2000) INSERT INTO lpis_release SELECT i FROM n",
-        "1,000,000 spans of no release":
-            "WITH n(i) AS (SELECT 1 UNION ALL SELECT i + 1 FROM n LIMIT 1000000) INSERT INTO lpis_span SELECT 'P' || i, 2023, 0 FROM n",
-        "100,000 spans":
-            "WITH n(i) AS (SELECT 1 UNION ALL SELECT i + 1 FROM n LIMIT 100000) INSERT INTO lpis_span SELECT 'P' || i, 2025, 0 FROM n",
-        "100,000 rows":
-            "WITH n(i) AS (SELECT 5 UNION ALL SELECT i + 1 FROM n LIMIT 100000) "
-            "INSERT INTO lpis_row SELECT 2025, i, 'north', 'P' || i FROM n",
+        "20,000 releases": many("lpis_release", 50_000, 20_000, "i"),
+        "2,000 releases": many("lpis_release", 2026, 2_000, "i"),
+        "1,000,000 spans of no release": many("lpis_span", 1, 1_000_000, "'P' || i, 2023, 0"),
+        "100,000 spans": many("lpis_span", 1, 100_000, "'P' || i, 2025, 0"),
+        "100,000 rows": many("lpis_row", 5, 100_000, "2025, i, 'north', 'P' || i"),
         "a chain of 500 years":
-            "WITH n(i) AS (SELECT 2026 UNION ALL SELECT i + 1 FROM n LIMIT 500) INSERT INTO lpis_release SELECT i FROM n;"
-            "UPDATE lpis_span SET until = 2025 WHERE id = 'north-1'; INSERT INTO lpis_row VALUES (2026, 0, 'north-1', 'c2026');"
-            "WITH n(i) AS (SELECT 2026 UNION ALL SELECT i + 1 FROM n LIMIT 499) "
-            "INSERT INTO lpis_row SELECT i + 1, 0, 'c' || i, 'c' || (i + 1) FROM n;"
-            "WITH n(i) AS (SELECT 2026 UNION ALL SELECT i + 1 FROM n LIMIT 500) "
-            "INSERT INTO lpis_span SELECT 'c' || i, i, CASE i WHEN 2525 THEN 0 ELSE i END FROM n;",
+            many("lpis_release", 2026, 500, "i")
+            + "UPDATE lpis_span SET until = 2025 WHERE id = 'north-1'; INSERT INTO lpis_row VALUES (2026, 0, 'north-1', 'c2026');"
+            + many("lpis_row", 2026, 499, "i + 1, 0, 'c' || i, 'c' || (i + 1)")
+            + many("lpis_span", 2026, 500, "'c' || i, i, CASE i WHEN 2525 THEN 0 ELSE i END"),
         "a text of a megabyte that is no polygon": f"UPDATE lpis_text SET wkt = '{'x' * 1_000_000}' WHERE id = 'grove'",
         "a text of a million brackets": f"UPDATE lpis_text SET wkt = 'POLYGON{'(' * 1_000_000}' WHERE id = 'grove'",
         "a text of a million blanks": f"UPDATE lpis_text SET wkt = 'POLYGON{' ' * 1_000_000}((0 0,1 0,1 1,0 0))' WHERE id = 'grove'",
@@ -171,8 +179,7 @@ def contents(base):
         "a text of an identifier in another case": "UPDATE lpis_text SET id = 'Grove' WHERE id = 'grove'",
         "a text of an identifier of a megabyte": f"INSERT INTO lpis_text VALUES ('{'x' * 1_000_000}', '{SQUARE}')",
         "a text of an identifier with a nought": "UPDATE lpis_text SET id = id || char(0) WHERE id = 'grove'",
-        "100,000 texts of no parcel":
-            f"WITH n(i) AS (SELECT 1 UNION ALL SELECT i + 1 FROM n LIMIT 100000) INSERT INTO lpis_text SELECT 'P' || i, '{SQUARE}' FROM n",
+        "100,000 texts of no parcel": many("lpis_text", 1, 100_000, f"'P' || i, '{SQUARE}'"),
         "no texts": "DELETE FROM lpis_text",
         "a mark of each row": "INSERT INTO lpis_mark SELECT year, pos FROM lpis_row",
         "marks of a split and a merge": "INSERT INTO lpis_mark SELECT year, pos FROM lpis_row WHERE pos < 4",
@@ -181,13 +188,12 @@ def contents(base):
         "a mark of a year without rows": "INSERT INTO lpis_mark VALUES (2024, 0)",
         "a mark of no release": "INSERT INTO lpis_mark VALUES (2030, 0)",
         "a mark at the ends of numbers": "INSERT INTO lpis_mark VALUES (9223372036854775807, -9223372036854775808)",
-        "100,000 marks of no row":
-            "WITH n(i) AS (SELECT 5 UNION ALL SELECT i + 1 FROM n LIMIT 100000) INSERT INTO lpis_mark SELECT 2025, i FROM n",
+        "100,000 marks of no row": many("lpis_mark", 5, 100_000, "2025, i"),
         "numbers at the ends": "UPDATE lpis_span SET since = 9223372036854775807, until = -9223372036854775808",
         "texts with a nought": "UPDATE lpis_span SET id = 'a' || char(0) || 'b' WHERE id = 'grove'",
         "bytes that are no text": "UPDATE lpis_span SET id = CAST(x'c328ff' AS TEXT) WHERE id = 'grove'",
     }
-    return [(name, functools.partial(changed, base=base, script=text)) for name, text in texts.items()]
+    return cases(base, texts)
 
 
 def marks(base):
@@ -205,17 +211,13 @@ def marks(base):
         "marks of a year without rows": "UPDATE lpis_mark SET year = 2024",
         "marks of rows that are gone": "DELETE FROM lpis_row",
         "marked rows in another order": "UPDATE lpis_row SET pos = -pos; UPDATE lpis_row SET pos = pos + 4",
-        "a mark twice under its key": beside_marks("SELECT * FROM lpis_mark UNION ALL SELECT * FROM lpis_mark WHERE pos = 0"),
-        "marks that their key does not have": beside_marks("SELECT * FROM lpis_mark", "another"),
-        "a mark of no row, without the key": "DROP TABLE lpis_mark; CREATE TABLE lpis_mark (year INTEGER NOT NULL, pos INTEGER NOT NULL) STRICT;"
-        "INSERT INTO lpis_mark VALUES (2025, 5)",
-        "marks twice, without the key": "CREATE TABLE other AS SELECT * FROM lpis_mark; DROP TABLE lpis_mark;"
-        "CREATE TABLE lpis_mark (year INTEGER NOT NULL, pos INTEGER NOT NULL) STRICT;"
-        "INSERT INTO lpis_mark SELECT * FROM other; INSERT INTO lpis_mark SELECT * FROM other; DROP TABLE other",
-        "marks that may be texts": "DROP TABLE lpis_mark; CREATE TABLE lpis_mark (year, pos); INSERT INTO lpis_mark VALUES ('2025', '0'), (2025.0, x'01')",
+        "a mark twice under its key": beside("lpis_mark", "SELECT * FROM lpis_mark UNION ALL SELECT * FROM lpis_mark WHERE pos = 0"),
+        "marks that their key does not have": beside("lpis_mark", "SELECT * FROM lpis_mark", "another"),
+        "a mark of no row, without the key": anew("lpis_mark", MARK_COLUMNS) + "INSERT INTO lpis_mark VALUES (2025, 5)",
+        "marks twice, without the key": twice("lpis_mark", MARK_COLUMNS),
+        "marks that may be texts": anew("lpis_mark", "year, pos", "") + "INSERT INTO lpis_mark VALUES ('2025', '0'), (2025.0, x'01')",
         "marks are a view": "DROP TABLE lpis_mark; CREATE VIEW lpis_mark AS SELECT year, pos FROM lpis_row",
-        "marks are a view that never ends":
-            "DROP TABLE lpis_mark; CREATE VIEW lpis_mark AS WITH RECURSIVE n(i) AS (SELECT 0 UNION ALL SELECT i + 1 FROM n) SELECT 2025 AS year, i AS pos FROM n",
+        "marks are a view that never ends": "DROP TABLE lpis_mark;" + endless("lpis_mark", "2025 AS year, i AS pos", 0),
         "the format is of version 2": "UPDATE lpis_format SET version = 2",
     }
-    return [(name, functools.partial(changed, base=base, script=text, of="marked")) for name, text in texts.items()]
+    return cases(base, texts, "marked")

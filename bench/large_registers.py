@@ -1,20 +1,17 @@
 """Large registers that SQLite (Python's own sqlite3) writes, and how long works on copies of them take, for scripts that time these."""
 
+import contextlib
 import os
 import shutil
 import sqlite3
 import sys
 import time
 
-from common import done, run
+from common import Run, done, lpis, run
 from registers import TABLES
 
 YEARS = range(2021, 2031)
 POINTS = 56  # of a text: 1,354 bytes, so that 100,000 weigh 135 MB
-INSERT_SPAN = "INSERT INTO lpis_span (id, since, until) VALUES (?1, ?2, ?3)"
-INSERT_ROW = "INSERT INTO lpis_row (year, pos, old, new) VALUES (?1, ?2, ?3, ?4)"
-INSERT_TEXT = "INSERT INTO lpis_text (id, wkt) VALUES (?1, ?2)"
-UPDATE_TEXT = "UPDATE lpis_text SET wkt = ?1 WHERE id = ?2"
 TWENTIETH = 20
 QUERIES = (
     "SELECT one, version FROM lpis_format", "SELECT year FROM lpis_release", "SELECT id, since, until FROM lpis_span",
@@ -59,17 +56,18 @@ def text_of(number):
     return f"POLYGON(({','.join(f'{x}.000 {y}.000' for x, y in corners)}))"
 
 
-def with_texts(path, count, year=2021):
-    """A register of one year of so many parcels with their texts."""
+def with_texts(path, count, is_changed=False):
+    """A register of one year of so many parcels with their texts, of which each twentieth is another one where that is asked for."""
     ids = names(count)
-    return made(path, 3, [year], lpis_span=[(name, year, 0) for name in ids], lpis_text=[(name, text_of(number)) for number, name in enumerate(ids)])
+    texts = [(name, text_of(number + count * (is_changed and number % TWENTIETH == 0))) for number, name in enumerate(ids)]
+    return made(path, 3, [2021], lpis_span=[(name, 2021, 0) for name in ids], lpis_text=texts)
 
 
-def moved(path, count, program):
+def moved(path, count):
     """A register of one year of so many parcels that was of version 2, and that the program has moved: it keeps no texts."""
     ids = names(count)
     made(path, 2, [2021], lpis_span=[(name, 2021, 0) for name in ids])
-    done([program, "trace", path, ids[0]])
+    done([lpis(), "trace", path, ids[0]])
     return path
 
 
@@ -91,66 +89,56 @@ def ten_years(path, count):
 # Works that sqlite3 does, as the program does them.
 
 
+@contextlib.contextmanager
+def released(connection, year=2022):
+    """The transaction of a release, with its year."""
+    connection.execute("BEGIN")
+    connection.execute("INSERT INTO lpis_release (year) VALUES (?)", (year,))
+    yield
+    connection.execute("COMMIT")
+
+
 def write_spans(connection, ids):
-    connection.executemany(INSERT_SPAN, [(name, 2021, 0) for name in ids])
+    connection.executemany("INSERT INTO lpis_span (id, since, until) VALUES (?1, ?2, ?3)", [(name, 2021, 0) for name in ids])
 
 
 def write_texts(connection, count):
-    connection.executemany(INSERT_TEXT, ((name, text_of(number)) for number, name in enumerate(names(count))))
+    texts = ((name, text_of(number)) for number, name in enumerate(names(count)))
+    connection.executemany("INSERT INTO lpis_text (id, wkt) VALUES (?1, ?2)", texts)
 
 
 def write_release(connection, count):
     """The first release of so many parcels."""
-    connection.execute("BEGIN")
-    connection.execute("INSERT INTO lpis_release (year) VALUES (2021)")
-    write_spans(connection, names(count))
-    write_texts(connection, count)
-    connection.execute("COMMIT")
+    with released(connection, 2021):
+        write_spans(connection, names(count))
+        write_texts(connection, count)
 
 
-def with_changed(path, count):
-    """The same, but that each twentieth parcel has another text."""
-    with_texts(path, count)
-    connection = opened(path)
-    connection.execute("BEGIN")
-    connection.executemany(UPDATE_TEXT, [(text_of(number + count), name) for number, name in changed(count)])
-    connection.execute("COMMIT")
-    connection.close()
-    return path
-
-
-def changed(count):
-    """The parcels, by number and name, whose texts change."""
-    return list(enumerate(names(count)))[::TWENTIETH]
-
-
-def keep_texts(connection, count):
+def keep_texts(connection, _):
     """A further release that keeps all identifiers and texts."""
-    connection.execute("INSERT INTO lpis_release (year) VALUES (2022)")
+    with released(connection):
+        pass
 
 
 def update_texts(connection, count):
-    """A further release that keeps all identifiers, with other texts of some."""
-    connection.execute("BEGIN")
-    connection.execute("INSERT INTO lpis_release (year) VALUES (2022)")
-    connection.executemany(UPDATE_TEXT, [(text_of(number), name) for number, name in changed(count)])
-    connection.execute("COMMIT")
+    """A further release that keeps all identifiers, with other texts of each twentieth."""
+    texts = [(text_of(number), name) for number, name in enumerate(names(count)) if number % TWENTIETH == 0]
+    with released(connection):
+        connection.executemany("UPDATE lpis_text SET wkt = ?1 WHERE id = ?2", texts)
 
 
 def insert_texts(connection, count):
     """A further release that keeps all identifiers, over a register without texts."""
-    connection.execute("BEGIN")
-    connection.execute("INSERT INTO lpis_release (year) VALUES (2022)")
-    write_texts(connection, count)
-    connection.execute("COMMIT")
+    with released(connection):
+        write_texts(connection, count)
 
 
 def end_spans(connection, ids):
-    connection.execute("BEGIN")
-    connection.execute("INSERT INTO lpis_release (year) VALUES (2022)")
-    connection.executemany("UPDATE lpis_span SET until = ?1 WHERE id = ?2", [(2021, name) for name in ids])
-    connection.executemany(INSERT_ROW, [(2022, place, name, "") for place, name in enumerate(ids)])
-    connection.execute("COMMIT")
+    """A further release that keeps none of these identifiers."""
+    with released(connection):
+        connection.executemany("UPDATE lpis_span SET until = ?1 WHERE id = ?2", [(2021, name) for name in ids])
+        rows = [(2022, place, name, "") for place, name in enumerate(ids)]
+        connection.executemany("INSERT INTO lpis_row (year, pos, old, new) VALUES (?1, ?2, ?3, ?4)", rows)
 
 
 def read_all(connection):
@@ -162,7 +150,7 @@ def read_texts(connection):
     connection.execute(QUERIES[-1]).fetchall()
 
 
-# Seconds of wall and of the processor, and peak bytes.
+# Runs.
 
 
 def copied(path):
@@ -185,31 +173,16 @@ def run_over(path, words, line, status=0):
     return found
 
 
-def by_program(path, words, line, status=0):
-    """Seconds and peak bytes of such a run."""
-    found = run_over(path, words, line, status)
-    return found.wall, found.seconds, found.peak
+def nothing():
+    """The run that takes no time."""
+    return Run(0, "", "", 0, 0, 0)
 
 
 def by_sqlite(path, work):
-    """Seconds of sqlite3 over a copy of a register, from the opening to the closing."""
+    """The seconds of sqlite3 over a copy of a register, from the opening to the closing."""
     copy = copied(path)
     start, started = time.perf_counter(), time.process_time()
     connection = opened(copy)
     work(connection)
     connection.close()
-    return time.perf_counter() - start, time.process_time() - started, 0
-
-
-def in_turns(runs, *works):
-    """The least seconds and the greatest peak of each of some works, which take turns, since a machine is not as quick in each minute."""
-    turns = [[work() for work in works] for _ in range(runs)]
-    return [tuple(worst(column) for worst, column in zip((min, min, max), zip(*took))) for took in zip(*turns)]
-
-
-def both(wall, busy, *_):
-    return f"{wall:.2f} s ({busy:.2f})"
-
-
-def ratios(one, other):
-    return tuple(a / max(b, 1e-9) for a, b in zip(one[:2], other[:2]))
+    return nothing()._replace(wall=time.perf_counter() - start, seconds=time.process_time() - started)

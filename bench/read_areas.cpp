@@ -1,4 +1,4 @@
-// A plain C++ reader of a release and its certificate: read_areas DIR CERT. Beside it `bench/check` measures the proved checker.
+// A plain C++ reader of a release and its certificate: read_areas DIR CERT. Beside it `bench/beside_check` times the proved checker.
 //
 // It reads the same four files and prints the same report of areas, without the last line, `yes`. It tests their syntax and nothing
 // else: no condition of a good certificate, no doubled identifier, no bound. The text of a table is walked once, its areas are added on

@@ -20,7 +20,7 @@ class Years:
         make("make_parcels.py", count, self.first)
         self.parcels, self.covers = read(os.path.join(self.first, "parcels.csv")), read(os.path.join(self.first, "covers.csv"))
         self.names = {line.split(",", 1)[0]: line.split(",", 1)[0] for line in self.parcels[1:]}
-        self.folder, self.count = folder, len(self.names)
+        self.folder = folder
 
     def write(self, number):
         """The folder of a year's release, and its certificate."""

@@ -155,31 +155,8 @@ class Page:
 
     def __init__(self, trust):
         self.trust, self.done, self.printed, self.used, self.cycles, self.later = trust, set(), set(), {}, {}, []
-        self.places = {spec.key: place for place, spec in enumerate(self.in_order())}
         self.titles, self.own = {}, {node.label.rpartition("'s ")[2].rpartition(".")[2] for node in trust.reached} - {"None"}
         self.types = {node: name for crate in trust.crates.values() for (kind, name, _), node in crate.nodes.items() if kind == "type" and (node.is_promise or node in trust.reached)}
-
-    def in_order(self):
-        """All files of specs/, each after those that it imports."""
-        ordered, seen = [], set()
-
-        def put(spec):
-            if spec is None or spec.key in seen:
-                return
-            seen.add(spec.key)
-            modules = [module for module, _ in spec.scope.names.values()] + list(spec.scope.modules.values())
-            for module in modules:
-                put(self.spec_of(module))
-            ordered.append(spec)
-
-        for spec in self.trust.specs():
-            put(spec)
-        return ordered
-
-    def spec_of(self, module):
-        parts = module.split(".")
-        crate = self.trust.crates.get(parts[1]) if len(parts) > 3 and parts[2] == "specs" else None
-        return crate and crate.specs.get(".".join(parts[3:]))
 
     def chapter(self, nodes, without=()):
         """The text of definitions and types, each after those that it uses; what lies elsewhere may come later, and is named."""

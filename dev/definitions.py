@@ -3,12 +3,11 @@
 What the promises of the program (roots.py) lead to is to be believed. What only other promises lead to is between crates: it is proved, and in no page."""
 
 import re
-from pathlib import Path
 
 import roots
+from facts import TOP, crates
 from modules import NAME, Module, Scope, closing, items, without_generics
 
-TOP = Path(__file__).resolve().parent.parent
 WORD = re.compile(rf"(\.)?({NAME})(?:\.({NAME}))?(\s*=(?![=>]))?")
 
 
@@ -23,11 +22,11 @@ class Node:
 
 
 class Definition(Node):
-    """A definition of a file of specs/, with the number of its lines, its comment among them."""
+    """A definition of a file of specs/."""
 
     def __init__(self, spec, name):
         super().__init__(spec.crate, f"{spec.key}.{name}")
-        self.spec, self.name, self.lines, self.comment, self.text, self.head = spec, name, 0, "", "", ""
+        self.spec, self.name, self.comment, self.text, self.head = spec, name, "", "", ""
         self.written = []  # its lines as they stand, its comment among them
 
     def law(self):
@@ -65,7 +64,7 @@ class Spec:
         return re.split(r"\.(?:\s|$)", self.head, maxsplit=1)[0]
 
     def read(self, lines):
-        """A definition within a module of parameters has the module's head, whose lines count for the first of them."""
+        """A definition within a module of parameters has the module's head."""
         comment, current, head, is_open, edge = [], None, "", False, ""
         for line in lines:
             if line.startswith("module ") or is_open:
@@ -80,10 +79,7 @@ class Spec:
             elif line.strip() and not re.match(r"(pub )?(use|mod|infix[lr]?)\b", line):
                 if not re.match(r"[\s(}]", line):
                     current = self.define(line)
-                    if head and current.head != head:
-                        current.head = head
-                        current.lines += 0 if any(it.head == head for it in self.definitions.values() if it is not current) else head.count("\n")
-                current.lines += 1 + len(comment)
+                    current.head = head or current.head
                 current.comment += " ".join(line[2:].strip() for line in comment)
                 current.text += line + "\n"
                 current.written += [*comment, line]
@@ -212,10 +208,7 @@ class Trust:
     """All crates, and what each name leads to."""
 
     def __init__(self):
-        self.crates = {}
-        for line in (TOP / "crates.txt").read_text(encoding="utf-8").split("\n"):
-            if match := re.match(r"(\w+)[^#:]*:", line):
-                self.crates[match.group(1)] = Crate(match.group(1))
+        self.crates = {name: Crate(name) for name in crates()}
         self.faults = []
         promises = [node for crate in self.crates.values() for node in crate.nodes.values() if node.is_promise]
         self.proved = self.follow(promises)

@@ -1,4 +1,4 @@
-"""What is known of a built program, and where it is put: imported by `dev/carry`, `dev/carried`, `dev/package`, `dev/page` and `dev/wheels.py`."""
+"""What is known of the crates and of a built program, and where that is put: imported by the scripts of `dev/`."""
 
 import hashlib
 import os
@@ -12,6 +12,7 @@ CARRIED = TOP / "program" / "lpis"  # for those who have no kit
 BUILT = TOP / "out" / "program" / "lpis"  # by ./lpis build
 LINKED = TOP / "crates" / "lpis" / "out" / "lpis"  # by rt itself
 RUN = TOP / "tools" / "run.sh"
+RELEASE_BYTES = 7_000_000  # the most that release/ may have
 
 
 def output(*words, folder=TOP):
@@ -22,6 +23,12 @@ def installed(folder, prefix):
     """Installs to a prefix below a folder; gives the prefix's folder."""
     subprocess.run([TOP / "install", prefix], env={**os.environ, "DESTDIR": f"{folder}/"}, check=True, stderr=subprocess.DEVNULL, stdout=subprocess.DEVNULL)
     return folder / prefix.strip("/")
+
+
+def crates():
+    """The crates of crates.txt, the lowest first, each with those that its line names."""
+    lines = (line.partition("#")[0].partition(":") for line in (TOP / "crates.txt").read_text(encoding="utf-8").splitlines())
+    return {name.split()[0]: below.split() for name, _, below in lines if name}
 
 
 def digest(path):

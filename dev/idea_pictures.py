@@ -45,6 +45,13 @@ class Panel:
         text = "".join("M" + "L".join(f"{x:.1f},{y:.1f}" for x, y in ring) + "Z" for ring in found)
         self.put(f'<path class="{kind}" fill-rule="evenodd" d="{text}"/>')
 
+    def polygon(self, polygon, kind="", has_arrows=False):
+        """A polygon, filled as its kind is, with its border, and with its edges as arrows where that is asked for."""
+        for each in (kind, "shape") if kind else ("shape",):
+            self.path(rings_of(polygon), each)
+        for a, b in polygon if has_arrows else ():
+            self.arrow(a, b)
+
     def line(self, a, b, kind, beyond=0.0):
         """A line, drawn longer at both ends by so many times its length."""
         (ax, ay), (bx, by) = self.place(a), self.place(b)
@@ -163,10 +170,7 @@ def draw_walk(_):
     drawing, box = Drawing(360), box_of(farm)
     panel = drawing.panel("Edges are walked with the land on their left. On a way to the right, up is +1, down is -1.",
                           (box[0] - 14_000, box[1] - 6_000, box[2] + 14_000, box[3]))
-    panel.path(rings_of(farm), "one")
-    panel.path(rings_of(farm), "shape")
-    for a, b in farm:
-        panel.arrow(a, b)
+    panel.polygon(farm, "one", True)
     for point in ((20_000, 70_000), (30_000, 40_000), (80_000, 30_000), (-12_000, 10_000)):
         signs = crossings(farm, point)
         panel.arrow(point, (132_000, point[1]), "ray", 0)
@@ -201,7 +205,7 @@ def draw_pieces(folder):
         panel.path(rings_of(pieces[name][2]), kind)
     for triangle in own:
         panel.path([triangle], "cut")
-    panel.path(rings_of(parcels["east"]), "shape")
+    panel.polygon(parcels["east"])
     for i, j, k in pairs:
         if {every[i], every[j]} <= own:
             triangle = every[i if k < 3 else j]
@@ -237,16 +241,10 @@ def draw_lineage(folder):
     _, flats = folder["exact"][0]["exact split", "meadow"]
     whole, parts, drawing = before["meadow"], [after["meadow-1"], after["meadow-2"]], Drawing(270)
     left = drawing.panel("2024: meadow", box_of(whole), 0, 2)
-    left.path(rings_of(whole), "one")
-    left.path(rings_of(whole), "shape")
-    for a, b in whole:
-        left.arrow(a, b)
+    left.polygon(whole, "one", True)
     right = drawing.panel("2025: its two parts, and two flats", box_of(whole), 1, 2)
     for part, kind in zip(parts, ("one", "two")):
-        right.path(rings_of(part), kind)
-        right.path(rings_of(part), "shape")
-        for a, b in part:
-            right.arrow(a, b)
+        right.polygon(part, kind, True)
     for flat in flats:
         right.flat(flat, (30_000, 20_000))
     return drawing
