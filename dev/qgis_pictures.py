@@ -11,7 +11,7 @@ from pathlib import Path
 sys.dont_write_bytecode = True
 os.environ.setdefault("QT_QPA_PLATFORM", "offscreen")
 TOP = Path(__file__).resolve().parent.parent
-sys.path[:0] = ["/usr/share/qgis/python/plugins", str(TOP / "tools" / "qgis"), str(TOP / "tools" / "tests")]
+sys.path[:0] = ["/usr/share/qgis/python/plugins", str(TOP / "tools" / "qgis"), str(TOP / "tests" / "helpers")]
 from qgis.core import (
     QgsApplication, QgsFeature, QgsFillSymbol, QgsGeometry, QgsMapRendererParallelJob, QgsMapSettings, QgsProject, QgsRectangle, QgsSingleSymbolRenderer, QgsVectorLayer,
 )
