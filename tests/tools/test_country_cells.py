@@ -160,7 +160,7 @@ class TestCells(ByCells):
         assert self.times() == before
         last = land.covers[-1]
         last.found = hard.wkb.Found([[[(x + 0.001, y) for x, y in ring] for ring in member] for member in last.found.members])
-        far = [[[(x + 5000.0, y) for x, y in ((0.0, 0.0), (9.0, 0.0), (9.0, 9.0), (0.0, 0.0))]]]
+        far = hard.wkb.Found([[[(x + 5000.0, y) for x, y in ((0.0, 0.0), (9.0, 0.0), (9.0, 9.0), (0.0, 0.0))]]])
         land.parcels.insert(0, hard.Row(10**6, {"parcel": "FAR"}, far))
         land.covers.insert(0, hard.Row(10**6, {"piece": "FAR.1", "parcel": "FAR", "class": "A"}, far))
         self.by_cells(land, 60)
