@@ -6,7 +6,7 @@ import os
 import random
 
 import pytest
-from spare import Spare
+from spare import Spare, write
 from calls import records
 import preparing_case
 from lpis_tools import shapely_there
@@ -105,8 +105,7 @@ class TestYears(Spare):
         """A table of one's own may tell names apart that differ in blanks, exchange two names, and name an absent one; what cannot be read is refused."""
         def found(text, parcels):
             path = os.path.join(self.folder, "own.csv")
-            with open(path, "w", encoding="utf-8") as file:
-                file.write(text)
+            write(text, path)
             work = preparing.Preparation(layers_of(parcels, ["G"], random.Random(0)), 25832, lambda _: None)
             given = naming.Names(work, naming.given_identifiers(path))
             for other in work.layers["covers"].rows:
