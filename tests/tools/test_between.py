@@ -10,7 +10,7 @@ from pathlib import Path
 import pytest
 import dirty
 import places
-from calls import records
+from calls import ended_with, records
 from lands_parts import boxed
 from preparing_case import Case
 from lpis_tools import shapely_there
@@ -53,8 +53,7 @@ class TestBetween(Case):
     @pytest.mark.parametrize("turn", (0.0, 0.3, 1.2, 2.9))
     def test_named(self, turn):
         source, wanted = self.source(turn)
-        run = self.run_on(source)
-        assert run.returncode == 0, run.stdout + run.stderr
+        ended_with(0, self.run_on(source))
         found = sorted((row["identifiers"], float(row["width_m"]), float(row["area_m2"]), row["stops"]) for row in records(self.out, "report.csv") if row["kind"] == "between")
         assert [name for name, *_ in found] == [name for name, *_ in wanted], turn
         for (name, width, area, stops), (_, right, true) in zip(found, wanted):

@@ -5,7 +5,7 @@ import os
 import random
 import sys
 
-from calls import done, tool
+from calls import done, ended_with, tool
 from places import HELPERS
 from cells_case import Case
 from lands_parts import on
@@ -106,8 +106,7 @@ class TestCountries(Case):
         dirty.put(path, *rows, two_years.CLASSES)
 
     def prepared(self, year, *words):
-        ran = tool("country", "prepare", self.path(f"{year}.gpkg"), self.path(year), "--accept", "--quiet", "--parcels", 60, *words)
-        assert ran.returncode == 0, ran.stdout + ran.stderr
+        ended_with(0, tool("country", "prepare", self.path(f"{year}.gpkg"), self.path(year), "--accept", "--quiet", "--parcels", 60, *words))
 
     def test_new_borders(self):
         """Each parcel of another text lies beside a split one, and has the ends of the new borders more, all of it by whole numbers."""
