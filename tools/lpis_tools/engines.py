@@ -31,16 +31,6 @@ all: $(REGIONS:%=%/cert.txt)
 """
 
 
-def regions_of(folder):
-    """The regions of a country, in order."""
-    path = os.path.join(folder, "country.txt")
-    with open(path, encoding="latin-1", newline="") as file:
-        try:
-            return tiles.read(file.read()).folders
-        except tiles.Unreadable as error:
-            raise Trouble(f"{path}: {error}") from None
-
-
 def prepared(words, folder, kind, plan, what=""):
     """Has the jobs of a kind done; answers the names of the files that they give. `what` is done, where that is not as usual."""
     if kind == "part":
@@ -151,7 +141,7 @@ def tell(features):
 
 
 def cut(command, words, say):
-    regions = regions_of(words.folder)
+    regions = tiles.of_folder(words.folder).folders
     run(command, words, regions)
     refused = [region for region in regions if not is_cut(words.folder, region)]
     for region in refused:

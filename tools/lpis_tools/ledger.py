@@ -6,7 +6,7 @@ import json
 import os
 from contextlib import contextmanager
 
-from . import progress, registers
+from . import files, progress, registers
 
 FIRST = "0" * 64
 AT_ONCE = 1000  # rows between two looks at the clock
@@ -20,21 +20,12 @@ def path_of(register):
     return f"{register}.log"
 
 
-def digest_of(path):
-    """The sha256 of a file."""
-    digest = hashlib.sha256()
-    with open(path, "rb") as file:
-        while block := file.read(1 << 20):
-            digest.update(block)
-    return digest.hexdigest()
-
-
-def digests_of(folder, names, what):
-    """The sha256 of files of a folder, by their names, with the progress of their bytes."""
-    shown, found = progress.Bytes(progress.Quiet.tool, what, sum(os.path.getsize(os.path.join(folder, name)) for name in names)), {}
-    for name in names:
-        found[name] = digest_of(os.path.join(folder, name))
-        shown.took(os.path.getsize(os.path.join(folder, name)))
+def digests_of(paths, what):
+    """The sha256 of files by their names, with the progress of their bytes."""
+    shown, found = progress.Bytes(progress.Quiet.tool, what, sum(map(os.path.getsize, paths.values()))), {}
+    for name, path in paths.items():
+        found[name] = files.digest(path)
+        shown.took(os.path.getsize(path))
     shown.end()
     return found
 

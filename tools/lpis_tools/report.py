@@ -4,12 +4,12 @@ became of the parcels of an older release, which years a register has."""
 from __future__ import annotations
 
 import datetime
-import hashlib
 import os
 from dataclasses import dataclass, field
 
-from . import codes, differences, ending, explaining, finding, origin, polygons, program, progress, registers
+from . import codes, differences, ending, explaining, finding, ledger, origin, polygons, program, registers
 from .areas import AREA, ELIGIBLE, decimal
+from .files import digest
 from .tables import Table, path_of, shown
 
 TABLES = ("parcels", "covers", "classes")
@@ -20,19 +20,9 @@ class Trouble(Exception):
     """The report cannot be made."""
 
 
-def digest(path):
-    with open(path, "rb") as file:
-        return hashlib.file_digest(file, "sha256").hexdigest() if hasattr(hashlib, "file_digest") else hashlib.sha256(file.read()).hexdigest()
-
-
 def digests(paths):
     there = {name: path for name, path in paths.items() if os.path.isfile(path)}
-    shown, found = progress.Bytes("report", "digests", sum(map(os.path.getsize, there.values()))), {}
-    for name, path in there.items():
-        found[name] = {"path": path, "bytes": os.path.getsize(path), "sha256": digest(path)}
-        shown.took(found[name]["bytes"])
-    shown.end()
-    return found
+    return {name: {"path": there[name], "bytes": os.path.getsize(there[name]), "sha256": found} for name, found in ledger.digests_of(there, "digests").items()}
 
 
 @dataclass

@@ -147,11 +147,10 @@ def tiling_of(land, out, most, anew, say):
     """The tiling that stands in the folder, where it fits, else a new one; and the regions of each parcel."""
     path = os.path.join(out, "country.txt")
     if os.path.exists(path) and not anew:
-        with open(path, encoding="latin-1", newline="") as file:
-            try:
-                tiling = tiles.read(file.read())
-            except tiles.Unreadable as error:
-                raise Trouble(f"{path}: {error}; with --anew new cuts are made") from None
+        try:
+            tiling = tiles.of_folder(out)
+        except tiles.Unreadable as error:
+            raise Trouble(f"{error}; with --anew new cuts are made") from None
         say(f"the {len(tiling.folders)} regions of {path} are used again")
         places = placed(tiling, land.boxes)
         full = overfull(tiling, places, land.boxes, most)

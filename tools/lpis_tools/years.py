@@ -116,14 +116,12 @@ class Row:
 
 def regions_of(folder):
     """The regions of a country; of a release one without a name."""
-    path = os.path.join(folder, "country.txt")
-    if not os.path.isfile(path):
+    if not os.path.isfile(os.path.join(folder, "country.txt")):
         return [""]
     try:
-        with open(path, encoding="latin-1", newline="") as file:
-            return tiles.read(file.read()).folders
+        return tiles.of_folder(folder).folders
     except (tiles.Unreadable, OSError) as error:
-        raise Trouble(f"{path}: {error}") from None
+        raise Trouble(str(error)) from None
 
 
 def of_folder(folder, path="", parts_of=lambda folder, regions: None):
