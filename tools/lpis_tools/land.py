@@ -14,20 +14,13 @@ from dataclasses import dataclass, field
 
 from . import databases, ending, sheets, systems, unforeseen, wkb, wkt
 from .printing import readable
+from .trouble import Trouble
 
 COLUMNS = {"parcels": ["parcel"], "covers": ["piece", "parcel", "class"], "classes": ["class", "percent"]}
 SHAPED = ("parcels", "covers")
 BETWEEN = 1.0  # metres: wider land that no parcel has is a road, or whatever else is none
 PACKAGE = b"SQLite format 3\0"
 USUAL = "that of most shapes"
-
-
-class Trouble(Exception):
-    """The land cannot be read: one line for each reason."""
-
-    def __init__(self, *reasons):
-        super().__init__("\n".join(reasons))
-        self.reasons = list(reasons)
 
 
 class Row:

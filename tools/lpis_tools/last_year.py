@@ -68,10 +68,7 @@ class LastYear:
 
     def __init__(self, folder):
         self.folder, self.system, self.counts = folder, previous.system_of(folder), None
-        try:
-            self.folders = [os.path.join(folder, region) for region in years.regions_of(folder)]
-        except years.Trouble as trouble:
-            raise land.Trouble(str(trouble)) from None
+        self.folders = [os.path.join(folder, region) for region in years.regions_of(folder)]
         for name in ("covers", "parcels"):
             for path in (tables.path_of(each, name) for each in self.folders):
                 if not os.path.isfile(path):

@@ -8,13 +8,14 @@ from fractions import Fraction
 import numpy
 
 from . import wkb
+from .trouble import Trouble
 
 PART = 1 << 16  # edges or shapes at once
 MOST_PASSES = 100
 WIDE = 1 << 31  # differences below it have products that fit a number of 64 bits
 
 
-class Restless(Exception):
+class Restless(Trouble):
     """The borders do not come to rest."""
 
 

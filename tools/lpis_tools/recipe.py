@@ -68,7 +68,7 @@ def stop_at_once(name, *folders):
 
 def run(name, text):
     """The comparison from its words to its report, and its status."""
-    return words.ended(name, lambda: compared(name, text), land.Trouble)
+    return words.ended(name, lambda: compared(name, text))
 
 
 def compared(name, text):

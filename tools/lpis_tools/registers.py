@@ -6,11 +6,12 @@ import pathlib
 import sqlite3
 
 from . import databases, polygons, unforeseen
+from .trouble import Trouble
 
 SECONDS = 60  # to wait for a publish that holds the register
 
 
-class Unreadable(Exception):
+class Unreadable(Trouble):
     """This file is no register that can be read."""
 
 

@@ -11,13 +11,10 @@ from . import codes, differences, ending, explaining, finding, ledger, origin, p
 from .areas import AREA, ELIGIBLE, decimal
 from .files import digest
 from .tables import Table, path_of, shown
+from .trouble import Trouble
 
 TABLES = ("parcels", "covers", "classes")
 MOST_DIGITS = 9  # of a percentage that is shown; more are refused as it is
-
-
-class Trouble(Exception):
-    """The report cannot be made."""
 
 
 def digests(paths):

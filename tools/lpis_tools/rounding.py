@@ -14,9 +14,7 @@ from shapely import wkb as shapely_wkb
 from . import faces, snapping
 from .between import Between
 from .land import BETWEEN
-from .noding import Restless
 
-__all__ = ["Conflicts", "Map", "Restless", "release", "shape_of"]
 MOST_NAMESAKES = 10  # parcels of one name, beyond which it is not asked which of them a piece lies outside of: they are rows of their own
 warnings.filterwarnings("ignore", module="shapely")
 

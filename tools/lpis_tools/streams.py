@@ -7,7 +7,7 @@ import os
 from itertools import islice
 from operator import mul
 
-from . import unforeseen
+from . import trouble, unforeseen
 from .printing import escaped
 from .tables import COLUMNS, FREE, INSTEAD
 
@@ -16,12 +16,8 @@ MARK = "\xef\xbb\xbf"  # the byte order mark; bytes are letters here, one for on
 FAR = 20_000_000_000
 
 
-class Trouble(Exception):
+class Trouble(trouble.Trouble):
     """What a source has that can't be split, line by line."""
-
-    def __init__(self, *reasons):
-        super().__init__("\n".join(reasons))
-        self.reasons = reasons
 
 
 class Folder:

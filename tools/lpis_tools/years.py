@@ -8,6 +8,7 @@ from dataclasses import dataclass, field
 
 from . import databases, polygons, progress, registers, streams, tiles
 from .tables import Table, is_identifier, path_of, shown
+from .trouble import Trouble
 
 CACHED = 64_000  # kilobytes of a year
 TABLES = """
@@ -17,10 +18,6 @@ CREATE TABLE used (name TEXT PRIMARY KEY, until INTEGER) WITHOUT ROWID;
 CREATE VIRTUAL TABLE box USING rtree(id, left, right, low, high);
 BEGIN;
 """
-
-
-class Trouble(Exception):
-    """A year cannot be read."""
 
 
 class Rows:
