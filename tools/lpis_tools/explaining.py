@@ -276,10 +276,9 @@ class Explained(OfGroups, OfCountry):
 
     def say_shapes(self):
         refusal = self.refusal
-        for name in refusal.as_parcels():
-            self.find_shape("parcels", "parcel", name)
-        for name in refusal.as_pieces():
-            self.find_shape("covers", "piece", name)
+        table, column = ("parcels", "parcel") if refusal.kind in ("parcel", "parcels") else ("covers", "piece")
+        for name in refusal.names:
+            self.find_shape(table, column, name)
         found = [members for _, _, members in self.shapes]
         if refusal.code in ("43", "44", "66") and found:
             self.say_pieces_of(refusal.names[0], found[0])

@@ -4,6 +4,7 @@ import sqlite3
 from dataclasses import dataclass
 
 from . import polygons
+from .areas import AREA, decimal
 from .registers import Kept
 from .tables import shown
 
@@ -105,7 +106,7 @@ class OfGroups:
             return
         more = sum(map(polygons.doubled, parts)) - polygons.doubled(wholes[0])
         self.say("the parts together have the area of the whole" if more == 0
-                 else f"the parts together have {polygons.square_metres(abs(more))} m2 {'more' if more > 0 else 'less'} than the whole")
+                 else f"the parts together have {decimal(abs(more), AREA)} m2 {'more' if more > 0 else 'less'} than the whole")
         self.stretches = polygons.residue(wholes[0], parts)
         if not self.stretches:
             self.say("their borders agree: `lpis exact` finds flats for them")

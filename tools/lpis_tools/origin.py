@@ -9,6 +9,7 @@ import re
 from collections import Counter
 
 from . import balance, cells
+from .areas import hectares
 from .printing import escaped
 
 csv.field_size_limit(1 << 30)
@@ -82,11 +83,6 @@ def faults(table, classes):
     wrong += [f"balance.csv, report.csv and prepared.csv are of other tables: {name} has {of_balance.get(name, 0.0):.3f} m2 there, and {of_tables.get(name, 0.0):.3f} here"
               for name in sorted({*of_balance, *of_tables}) if abs(of_balance.get(name, 0.0) - of_tables.get(name, 0.0)) > NEAR]
     return wrong
-
-
-def hectares(area):
-    """An area in square metres."""
-    return f"{area / 10_000:,.4f} ha"
 
 
 def lines(found):

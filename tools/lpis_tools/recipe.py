@@ -192,12 +192,12 @@ def differing_classes(table, of_land, path):
 
 
 def lacking_classes(table, layers, path):
-    from .conflicts import Loss, number_of
+    from .conflicts import Loss
 
     known, rows, column = {record.get("class") for record in table}, {}, column_of(table)
     for row in layers["covers"].rows:
         if row["class"] not in known:
-            rows.setdefault(row["class"], []).append(number_of(row))
+            rows.setdefault(row["class"], []).append(row.number)
     wrong = [Loss("class", [name], f"{len(found)} pieces have this class, and {path} has not: lpis refuses it (36)", layer="covers", rows=found) for name, found in rows.items()]
     most = 100 if column == "percent" else 1
     return wrong + [Loss("class", [record.get("class") or ""], f"its {column} is {record.get(column)!r}, no whole number from 0 to {most}: lpis refuses it (3b)", layer="classes")

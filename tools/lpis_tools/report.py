@@ -3,6 +3,7 @@ became of the parcels of an older release, which years a register has."""
 
 from __future__ import annotations
 
+import contextlib
 import datetime
 import os
 from dataclasses import dataclass, field
@@ -33,31 +34,24 @@ class Land:
 
 def read(folder):
     land = Land()
-    tables = {}
-    for name in TABLES:
-        try:
-            tables[name] = Table(path_of(folder, name), name)
-        except FileNotFoundError:
-            continue  # lpis says so
-    if "parcels" in tables:
-        table = tables["parcels"]
-        for _, record in table.rows():
-            members = polygons.read(table.field(record, "wkt"))
-            if members:
-                land.parcels.setdefault(shown(table.field(record, "parcel")), members)
-    if "covers" in tables:
-        table = tables["covers"]
-        for _, record in table.rows():
-            members = polygons.read(table.field(record, "wkt"))
-            if members:
-                land.pieces.append((*(shown(table.field(record, name)) for name in ("piece", "parcel", "class")), members))
-    if "classes" in tables:
-        table = tables["classes"]
+    for table, record in records(folder, "parcels"):
+        if members := polygons.read(table.field(record, "wkt")):
+            land.parcels.setdefault(shown(table.field(record, "parcel")), members)
+    for table, record in records(folder, "covers"):
+        if members := polygons.read(table.field(record, "wkt")):
+            land.pieces.append((*(shown(table.field(record, name)) for name in ("piece", "parcel", "class")), members))
+    for table, record in records(folder, "classes"):
         column, factor = ("percent", 1) if "percent" in table.names else ("eligible", 100)
-        for _, record in table.rows():
-            text = table.field(record, column)
-            land.percents[shown(table.field(record, "class"))] = int(text) * factor if text.isdigit() and len(text) <= MOST_DIGITS else None
+        text = table.field(record, column)
+        land.percents[shown(table.field(record, "class"))] = int(text) * factor if text.isdigit() and len(text) <= MOST_DIGITS else None
     return land
+
+
+def records(folder, name):
+    """The records of a table, each with the table; none where it is not there, which lpis says."""
+    with contextlib.suppress(FileNotFoundError):
+        table = Table(path_of(folder, name), name)
+        yield from ((table, record) for _, record in table.rows())
 
 
 def by_class(land):

@@ -5,13 +5,12 @@ from __future__ import annotations
 import numpy
 
 from . import wkb
-from .balance import MOST
-
 PART = 1 << 16  # shapes at once
+MOST = 1e16  # square metres: more than the range of the tables has
 
 
 def areas_of(founds):
-    """The square metres of many shapes by their points; 0 where there is none."""
+    """The square metres of many shapes by their points, each shell without its holes; 0 where there is none, and of coordinates that no map has."""
     areas = []
     for start in range(0, len(founds), PART):
         areas += areas_of_part(founds[start : start + PART])

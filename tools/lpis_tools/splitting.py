@@ -10,6 +10,7 @@ import zlib
 from array import array
 
 from . import balance, files, parting, progress, tiles
+from .areas import AREA, decimal
 from .streams import Folder, OneFile, Stream, Trouble, ended, measured, shown
 
 MOST_TOLD = 20
@@ -57,8 +58,7 @@ class Sums:
 
     def counts(self):
         """As `lpis country` writes them: parcels, pieces, the area of the parcels."""
-        area = 5 * self.doubled.get(PARCELS, 0)
-        return f"parcels {self.rows['parcels']} pieces {self.rows['covers']} area {area // 10**7}.{area % 10**7:07}"
+        return f"parcels {self.rows['parcels']} pieces {self.rows['covers']} area {decimal(self.doubled.get(PARCELS, 0), AREA)}"
 
 
 def tracked(source, name, stream):
