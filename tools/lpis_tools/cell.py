@@ -3,6 +3,7 @@ and their part of the balance. All of it goes into one file, a record a line, wh
 
 from __future__ import annotations
 
+import contextlib
 import hashlib
 import json
 import os
@@ -12,7 +13,7 @@ from shapely import wkb as shapely_wkb
 from shapely.geometry import box
 from shapely.prepared import prep
 
-from . import balance, conflicts, files, last_year, outcome, polygons, rounding, store, ways, wkb
+from . import balance, conflicts, files, land, last_year, outcome, polygons, rounding, store, ways, wkb
 from .snapping import REACH
 
 FAR = 2 * REACH  # from a shape, whose borders move
@@ -36,15 +37,6 @@ class Row:
 
     def __getitem__(self, name):
         return self.fields.get(name) or ""
-
-
-class Layer:
-    """The rows of a layer whose shapes are valid."""
-
-    is_valid = True
-
-    def __init__(self, name, rows):
-        self.name, self.rows = name, rows
 
 
 class Near:
@@ -103,16 +95,17 @@ class Cell:
 
 def made(path, number, results):
     """The name of the file that has what a cell gives; it is made where it is not there."""
-    base = sqlite3.connect(f"file:{path}?mode=ro", uri=True)
-    try:
-        cell = Cell(base, number)
-    finally:
-        base.close()
-    name = cell.name()
+    return written(path, results, lambda base: Cell(base, number), records_of)
+
+
+def written(path, results, read, records_of_it):
+    """The name of the file that has the records of what is read of a store; it is made where it is not there."""
+    with contextlib.closing(sqlite3.connect(f"file:{path}?mode=ro", uri=True)) as base:
+        found = read(base)
+    name = found.name()
     if not os.path.exists(os.path.join(results, name)):
         with files.anew(os.path.join(results, name)) as file:
-            for record in records_of(cell):
-                file.write(json.dumps(record) + "\n")
+            file.writelines(json.dumps(record) + "\n" for record in records_of_it(found))
     return name
 
 
@@ -128,7 +121,7 @@ def records_of(cell):
         for row in rows:
             entry = whole.entries[id(row)] = balance.Entry(name, row, row.area)
             entry.founds = (row.read,) if row.read else entry.founds
-    source = conflicts.Source({"parcels": Layer("parcels", cell.parcels), "covers": Layer("covers", cell.covers)})
+    source = conflicts.Source({name: land.Layer(name, rows, is_valid=True) for name, rows in (("parcels", cell.parcels), ("covers", cell.covers))})
     conflicts.find_conflicts(source, lambda words: None, conflicts_of(cell, made_map))
     before = [loss.words for loss in source.losses]
     compared = Compared(source, cell, texts, whole)
@@ -170,7 +163,7 @@ class Compared(outcome.Outcome):
     def __init__(self, source, cell, texts, whole):
         super().__init__(source, self.own_records, whole)
         self.cell, self.texts = cell, texts
-        source.layers = {name: Layer(name, rows) for name, rows in cell.own.items()}
+        source.layers = {name: land.Layer(name, rows, is_valid=True) for name, rows in cell.own.items()}
 
     def own_records(self, name):
         for row, text in self.texts[name]:

@@ -111,18 +111,11 @@ def is_of_another_program(folder):
 
 
 def connected(path):
-    """A connection for reading. A file of another user in a folder that only that one may write is read as one that does not change, where no -wal is there."""
-    for mode in ("mode=ro", "immutable=1"):
-        connection = sqlite3.connect(f"file:{path.replace('%', '%25').replace('?', '%3f').replace('#', '%23')}?{mode}", uri=True)
-        try:
-            connection.execute("SELECT count(*) FROM sqlite_master")
-            return databases.guarded(connection)
-        except (sqlite3.Error, UnicodeDecodeError) as error:  # a schema that is no text is the second
-            connection.close()
-            if "locked" in str(error):
-                raise Trouble(f"{path}: another program is writing it ({error})") from None
-            if mode != "mode=ro" or os.path.exists(f"{path}-wal"):
-                raise Trouble(f"{path}: {error}") from None
+    """A connection for reading."""
+    try:
+        return databases.opened(path)
+    except (sqlite3.Error, UnicodeDecodeError) as error:
+        raise Trouble(f"{path}: another program is writing it ({error})" if "locked" in str(error) else f"{path}: {error}") from None
 
 
 def is_package(path):

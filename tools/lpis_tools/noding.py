@@ -68,11 +68,6 @@ def edges_of(founds):
     return (numpy.concatenate(some) for some in zip(*parts)) if parts else (numpy.zeros((0, 4)), numpy.zeros(0, int))
 
 
-def numbered(keys):
-    """Different keys, ascending, and the number of each."""
-    return numpy.unique(keys, return_inverse=True)
-
-
 def expanded(counts):
     """For each of so many things its place in the list, and its number among its own."""
     which = numpy.repeat(numpy.arange(len(counts)), counts)
@@ -171,11 +166,11 @@ class Network:
     def take(self, first, last, sides):
         backwards = first > last
         first, last = numpy.where(backwards, last, first), numpy.where(backwards, first, last)
-        keys, number = numbered((first << 32) | last)
+        keys, number = numpy.unique((first << 32) | last, return_inverse=True)
         self.first, self.last = keys >> 32, keys & 0xFFFFFFFF
         edge, owner, count = sides
         count = numpy.where(backwards[edge], -count, count)
-        pairs, place = numbered((number[edge] << 32) | owner)
+        pairs, place = numpy.unique((number[edge] << 32) | owner, return_inverse=True)
         counts = numpy.bincount(place, count, len(pairs)).astype(int)
         kept = counts != 0
         self.edge, self.owner, self.count = pairs[kept] >> 32, pairs[kept] & 0xFFFFFFFF, counts[kept]

@@ -2,7 +2,6 @@
 
 from __future__ import annotations
 
-import pathlib
 import sqlite3
 
 from . import databases, polygons, unforeseen
@@ -17,28 +16,11 @@ class Unreadable(Trouble):
 
 def opened(path):
     """A connection that reads alone, or an error of SQLite: texts of the schema that are no letters are one too."""
+    unforeseen.at(path)
     try:
-        return connected(path)
+        return databases.opened(path, SECONDS)
     except UnicodeDecodeError as error:
         raise sqlite3.DatabaseError(f"its schema is damaged: {error}") from None
-
-
-def connected(path):
-    """Reads alone. Where the register's folder can't be written, and nobody holds the register, the file is read as one that does
-    not change."""
-    unforeseen.at(path)
-    name = pathlib.Path(path).resolve().as_uri()
-    connection = sqlite3.connect(f"{name}?mode=ro", uri=True, timeout=SECONDS)
-    try:
-        connection.execute("SELECT 1 FROM sqlite_schema").fetchone()
-        return databases.guarded(connection)
-    except sqlite3.OperationalError:
-        if not pathlib.Path(path).is_file() or pathlib.Path(f"{path}-wal").exists():
-            raise
-    connection.close()
-    connection = sqlite3.connect(f"{name}?immutable=1", uri=True)
-    connection.execute("SELECT 1 FROM sqlite_schema").fetchone()
-    return databases.guarded(connection)
 
 
 def facts(path):

@@ -31,6 +31,7 @@ REGIONS = [line.split()[1] for line in lines_of("country.txt") if line.startswit
 wildcard_constraints:
     part="[0-9a-f]{64}",
     cell="[0-9]+",
+    kind="cell|gap",
     region="[A-Za-z0-9_-]+",
 
 
@@ -66,28 +67,16 @@ rule part:
         "{COUNTRY} job .cells part {params.number} >/dev/null"
 
 
-rule cell:
+rule of_cell:
     input:
         ".cells/rows.db",
     output:
-        ".cells/{cell}.cell",
+        ".cells/{cell}.{kind}",
     resources:
         mem_mb=1000,
         runtime=60,
     shell:
-        "{COUNTRY} job .cells cell {wildcards.cell} >/dev/null"
-
-
-rule gap:
-    input:
-        ".cells/rows.db",
-    output:
-        ".cells/{cell}.gap",
-    resources:
-        mem_mb=1000,
-        runtime=60,
-    shell:
-        "{COUNTRY} job .cells gap {wildcards.cell} >/dev/null"
+        "{COUNTRY} job .cells {wildcards.kind} {wildcards.cell} >/dev/null"
 
 
 rule cut:

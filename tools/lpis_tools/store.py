@@ -85,7 +85,7 @@ class Layer:
     """The rows of a layer in a store that the passes over names look at: those whose names are not identifiers as they stand."""
 
     def __init__(self, base, name, outline):
-        self.base, self.name, self.is_cover, self.outline = base, name, int(name == "covers"), outline
+        self.base, self.name, self.is_cover = base, name, int(name == "covers")
         self.key, self.others, self.system = outline.key, outline.others, outline.system
 
     def among(self, condition, words=()):

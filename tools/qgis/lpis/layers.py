@@ -5,7 +5,9 @@ import json
 import os
 import re
 import sqlite3
+from pathlib import Path
 
+from osgeo import ogr
 from qgis.core import (
     QgsCoordinateReferenceSystem, QgsFeature, QgsField, QgsFields, QgsGeometry, QgsProcessingAlgorithm, QgsProcessingException,
     QgsProcessingParameterCrs, QgsProcessingUtils, QgsRectangle, QgsWkbTypes,
@@ -130,26 +132,13 @@ def features_of(path):
         collection = json.load(file)
     for feature in collection["features"]:
         if feature.get("geometry"):
-            yield feature["properties"], QgsGeometry.fromWkt(wkt_of(feature["geometry"]))
-
-
-def wkt_of(geometry):
-    """The text of a GeoJSON geometry."""
-    def points(places):
-        return "(" + ", ".join(f"{place[0]!r} {place[1]!r}" for place in places) + ")"
-
-    def nested(places, depth):
-        return points(places) if depth == 0 else "(" + ", ".join(nested(place, depth - 1) for place in places) + ")"
-
-    kind, places = geometry["type"], geometry["coordinates"]
-    depth = {"Point": -1, "LineString": 0, "MultiPoint": 0, "Polygon": 1, "MultiLineString": 1, "MultiPolygon": 2}[kind]
-    return f"{kind.upper()} " + (points([places]) if depth < 0 else nested(places, depth))
+            shape = QgsGeometry()
+            shape.fromWkb(bytes(ogr.CreateGeometryFromJson(json.dumps(feature["geometry"])).ExportToWkb()))
+            yield feature["properties"], shape
 
 
 def kept_of(register):
     """The identifiers of a register's last release: first year, and the text of the shape or None."""
-    from pathlib import Path
-
     if not os.path.isfile(register):
         raise QgsProcessingException(f"{register} is not there")
     address = Path(register).resolve().as_uri()
