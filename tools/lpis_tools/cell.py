@@ -113,7 +113,9 @@ def records_of(cell):
     """The records of a cell: `piece` and `parcel` with the text, `loss`, `greatest` with the greatest change of a parcel, `sum` of the balance, and the ways beside land that
     nobody has."""
     made_map = rounding.Map(cell.parcels, cell.covers, lambda words: None, then=cell.then)
-    texts = {"covers": texts_of_pieces(cell, made_map), "parcels": texts_of_parcels(cell, made_map)}
+    own = cell.own["parcels"]
+    texts = {"covers": [(cell.covers[number], text) for number, text in made_map.polygons(made_map.pieces)],  # those of other cells are right near this one's alone
+             "parcels": [(own[number], text) for number, text in made_map.polygons(made_map.parcels_of_faces(own))]}
     for kind, name in (("piece", "covers"), ("parcel", "parcels")):
         yield from ((kind, row[kind], text) for row, text in texts[name] if row["parcel"] in cell.wanted)
     whole = balance.Balance({})
@@ -134,18 +136,6 @@ def records_of(cell):
     for (layer, land_class), sums in whole.sums.items():
         yield "sum", layer, land_class, list(sums.values())
     yield from ways.ways_of(made_map, cell.wanted)
-
-
-def texts_of_pieces(cell, made_map):
-    """The rows of pieces with their texts: those of other cells are right near this one's alone."""
-    return [(cell.covers[number], text) for number, text in made_map.polygons(made_map.pieces)]
-
-
-def texts_of_parcels(cell, made_map):
-    rows = {row["parcel"]: number for number, row in enumerate(cell.own["parcels"])}
-    nobody = rounding.faces.NOBODY
-    of_piece = rounding.numpy.array([rows.get(row["parcel"], nobody) for row in cell.covers] + [nobody], int)
-    return [(cell.own["parcels"][number], text) for number, text in made_map.polygons(of_piece[made_map.pieces])]
 
 
 def conflicts_of(cell, made_map):

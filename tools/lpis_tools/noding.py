@@ -20,12 +20,12 @@ class Restless(Trouble):
 
 
 class Rings:
-    """The rings of shapes in one array of points, in metres."""
+    """The rings of shapes in one array of points, in metres. A shape may be None."""
 
     def __init__(self, founds, first=0):
         parts, sizes, owners, holes = [], [], [], []
         for owner, found in enumerate(founds, first):
-            for at, count, is_hole in wkb.rings_of(found.blob):
+            for at, count, is_hole in wkb.rings_of(found.blob) if found else ():
                 parts.append(found.blob[at : at + 16 * count])
                 sizes.append(count)
                 owners.append(owner)

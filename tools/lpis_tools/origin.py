@@ -20,10 +20,6 @@ NEAR = 0.001  # square metres: the last digit of balance.csv
 LAYERS = {"parcels": "parcels", "covers": "pieces"}
 
 
-class Unreadable(OSError):
-    """A file of a run before is there, and is no table."""
-
-
 def paths(folder):
     """The files that are there."""
     return {name: os.path.join(folder, name) for name in FILES if os.path.isfile(os.path.join(folder, name))}
@@ -38,7 +34,7 @@ def records(folder, name):
             for row in csv.DictReader(file):
                 yield {name: cells.plain(value) for name, value in row.items() if isinstance(value, str)}
         except csv.Error as error:
-            raise Unreadable(f"{path} cannot be read to its end: {error}") from None
+            raise OSError(f"{path} cannot be read to its end: {error}") from None
 
 
 def number(text):

@@ -8,7 +8,7 @@ import datetime
 import os
 from dataclasses import dataclass, field
 
-from . import codes, differences, ending, explaining, finding, ledger, origin, polygons, program, registers
+from . import codes, differences, ending, explaining, ledger, origin, polygons, program, registers
 from .areas import AREA, ELIGIBLE, decimal
 from .files import digest
 from .tables import Table, path_of, shown
@@ -173,8 +173,3 @@ def refusal_of(line, folder, cert):
     if explained.place:
         facts["place"] = [f"{float(value / 1000):.6f}" for value in explained.place]
     return facts
-
-
-def faults_of(command, folder):
-    """All faults, where they are of the tables or of the map."""
-    return finding.find(command, folder)[1]

@@ -227,31 +227,18 @@ def write_regions(land, tiling, places, out, say):
 def write_lineage(path, folders, out, say):
     """The new tables of lineage: the source's rows, the first to the first region, as many to each as a table may have. Answers their paths, and how many
     rows there are."""
-    header, count, waiting = "old,new\n", 0, iter(folders)
-    paths = [os.path.join(out, folder, "lineage.csv") for folder in folders]
-    rows = []
+    stream, count = None, 0
     if path:
         say(f"dealing out the rows of {path}")
         stream = Stream(OneFile(path), "lineage", ["old", "new"])
-        header, rows = stream.header, stream
-    for each in paths:
-        write_new(each, header)
-    file = None
-    try:
-        for row, _, raw in rows:
-            if (row - 1) % MOST_ROWS == 0:
-                folder = next(waiting, None)
-                if folder is None:
-                    raise Trouble(f"{path}: {MOST_ROWS} rows a region are too few: it has more")
-                if file:
-                    file.close()
-                file = files.more(os.path.join(out, folder, f"lineage.csv{NEW}"), encoding="latin-1", newline="")
-            file.write(ended(raw))
-            count = row
-    finally:
-        if file:
-            file.close()
-    return paths, count
+    writer = Writer(out, folders, "lineage", stream.header if stream else "old,new\n")
+    for count, _, raw in stream or ():
+        region = (count - 1) // MOST_ROWS
+        if region == len(folders):
+            raise Trouble(f"{path}: {MOST_ROWS} rows a region are too few: it has more")
+        writer.add((region,), ended(raw))
+    writer.flush()
+    return writer.paths, count
 
 
 def deal(path, folders, out, say):
@@ -276,9 +263,7 @@ def clear(out, folders):
 class New(Folder):
     """The tables that were written beside those of a region."""
 
-    def lines(self, name):
-        with open(os.path.join(self.path, f"{name}.csv{NEW}"), encoding="latin-1", newline="") as file:
-            yield from file
+    ENDING = f".csv{NEW}"
 
 
 def sums_of(land, tiling, places, out):

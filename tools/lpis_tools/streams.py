@@ -23,19 +23,23 @@ class Trouble(trouble.Trouble):
 class Folder:
     """The tables parcels.csv, covers.csv and classes.csv of a folder, and lineage.csv where it is there."""
 
+    ENDING = ".csv"
+
     def __init__(self, path):
         self.path = path
 
+    def path_of(self, name):
+        return os.path.join(self.path, f"{name}{self.ENDING}")
+
     def lines(self, name):
-        with open(os.path.join(self.path, f"{name}.csv"), encoding="latin-1", newline="") as file:
-            yield from file
+        return lines_of(self.path_of(name))
 
     def size(self, name):
-        return os.path.getsize(os.path.join(self.path, f"{name}.csv"))
+        return os.path.getsize(self.path_of(name))
 
     def lineage(self):
         """The path of the table of lineage, or None."""
-        path = os.path.join(self.path, "lineage.csv")
+        path = self.path_of("lineage")
         return path if os.path.exists(path) else None
 
 
@@ -46,8 +50,12 @@ class OneFile:
         self.path = path
 
     def lines(self, _name):
-        with open(self.path, encoding="latin-1", newline="") as file:
-            yield from file
+        return lines_of(self.path)
+
+
+def lines_of(path):
+    with open(path, encoding="latin-1", newline="") as file:
+        yield from file
 
 
 def records(lines):

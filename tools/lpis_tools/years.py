@@ -201,7 +201,6 @@ def opened(path):
         base = registers.opened(path)
     except sqlite3.Error as error:
         raise Trouble(f"{path}: {error}") from None
-    is_good = False
     try:
         tables = {name for (name,) in base.execute("SELECT name FROM sqlite_schema WHERE type = 'table'")}
         if not {"lpis_release", "lpis_span"} <= tables:
@@ -209,13 +208,10 @@ def opened(path):
         last = base.execute("SELECT max(year) FROM lpis_release").fetchone()[0]
         if not isinstance(last, (int, type(None))):
             raise Trouble(strange(path))
-        is_good = True
-        return base, tables, last
-    except (sqlite3.Error, UnicodeError) as error:
-        raise Trouble(f"{path}: {databases.why(error)}") from None
-    finally:
-        if not is_good:
-            base.close()
+    except (sqlite3.Error, UnicodeError, Trouble) as error:
+        base.close()
+        raise error if isinstance(error, Trouble) else Trouble(f"{path}: {databases.why(error)}") from None
+    return base, tables, last
 
 
 def strange(path):

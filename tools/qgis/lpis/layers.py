@@ -10,7 +10,7 @@ from pathlib import Path
 from osgeo import ogr
 from qgis.core import (
     QgsCoordinateReferenceSystem, QgsFeature, QgsField, QgsFields, QgsGeometry, QgsProcessingAlgorithm, QgsProcessingException,
-    QgsProcessingParameterCrs, QgsProcessingUtils, QgsRectangle, QgsWkbTypes,
+    QgsProcessingParameterCrs, QgsProcessingParameterDefinition, QgsProcessingUtils, QgsRectangle, QgsWkbTypes,
 )
 from qgis.PyQt.QtCore import QVariant
 
@@ -48,13 +48,18 @@ class Algorithm(QgsProcessingAlgorithm):
         folders = [str(parameters[name]) for name in self.FOLDERS if parameters.get(name)]
         return found if found and found.isValid() else next(filter(QgsCoordinateReferenceSystem.isValid, map(system_of, folders)), QgsCoordinateReferenceSystem())
 
-    def fill(self, name, place, columns, kind, rows):
-        """Writes rows, each its values and a shape or none, into an output; answers where it is, or None where it is not wanted."""
+    def fill(self, name, place, columns, kind, rows, source=None):
+        """Writes rows, each its values and a shape or none, into an output; answers where it is, or None where it is not wanted. The columns of a source stand
+        before these, and its system is taken where the release's is not known."""
         parameters, context = place
-        fields = QgsFields()
+        fields, system = QgsFields(), self.system(parameters, context)
         for column, form in columns:
             fields.append(QgsField(column, form))
-        sink, where = self.parameterAsSink(parameters, name, context, fields, kind, self.system(parameters, context))
+        if source:
+            fields, system = QgsProcessingUtils.combineFields(source.fields(), fields), system if system.isValid() else source.sourceCrs()
+        sink, where = self.parameterAsSink(parameters, name, context, fields, kind, system)
+        if sink is None and not self.parameterDefinition(name).flags() & QgsProcessingParameterDefinition.FlagOptional:
+            raise QgsProcessingException(self.invalidSinkError(parameters, name))
         if sink is None:
             return None
         for values, shape in rows:
