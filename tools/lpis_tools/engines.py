@@ -108,11 +108,10 @@ def run(command, words, regions):
     if shutil.which("make") is None:
         raise Trouble("there is no make")
     engine = ["make", "-f", "Makefile", "-r", "-k", "--no-print-directory", "-j", str(at_once)]
-    surroundings, shown = {**os.environ, "LPIS": program.replace("$", "$$")}, progress.Progress("country", "cutting", len(regions), "regions")  # make works out what it has of the environment
+    surroundings = {**os.environ, "LPIS": program.replace("$", "$$")}  # make works out what it has of the environment
     with ending.start(engine, cwd=folder, env=surroundings, stdout=subprocess.PIPE, text=True) as make:
-        for _ in make.stdout:  # a line of each region that is cut
-            shown.add()
-    shown.end()
+        for _ in progress.each(make.stdout, "country", "cutting", len(regions), "regions", 1):  # a line of each region that is cut
+            pass
 
 
 def faults_of(command, folder, refused, say):

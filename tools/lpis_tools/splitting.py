@@ -268,8 +268,8 @@ class New(Folder):
 
 def sums_of(land, tiling, places, out):
     """What the regions have, each row in the first region of its parcel."""
-    sums, shown = Sums(), progress.Progress("country", "looking for every row", len(tiling.folders), "regions")
-    for region, folder in enumerate(tiling.folders):
+    sums = Sums()
+    for region, folder in enumerate(progress.each(tiling.folders, "country", "looking for every row", len(tiling.folders), "regions", 1)):
         new = New(os.path.join(out, folder))
         for _, (name, wkt), raw in Stream(new, "parcels", ["parcel", "wkt"]):
             if places.first[land.numbers[name]] == region:
@@ -277,7 +277,6 @@ def sums_of(land, tiling, places, out):
         for _, (name, land_class, wkt), raw in Stream(new, "covers", ["parcel", "class", "wkt"]):
             if places.first[land.numbers[name]] == region:
                 sums.add("covers", raw, ("covers", land_class or "(no class)"), measured(wkt)[1])
-        shown.add()
     for _, _, raw in Stream(New(out), "classes", ["class", "class"]):
         sums.add("classes", raw, None, 0)
     return sums

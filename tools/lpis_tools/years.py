@@ -124,13 +124,12 @@ def regions_of(folder):
 def of_folder(folder, path="", parts_of=lambda folder, regions: None):
     """The parcels of a folder. `parts_of` may read regions by themselves: their files, or None."""
     year, regions = Year(folder, Shapes(path)), regions_of(folder)
-    parts, shown = parts_of(folder, regions), progress.Progress(progress.Quiet.tool, f"reading {folder}", len(regions), "regions")
-    for number, region in enumerate(regions):
+    parts = parts_of(folder, regions)
+    for number, region in enumerate(progress.each(regions, progress.Quiet.tool, f"reading {folder}", len(regions), "regions", 1)):
         if parts:
             take_region(year, parts[number], path_of(os.path.join(folder, region), "parcels"))
         else:
             add_region(year, os.path.join(folder, region), region)
-        shown.add()
     return year
 
 
