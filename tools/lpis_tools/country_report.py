@@ -6,6 +6,7 @@ from __future__ import annotations
 import datetime
 import os
 import subprocess
+from collections import Counter
 from dataclasses import dataclass, field
 
 from . import country_changes, differences, ending, origin, page, progress, registers, release_page, report, streams, tiles, watching
@@ -138,11 +139,8 @@ def chart_of(country):
         left, low, right, high = box
         words = f"{row['parcels']} parcels, {hectares(row['area'])}" if "area" in row else "has no answer"
         layer.add(row["region"], [[[(left, low), (right, low), (right, high), (left, high), (left, low)]]], words)
-    side, counts = max(whole[2] - whole[0], whole[3] - whole[1]) // CELLS + 1, {}
-    for region in country.regions.values():
-        for x, y in region.corners:
-            cell = (x - whole[0]) // side, (whole[3] - y) // side
-            counts[cell] = counts.get(cell, 0) + 1
+    side = max(whole[2] - whole[0], whole[3] - whole[1]) // CELLS + 1
+    counts = Counter(((x - whole[0]) // side, (whole[3] - y) // side) for region in country.regions.values() for x, y in region.corners)
     marks = [(*map(float, country.place), country.facts["answer"])] if country.place else []
     return page.Map(tiles=layer, marks=marks, cells=(side, [(x, y, count) for (x, y), count in sorted(counts.items())]))
 

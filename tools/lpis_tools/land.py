@@ -119,11 +119,8 @@ def connected(path):
 
 
 def is_package(path):
-    connection = connected(path)
-    try:
+    with contextlib.closing(connected(path)) as connection:
         return connection.execute("SELECT count(*) FROM sqlite_master WHERE name = 'gpkg_contents'").fetchone() == (1,)
-    finally:
-        connection.close()
 
 
 def as_package(path, spare, *words):

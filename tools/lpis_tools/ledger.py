@@ -1,10 +1,10 @@
 """The log beside a register: a line a published year, each with the digest of the line before, and what the register held then."""
 
+import contextlib
 import fcntl
 import hashlib
 import json
 import os
-from contextlib import contextmanager
 
 from . import files, progress, registers
 
@@ -32,8 +32,7 @@ def digests_of(paths, what):
 
 def content_of(register):
     """The sha256 of each table's rows, in the order of their keys: the same for the same content, however the file is laid out."""
-    base = registers.opened(register)
-    try:
+    with contextlib.closing(registers.opened(register)) as base:
         there = {name for (name,) in base.execute("SELECT name FROM sqlite_schema WHERE type = 'table'")}
         digests, tables = {}, [table for table in ORDERED if table in there]
         shown = progress.Progress(progress.Quiet.tool, "reading the register", sum(base.execute(f"SELECT count(*) FROM {table}").fetchone()[0] for table in tables), "rows")
@@ -47,8 +46,6 @@ def content_of(register):
             digests[table] = digest.hexdigest()
         shown.end()
         return digests
-    finally:
-        base.close()
 
 
 def lines_of(register):
@@ -64,7 +61,7 @@ def own_digest(entry):
     return hashlib.sha256(json.dumps({key: entry[key] for key in sorted(entry) if key != "own"}).encode()).hexdigest()
 
 
-@contextmanager
+@contextlib.contextmanager
 def held(register):
     """The log, open at its end, held by one process at a time."""
     mode = os.stat(register).st_mode & 0o666 if os.path.exists(register) else 0o666

@@ -2,6 +2,7 @@
 
 from __future__ import annotations
 
+import contextlib
 import sqlite3
 
 from . import databases, polygons, unforeseen
@@ -26,14 +27,11 @@ def opened(path):
 def facts(path):
     """The years of a register, and what it holds of the last of them."""
     try:
-        connection = opened(path)
-        try:
+        with contextlib.closing(opened(path)) as connection:
             years = [int(year) for (year,) in connection.execute("SELECT year FROM lpis_release ORDER BY year")]
             (live,), (all_of_them,) = connection.execute("SELECT count(*) FROM lpis_span WHERE until = 0 UNION ALL SELECT count(*) FROM lpis_span")
             has_texts = connection.execute("SELECT 1 FROM sqlite_schema WHERE name = 'lpis_text'").fetchone()
             shapes = connection.execute("SELECT count(*) FROM lpis_text").fetchone()[0] if has_texts else 0
-        finally:
-            connection.close()
     except (sqlite3.Error, ValueError, TypeError) as error:  # a year that is no number, text that is none
         raise Unreadable(f"{path} is no register of version 2 or 3 that can be read: {databases.why(error)}") from None
     return {"path": path, "years": years, "live": live, "identifiers": all_of_them, "shapes": shapes}

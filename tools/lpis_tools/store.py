@@ -106,10 +106,7 @@ class Layer:
         return self.among("is_odd")
 
     def keep(self, test):
-        dropped = []
-        for row in self.rows:
-            if not test(row):
-                dropped.append((row.id,))
+        dropped = [(row.id,) for row in self.rows if not test(row)]
         self.base.executemany("UPDATE row SET is_kept = 0 WHERE id = ?", dropped)
 
     def groups(self, column, _key):
