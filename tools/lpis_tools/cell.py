@@ -23,20 +23,17 @@ BESIDE = "SELECT id, left, low, right, high FROM box WHERE left <= ? AND right >
 FIELDS = "SELECT id, is_cover, name, parcel, class, area, why, shape, read FROM row JOIN shape USING (id) WHERE id = ? AND is_kept"
 
 
-class Row:
+class Row(land.Row):
     """A row of the store, as the rounding and the report want it. `read` is its shape as it was read, where that is another. Its number is its name: who reads
     a result finds the row by it, wherever it stands then."""
 
-    __slots__ = ("area", "digest", "fields", "found", "id", "is_cover", "number", "read", "why")
+    __slots__ = ("area", "digest", "id", "is_cover", "read")
 
     def __init__(self, own, is_cover, name, parcel, land_class, area, why, shape, read):
         self.fields = {"piece": name, "parcel": parcel, "class": land_class} if is_cover else {"parcel": parcel}
         self.id, self.number, self.is_cover, self.area, self.why = own, (is_cover, name), is_cover, area, why
         self.found, self.read = (wkb.Found.of_blob(blob) if blob else None for blob in (shape, read))
         self.digest = [is_cover, name, parcel, land_class, why, *(hashlib.sha256(blob).hexdigest() if blob else "" for blob in (shape, read))]
-
-    def __getitem__(self, name):
-        return self.fields.get(name) or ""
 
 
 class Near:
@@ -114,7 +111,8 @@ def records_of(cell):
     nobody has."""
     made_map = rounding.Map(cell.parcels, cell.covers, lambda words: None, then=cell.then)
     own = cell.own["parcels"]
-    texts = {"covers": [(cell.covers[number], text) for number, text in made_map.polygons(made_map.pieces)],  # those of other cells are right near this one's alone
+    # The texts of pieces of other cells are right near this one's alone.
+    texts = {"covers": [(cell.covers[number], text) for number, text in made_map.polygons(made_map.pieces)],
              "parcels": [(own[number], text) for number, text in made_map.polygons(made_map.parcels_of_faces(own))]}
     for kind, name in (("piece", "covers"), ("parcel", "parcels")):
         yield from ((kind, row[kind], text) for row, text in texts[name] if row["parcel"] in cell.wanted)

@@ -8,7 +8,6 @@ from collections import Counter
 
 from . import accepting, ending, files, land, progress, shapely_there, sheets, unforeseen, words
 
-TROUBLE = 64
 MOST_WIDE = 100.0  # metres
 TABLES = ("parcels", "covers", "classes")
 REPORT = "OUT/report.csv, OUT/report.geojson and OUT/balance.csv have what was lost, settled and changed."

@@ -43,19 +43,16 @@ def new(path, *tables):
     return base
 
 
-class Row:
+class Row(land.Row):
     """A row of the store. Its shape is read when it is asked for, and written when it is set."""
 
-    __slots__ = ("base", "box", "fields", "id", "number", "place", "read", "why")
+    __slots__ = ("base", "box", "id", "read")
 
     def __init__(self, base, number, is_cover, own, name, parcel, land_class, why, x, y, *box):
         self.base, self.id, self.number, self.why, self.box = base, number, own, why, box if box[0] is not None else None
         self.place = None if x is None else (x, y)
         self.fields = {"piece": name, "parcel": parcel, "class": land_class} if is_cover else {"parcel": parcel}
         self.read = dict(self.fields)
-
-    def __getitem__(self, name):
-        return self.fields.get(name) or ""
 
     @property
     def found(self):
