@@ -53,7 +53,7 @@ def prepared(words, folder, kind, plan, what=""):
 
 def by_snakemake(folder, target, at_once, profile, is_quiet, surroundings):
     """Runs a target of the Snakefile, which goes on where a job is refused."""
-    if not snakefile.is_there():
+    if shutil.which("snakemake") is None:
         raise Trouble("there is no snakemake")
     put_snakefile(folder)
     own = os.path.join(folder, snakefile.OWN)

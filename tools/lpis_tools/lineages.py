@@ -18,12 +18,6 @@ def group_of(table, name):
     return Group(bool(merge), name, tuple(sorted(part for _, part in found))) if found else None, [row for row, _ in found]
 
 
-def blocks_of(path):
-    """The `exact` blocks of a certificate, each as its kind and its identifier."""
-    with open(path, "rb") as file:
-        return [tuple(line.split()[1:3]) for line in file if line.startswith(b"exact ") and len(line.split()) == 4]
-
-
 class OfGroups:
     """The words about splits and merges: a part of `explaining.Explained`, whose words, shapes and tables it takes."""
 
@@ -113,7 +107,8 @@ class OfGroups:
             self.say("name the certificate by --cert CERT to see its blocks")
             return
         try:
-            blocks = blocks_of(self.cert)
+            with open(self.cert, "rb") as file:
+                blocks = [line.split()[1:3] for line in file if line.startswith(b"exact ") and len(line.split()) == 4]
         except OSError as error:
             self.say(f"{self.cert}: {error.strerror}")
             return

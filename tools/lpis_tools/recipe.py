@@ -65,12 +65,8 @@ def stop_at_once(name, *folders):
     ending.listen(last)
 
 
-def run(name, text):
-    """The comparison from its words to its report, and its status."""
-    return words.ended(name, lambda: compared(name, text))
-
-
 def compared(name, text):
+    """The comparison from its words to its report, and its status."""
     said, say = parser(name, text).parse_args(accepting.arguments_of(sys.argv[1:])), teller(name)
     shapely_there.go_on(name)
     from . import balance, conflicts, losses

@@ -3,7 +3,6 @@
 from __future__ import annotations
 
 import os
-import shutil
 import subprocess
 
 SNAKEFILE = """# A country by Snakemake, which runs what is missing or whose inputs changed: the parts of its source and the cells (by `country prepare`), the
@@ -129,7 +128,3 @@ def surroundings(more):
 def knows(option):
     run = subprocess.run(["snakemake", "--help"], capture_output=True, text=True, check=False, cwd="/")
     return option in run.stdout
-
-
-def is_there():
-    return shutil.which("snakemake") is not None
