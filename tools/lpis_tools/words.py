@@ -118,7 +118,7 @@ def told(name, error, troubles):
     if isinstance(error, troubles):
         for reason in getattr(error, "reasons", [error]):
             say(name, installed.here(str(reason)))
-        return TROUBLE
+        return getattr(error, "status", TROUBLE)
     say(name, unforeseen.sentence(name, error))
     return unforeseen.STATUS
 

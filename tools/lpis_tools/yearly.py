@@ -9,12 +9,13 @@ import subprocess
 import sys
 
 from . import ending, files, ledger, program, registers, words, years
+from .trouble import Trouble
 
 STOPPED = 1
 MOST_STEP = 3  # years after the last one
 
 
-class Stop(Exception):
+class Stop(Trouble):
     """The year is not done: words, and the status."""
 
     def __init__(self, said, status=STOPPED):
