@@ -69,7 +69,7 @@ class ByCells(Case):
 
     def whole(self, land, width=None):
         """The conflicts of a land in one, whose tables are written."""
-        layers = {name: cell.Layer(name, rows) for name, rows in (("parcels", land.parcels), ("covers", land.covers))}
+        layers = {name: land_module.Layer(name, rows, is_valid=True) for name, rows in (("parcels", land.parcels), ("covers", land.covers))}
         seen = rounding.release(layers, self.path("whole"), lambda words: None, between=width)
         source = conflicts.Source(layers)
         conflicts.find_conflicts(source, lambda words: None, seen)

@@ -12,7 +12,7 @@ from registers import made, rows
 from calls import ended_with, tool
 from places import BUILT, TOP
 from spare import Spare, read, write
-from lpis_tools import country_report, ledger, parting, progress, splitting, streams
+from lpis_tools import country_report, files, ledger, parting, progress, splitting, streams
 
 YEARS = os.path.join(TOP, "examples", "country-years")
 REGIONS = ["west", "southeast", "northeast"]
@@ -167,8 +167,8 @@ class TestPublishing(Case):
         year = self.path("country", "years", "2024")
         with mock.patch.object(progress, "Bytes", Bytes):
             country_report.make([BUILT], year, None, year)
-            found = ledger.digests_of(year, ["west/parcels.csv", "country.txt"], "digests of the copy")
-        assert found == {name: ledger.digest_of(os.path.join(year, name)) for name in found}
+            found = ledger.digests_of({name: os.path.join(year, name) for name in ("west/parcels.csv", "country.txt")}, "digests of the copy")
+        assert found == {name: files.digest(os.path.join(year, name)) for name in found}
         assert [step.what for step in steps] == ["digests", "checking the country", "digests", "reading the parcels", "digests of the copy"]
         assert all(step.bytes == step.size for step in steps if step.what.startswith("digests"))
         assert 0 < steps[3].bytes <= steps[3].size

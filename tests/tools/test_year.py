@@ -12,7 +12,7 @@ from registers import made
 from calls import ended_with, tool
 from places import BUILT, TOP
 from spare import Spare, read
-from lpis_tools import ledger
+from lpis_tools import files, ledger
 
 EXAMPLES = os.path.join(TOP, "examples", "exact")
 
@@ -100,11 +100,11 @@ class TestYears(Case):
         assert read(self.folder, "2025", "published-2025.txt").endswith("lineage yard merged exact\npublished 2025\n")
         entries, faults = ledger.entries_of(self.lines())
         assert ([2024, 2025], [], entries[0]["content"]) == ([entry["year"] for entry in entries], faults, entries[1]["content_before"])
-        assert entries[1]["certificate"] == ledger.digest_of(os.path.join(self.folder, "2025", "exact.txt"))
+        assert entries[1]["certificate"] == files.digest(os.path.join(self.folder, "2025", "exact.txt"))
         assert 0 == run("--verify", self.base).returncode
         copy = f"{self.base}.before-2025"
         assert entries[0]["content"] == ledger.content_of(copy)
-        assert f"{ledger.digest_of(copy)}  lpis.db.before-2025\n" == Path(f"{copy}.sha256").read_text(encoding="ascii")
+        assert f"{files.digest(copy)}  lpis.db.before-2025\n" == Path(f"{copy}.sha256").read_text(encoding="ascii")
 
     def test_what_it_stops_at(self):
         this = datetime.date.today().year
