@@ -1,6 +1,5 @@
 """Headless Chromium, driven by a pipe: pages are opened, files dropped, and all requests, messages and errors kept."""
 
-import base64
 import json
 import os
 import shutil
@@ -15,14 +14,14 @@ WORDS = ["--headless=new", "--no-sandbox", "--disable-gpu", "--disable-dev-shm-u
 class Browser:
     """One Chromium with one page."""
 
-    def __init__(self, *words, size=(1100, 1600)):
+    def __init__(self, *words):
         self.folder = tempfile.mkdtemp()
         self.last, self.events, self.rest = 0, [], b""
         here_reads, there_writes = os.pipe()
         there_reads, here_writes = os.pipe()
         self.reads, self.writes = here_reads, here_writes
         starter = f'exec "$0" "$@" 3<&{there_reads} 4>&{there_writes}'
-        chromium = [CHROMIUM, *WORDS, f"--user-data-dir={self.folder}", f"--window-size={size[0]},{size[1]}", *words, "about:blank"]
+        chromium = [CHROMIUM, *WORDS, f"--user-data-dir={self.folder}", "--window-size=1100,1600", *words, "about:blank"]
         self.process = subprocess.Popen(["bash", "-c", starter, *chromium], pass_fds=(there_reads, there_writes), stdout=subprocess.DEVNULL, stderr=subprocess.DEVNULL)
         os.close(there_reads)
         os.close(there_writes)
@@ -95,11 +94,6 @@ class Browser:
         root = self.call("DOM.getDocument")["root"]["nodeId"]
         node = self.call("DOM.querySelector", nodeId=root, selector=selector)["nodeId"]
         self.call("DOM.setFileInputFiles", nodeId=node, files=[os.path.realpath(path) for path in paths])
-
-    def picture(self, path):
-        data = self.call("Page.captureScreenshot", format="png", captureBeyondViewport=True)["data"]
-        with open(path, "wb") as file:
-            file.write(base64.b64decode(data))
 
     def requests(self):
         return [event["params"]["request"]["url"] for event in self.events if event["method"] == "Network.requestWillBeSent"]

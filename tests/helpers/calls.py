@@ -18,9 +18,13 @@ def run(*words, **more):
 
 def done(*words, **more):
     """What a run printed that has to end well."""
-    ended = run(*words, **more)
-    assert ended.returncode == 0, (words, ended.returncode, ended.stdout, ended.stderr)
-    return ended.stdout
+    return ended_with(0, run(*words, **more)).stdout
+
+
+def ended_with(status, ended):
+    """A run, which has to have ended with this status."""
+    assert ended.returncode == status, (ended.args, ended.stdout, ended.stderr)
+    return ended
 
 
 def lpis(*words, **more):

@@ -32,13 +32,6 @@ class Case(Spare):
     """Wants Shapely."""
 
 
-class Quietly:
-    """No progress."""
-
-    def add(self, number=1):
-        pass
-
-
 class ByCells(Case):
     """The tables and the conflicts of a land by cells, and in one."""
 
@@ -54,7 +47,7 @@ class ByCells(Case):
             last.put(base, [os.path.join(results, parts.made(part, results)) for part in last.planned()])
         names = [cell.made(os.path.join(made, "rows.db"), number, results) for number in range(count)]
         found = gathering.Gathered(base, results, names, balance.Balance({}))
-        found.read(Quietly())
+        found.read(mock.Mock())
         if width:
             names += self.between(found, made, results, width)
         found.tables(made, lambda rows, name, count: rows)
@@ -71,12 +64,12 @@ class ByCells(Case):
             write(name, results, f"{number}.cell")
         found.read_narrow(width)
         names = [gap.made(os.path.join(made, "rows.db"), number, results) for number in range(len(found.names))]
-        found.read_arms(names, Quietly())
+        found.read_arms(names, mock.Mock())
         return names
 
     def whole(self, land, width=None):
         """The conflicts of a land in one, whose tables are written."""
-        layers = {name: cell.Layer(name, rows) for name, rows in (("parcels", land.parcels), ("covers", land.covers))}
+        layers = {name: land_module.Layer(name, rows, is_valid=True) for name, rows in (("parcels", land.parcels), ("covers", land.covers))}
         seen = rounding.release(layers, self.path("whole"), lambda words: None, between=width)
         source = conflicts.Source(layers)
         conflicts.find_conflicts(source, lambda words: None, seen)

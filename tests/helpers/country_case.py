@@ -8,7 +8,7 @@ import subprocess
 import sys
 
 import pytest
-from calls import run, tool
+from calls import ended_with, run, tool
 from places import BUILT, HELPERS
 from spare import Spare, read
 import judged_country as judged
@@ -119,8 +119,7 @@ class Case(Spare):
             shutil.copytree(self.folder, self.kept)
 
     def split(self, *options, source=None):
-        ended = country("split", source or self.source, self.out, *map(str, options))
-        assert ended.returncode == 0, ended.stdout + ended.stderr
+        ended = ended_with(0, country("split", source or self.source, self.out, *map(str, options)))
         assert "the balance adds up to the square metre\n" in ended.stdout
         return ended.stdout.splitlines()[-1].split()
 

@@ -15,13 +15,11 @@ import struct
 import sys
 
 EAST, NORTH = 550_000, 5_400_000
+UTM = ('PROJCS["{}",GEOGCS["ETRS89",DATUM["European_Terrestrial_Reference_System_1989",SPHEROID["GRS 1980",6378137,298.257222101]],'
+       'PRIMEM["Greenwich",0],UNIT["degree",0.0174532925199433]],PROJECTION["Transverse_Mercator"],PARAMETER["latitude_of_origin",0],PARAMETER["central_meridian",9],'
+       'PARAMETER["scale_factor",0.9996],PARAMETER["false_easting",{}],PARAMETER["false_northing",0],UNIT["metre",1],AUTHORITY["EPSG","{}"]]')
 SYSTEMS = {
-    25832: ("ETRS89 / UTM zone 32N", 'PROJCS["ETRS89 / UTM zone 32N",GEOGCS["ETRS89",DATUM["European_Terrestrial_Reference_System_1989",SPHEROID["GRS 1980",6378137,298.257222101]],'
-            'PRIMEM["Greenwich",0],UNIT["degree",0.0174532925199433]],PROJECTION["Transverse_Mercator"],PARAMETER["latitude_of_origin",0],PARAMETER["central_meridian",9],'
-            'PARAMETER["scale_factor",0.9996],PARAMETER["false_easting",500000],PARAMETER["false_northing",0],UNIT["metre",1],AUTHORITY["EPSG","25832"]]'),
-    4647: ("ETRS89 / UTM zone 32N (zE-N)", 'PROJCS["ETRS89 / UTM zone 32N (zE-N)",GEOGCS["ETRS89",DATUM["European_Terrestrial_Reference_System_1989",SPHEROID["GRS 1980",6378137,298.257222101]],'
-           'PRIMEM["Greenwich",0],UNIT["degree",0.0174532925199433]],PROJECTION["Transverse_Mercator"],PARAMETER["latitude_of_origin",0],PARAMETER["central_meridian",9],'
-           'PARAMETER["scale_factor",0.9996],PARAMETER["false_easting",32500000],PARAMETER["false_northing",0],UNIT["metre",1],AUTHORITY["EPSG","4647"]]'),
+    **{number: (name, UTM.format(name, easting, number)) for number, name, easting in ((25832, "ETRS89 / UTM zone 32N", 500000), (4647, "ETRS89 / UTM zone 32N (zE-N)", 32500000))},
     2263: ("NAD83 / New York Long Island (ftUS)", 'PROJCS["NAD83 / New York Long Island (ftUS)",GEOGCS["NAD83",DATUM["North_American_Datum_1983",SPHEROID["GRS 1980",6378137,298.257222101]],'
            'PRIMEM["Greenwich",0],UNIT["degree",0.0174532925199433]],PROJECTION["Lambert_Conformal_Conic_2SP"],UNIT["US survey foot",0.304800609601219],AUTHORITY["EPSG","2263"]]'),
     4326: ("WGS 84", 'GEOGCS["WGS 84",DATUM["WGS_1984",SPHEROID["WGS 84",6378137,298.257223563]],PRIMEM["Greenwich",0],UNIT["degree",0.0174532925199433],AUTHORITY["EPSG","4326"]]'),
@@ -75,18 +73,16 @@ class Package:
         for number, (name, text) in SYSTEMS.items():
             self.base.execute("INSERT INTO gpkg_spatial_ref_sys VALUES (?, ?, 'EPSG', ?, ?, NULL)", (name, number, number, text))
 
-    def layer(self, name, columns, rows, system=None):
+    def layer(self, name, columns, rows):
         """A layer of rows whose last value is a shape's bytes, or None."""
-        system = system or self.system
         self.base.execute(f'CREATE TABLE "{name}" (fid INTEGER PRIMARY KEY AUTOINCREMENT NOT NULL, geom GEOMETRY, {" TEXT, ".join(columns)} TEXT)')
-        self.base.execute("INSERT INTO gpkg_contents (table_name, data_type, identifier, srs_id) VALUES (?, 'features', ?, ?)", (name, name, system))
-        self.base.execute("INSERT INTO gpkg_geometry_columns VALUES (?, 'geom', 'GEOMETRY', ?, 2, 2)", (name, system))
-        self.rows(name, columns, rows, system)
+        self.base.execute("INSERT INTO gpkg_contents (table_name, data_type, identifier, srs_id) VALUES (?, 'features', ?, ?)", (name, name, self.system))
+        self.base.execute("INSERT INTO gpkg_geometry_columns VALUES (?, 'geom', 'GEOMETRY', ?, 2, 2)", (name, self.system))
+        self.rows(name, columns, rows)
 
-    def rows(self, name, columns, rows, system=None):
-        system = system or self.system
+    def rows(self, name, columns, rows):
         for *fields, shape in rows:
-            blob = None if shape is None else b"GP\0" + bytes([17 if shape == EMPTY else 1]) + struct.pack("<i", system) + shape
+            blob = None if shape is None else b"GP\0" + bytes([17 if shape == EMPTY else 1]) + struct.pack("<i", self.system) + shape
             self.base.execute(f'INSERT INTO "{name}" (geom, {", ".join(columns)}) VALUES (?{", ?" * len(columns)})', (blob, *fields))
 
     def table(self, name, columns, rows):
@@ -99,7 +95,7 @@ class Package:
         self.base.close()
 
 
-def rows_of(kinds, move=(0, 0)):
+def rows_of(kinds):
     """Parcels and pieces: four clean ones side by side, and each kind of dirt in a row of its own above them."""
     parcels, covers = [], []
 

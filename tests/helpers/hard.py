@@ -6,6 +6,7 @@ import random
 import lands_land
 from lands_parts import closed, comb, gap, grains, heap, junctions, moved_fan, needles, on_pixels, pond, sliver, twins, two_parts
 from lpis_tools import wkb
+from lpis_tools.land import Row
 
 CORNERS = ((550000.0, 5400000.0), (0.0, 0.0), (-3000.0, 12345678.0))  # of lands, in metres
 
@@ -18,16 +19,6 @@ def long(land, a, b, c, d):
 
 
 PARTS = (comb, gap, grains, heap, junctions, long, moved_fan, needles, on_pixels, pond, sliver, twins, two_parts)
-
-
-class Row:
-    """A row as the tools have it when they have read it."""
-
-    def __init__(self, number, fields, members):
-        self.number, self.fields, self.found, self.why, self.place = number, fields, wkb.Found(members), "", None
-
-    def __getitem__(self, name):
-        return self.fields.get(name) or ""
 
 
 class Land(lands_land.Land):
@@ -45,7 +36,8 @@ class Land(lands_land.Land):
     def add(self, members, pieces, form=None):
         """A parcel and its pieces, whose names are in no order."""
         name = f"P{len(self.parcels)}"
-        self.parcels.append(Row(len(self.parcels), {"parcel": name}, members))
+        self.parcels.append(Row(len(self.parcels), {"parcel": name}, wkb.Found(members)))
         for piece in pieces:
             number = len(self.covers)
-            self.covers.append(Row(number, {"piece": f"K{self.random.randrange(10**9):09}-{number}", "parcel": name, "class": self.random.choice("AB")}, piece))
+            fields = {"piece": f"K{self.random.randrange(10**9):09}-{number}", "parcel": name, "class": self.random.choice("AB")}
+            self.covers.append(Row(number, fields, wkb.Found(piece)))

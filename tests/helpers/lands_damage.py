@@ -11,53 +11,38 @@ from pathlib import Path
 import lands_source
 from lands_land import Land
 
-FILES, PACKAGES, SHEETS = [], [], []
 MOST_CALLS, STEPS = 5_000, 1_000  # a statement of this module over a view with an endless recursion is stopped after so many steps of the engine
-
-
-def damage(*kinds):
-    def keep(function):
-        for kind in kinds:
-            kind.append(function)
-        return function
-    return keep
 
 
 # Of any file: its bytes.
 
 
-@damage(FILES)
 def bytes_changed(data, draw):
     for _ in range(draw.choice([1, 1, 2, 5, 20])):
         data[draw.randrange(len(data))] = draw.choice([draw.randrange(256), 0, 255, data[draw.randrange(len(data))]])
     return data
 
 
-@damage(FILES)
 def bit_changed(data, draw):
     data[draw.randrange(len(data))] ^= 1 << draw.randrange(8)
     return data
 
 
-@damage(FILES)
 def cut_off(data, draw):
     return data[:draw.randrange(len(data))]
 
 
-@damage(FILES)
 def part_doubled(data, draw):
     start = draw.randrange(len(data))
     end = start + draw.choice([1, 10, 100, 4096])
     return data[:end] + data[start:end] + data[end:]
 
 
-@damage(FILES)
 def part_gone(data, draw):
     start = draw.randrange(len(data))
     return data[:start] + data[start + draw.choice([1, 2, 10, 100, 4096]):]
 
 
-@damage(FILES)
 def parts_exchanged(data, draw):
     size = draw.choice([1, 4, 16, 256, 4096])
     one, other = sorted(draw.randrange(max(1, len(data) - size)) for _ in range(2))
@@ -65,7 +50,6 @@ def parts_exchanged(data, draw):
     return data
 
 
-@damage(FILES)
 def part_zeroed(data, draw):
     start, size = draw.randrange(len(data)), draw.choice([1, 8, 100, 4096])
     data[start:start + size] = bytes(len(data[start:start + size]))
@@ -86,7 +70,6 @@ def put_shape(base, layer, number, value):
     base.execute(f"UPDATE {layer} SET geom = ? WHERE rowid = ?", (value, number))
 
 
-@damage(PACKAGES, PACKAGES, PACKAGES)
 def shape_bytes(base, draw):
     """A shape's bytes, changed as those of a file."""
     for _ in range(draw.choice([1, 1, 3])):
@@ -94,7 +77,6 @@ def shape_bytes(base, draw):
         put_shape(base, layer, number, bytes(draw.choice(FILES)(bytearray(blob), draw)))
 
 
-@damage(PACKAGES, PACKAGES)
 def shape_numbers(base, draw):
     """A count, a kind or a coordinate of a shape is another."""
     layer, number, blob = a_shape(base, draw)
@@ -109,14 +91,12 @@ def shape_numbers(base, draw):
     put_shape(base, layer, number, bytes(data))
 
 
-@damage(PACKAGES)
 def shape_kind(base, draw):
     """The field of a shape holds something else."""
     layer, number, _ = a_shape(base, draw)
     put_shape(base, layer, number, draw.choice([5, 2.5, "POLYGON((0 0,1 0,1 1,0 0))", "", b"", b"GP", b"GP\0\1", b"GP\0\x01\0\0\0\0", b"\0" * 60, "x" * 1000, -(2 ** 63), float("inf")]))
 
 
-@damage(PACKAGES)
 def nested(base, draw):
     """Curves and collections within one another, many times."""
     layer, number, _ = a_shape(base, draw)
@@ -126,21 +106,18 @@ def nested(base, draw):
     put_shape(base, layer, number, head + draw.choice([b"", struct.pack("<BII", 1, 10, 1)]) + blob)
 
 
-@damage(PACKAGES)
 def fields_exchanged(base, draw):
     layer, columns = draw.choice([("parcels", ("parcel", "geom")), ("covers", ("piece", "class")), ("covers", ("parcel", "geom")), ("covers", ("class", "parcel")), ("covers", ("piece", "geom"))])
     where = draw.choice(["", f" WHERE rowid % {draw.randrange(2, 5)} = 0"])
     base.execute(f"UPDATE {layer} SET {columns[0]} = {columns[1]}, {columns[1]} = {columns[0]}{where}")
 
 
-@damage(PACKAGES)
 def names_of_another_kind(base, draw):
     layer, column = draw.choice([("parcels", "parcel"), ("covers", "piece"), ("covers", "parcel"), ("covers", "class")])
     base.execute(f"UPDATE {layer} SET {column} = ? WHERE rowid % ? = 0",
                  (draw.choice([7, 2.5, 1e300, float("inf"), b"\xff\xfe\x00", b"abc", "\ud7ff", "a" * 100_000, "=1+1", "\x1b[31mred", "a\nb", -1, None, 12345678901234567]), draw.randrange(1, 4)))
 
 
-@damage(PACKAGES, PACKAGES)
 def frame(base, draw):
     """The tables that say what is where."""
     base.execute(draw.choice([
@@ -154,7 +131,6 @@ def frame(base, draw):
     ]))
 
 
-@damage(PACKAGES)
 def definitions(base, draw):
     """The text of the system of coordinates is damaged, or nested deeply."""
     text = lands_source.DEFINITION
@@ -163,7 +139,6 @@ def definitions(base, draw):
     base.execute("UPDATE gpkg_spatial_ref_sys SET definition = ? WHERE srs_id = ?", (text, lands_source.SYSTEM))
 
 
-@damage(PACKAGES)
 def table_of_classes(base, draw):
     base.execute("CREATE TABLE IF NOT EXISTS classes (class TEXT, percent INTEGER)")
     base.execute("INSERT OR IGNORE INTO gpkg_contents (table_name, data_type, identifier, srs_id) VALUES ('classes', 'attributes', 'classes', 0)")
@@ -171,7 +146,6 @@ def table_of_classes(base, draw):
                               "INSERT INTO classes SELECT * FROM classes", "ALTER TABLE classes RENAME COLUMN percent TO share", "UPDATE classes SET percent = percent / 100.0", "UPDATE classes SET class = NULL", "UPDATE classes SET percent = '1e400'"]))
 
 
-@damage(PACKAGES)
 def views(base, draw):
     """A layer is a view: of itself as a table, of an endless recursion, or of a column that is not there."""
     base.execute("ALTER TABLE parcels RENAME TO kept")
@@ -183,7 +157,6 @@ def views(base, draw):
 # Of tables: their records and fields.
 
 
-@damage(SHEETS)
 def lines_exchanged(text, draw):
     lines = text.splitlines(keepends=True)
     one, other = draw.randrange(len(lines)), draw.randrange(len(lines))
@@ -191,14 +164,12 @@ def lines_exchanged(text, draw):
     return "".join(lines)
 
 
-@damage(SHEETS)
 def line_doubled_or_gone(text, draw):
     lines = text.splitlines(keepends=True)
     at = draw.randrange(len(lines))
     return "".join(lines[:at] + draw.choice([[], lines[at:at + 1] * 2]) + lines[at + 1:])
 
 
-@damage(SHEETS, SHEETS)
 def letters_exchanged(text, draw):
     """A letter of the grammar in place of another one."""
     at = [place for place, letter in enumerate(text) if letter in ',;\t"()\n. -0123456789']
@@ -207,7 +178,6 @@ def letters_exchanged(text, draw):
     return text
 
 
-@damage(SHEETS)
 def number_changed(text, draw):
     numbers = list(re.finditer(r"-?\d+\.?\d*", text))
     found = draw.choice(numbers) if numbers else None
@@ -215,7 +185,6 @@ def number_changed(text, draw):
     return text[:found.start()] + new + text[found.end():] if found else text
 
 
-@damage(SHEETS)
 def header_changed(text, draw):
     head, _, rest = text.partition("\n")
     words = re.split(r"([,;\t])", head)
@@ -224,10 +193,16 @@ def header_changed(text, draw):
     return "".join(words) + "\n" + rest
 
 
-@damage(SHEETS)
 def brackets(text, draw):
     """A text of a great many brackets, or of a shape within shapes."""
     return text.replace("((", draw.choice(["(" * 20_000, "((((", "(", "( ( (", "(EMPTY,(", "(CIRCULARSTRING(", "(COMPOUNDCURVE(" * 3000, "()(("]), draw.choice([1, 1, 5]))
+
+
+# How often a kind stands here says how often it is drawn.
+FILES = [bytes_changed, bit_changed, cut_off, part_doubled, part_gone, parts_exchanged, part_zeroed]
+PACKAGES = [shape_bytes, shape_bytes, shape_bytes, shape_numbers, shape_numbers, shape_kind, nested, fields_exchanged, names_of_another_kind, frame, frame, definitions,
+            table_of_classes, views]
+SHEETS = [lines_exchanged, line_doubled_or_gone, letters_exchanged, letters_exchanged, number_changed, header_changed, brackets]
 
 
 def damaged(number, folder):

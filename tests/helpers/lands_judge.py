@@ -236,9 +236,8 @@ def plain(name):
 
 
 def extent(shape):
-    values = [value for point in shape.points() for value in point if math.isfinite(value)]
     xs, ys = [x for x, _ in shape.points() if math.isfinite(x)], [y for _, y in shape.points() if math.isfinite(y)]
-    return max(max(xs) - min(xs), max(ys) - min(ys)) if values and xs and ys else 0.0
+    return max(max(xs) - min(xs), max(ys) - min(ys)) if xs and ys else 0.0
 
 
 def box_of(ways):

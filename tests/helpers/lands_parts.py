@@ -7,18 +7,6 @@ import math
 
 from lands_shapes import Shape
 
-CLEAN, NASTY = [], []
-
-
-def clean(part):
-    CLEAN.append(part)
-    return part
-
-
-def nasty(part):
-    NASTY.append(part)
-    return part
-
 
 def on(p, q, share):
     """The point that divides the way from p to q."""
@@ -47,19 +35,16 @@ def shrunk(points, share):
 # Parts that fit.
 
 
-@clean
 def undivided(land, a, b, c, d):
     land.parcel([closed(a, b, c, d)])
 
 
-@clean
 def halved(land, a, b, c, d):
     """Two pieces, whose seam ends on the parcel's border: T-junctions."""
     s, t = on(a, b, land.share()), on(d, c, land.share())
     land.parcel([closed(a, b, c, d)], [closed(a, s, t, d)], [closed(s, b, c, t)])
 
 
-@clean
 def strips(land, a, b, c, d):
     """Parcels side by side, each ending where its neighbour begins."""
     cuts = [0.0, *sorted(land.random.random() for _ in range(land.random.randrange(1, 7))), 1.0]
@@ -67,7 +52,6 @@ def strips(land, a, b, c, d):
         land.parcel([closed(on(a, b, low), on(a, b, high), on(d, c, high), on(d, c, low))])
 
 
-@clean
 def junctions(land, a, b, c, d):
     """Many corners on each side, which the neighbours do not have."""
     ring = []
@@ -76,7 +60,6 @@ def junctions(land, a, b, c, d):
     land.parcel([closed(*ring)])
 
 
-@clean
 def fan(land, a, b, c, d):
     """Four parcels about a point."""
     m = on(a, c, land.share())
@@ -84,7 +67,6 @@ def fan(land, a, b, c, d):
         land.parcel([closed(p, q, m)])
 
 
-@clean
 def islands(land, a, b, c, d):
     """Islands in islands, each a parcel or a piece of the one about it."""
     rings = [closed(a, b, c, d), *(shrunk((a, b, c, d), 0.8 ** depth * 0.9) for depth in range(1, land.random.randrange(2, 7)))]
@@ -96,7 +78,6 @@ def islands(land, a, b, c, d):
         land.parcel([rings[0]], *shapes)
 
 
-@clean
 def two_parts(land, a, b, c, d):
     """A parcel of two members that touch in a point, and another of the rest."""
     m = on(a, c, land.share())
@@ -104,14 +85,12 @@ def two_parts(land, a, b, c, d):
     land.add([[closed(b, c, m)], [closed(d, a, m)]], [[[closed(b, c, m)]], [[closed(d, a, m)]]])
 
 
-@clean
 def pond(land, a, b, c, d):
     """A piece with a hole in which another piece lies, drawn from other corners."""
     hole = shrunk((a, b, c, d), land.share())
     land.parcel([closed(a, b, c, d)], [closed(a, b, c, d), hole[::-1]], [hole[2:] + hole[1:3]])
 
 
-@clean
 def lattice(land, a, b, c, d):
     """Many pieces in rows, each row cut elsewhere."""
     rows, pieces = land.random.randrange(1, 6), []
@@ -126,13 +105,11 @@ def lattice(land, a, b, c, d):
 # Parts that rounding, or an earlier program, has to settle.
 
 
-@nasty
 def moved(land, a, b, c, d):
     """The cell's corners, each a hair elsewhere."""
     land.parcel([closed(*map(land.moved, (a, b, c, d)))])
 
 
-@nasty
 def sliver(land, a, b, c, d):
     """A strip of a hair along one side, in whichever direction that is, and the rest."""
     a, b, c, d = land.turned(a, b, c, d)
@@ -151,7 +128,6 @@ def beside(land, corners, parts):
         land.parcel([closed(*corners)], *parts)
 
 
-@nasty
 def gap(land, a, b, c, d):
     """A strip of a hair that nobody has: between two parcels, or between two pieces of one."""
     share = 0.5 + land.hair / max(1e-9, math.dist(a, d))
@@ -159,7 +135,6 @@ def gap(land, a, b, c, d):
     beside(land, (a, b, c, d), parts)
 
 
-@nasty
 def overlapping(land, a, b, c, d):
     """Two that share a strip: parcels, or pieces of one."""
     low, high = sorted((land.random.random(), land.random.random()))
@@ -168,14 +143,12 @@ def overlapping(land, a, b, c, d):
     beside(land, (a, b, c, d), parts)
 
 
-@nasty
 def outside(land, a, b, c, d):
     """A piece that leaves its parcel, or the other way round."""
     larger = shrunk((a, b, c, d), 1 + land.hair)
     land.parcel(*land.random.sample([[larger], [closed(a, b, c, d)]], 2))
 
 
-@nasty
 def needles(land, a, b, c, d):
     """Needles out of one corner, as wide as a hair."""
     for _ in range(land.random.randrange(1, 9)):
@@ -183,7 +156,6 @@ def needles(land, a, b, c, d):
         land.parcel([closed(a, p, land.moved(p))])
 
 
-@nasty
 def long_needle(land, a, b, c, d):
     """A needle of 90 km, or over many other parcels."""
     angle, length = land.random.uniform(0, 2 * math.pi), land.random.choice([90_000.0, land.step * 5])
@@ -192,14 +164,12 @@ def long_needle(land, a, b, c, d):
     land.parcel([closed(a, b, c, d)])
 
 
-@nasty
 def heap(land, a, b, c, d):
     """Triangles that all overlap."""
     for _ in range(land.random.randrange(2, 12)):
         land.parcel([closed(*(land.near(middle((a, b, c, d)), land.step) for _ in range(3)))])
 
 
-@nasty
 def grains(land, a, b, c, d):
     """Shapes of a millimetre, alone or within another: they round to a line or a point."""
     width = land.random.choice([0.0004, 0.001, 0.003, 0.01])
@@ -210,7 +180,6 @@ def grains(land, a, b, c, d):
         land.parcel([closed(a, b, c, d)])
 
 
-@nasty
 def line_like(land, a, b, c, d):
     """A parcel of one metre by less than a millimetre, alone or within another, level, upright or slanted."""
     x, y = middle((a, b, c, d))
@@ -221,7 +190,6 @@ def line_like(land, a, b, c, d):
     land.parcel([ring])
 
 
-@nasty
 def comb(land, a, b, c, d):
     """A comb whose teeth nearly meet."""
     teeth, ring = land.random.randrange(2, 20), [a, b]
@@ -230,28 +198,24 @@ def comb(land, a, b, c, d):
     land.parcel([closed(*ring, c, d)])
 
 
-@nasty
 def twins(land, a, b, c, d):
     """Two of the same place, one of them a hair elsewhere or not at all."""
     land.parcel([closed(a, b, c, d)])
     land.parcel([closed(*map(land.moved, (a, b, c, d)))] if land.random.random() < 0.7 else [closed(b, c, d, a)])
 
 
-@nasty
 def within(land, a, b, c, d):
     """A parcel within another that has no hole for it."""
     land.parcel([closed(a, b, c, d)])
     land.parcel([shrunk((a, b, c, d), land.share())])
 
 
-@nasty
 def moved_fan(land, a, b, c, d):
     m = on(a, c, land.share())
     for p, q in ((a, b), (b, c), (c, d), (d, a)):
         land.parcel([closed(land.moved(p), land.moved(q), land.moved(m))])
 
 
-@nasty
 def on_pixels(land, a, b, c, d):
     """Corners on half millimetres, or a hair beside them."""
     def snapped(point):
@@ -261,7 +225,6 @@ def on_pixels(land, a, b, c, d):
     land.parcel([closed(p, snapped(b), snapped(c), q)])
 
 
-@nasty
 def members(land, a, b, c, d):
     """A parcel of many members, or of many holes that another fills."""
     count = land.random.choice([10, 50, 200, 1000, 5000] if land.is_large else [10, 50])
@@ -273,7 +236,6 @@ def members(land, a, b, c, d):
         land.parcel([closed(a, b, c, d), *(ring[::-1] for ring in boxes)])
 
 
-@nasty
 def many_points(land, a, b, c, d):
     """A round shape of many points."""
     count, (x, y) = land.random.choice([100, 1000, 5000 if land.is_large else 500]), middle((a, b, c, d))
@@ -281,7 +243,6 @@ def many_points(land, a, b, c, d):
     land.parcel([closed(*((x + radius * math.cos(2 * math.pi * k / count), y + radius * math.sin(2 * math.pi * k / count)) for k in range(count)))])
 
 
-@nasty
 def curved(land, a, b, c, d):
     """Arcs and curves, whole circles and nearly straight arcs."""
     bend = land.random.choice([0.2, 1e-3, 1e-6, 1e-9, 0.0])
@@ -294,7 +255,6 @@ def curved(land, a, b, c, d):
     land.add(shape, [shape], land.random.choice(["arcs", "arcs", "mixed"]) if len(ring) > 3 else "arcs")
 
 
-@nasty
 def touching_hole(land, a, b, c, d):
     """A hole that touches its shell in a point, on a side or all along."""
     p = on(a, b, 0.5)
@@ -307,7 +267,6 @@ def bow(a, b, c, d):
     return closed(a, c, b, d)
 
 
-@nasty
 def crossing(land, a, b, c, d):
     """Rings that cross, touch or repeat themselves, turn the wrong way round, or have spikes; holes outside, alike and within holes."""
     ring, m = closed(a, b, c, d), on(a, c, 0.5)
@@ -322,7 +281,6 @@ def crossing(land, a, b, c, d):
     land.add(*land.random.choice([(members, [other]), (other, [members])]))
 
 
-@nasty
 def without_shape(land, a, b, c, d):
     """No shape, an empty one, a line, a point, a collection, an open or a short ring, beside one that is sound."""
     ring = closed(a, b, c, d)
@@ -333,7 +291,6 @@ def without_shape(land, a, b, c, d):
     (parcel if land.random.random() < 0.5 else piece).shape = shape
 
 
-@nasty
 def elsewhere(land, a, b, c, d):
     """Degrees among metres, coordinates out of range or no numbers, and a zone's number before eastings."""
     parcel, (piece,) = land.parcel([closed(a, b, c, d)])
@@ -344,14 +301,12 @@ def elsewhere(land, a, b, c, d):
         row.shape = Shape([[[move(*point) for point in ring] for ring in member] for member in row.shape.members])
 
 
-@nasty
 def heights(land, a, b, c, d):
     parcel, pieces = land.parcel([closed(a, b, c, d)])
     for row in (parcel, *pieces):
         row.shape.has_z, row.shape.has_m, row.shape.is_big_endian = (land.random.random() < 0.5 for _ in range(3))
 
 
-@nasty
 def bare_or_strange(land, a, b, c, d):
     """A parcel without pieces, or pieces without a parcel."""
     parcel, pieces = land.parcel([closed(a, b, c, d)])
@@ -359,3 +314,8 @@ def bare_or_strange(land, a, b, c, d):
         land.drop(pieces[0])
     else:
         land.drop(parcel)
+
+
+CLEAN = [undivided, halved, strips, junctions, fan, islands, two_parts, pond, lattice]
+NASTY = [moved, sliver, gap, overlapping, outside, needles, long_needle, heap, grains, line_like, comb, twins, within, moved_fan, on_pixels, members, many_points, curved,
+         touching_hole, crossing, without_shape, elsewhere, heights, bare_or_strange]

@@ -7,6 +7,7 @@ point), `line`, `point`, `collection`."""
 import math
 import struct
 from decimal import Decimal
+from fractions import Fraction
 
 from tables import orient
 
@@ -39,17 +40,16 @@ class Shape:
         """Square metres, each shell without its holes, and how far straightened arcs may be off. Exact but for arcs."""
         if not self.is_read():
             return 0.0, 0.0
-        area, slack, numerator, power = 0.0, 0.0, 0, 0
+        curved, straight, slack = 0.0, Fraction(), 0.0
         for ring, is_hole in self.rings():
-            twice, shift = ring_area2(ring[0::2] + ring[-1:] * (len(ring) % 2 == 0) if self.form == "arcs" else ring)
+            sign, twice = -1 if is_hole else 1, ring_area2(ring[0::2] + ring[-1:] * (len(ring) % 2 == 0) if self.form == "arcs" else ring)
             if self.form in CURVED:
                 arcs = ring if self.form == "arcs" else ring[half_of(ring):]
-                value = twice / 2 ** (shift + 1) + sum(bulge(*arcs[k:k + 3]) for k in range(0, len(arcs) - 2, 2)) - chords(ring, arcs, self.form)
-                area += -abs(value) if is_hole else abs(value)
+                curved += sign * abs(float(twice / 2) + sum(bulge(*arcs[k:k + 3]) for k in range(0, len(arcs) - 2, 2)) - chords(arcs, self.form))
                 slack += STRAIGHTENED * length_of(ring) * 1.6
             else:
-                numerator, power = joined(numerator, power, -abs(twice) if is_hole else abs(twice), shift)
-        return area + numerator / (1 << (power + 1)), slack
+                straight += sign * abs(twice) / 2
+        return curved + float(straight), slack
 
     def length(self):
         return math.fsum(length_of(ring) for ring, _ in self.rings()) * (1.6 if self.form in CURVED else 1.0)
@@ -70,7 +70,7 @@ def half_of(ring):
     return start - (len(ring) - start + 1) % 2 if len(ring) - start > 2 else max(0, len(ring) - 3)
 
 
-def chords(ring, arcs, form):
+def chords(arcs, form):
     """What a mixed ring's middle points of arcs add to the ring of its chords."""
     if form == "arcs":
         return 0.0
@@ -94,24 +94,10 @@ def length_of(ring):
     return math.fsum(math.dist(a, b) for a, b in zip(ring, ring[1:]))
 
 
-def whole(points):
-    """Coordinates as whole numbers over one power of two."""
-    ratios = [value.as_integer_ratio() for point in points for value in point]
-    shift = max((below.bit_length() - 1 for _, below in ratios), default=0)
-    values = [above << (shift - below.bit_length() + 1) for above, below in ratios]
-    return list(zip(values[0::2], values[1::2])), shift
-
-
 def ring_area2(ring):
-    """The doubled area of a ring, exactly: a whole number over the second one's power of two."""
-    points, shift = whole(ring)
-    return sum(a[0] * b[1] - b[0] * a[1] for a, b in zip(points, points[1:])), 2 * shift
-
-
-def joined(one, power, other, shift):
-    """The sum of two numbers over powers of two."""
-    top = max(power, shift)
-    return (one << (top - power)) + (other << (top - shift)), top
+    """The doubled area of a ring, exactly."""
+    points = [(Fraction(x), Fraction(y)) for x, y in ring]
+    return sum(a[0] * b[1] - b[0] * a[1] for a, b in zip(points, points[1:]))
 
 
 # Well-known binary, as a GeoPackage has it.

@@ -1,5 +1,6 @@
 """A trial of one land, or of one damaged source: every run of the tools over it, and what is not as it has to be."""
 
+import contextlib
 import hashlib
 import os
 import re
@@ -197,10 +198,8 @@ def of_land(land, runner, folder, is_first_enough=False):
     shutil.rmtree(folder, ignore_errors=True)
     os.makedirs(folder)
     trial = Trial(runner, folder, land.points(), is_first_enough)
-    try:
+    with contextlib.suppress(Enough):
         try_land(trial, land, folder)
-    except Enough:
-        pass
     return trial.faults
 
 

@@ -11,6 +11,7 @@ import math
 import os
 import random
 import sys
+from pathlib import Path
 
 from lands_parts import on
 
@@ -86,8 +87,7 @@ def main():
                 for number, shape in enumerate(pieces_of(numbers, low, high, left, right), 1):
                     covers.writerow([f"P{made:06}.{number}", f"P{made:06}", "WATER" if number == 4 else numbers.choice(["ARABLE", "GRASS", "TREES"]), text(shape)])
             low = high
-    with open(os.path.join(folder, "classes.csv"), "w", encoding="ascii") as classes:
-        classes.write("class,percent\nARABLE,100\nGRASS,100\nTREES,30\nWATER,0\n")
+    Path(folder, "classes.csv").write_text("class,percent\nARABLE,100\nGRASS,100\nTREES,30\nWATER,0\n", encoding="ascii")
 
 
 if __name__ == "__main__":

@@ -15,6 +15,12 @@ def write(text, *names):
     Path(*names).write_text(text, encoding="utf-8")
 
 
+def write_script(text, *names):
+    """Writes a program that anybody may run."""
+    write(text, *names)
+    Path(*names).chmod(0o755)
+
+
 class Spare:
     """A folder for each test, whose name begins with `prefix`."""
 

@@ -8,6 +8,7 @@ import subprocess
 import sys
 import tempfile
 from itertools import chain
+from pathlib import Path
 from unittest import mock
 
 from shapely import wkb, wkt
@@ -58,8 +59,7 @@ def make(count, folder):
         for year, tables in ((2026, first), (2027, second)):
             package(os.path.join(folder, f"land-{year}.gpkg"), tables)
         os.makedirs(os.path.join(folder, "country"))
-        with open(os.path.join(folder, "country", "country.txt"), "w", encoding="ascii") as file:
-            file.write(tiling(*cuts_of(first)))
+        Path(folder, "country", "country.txt").write_text(tiling(*cuts_of(first)), encoding="ascii")
     return sum(done.values())
 
 

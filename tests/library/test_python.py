@@ -9,7 +9,6 @@ import re
 import signal
 import subprocess
 import sys
-import tempfile
 import threading
 import time
 import types
@@ -19,6 +18,7 @@ from fractions import Fraction
 
 import pytest
 import stopping
+from calls import ended_with
 from places import BUILT
 from python_case import BACKENDS, EXAMPLES, LIBRARY, NAMES, NO_LIBRARY, PYTHON, Feature, has, mypy, release, run, square
 import lpis
@@ -55,10 +55,8 @@ class Case:
 
 class TestTypes:
     @pytest.mark.skipif(not mypy(), reason="no mypy (Debian: mypy)")
-    def test_strict(self):
-        with tempfile.TemporaryDirectory() as folder:
-            ended = run(*mypy(), "--config-file", PYTHON / "pyproject.toml", "--cache-dir", folder, "-p", "lpis", cwd=PYTHON / "src", env=os.environ)
-        assert ended.returncode == 0, ended.stdout + ended.stderr
+    def test_strict(self, tmp_path):
+        ended_with(0, run(*mypy(), "--config-file", PYTHON / "pyproject.toml", "--cache-dir", tmp_path, "-p", "lpis", cwd=PYTHON / "src", env=os.environ))
 
     @pytest.mark.parametrize("name", lpis.__all__)
     def test_public_words(self, name):

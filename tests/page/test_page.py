@@ -10,7 +10,6 @@ import random
 import shutil
 import subprocess
 import sys
-import tempfile
 from pathlib import Path
 
 import pytest
@@ -71,48 +70,45 @@ class TestModule:
     def begin(self):
         wanted("NODE", "page")
 
-    def test_worked_rows(self):
-        with tempfile.TemporaryDirectory() as folder:
-            cases = Cases(folder)
-            older = os.path.join(EXAMPLES, "older", "cert.txt")
-            for release in releases_of(EXAMPLES):
-                cert = cases.cut(release)
-                for one in filter(None, (cert, older, os.path.join(release, "classes.csv"))):
-                    cases.check(release, one)
-            for place, _, names in os.walk(EXAMPLES):
-                for name in names:
-                    if name.endswith(".csv"):
-                        cases.area(os.path.join(place, name))
-            cases.area(cases.file(b""))
-            assert len(cases.cases) > 100
-            assert cases.differ() == []
+    def test_worked_rows(self, tmp_path):
+        cases = Cases(tmp_path)
+        older = os.path.join(EXAMPLES, "older", "cert.txt")
+        for release in releases_of(EXAMPLES):
+            cert = cases.cut(release)
+            for one in filter(None, (cert, older, os.path.join(release, "classes.csv"))):
+                cases.check(release, one)
+        for place, _, names in os.walk(EXAMPLES):
+            for name in names:
+                if name.endswith(".csv"):
+                    cases.area(os.path.join(place, name))
+        cases.area(cases.file(b""))
+        assert len(cases.cases) > 100
+        assert cases.differ() == []
 
-    def test_generated_releases(self):
+    def test_generated_releases(self, tmp_path):
         numbers = random.Random(61)
-        with tempfile.TemporaryDirectory() as folder:
-            os.mkdir(os.path.join(folder, "files"))
-            cases, last = Cases(os.path.join(folder, "files")), None
-            for number in range(RELEASES):
-                release = os.path.join(folder, f"r{number}")
-                nasty_shapes.Release(number, number % 2 == 1).write(release)
-                cert = cases.cut(release)
-                for one in filter(None, (cert, last)):
-                    cases.check(release, one)
-                    cases.check(release, cases.file(damaged(read(one), numbers)))
-                last = cert or last
-            assert len(cases.cases) > 4 * RELEASES
-            assert cases.differ() == []
-            statuses = {case["status"] for case in cases.cases}
-            assert statuses == {0, 1, 2}
+        (tmp_path / "files").mkdir()
+        cases, last = Cases(tmp_path / "files"), None
+        for number in range(RELEASES):
+            release = os.path.join(tmp_path, f"r{number}")
+            nasty_shapes.Release(number, number % 2 == 1).write(release)
+            cert = cases.cut(release)
+            for one in filter(None, (cert, last)):
+                cases.check(release, one)
+                cases.check(release, cases.file(damaged(read(one), numbers)))
+            last = cert or last
+        assert len(cases.cases) > 4 * RELEASES
+        assert cases.differ() == []
+        statuses = {case["status"] for case in cases.cases}
+        assert statuses == {0, 1, 2}
 
-    def test_memory_and_room(self):
-        with tempfile.TemporaryDirectory() as folder:
-            release, cert = os.path.join(folder, "r"), os.path.join(folder, "cert")
-            write_squares(release, 3000)
-            native("cut", release, cert)
-            status, text = native("check", release, cert)
-            inputs = [os.path.join(release, f"{name}.csv") for name in ("parcels", "covers", "classes")] + [cert]
-            found = node("memory", module=os.path.join(TOP, "out", "page", "page.wasm"), inputs=inputs, pages=[0, 3, 20, 60, 100, 2000], room=1000)
+    def test_memory_and_room(self, tmp_path):
+        release, cert = os.path.join(tmp_path, "r"), os.path.join(tmp_path, "cert")
+        write_squares(release, 3000)
+        native("cut", release, cert)
+        status, text = native("check", release, cert)
+        inputs = [os.path.join(release, f"{name}.csv") for name in ("parcels", "covers", "classes")] + [cert]
+        found = node("memory", module=os.path.join(TOP, "out", "page", "page.wasm"), inputs=inputs, pages=[0, 3, 20, 60, 100, 2000], room=1000)
         assert status == 0
         for answer in found["few"]:
             assert (answer["isAnswered"], answer["status"], answer["length"]) in [(False, 3, 0), (True, 0, len(text))]

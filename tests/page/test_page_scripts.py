@@ -3,7 +3,6 @@ beside tools/explain and tools/report. Node and a C compiler are wanted; what la
 
 import os
 import subprocess
-import tempfile
 from pathlib import Path
 
 import pytest
@@ -17,43 +16,39 @@ FAULTS = ["refused 41 parcels west east at 50020 23980 1", "refused 43 parcel we
 
 
 class TestHeap:
-    def run_tests(self, *flags):
+    def run_tests(self, folder, *flags):
         wanted("CC")
-        with tempfile.TemporaryDirectory() as folder:
-            words = [CC, "-O1", "-g", "-Wall", "-Wextra", *flags, "-o", f"{folder}/heap", f"{TESTS}/heap_test.c", f"{TESTS}/memory.c"]
-            made = subprocess.run(words, capture_output=True, text=True, check=False)
-            if made.returncode and flags:
-                raise pytest.skip.Exception("the C compiler has no AddressSanitizer")
-            assert made.returncode == 0, made.stderr
-            run = subprocess.run([f"{folder}/heap"], capture_output=True, text=True, check=False)
+        words = [CC, "-O1", "-g", "-Wall", "-Wextra", *flags, "-o", f"{folder}/heap", f"{TESTS}/heap_test.c", f"{TESTS}/memory.c"]
+        made = subprocess.run(words, capture_output=True, text=True, check=False)
+        if made.returncode and flags:
+            raise pytest.skip.Exception("the C compiler has no AddressSanitizer")
+        assert made.returncode == 0, made.stderr
+        run = subprocess.run([f"{folder}/heap"], capture_output=True, text=True, check=False)
         assert (run.returncode, run.stdout.count("ok ")) == (0, 9), run.stdout + run.stderr[-2000:]
 
-    def test_heap(self):
-        self.run_tests()
+    def test_heap(self, tmp_path):
+        self.run_tests(tmp_path)
 
-    def test_heap_with_address_sanitizer(self):
-        self.run_tests("-fsanitize=address,undefined", "-fno-sanitize-recover=all")
-
-
-class TestWords:
-    def test_each_key_is_used(self):
-        scripts = dev_page.source(*dev_page.WORK, *dev_page.SCRIPT, "page.html")
-        for key in dev_page.page_words.table()["words"]:
-            last = key.split()[-1]
-            assert f"'{key}'" in scripts or f'"{key}"' in scripts or f"'#{key}'" in scripts or last in ("meaning", "cause", "remedy") or key.split()[0] in ("file", "busy")
+    def test_heap_with_address_sanitizer(self, tmp_path):
+        self.run_tests(tmp_path, "-fsanitize=address,undefined", "-fno-sanitize-recover=all")
 
 
-class TestExamples:
-    def test_they_are_what_the_buttons_say(self):
-        """One passes, the other has a fault, and the page has a button for each."""
-        wanted("BUILT")
-        texts, markup = dev_page.examples(), dev_page.source("page.html")
-        for button, status in (("good", 0), ("faulty", 1)):
-            assert f'<button id="{button}"' in markup
-            with tempfile.TemporaryDirectory() as folder:
-                for name, text in texts[button].items():
-                    Path(folder, f"{name}.csv").write_text(text, encoding="utf-8")
-                assert native("cut", folder, os.path.join(folder, "cert.txt"))[0] == status, button
+def test_each_key_is_used():
+    scripts = dev_page.source(*dev_page.WORK, *dev_page.SCRIPT, "page.html")
+    for key in dev_page.page_words.table()["words"]:
+        last = key.split()[-1]
+        assert f"'{key}'" in scripts or f'"{key}"' in scripts or f"'#{key}'" in scripts or last in ("meaning", "cause", "remedy") or key.split()[0] in ("file", "busy")
+
+
+def test_they_are_what_the_buttons_say(tmp_path):
+    """One passes, the other has a fault, and the page has a button for each."""
+    wanted("BUILT")
+    texts, markup = dev_page.examples(), dev_page.source("page.html")
+    for button, status in (("good", 0), ("faulty", 1)):
+        assert f'<button id="{button}"' in markup
+        for name, text in texts[button].items():
+            (tmp_path / f"{name}.csv").write_text(text, encoding="utf-8")
+        assert native("cut", tmp_path, os.path.join(tmp_path, "cert.txt"))[0] == status, button
 
 
 class TestScripts:
@@ -72,32 +67,29 @@ class TestScripts:
         said = [words.strip() for words in explaining.Explained(line, release).words]
         assert found["en"] == [words for words in said if "points, x" not in words]
 
-    def test_a_table_of_polygons_is_explained_too(self):
+    def test_a_table_of_polygons_is_explained_too(self, tmp_path):
         wanted("NODE")
-        with tempfile.TemporaryDirectory() as folder:
-            path = os.path.join(folder, "shapes.csv")
-            Path(path).write_text('name,wkt\nA,"POLYGON((0 0,1.2345 0,0 1,0 0))"\n', encoding="ascii")
-            for line in ("refused 38 area row 1 wkt 14 at 13", "refused 31 area row 0", "refused 34 area row 7"):
-                [found] = node("explain", words=dev_page.page_words.table(), cases=[{"line": line, "folder": folder, "area": path}])
-                assert found["en"] == [words.strip() for words in explaining.Explained(line, folder, area=path).words if "points, x" not in words and "missing:" not in words]
+        path = str(tmp_path / "shapes.csv")
+        Path(path).write_text('name,wkt\nA,"POLYGON((0 0,1.2345 0,0 1,0 0))"\n', encoding="ascii")
+        for line in ("refused 38 area row 1 wkt 14 at 13", "refused 31 area row 0", "refused 34 area row 7"):
+            [found] = node("explain", words=dev_page.page_words.table(), cases=[{"line": line, "folder": str(tmp_path), "area": path}])
+            assert found["en"] == [words.strip() for words in explaining.Explained(line, tmp_path, area=path).words if "points, x" not in words and "missing:" not in words]
 
-    def test_sums_are_those_of_tools_report(self):
+    def test_sums_are_those_of_tools_report(self, tmp_path):
         wanted("NODE")
-        with tempfile.TemporaryDirectory() as folder:
-            for number in range(20):
-                nasty_shapes.Release(number, False).write(os.path.join(folder, str(number)))
-            cases = releases_of(folder) + releases_of(EXAMPLES)
-            for case, found in zip(cases, node("sums", map=dev_page.drawn(), cases=[{"folder": case} for case in cases])):
-                rows, sums = report.by_class(report.read(case))
-                wanted_rows = [["" if row[name] is None else str(row[name]) for name in ("class", "percent", "pieces", "area", "eligible")] for row in rows]
-                assert found["sums"]["rows"] == wanted_rows
-                assert {name: found["sums"][name] for name in ("area", "eligible")} == {name: sums[name] for name in ("area", "eligible")}
+        for number in range(20):
+            nasty_shapes.Release(number, False).write(os.path.join(tmp_path, str(number)))
+        cases = releases_of(tmp_path) + releases_of(EXAMPLES)
+        for case, found in zip(cases, node("sums", map=dev_page.drawn(), cases=[{"folder": case} for case in cases])):
+            rows, sums = report.by_class(report.read(case))
+            wanted_rows = [["" if row[name] is None else str(row[name]) for name in ("class", "percent", "pieces", "area", "eligible")] for row in rows]
+            assert found["sums"]["rows"] == wanted_rows
+            assert {name: found["sums"][name] for name in ("area", "eligible")} == {name: sums[name] for name in ("area", "eligible")}
 
-    def test_the_map_has_every_shape(self):
+    def test_the_map_has_every_shape(self, tmp_path):
         wanted("NODE")
-        with tempfile.TemporaryDirectory() as folder:
-            write_squares(os.path.join(folder, "r"), 30)
-            [found] = node("sums", map=dev_page.drawn(), cases=[{"folder": os.path.join(folder, "r")}])
+        write_squares(os.path.join(tmp_path, "r"), 30)
+        [found] = node("sums", map=dev_page.drawn(), cases=[{"folder": os.path.join(tmp_path, "r")}])
         drawing = found["drawing"]
         assert [drawing[name]["count"] for name in ("parcels", "pieces", "old")] == [30, 30, 0]
         assert (drawing["whole"], drawing["unit"]) == ([0, 0, 300000, 9000], 1)

@@ -42,8 +42,8 @@ def test_three_ways(seed, tmp_path):
         if lpis("exact-country", ways["several"], several, here / "tried.txt")[1] != 0:
             for path in several.glob("*/lineage.csv"):
                 path.write_text("".join(",".join(line.split(",")[:2]) + "\n" for line in path.read_text().splitlines()))
-        rows = [line for region in regions_of(several) for line in (several / region / "lineage.csv").read_text().splitlines()[1:]]
-        lineage = "".join(line + "," * (2 - line.count(",")) + "\n" for line in ["old,new,exact", *rows])
+        lineage_rows = [line for region in regions_of(several) for line in (several / region / "lineage.csv").read_text().splitlines()[1:]]
+        lineage = "".join(line + "," * (2 - line.count(",")) + "\n" for line in ["old,new,exact", *lineage_rows])
         write_region(release, list(land.parcels.items()))
         (one / "all").mkdir(parents=True)
         write_region(one / "all", list(land.parcels.items())[::-1])
@@ -62,14 +62,11 @@ def test_three_ways(seed, tmp_path):
             publish_country(f"{seed}: {year} as {way}", ways[way], year, country, "yes", *before)
             expect(f"{seed}: {year} as {way}: the tables", dump(ways[way]), dump(ways["release"]))
             expect_tables(f"{seed}: {year} as {way}", ways[way], NEW, here)
-        expect(f"{seed}: {year}: marks", rows_marked(ways["several"], year), [place for place, row in enumerate(rows) if row.endswith(",1")])
+        marks = rows(ways["several"], f"SELECT pos FROM lpis_mark WHERE year = {year} ORDER BY pos")
+        expect(f"{seed}: {year}: marks", marks, [(place,) for place, row in enumerate(lineage_rows) if row.endswith(",1")])
     for name in sorted(names):
         told = {way: lpis("trace", path, name) for way, path in ways.items()}
         expect(f"{seed}: trace {name}", (told["one"], told["several"]), (told["release"], told["release"]))
-
-
-def rows_marked(path, year):
-    return [pos for pos, in rows(path, f"SELECT pos FROM lpis_mark WHERE year = {year} ORDER BY pos")]
 
 
 def box(left, low, right, high):

@@ -13,7 +13,7 @@ from pathlib import Path
 
 import pytest
 from registers import MARK, TABLES, TEXT, made, rows
-from calls import records, tool
+from calls import ended_with, records, tool
 from places import BUILT, TOOLS, TOP
 from spare import Spare
 import dirty
@@ -137,14 +137,11 @@ class TestBeforeTheTables(Spare):
     def set_up(self):
         self.out, self.cert = self.path("release"), self.path("cert.txt")
         land = dirty.make(self.path("land.gpkg"), ["null", "twin", "bare", "blank", "wide"])
-        run = tool("prepare", land, self.out, "--accept")
-        assert run.returncode == 0, run.stdout + run.stderr
+        ended_with(0, tool("prepare", land, self.out, "--accept"))
         subprocess.run([BUILT, "cut", self.out, self.cert], check=True, capture_output=True)
 
     def report(self):
-        words = [os.path.join(TOOLS, "report"), self.out, self.cert, "--json", self.path("r.json"), "--html", self.path("r.html"), "--lpis", BUILT]
-        run = subprocess.run(words, capture_output=True, text=True, check=False)
-        assert run.returncode == 0, run.stdout + run.stderr
+        run = ended_with(0, tool("report", self.out, self.cert, "--json", self.path("r.json"), "--html", self.path("r.html"), "--lpis", BUILT))
         told = json.loads(Path(self.path("r.json")).read_text(encoding="utf-8"))
         return run.stdout, told, Path(self.path("r.html")).read_text(encoding="utf-8")
 

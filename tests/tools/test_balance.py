@@ -7,7 +7,6 @@ tools (lands_judge.py, lands_trial.py): tools/prepare and tools/country split.
 
 import os
 import re
-import sqlite3
 import struct
 from pathlib import Path
 
@@ -18,6 +17,7 @@ from lands_judge import Judge
 from lands_land import KEYS, Land
 from lands_shapes import Shape
 from lands_trial import Trial
+import registers
 from lpis_tools import balance, shapely_there
 
 PARCELS = int(os.environ.get("PARCELS", "0"))
@@ -54,11 +54,8 @@ def shape_of(data):
 
 def land_of(path):
     """The rows of a GeoPackage that dirty.py wrote, for the judge."""
-    base = sqlite3.connect(path)
-    rows = [[(*names, shape_of(blob[8:]) if blob else Shape(form="null")) for blob, *names in base.execute(f"SELECT geom, {', '.join(columns)} FROM {layer} ORDER BY fid")]
-            for layer, columns in KEYS.items()]
-    base.close()
-    return Land.of_rows(*rows)
+    queries = (f"SELECT geom, {', '.join(columns)} FROM {layer} ORDER BY fid" for layer, columns in KEYS.items())
+    return Land.of_rows(*([(*names, shape_of(blob[8:]) if blob else Shape(form="null")) for blob, *names in registers.rows(path, query)] for query in queries))
 
 
 @pytest.fixture(scope="module")
@@ -106,6 +103,9 @@ def test_columns(size, name):
 @pytest.mark.parametrize("name, edit, words", [
     ("accepted/balance.csv", lambda text: re.sub(r"covers,GRASS,\d", "covers,GRASS,9", text), "source of ('covers', 'GRASS')"),
     ("accepted/balance.csv", lambda text: re.sub(r"(?m)^covers,TREES.*\n", "", text), "no line of ('covers', 'TREES')"),
+    ("accepted/balance.csv", lambda text: re.sub(r"parcels,,\d", "parcels,,9", text), "source of ('parcels', '')"),
+    ("accepted/balance.csv", lambda text: re.sub(r"(?m)^(parcels,,[\d.]+),", r"\1,1", text), "the columns of ('parcels', '') make"),
+    ("accepted/parcels.csv", lambda text: text.replace(" 5400010.765", " 5400009.765", 1), "tables of ('parcels', '')"),
     ("accepted/report.csv", lambda text: re.sub(r"(?m)^lost,covers.*\n", "", text, count=1), "is in no table, and no row has it"),
     ("accepted/report.csv", lambda text: re.sub(r"(?m)^changed,covers.*\n", "", text), "and no row has it"),
     ("accepted/report.csv", lambda text: re.sub(r"(?m)^(lost,covers,.*?,,)[\d.]+", r"\g<1>7.0", text, count=1), "told with 7.0 m2"),

@@ -10,12 +10,14 @@ from pathlib import Path
 import pytest
 import dirty
 import places
-from calls import records
+from calls import ended_with, records
 from lands_parts import boxed
 from preparing_case import Case
 from lpis_tools import shapely_there
 
 if shapely_there.is_there():
+    import numpy
+    from lpis_tools import between, facing
     from shapely.geometry import Polygon
 WIDTHS = (0.005, 0.02, 0.3, 0.9, 0.999)
 BLOCK = 200  # metres from a case to the next
@@ -53,8 +55,7 @@ class TestBetween(Case):
     @pytest.mark.parametrize("turn", (0.0, 0.3, 1.2, 2.9))
     def test_named(self, turn):
         source, wanted = self.source(turn)
-        run = self.run_on(source)
-        assert run.returncode == 0, run.stdout + run.stderr
+        ended_with(0, self.run_on(source))
         found = sorted((row["identifiers"], float(row["width_m"]), float(row["area_m2"]), row["stops"]) for row in records(self.out, "report.csv") if row["kind"] == "between")
         assert [name for name, *_ in found] == [name for name, *_ in wanted], turn
         for (name, width, area, stops), (_, right, true) in zip(found, wanted):
@@ -77,9 +78,6 @@ class TestBetween(Case):
 
     def test_wide(self):
         """A search of any width looks at what is near each border, and not at what lies behind that: a number of borders for each, however many there are."""
-        import numpy
-        from lpis_tools import facing
-
         for count in (8, 24):
             boxes = [[(x * 1500.0, y * 1500.0), (x * 1500.0, y * 1500.0 + 1000), (x * 1500.0 + 1000, y * 1500.0 + 1000), (x * 1500.0 + 1000, y * 1500.0)] for x in range(count) for y in range(count)]
             creek = [(count * 1500.0 + 3000 + 10 * (k % 2), 1500.0 * count - 20 * k) for k in range(75 * count)]
@@ -94,9 +92,6 @@ class TestBetween(Case):
 
     def test_fine(self):
         """Borders of a millimetre have no direction that rounding left them: lines stand for them, within a millimetre and a half, and the gap has its area."""
-        import numpy
-        from lpis_tools import facing
-
         count = 5000
         circle = numpy.array([(round(900 * math.cos(2 * math.pi * k / count)), round(900 * math.sin(2 * math.pi * k / count))) for k in range(count)], float)
         ends = circle[numpy.any(circle != numpy.roll(circle, -1, axis=0), axis=1)]
@@ -113,8 +108,6 @@ class TestBetween(Case):
 
     def test_many_corners(self):
         """Circles of many corners that face each other: what their strips make together has no more corners than these have, times a number."""
-        from lpis_tools import between
-
         for count in (100, 400):
             sides = []
             for east, way in ((0, 1), (2.1, -1)):

@@ -8,9 +8,9 @@ from pathlib import Path
 
 import pytest
 from registers import made
-from calls import records, tool
+from calls import ended_with, records, tool
 from places import TOOLS
-from spare import Spare
+from spare import Spare, read, write
 import dirty
 import exact
 import stopping
@@ -27,7 +27,6 @@ TOLD = {
     ("lost", "bare"), ("lost", "null.2"), ("lost", "flat.2"), ("invalid", "flat.2"), ("lost", "short.2"), ("invalid", "crossing.2"), ("overlap", "wide-2.1 wide.2"), ("overlap", "narrow-2.1 narrow.2"),
     ("overlap", "twin-2.1 twin.1"), ("overlap", "twin-2.2 twin.2"), ("gap", "null"), ("gap", "crossing"), ("made", "degrees"),
 }
-HAS_SHAPELY = shapely_there.python() is not None
 
 
 def square(name, x, y, side=10.0):
@@ -67,7 +66,7 @@ class Case(Spare):
         return {(row["layer"], row["class"]): row for row in rows}
 
 
-@pytest.mark.skipif(not HAS_SHAPELY, reason=shapely_there.LACKING)
+@pytest.mark.skipif(not shapely_there.python(), reason=shapely_there.LACKING)
 class TestSource(Case):
     """What is wrong with a source, of tables that were rounded as it stands."""
 
@@ -86,8 +85,7 @@ class TestSource(Case):
 
     def test_planted(self):
         dirty.make(self.land, PLANTED)
-        run = self.rounded()
-        assert run.returncode == 1, run.stdout + run.stderr
+        run = ended_with(1, self.rounded())
         run, rows = self.rounded("--accept"), self.report()
         assert run.returncode == 0, run.stdout + run.stderr
         assert exact.judged(self.out)[0] == []
@@ -111,16 +109,14 @@ class TestSource(Case):
     def test_balance(self):
         """All kinds of dirt at once: no square metre is without an account."""
         dirty.make(self.land, [*PLANTED, *NAMES, "empty", "z", "m", "open", "curve", "line"])
-        run = self.rounded("--accept")
-        assert run.returncode == 0, run.stdout + run.stderr
+        run = ended_with(0, self.rounded("--accept"))
         self.assert_even(run)
 
     def test_gap(self):
         """A place of a parcel that none of its pieces has is left out of the parcel."""
         parcel, piece = square("A", 0, 0)
         dirty.put(self.land, [parcel], [(*piece[:3], dirty.polygon(dirty.box(0, 0, 8, 10)))])
-        run = self.rounded("--accept")
-        assert run.returncode == 0, run.stdout + run.stderr
+        run = ended_with(0, self.rounded("--accept"))
         assert [(row["kind"], row["identifiers"], row["area_m2"], row["x"]) for row in self.report()] == [("gap", "A", "20.0000", "550009.000"), ("changed", "A", "20.0000", "550009.000")]
         assert [self.assert_even(run)[group]["tables_m2"] for group in (("covers", ""), ("parcels", ""))] == ["80.000", "80.000"]
 
@@ -130,8 +126,7 @@ class TestSource(Case):
         shapes = {"null": None, "empty": dirty.EMPTY, "nan": dirty.polygon([(float("nan"), 1.0), (2.0, 1.0), (2.0, 2.0), (float("nan"), 1.0)]),
                   "far": dirty.polygon([(3e7, 0.0), (3.1e7, 0.0), (3.1e7, 9.0), (3e7, 0.0)])}
         dirty.put(self.land, [(name, shapes.get(name, shape)) for (name, shape), _ in lands], [piece for _, piece in lands])
-        run = self.rounded()
-        assert run.returncode == 1, run.stderr
+        run = ended_with(1, self.rounded())
         made = {row["identifiers"]: row for row in self.report() if row["kind"] == "made"}
         assert sorted(made) == ["empty", "far", "nan", "null"], run.stdout + run.stderr
         assert {(row["area_m2"], row["stops"]) for row in made.values()} == {("100.0000", "1")}
@@ -184,7 +179,7 @@ class TestSource(Case):
         assert [name for name in (os.listdir(self.out) if os.path.exists(self.out) else []) if name.startswith(".")] == []
 
 
-@pytest.mark.skipif(not HAS_SHAPELY, reason=shapely_there.LACKING)
+@pytest.mark.skipif(not shapely_there.python(), reason=shapely_there.LACKING)
 class TestCompare(Case):
     """Tables that another hand made are compared with the source."""
 
@@ -196,10 +191,7 @@ class TestCompare(Case):
 
     def edit(self, name, edit):
         path = os.path.join(self.out, f"{name}.csv")
-        with open(path, encoding="utf-8") as file:
-            lines = file.readlines()
-        with open(path, "w", encoding="utf-8") as file:
-            file.writelines(edit(line) for line in lines)
+        write("".join(map(edit, read(path).splitlines(keepends=True))), path)
 
     def found(self, kind):
         return sorted((row["layer"], row["identifiers"], row["row"], row["area_m2"]) for row in self.report() if row["kind"] == kind and row["stops"] == "1")
@@ -267,7 +259,7 @@ class TestCompare(Case):
         assert "the overlap of covers A.1 (row 7) cannot be worked out: mend the shape" in run.stdout
 
 
-@pytest.mark.skipif(not HAS_SHAPELY, reason=shapely_there.LACKING)
+@pytest.mark.skipif(not shapely_there.python(), reason=shapely_there.LACKING)
 class TestNames(Case):
     def test_notes(self):
         """Heights and arcs are named; a layer without a system that reads as degrees is refused."""
@@ -293,8 +285,7 @@ class TestNames(Case):
     def test_names(self):
         dirty.make(self.land, NAMES)
         self.round()
-        run = self.compare()
-        assert run.returncode == 1, run.stdout + run.stderr
+        ended_with(1, self.compare())
         found = {(row["kind"], row["layer"], row["identifiers"]) for row in self.report() if row["stops"] == "1" and row["kind"] not in ("outside", "changed")}
         assert found == {("identifier", "parcels", "field 7"), ("identifier", "covers", "field 7.1"), ("identifier", "covers", "field 7.2"), ("identifier", "parcels", ""),
                          ("doubled", "parcels", "doubled"), ("lost", "parcels", "doubled"), ("stranger", "covers", "stranger.3 nowhere")}

@@ -1,10 +1,12 @@
 """Tests `lpis country` against a judge of its definition (judged_country.py), over countries split from generated and worked releases and over
 faults planted at their seams."""
 
+import contextlib
 import itertools
 import os
 import shutil
 import subprocess
+from pathlib import Path
 
 import pytest
 from calls import run, tool
@@ -92,6 +94,14 @@ class TestPlanted(Case):
         self.split("--parcels", 40)
         self.certify()
 
+    @contextlib.contextmanager
+    def put_back(self, number):
+        """A region that is changed for a while."""
+        saved = shutil.copytree(self.region(number), self.path("saved"))
+        yield
+        shutil.rmtree(self.region(number))
+        os.rename(saved, self.region(number))
+
     def edit(self, number, *changes):
         """Changes the rows of tables of a region, and makes its certificate anew."""
         folder = self.region(number)
@@ -130,13 +140,11 @@ class TestPlanted(Case):
     def test_guest_missing(self):
         name, found = self.middle()
         for number in found:
-            saved = shutil.copytree(self.region(number), self.path("saved"))
-            self.change(number, name, lambda rows: [], lambda rows: [])
-            # In the first region the parcel is new in the second, whose tiles before it are looked at; the first of these lacks it.
-            others = ", ".join(self.names[other] for other in found if other != number)
-            self.refused("95", f"parcel {name}", number, f"region {self.names[number]} has the tile x ", f"parcel {name} is in {others}\n", f"in {self.names[found[number == found[0]]]}: ")
-            shutil.rmtree(self.region(number))
-            os.rename(saved, self.region(number))
+            with self.put_back(number):
+                self.change(number, name, lambda rows: [], lambda rows: [])
+                # In the first region the parcel is new in the second, whose tiles before it are looked at; the first of these lacks it.
+                others = ", ".join(self.names[other] for other in found if other != number)
+                self.refused("95", f"parcel {name}", number, f"region {self.names[number]} has the tile x ", f"parcel {name} is in {others}\n", f"in {self.names[found[number == found[0]]]}: ")
 
     def test_first_lacking_comes_first(self):
         number = self.doubles[-1][1][-1]
@@ -163,11 +171,9 @@ class TestPlanted(Case):
             "its pieces in ": lambda number: self.change(number, name, lambda rows: rows[::-1]),
         }
         for number, (word, change) in itertools.product(found, changes.items()):
-            saved = shutil.copytree(self.region(number), self.path("saved"))
-            change(number)
-            self.refused("94", f"parcel {name}", max(number, found[1]), word)
-            shutil.rmtree(self.region(number))
-            os.rename(saved, self.region(number))
+            with self.put_back(number):
+                change(number)
+                self.refused("94", f"parcel {name}", max(number, found[1]), word)
 
     def test_identifier_again(self):
         last = len(self.names) - 1
@@ -187,14 +193,12 @@ class TestPlanted(Case):
 
     def test_stray(self):
         for number, other in ((0, len(self.names) - 1), (len(self.names) - 1, 0), (2, 0)):
-            saved = shutil.copytree(self.region(number), self.path("saved"))
-            name = next(it for it, found in self.places.items() if found == [other])
-            for table, column in (("parcels", 0), ("covers", 1)):
-                rows = [row for row in lines(self.region(other), table) if row.split(",")[column] == name]
-                self.edit(number, (table, lambda here, rows=rows: here[:7] + rows + here[7:]))
-            self.refused("92", f"parcel {name}", number, "has the tile", f"parcel {name}: row 8 of parcels.csv")
-            shutil.rmtree(self.region(number))
-            os.rename(saved, self.region(number))
+            with self.put_back(number):
+                name = next(it for it, found in self.places.items() if found == [other])
+                for table, column in (("parcels", 0), ("covers", 1)):
+                    rows = [row for row in lines(self.region(other), table) if row.split(",")[column] == name]
+                    self.edit(number, (table, lambda here, rows=rows: here[:7] + rows + here[7:]))
+                self.refused("92", f"parcel {name}", number, "has the tile", f"parcel {name}: row 8 of parcels.csv")
 
     def test_rows_in_order(self):
         """Of two faults that of the upper row comes first, and a class before both."""
@@ -214,11 +218,9 @@ class TestPlanted(Case):
             (4, lambda rows: [*rows, "STONE,0"]), (1, lambda rows: ["STONE,0", *rows]),
         ]
         for number, (row, change) in itertools.product((0, 1, len(self.names) - 1), changes):
-            saved = shutil.copytree(self.region(number), self.path("saved"))
-            self.edit(number, ("classes", change))
-            self.refused("96", f"classes row {row}", number, f"{os.path.join(self.out, 'classes.csv')}: row {row}: ", f"{os.path.join(self.region(number), 'classes.csv')}: row {row}: ")
-            shutil.rmtree(self.region(number))
-            os.rename(saved, self.region(number))
+            with self.put_back(number):
+                self.edit(number, ("classes", change))
+                self.refused("96", f"classes row {row}", number, f"{os.path.join(self.out, 'classes.csv')}: row {row}: ", f"{os.path.join(self.region(number), 'classes.csv')}: row {row}: ")
         write(self.out, "classes", [HEADS["classes"], *CLASSES, "STONE,0"])
         self.refused("96", "classes row 4", 0)
 
@@ -284,18 +286,13 @@ class TestFailures(Case):
         self.split("--parcels", 12)
         self.certify()
         told = run(BUILT, "country", self.out).stdout.splitlines()
-        for number, name in enumerate(self.regions()):
-            for table in ("parcels.csv", "covers.csv", "classes.csv", "cert.txt"):
-                path = os.path.join(self.out, name, table)
-                os.rename(path, path + ".away")
-                ended = run(BUILT, "country", self.out)
-                assert (ended.returncode, ended.stdout.splitlines(), ended.stderr) == (3, told[:number], f"failed read {table.split('.')[0]} region {name}\n")
-                os.rename(path + ".away", path)
-        for table, word in (("country.txt", "country"), ("classes.csv", "classes")):
-            path = self.path("country", table)
+        tables = ("parcels.csv", "covers.csv", "classes.csv", "cert.txt")
+        files = [(os.path.join(name, table), f" region {name}", told[:number]) for number, name in enumerate(self.regions()) for table in tables]
+        for name, region, passed in (*files, ("country.txt", "", []), ("classes.csv", "", [])):
+            path = os.path.join(self.out, name)
             os.rename(path, path + ".away")
             ended = run(BUILT, "country", self.out)
-            assert (ended.returncode, ended.stdout, ended.stderr) == (3, "", f"failed read {word}\n")
+            assert (ended.returncode, ended.stdout.splitlines(), ended.stderr) == (3, passed, f"failed read {Path(name).stem}{region}\n")
             os.rename(path + ".away", path)
 
     def test_classes(self):

@@ -9,7 +9,7 @@ from unittest import mock
 import pytest
 import hard
 from lpis_tools import shapely_there
-from cells_case import ByCells, mended, read
+from cells_case import ByCells, mended, read, write
 from lands_parts import boxed, closed, on
 
 if shapely_there.is_there():
@@ -160,7 +160,7 @@ class TestCells(ByCells):
         assert self.times() == before
         last = land.covers[-1]
         last.found = hard.wkb.Found([[[(x + 0.001, y) for x, y in ring] for ring in member] for member in last.found.members])
-        far = [[[(x + 5000.0, y) for x, y in ((0.0, 0.0), (9.0, 0.0), (9.0, 9.0), (0.0, 0.0))]]]
+        far = hard.wkb.Found([[[(x + 5000.0, y) for x, y in ((0.0, 0.0), (9.0, 0.0), (9.0, 9.0), (0.0, 0.0))]]])
         land.parcels.insert(0, hard.Row(10**6, {"parcel": "FAR"}, far))
         land.covers.insert(0, hard.Row(10**6, {"piece": "FAR.1", "parcel": "FAR", "class": "A"}, far))
         self.by_cells(land, 60)
@@ -176,12 +176,10 @@ class TestCells(ByCells):
         land = mended(hard.Land(2, 9, 3.0))
         os.mkdir(self.path("results"))
         for name in ("mine.txt", "a" * 64 + ".jsonl", ".lpis-0123.new"):
-            with open(self.path("results", name), "w", encoding="utf-8"):
-                pass
+            write("", self.path("results", name))
         self.by_cells(land, 10**9)
         (result,) = {"mine.txt"} ^ set(os.listdir(self.path("results")))
-        with open(self.path("results", result), "w", encoding="utf-8") as file:
-            file.write("[1\n")
+        write("[1\n", self.path("results", result))
         os.symlink(self.path("results"), self.path("link"))
         for name, words in (("results", "not as it was written"), ("link", "is a link")):
             with pytest.raises(land_module.Trouble, match=words):

@@ -5,8 +5,9 @@ import shutil
 import time
 
 import pytest
-from calls import run
+from calls import ended_with, run
 from country_case import BUILT, Case, Land, country, lines, read, write, write_text
+from spare import write_script
 import judged_country as judged
 
 # A stand-in for `lpis cut` and `lpis country`: it refuses a region whose parcels have a row `bad`.
@@ -36,8 +37,7 @@ class TestEngines(Case):
         self.land = Land(9, 6, 6)
         self.begin(self.make)
         self.program = self.path("lpis stand-in")
-        write_text(self.program, STAND_IN)
-        os.chmod(self.program, 0o755)
+        write_script(STAND_IN, self.program)
 
     def make(self):
         self.land.write(self.source)
@@ -105,8 +105,7 @@ class TestEngines(Case):
         for name in ("mine/config.yaml", "profiles/default/config.yaml", "slurm/config.yaml"):
             os.makedirs(os.path.dirname(os.path.join(self.out, name)), exist_ok=True)
             write_text(os.path.join(self.out, name), f'cluster: "touch {hit}; bash"\njobs: 1\n')
-        write_text(self.path("sbatch"), '#!/bin/bash\nfor job; do :; done\nbash "$job" >/dev/null 2>&1 &\necho $!\n')
-        os.chmod(self.path("sbatch"), 0o755)
+        write_script('#!/bin/bash\nfor job; do :; done\nbash "$job" >/dev/null 2>&1 &\necho $!\n', self.path("sbatch"))
         for options in (["--snakemake"], ["--profile", os.path.join(self.out, "slurm")]):
             for name in self.certs():
                 os.remove(os.path.join(self.out, name, "cert.txt"))
@@ -120,8 +119,7 @@ class TestEngines(Case):
     @pytest.mark.parametrize("told, wanted", (("--workflow-profile X", True), ("", False)))
     def test_words_of_snakemake(self, told, wanted):
         """Of a version that reads a profile which nobody names: it is told not to; another one does not know these words."""
-        write_text(self.path("snakemake"), f'#!/bin/sh\n[ "$1" = --help ] && echo "{told}" || echo "$PWD $* profile:$SNAKEMAKE_PROFILE safe:$PYTHONSAFEPATH" >{self.path("said")}\n')
-        os.chmod(self.path("snakemake"), 0o755)
+        write_script(f'#!/bin/sh\n[ "$1" = --help ] && echo "{told}" || echo "$PWD $* profile:$SNAKEMAKE_PROFILE safe:$PYTHONSAFEPATH" >{self.path("said")}\n', self.path("snakemake"))
         country("cut", self.out, "--lpis", "false", "--snakemake", SNAKEMAKE_PROFILE="mine", PATH=f"{self.folder}:{os.environ['PATH']}")
         said = read(self.path("said"))
         assert ("--workflow-profile none" in said, "profile: safe:1" in said) == (wanted, True), said
@@ -129,11 +127,9 @@ class TestEngines(Case):
     @pytest.mark.skipif(not shutil.which("snakemake"), reason="there is no snakemake")
     def test_cluster(self):
         """The profile over a stand-in for the cluster, which starts each job by itself and prints a number."""
-        write_text(self.path("sbatch"), f'#!/bin/bash\necho "$*" >>{self.path("jobs")}\nfor job; do :; done\nbash "$job" >/dev/null 2>&1 &\necho $!\n')
-        os.chmod(self.path("sbatch"), 0o755)
+        write_script(f'#!/bin/bash\necho "$*" >>{self.path("jobs")}\nfor job; do :; done\nbash "$job" >/dev/null 2>&1 &\necho $!\n', self.path("sbatch"))
         country("cut", self.out, "--lpis", "false")  # writes the profile
-        ended = country("cut", self.out, "--lpis", f"'{self.program}'", "--profile", self.path("country", "slurm"), PATH=f"{self.folder}:{os.environ['PATH']}")
-        assert ended.returncode == 0, ended.stdout + ended.stderr
+        ended_with(0, country("cut", self.out, "--lpis", f"'{self.program}'", "--profile", self.path("country", "slurm"), PATH=f"{self.folder}:{os.environ['PATH']}"))
         jobs = read(self.path("jobs")).splitlines()
         assert (len(jobs), len(self.certs())) == (len(self.regions()), len(self.regions()))
         assert all("--mem=1500" in job and "--time=60" in job for job in jobs), jobs
@@ -151,8 +147,7 @@ class TestEngines(Case):
             folder = os.path.join(self.out, region)
             rows = lines(folder, "covers")
             write(folder, "covers", [crossed if row == first else row for row in rows])
-        ended = country("cut", self.out, "--lpis", BUILT)
-        assert ended.returncode == 1, ended.stdout + ended.stderr
+        ended = ended_with(1, country("cut", self.out, "--lpis", BUILT))
         assert name in ended.stdout
         assert f"region {self.regions()[1]}: refused 4" in ended.stdout
         assert os.path.exists(os.path.join(self.out, "faults.geojson"))

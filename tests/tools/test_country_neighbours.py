@@ -5,7 +5,7 @@ import os
 import random
 import sys
 
-from calls import done, tool
+from calls import done, ended_with, tool
 from places import HELPERS
 from cells_case import Case
 from lands_parts import on
@@ -18,7 +18,7 @@ if shapely_there.is_there():
     import edits
     import neighbours
     import two_years
-    from lpis_tools import rounding, snapping
+    from lpis_tools import land as land_module, rounding, snapping
 
 PARCELS, SPLITS = 100, 25
 A, B = (550000.1234, 5400000.5678), (550047.9876, 5400031.2345)  # the ends of a border
@@ -31,14 +31,9 @@ def points_of(shape):
     return [point for part in getattr(found, "geoms", [found]) for ring in (part.exterior, *part.interiors) for point in ring.coords]
 
 
-class Row(dict):
+def row(name, *ring):
     """A row with a ring."""
-
-    def __init__(self, name, *ring):
-        from lpis_tools import wkb as of_tools
-
-        super().__init__(parcel=name, piece=name)
-        self.found = of_tools.Found([[[*ring, ring[0]]]])
+    return land_module.Row(0, {"parcel": name, "piece": name}, land_module.wkb.Found([[[*ring, ring[0]]]]))
 
 
 class TestBorders(Case):
@@ -49,21 +44,21 @@ class TestBorders(Case):
         return {rows[number]["piece"]: neighbours.turned(neighbours.rings(text)[0]) for number, text in made.polygons(made.pieces)}
 
     def set_up(self):
-        self.before = self.map(Row("left", A, B, OUT[0]), Row("right", B, A, OUT[1]))
+        self.before = self.map(row("left", A, B, OUT[0]), row("right", B, A, OUT[1]))
         self.then = rounding.numpy.array([corner for ring in self.before.values() for corner in ring])
 
     def test_corner_of_one_side(self):
         """A corner that only one side has, on the straight border, is needless in the second year; in a first year it stays."""
         for shares in ((0.37,), (0.2, 0.200001, 0.7), tuple(number / 97 for number in range(1, 97))):
             corners = [on(A, B, share) for share in shares]
-            rows = Row("left", A, *corners, B, OUT[0]), Row("right", B, A, OUT[1])
+            rows = row("left", A, *corners, B, OUT[0]), row("right", B, A, OUT[1])
             assert self.map(*rows, then=self.then) == self.before
             assert len(self.map(*rows)["right"]) > 3
 
     def test_corner_of_both_sides(self):
         """It is meant: no edge of the source goes through."""
         corner = on(A, B, 0.37)
-        made = self.map(Row("left", A, corner, B, OUT[0]), Row("right", B, corner, A, OUT[1]), then=self.then)
+        made = self.map(row("left", A, corner, B, OUT[0]), row("right", B, corner, A, OUT[1]), then=self.then)
         assert [neighbours.pixel(corner) in ring for ring in made.values()] == [True, True]
 
     def test_corner_beside_the_border(self):
@@ -73,14 +68,14 @@ class TestBorders(Case):
         for share, aside, stays in ((0.37, 1e-6, False), (0.37, 4e-6, True), (0.37, -1e-4, True), (0.37, -4e-4, True)):
             x, y = on(A, B, share)
             corner = x - (by - ay) / length * aside, y + (bx - ax) / length * aside
-            made = self.map(Row("left", A, corner, B, OUT[0]), Row("right", B, A, OUT[1]), then=self.then)
+            made = self.map(row("left", A, corner, B, OUT[0]), row("right", B, A, OUT[1]), then=self.then)
             assert (neighbours.pixel(corner) in made["left"]) == stays, aside
             assert (neighbours.pixel(corner) in made["right"]) == stays, aside
 
     def test_end_of_a_border(self):
         """A new border that ends there has the corner on all its sides."""
         corner = on(A, B, 0.37)
-        made = self.map(Row("one", A, corner, OUT[0]), Row("other", corner, B, OUT[0]), Row("right", B, A, OUT[1]), then=self.then)
+        made = self.map(row("one", A, corner, OUT[0]), row("other", corner, B, OUT[0]), row("right", B, A, OUT[1]), then=self.then)
         assert [neighbours.pixel(corner) in ring for ring in made.values()] == [True] * 3
 
     def test_corner_of_last_year(self):
@@ -88,7 +83,7 @@ class TestBorders(Case):
         corner = on(A, B, 0.37)
         for by in ((0, 0), (1, 0), (1, -1)):
             old = rounding.numpy.concatenate([self.then, [rounding.numpy.array(neighbours.pixel(corner)) + by]])
-            assert len(self.map(Row("left", A, corner, B, OUT[0]), Row("right", B, A, OUT[1]), then=old)["right"]) == 4
+            assert len(self.map(row("left", A, corner, B, OUT[0]), row("right", B, A, OUT[1]), then=old)["right"]) == 4
 
     def test_on_an_edge(self):
         """Points of edges of any length and way, in whole numbers."""
@@ -111,8 +106,7 @@ class TestCountries(Case):
         dirty.put(path, *rows, two_years.CLASSES)
 
     def prepared(self, year, *words):
-        ran = tool("country", "prepare", self.path(f"{year}.gpkg"), self.path(year), "--accept", "--quiet", "--parcels", 60, *words)
-        assert ran.returncode == 0, ran.stdout + ran.stderr
+        ended_with(0, tool("country", "prepare", self.path(f"{year}.gpkg"), self.path(year), "--accept", "--quiet", "--parcels", 60, *words))
 
     def test_new_borders(self):
         """Each parcel of another text lies beside a split one, and has the ends of the new borders more, all of it by whole numbers."""

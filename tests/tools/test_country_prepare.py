@@ -14,7 +14,7 @@ from pathlib import Path
 
 import pytest
 from registers import made
-from calls import tool
+from calls import ended_with, run, tool
 from places import BUILT, TOOLS
 import dirty
 from cells_case import Case, read, write
@@ -23,6 +23,7 @@ from lpis_tools import shapely_there
 if shapely_there.is_there():
     from lpis_tools import land as land_module, rounding
 PARCELS = 110  # of the dirty source
+TABLES = ("parcels.csv", "covers.csv", "classes.csv")
 REPORTS = ("prepared.csv", "identifiers.csv", "report.csv", "report.geojson", "balance.csv", "classes.csv")
 
 
@@ -30,6 +31,12 @@ def rows_of(folder, table, regions=None):
     """The rows of a table, or of that of all regions, each once."""
     names = regions if regions is not None else [""]
     return sorted({row for name in names for row in read(folder, name, f"{table}.csv").splitlines()[1:]})
+
+
+def assert_same(one, other, *names):
+    """Files of two folders are the same."""
+    for name in names:
+        assert read(one, name) == read(other, name), name
 
 
 class TestSources(Case):
@@ -83,8 +90,7 @@ class TestSources(Case):
         """A source of which a row changed: how many cells are as they were; and other widths between parcels look at no cell."""
         folder, source = shutil.copytree(self.country, self.path("country")), shutil.copy(self.land, self.path("land.gpkg"))
         made(source, "DELETE FROM covers WHERE fid = 1")
-        ended = tool("country", "prepare", source, folder, "--accept", "--parcels", 30)
-        assert ended.returncode == 0, ended.stdout + ended.stderr
+        ended = ended_with(0, tool("country", "prepare", source, folder, "--accept", "--parcels", 30))
         assert re.search(r"comparing \d+ cells with those that a run before has rounded", ended.stderr)
         assert re.search(r"cells as they were: \d+ of \d+, rounded: 1\n", ended.stderr)
         again = tool("country", "prepare", source, folder, "--accept", "--parcels", 30, "--between", 2)
@@ -96,10 +102,8 @@ class TestSources(Case):
         assert len(self.regions) > 3
         for name in ("parcels", "covers"):
             assert rows_of(self.country, name, self.regions) == rows_of(self.whole, name)
-        for name in REPORTS:
-            assert read(self.country, name) == read(self.whole, name), name
-        for name in ("parcels.csv", "covers.csv", "classes.csv"):
-            assert read(f"{self.country}-tables", name) == read(self.whole, name), name
+        assert_same(self.country, self.whole, *REPORTS)
+        assert_same(f"{self.country}-tables", self.whole, *TABLES)
 
     def test_tables(self):
         """A folder of tables goes into the store as it is read, and gives what tools/prepare makes of it."""
@@ -114,10 +118,8 @@ class TestSources(Case):
                     table.writerow([*map(row.fields.get, land_module.COLUMNS[name]), *shape])
         one, other = tool("prepare", source, whole, "--accept"), tool("country", "prepare", source, country, "--accept", "--tables", tables)
         assert (one.returncode, other.returncode) == (0, 0), other.stdout + other.stderr
-        for name in REPORTS:
-            assert read(country, name) == read(whole, name), name
-        for name in ("parcels.csv", "covers.csv", "classes.csv"):
-            assert read(tables, name) == read(whole, name), name
+        assert_same(country, whole, *REPORTS)
+        assert_same(tables, whole, *TABLES)
 
     @pytest.mark.skipif(not BUILT, reason="the program is not built")
     def test_yes_and_no(self):
@@ -151,18 +153,25 @@ class TestSources(Case):
         assert (again.returncode, "files changed 0 " in again.stdout.splitlines()[-1]) == (0, True), again.stdout + again.stderr
         assert {name: os.stat(os.path.join(folder, ".cells", name)).st_mtime_ns for name in os.listdir(os.path.join(folder, ".cells"))} == cells
 
-    def test_killed(self):
-        """After a kill no table is there, and the next run has the same bytes."""
-        folder = self.path("country")
-        with subprocess.Popen([os.path.join(TOOLS, "country"), "prepare", self.land, folder, "--accept", "--parcels", "30"], stdout=subprocess.DEVNULL, stderr=subprocess.PIPE, text=True, start_new_session=True) as started:
+    def assert_as_before(self, folder):
+        """A country has the bytes of that which was accepted."""
+        of_regions = [f"{region}/{table}.csv" for region in self.regions for table in ("parcels", "covers", "classes", "lineage")]
+        assert_same(folder, self.country, *REPORTS, "country.txt", "split.txt", *of_regions)
+
+    def killed(self, folder, *words):
+        """Kills a run that rounds, with all that it began: no table is there then, and the next run, which is answered, has the same bytes."""
+        command = [os.path.join(TOOLS, "country"), "prepare", self.land, folder, "--accept", "--parcels", "30", *words]
+        with subprocess.Popen(command, stdout=subprocess.DEVNULL, stderr=subprocess.PIPE, text=True, start_new_session=True) as started:
             for line in started.stderr:
                 if "rounding" in line:
                     os.killpg(started.pid, signal.SIGKILL)
         assert not [name for name in os.listdir(folder) if re.fullmatch(r"r\d+|country.txt|report.*", name)]
-        again = tool("country", "prepare", self.land, folder, "--accept", "--parcels", 30)
-        assert again.returncode == 0, again.stdout + again.stderr
-        for name in (*REPORTS, "country.txt", "split.txt", *(f"{region}/{table}.csv" for region in self.regions for table in ("parcels", "covers", "classes", "lineage"))):
-            assert read(folder, name) == read(self.country, name), name
+        again = ended_with(0, run(*command))
+        self.assert_as_before(folder)
+        return again
+
+    def test_killed(self):
+        self.killed(self.path("country"))
 
     def test_full_disk(self):
         """Where no file may grow over a size there is no table and nothing half, and the next run has the same bytes."""
@@ -174,8 +183,7 @@ class TestSources(Case):
             assert [name for name in os.listdir(folder) if not name.startswith(".")] == []
             assert [name for name in os.listdir(os.path.join(folder, ".cells")) if name.endswith(".new") or name == "rows.db"] == []
         assert tool("country", "prepare", self.land, folder, "--accept", "--parcels", 30).returncode == 0
-        for name in (*REPORTS, "country.txt", *(f"{region}/{table}.csv" for region in self.regions for table in ("parcels", "covers"))):
-            assert read(folder, name) == read(self.country, name), name
+        self.assert_as_before(folder)
 
     def test_stopped(self):
         """A signal ends the workers too, and leaves no folder of its own."""
@@ -197,17 +205,8 @@ class TestSources(Case):
             write(f"import os\nos.mkdir({hit!r})\n", folder, f"{name}.py")
         write(f"config: [hit]\ncluster: touch {hit} && bash\njobs: 1\n", folder, "profiles", "default", "config.yaml")
         write(f"import os\nos.mkdir({hit!r})\n", folder, "Snakefile")
-        words = [os.path.join(TOOLS, "country"), "prepare", self.land, folder, "--accept", "--parcels", "30", "--snakemake"]
-        with subprocess.Popen(words, stdout=subprocess.DEVNULL, stderr=subprocess.PIPE, text=True, start_new_session=True) as started:
-            for line in started.stderr:
-                if "rounding" in line:
-                    os.killpg(started.pid, signal.SIGKILL)
-        assert not [name for name in os.listdir(folder) if re.fullmatch(r"r\d+|country.txt|report.*", name)]
-        again = subprocess.run(words, capture_output=True, text=True, check=False)
-        assert (again.returncode, os.path.exists(hit)) == (0, False), again.stdout + again.stderr
-        assert "(100%) done" in again.stderr
-        for name in (*REPORTS, "country.txt", "split.txt", *(f"{region}/{table}.csv" for region in self.regions for table in ("parcels", "covers", "classes", "lineage"))):
-            assert read(folder, name) == read(self.country, name), name
+        assert "(100%) done" in self.killed(folder, "--snakemake").stderr
+        assert not os.path.exists(hit)
 
     def test_words(self):
         shape = dirty.polygon(dirty.box(0, 0))

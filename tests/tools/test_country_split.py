@@ -8,7 +8,7 @@ import sys
 import time
 
 import pytest
-from calls import tool
+from calls import ended_with, tool
 from country_case import CLASSES, HEADS, Case, Land, country, lines, read, wkt, write, write_text
 import judged_country as judged
 from lpis_tools import countries, parting, splitting, streams, tiles
@@ -24,17 +24,26 @@ class TestPlans(Case):
 
     GOOD = "lpis-country 1\nx 5\nregion a\ny -7\nregion b\nregion c\n"
     OUTSIDE = "lpis-country 1\nx 5\nx 6\nregion a\nregion b\ny -7\nx 4\nregion c\nregion d\ny -8\nregion e\nregion f\n"
-    BAD = {
-        "": 1, "\n": 1, "lpis-country 2\nregion a\n": 1, "lpis-country 1": 1, "lpis-country 1\n": 2, "lpis-country 1\nregion a": 2, "lpis-country 1\nregion a\n\n": 3,
-        "lpis-country 1\nregion a\nregion b\n": 3, "lpis-country 1\nx 5\nregion a\n": 4, "lpis-country 1\nx 5\nregion a\nregion b": 4, "lpis-country 1\nx 5\nregion a\nregion a\n": 4,
-        "lpis-country 1\r\nregion a\n": 1, "lpis-country 1\nregion a\r\n": 2, "lpis-country 1\nregion \n": 2, "lpis-country 1\nregion a.b\n": 2, "lpis-country 1\nregion a/b\n": 2,
-        "lpis-country 1\nregion  a\n": 2, "lpis-country 1\nregion a \n": 2, "lpis-country 1\n region a\n": 2, "lpis-country 1\nRegion a\n": 2, f"lpis-country 1\nregion {'a' * 101}\n": 2,
-        "lpis-country 1\nx\nregion a\nregion b\n": 2, "lpis-country 1\nx 05\nregion a\nregion b\n": 2, "lpis-country 1\nx -0\nregion a\nregion b\n": 2, "lpis-country 1\nx +5\nregion a\nregion b\n": 2,
-        "lpis-country 1\nz 5\nregion a\nregion b\n": 2, "lpis-country 1\nx 20000000001\nregion a\nregion b\n": 2, "lpis-country 1\ny -20000000001\nregion a\nregion b\n": 2,
-        "lpis-country 1\nx 5 \nregion a\nregion b\n": 2, "lpis-country 1\nx 5.0\nregion a\nregion b\n": 2, "lpis-country 1\nregion a\nx": 3, "lpis-country 1\nx 1\nx 2\nregion a\nregion b\n": 6,
-        "lpis-country 1\nregion \u00e4\n": 2, "lpis-country 1\nx 1\nregion a\nregion b\nx": 5,
-    }
-    LONG = "lpis-country 1\n" + "x 0\n" * 10_000 + "".join(f"region r{k}\n" for k in range(10_001))
+    BAD = [(text, line) for line, texts in {
+        1: ["", "\n", "lpis-country 1", "lpis-country 2\nregion a\n", "lpis-country 1\r\nregion a\n"],
+        2: [f"lpis-country 1\n{text}" for text in (
+            "", "\nregion a\n", "region a", "region a\r\n", "region a \n", "region \n", "region\n", "region  a\n", "region a.b\n", "region a/b\n", "region \u00e4\n", " region a\n", "Region a\n",
+            f"region {'a' * 101}\n")],
+        3: [f"lpis-country 1\n{text}" for text in ("region a\n\n", "region a\nregion b\n", "region a\nx", "x 0\ny\n")],
+        4: [f"lpis-country 1\nx 5\n{text}" for text in ("region a\n", "region a\nregion b", "region a\nregion a\n")],
+        5: ["lpis-country 1\nx 1\nregion a\nregion b\nx"],
+        6: [f"lpis-country 1\nx 1\n{text}" for text in ("x 2\nregion a\nregion b\n", "region a\nx 1\nregion b\nregion a\n")],
+    }.items() for text in texts]
+    NUMBERS = "05 00 01 -0 -01 +5 --1 5.0 20000000001 -20000000001 99999999999999999999 \u00e4".split() + ["", " 5", "5 "]
+    BAD += [(f"lpis-country 1\n{cut}\nregion a\nregion b\n", 2) for cut in ("x", "z 5", "X 5", "y -20000000001", *(f"x {number}" for number in NUMBERS))]
+    # Regions that are too many, behind cuts that are as many, or one by one.
+    MANY = ("lpis-country 1\n" + "x 0\n" * 10_000 + "".join(f"region r{k}\n" for k in range(10_001)),
+            "lpis-country 1\n" + "".join(f"x {k}\nregion r{k}\n" for k in range(1, 10_001)) + "region last\n")
+
+    def plan(self, text):
+        """A country of this text, and of classes without a row."""
+        write(self.out, "classes", [HEADS["classes"]])
+        write_text(os.path.join(self.out, "country.txt"), text)
 
     def test_good(self):
         for text in (self.GOOD, "lpis-country 1\nregion -_Z9\n", f"lpis-country 1\nregion {'a' * 100}\n", "lpis-country 1\nx 20000000000\nregion a\nregion b\n",
@@ -55,34 +64,29 @@ class TestPlans(Case):
                     parcel = "p", [[[(xs[0], ys[0]), (xs[1], ys[0]), (xs[1], ys[1]), (xs[0], ys[0])]]]
                     assert tiling.met((xs[0], ys[0], xs[1], ys[1])) == [n for n, tile in enumerate(plan.tiles) if judged.meets(parcel, tile)]
 
-    def test_bad(self):
-        write(self.out, "classes", [HEADS["classes"]])
-        for text, line in self.BAD.items():
-            write_text(os.path.join(self.out, "country.txt"), text)
-            self.assertCountry(f"refused 90 country line {line}", 2, is_certified=False)
-            with pytest.raises(tiles.Unreadable) as told:
-                tiles.read(text)
-            assert str(told.value).startswith(f"line {line}"), told.value
+    @pytest.mark.parametrize("text, line", BAD, ids=range(len(BAD)))
+    def test_bad(self, text, line):
+        self.plan(text)
+        self.assertCountry(f"refused 90 country line {line}", 2, is_certified=False)
+        with pytest.raises(tiles.Unreadable, match=f"^line {line}"):
+            tiles.read(text)
 
     def test_explained(self):
-        os.makedirs(self.out)
-        for text, line in list(self.BAD.items())[::6]:
-            write_text(os.path.join(self.out, "country.txt"), text)
+        for text, line in self.BAD[::6]:
+            self.plan(text)
             words = tool("explain", self.out, input=f"refused 90 country line {line}\n")
             assert (words.returncode, f"  line {line}" in words.stdout) == (2, True), words.stdout + words.stderr
 
     def test_too_many(self):
         sys.setrecursionlimit(30_000)
-        write(self.out, "classes", [HEADS["classes"]])
-        write_text(os.path.join(self.out, "country.txt"), self.LONG)
-        self.assertCountry("refused 90 country line 20002", 2, is_certified=False)
+        for text in self.MANY:
+            self.plan(text)
+            self.assertCountry("refused 90 country line 20002", 2, is_certified=False)
 
     def test_cut_short(self):
         """Each beginning of a text, and each with a letter changed."""
-        write(self.out, "classes", [HEADS["classes"]])
-        path = os.path.join(self.out, "country.txt")
         for end in range(len(self.GOOD)):
-            write_text(path, self.GOOD[:end])
+            self.plan(self.GOOD[:end])
             self.assertCountry(f"refused 90 country line {self.GOOD[:end].count(chr(10)) + 1}", 2, is_certified=False)
 
 
@@ -90,8 +94,7 @@ class TestSplits(Case):
     """What the splitter says, and what it leaves as it is."""
 
     def refuse(self, *words):
-        ended = country("split", self.source, self.out)
-        assert ended.returncode == 1, ended.stdout + ended.stderr
+        ended = ended_with(1, country("split", self.source, self.out))
         for word in words:
             assert word in ended.stdout
         assert not os.path.exists(self.out)
@@ -123,8 +126,7 @@ class TestSplits(Case):
             write(self.source, table, [HEADS[table], *rows])
         ended = country("split", self.source, self.out, "--parcels", "20")
         assert (ended.returncode, "30 parcels share a place" in ended.stdout, "star-0 star-1 " in ended.stdout) == (1, True, True), ended.stdout
-        ended = country("split", self.source, self.out, "--points", "4")
-        assert ended.returncode == 1, ended.stdout
+        ended_with(1, country("split", self.source, self.out, "--points", "4"))
 
     def test_heaps(self):
         """Cuts that help are found where quantiles of middles do not help."""

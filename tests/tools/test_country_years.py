@@ -9,10 +9,10 @@ from unittest import mock
 
 import pytest
 from registers import made, rows
-from calls import tool
+from calls import ended_with, tool
 from places import BUILT, TOP
 from spare import Spare, read, write
-from lpis_tools import country_report, ledger, parting, progress, splitting, streams
+from lpis_tools import country_report, files, ledger, parting, progress, splitting, streams
 
 YEARS = os.path.join(TOP, "examples", "country-years")
 REGIONS = ["west", "southeast", "northeast"]
@@ -36,8 +36,7 @@ class Case(Spare):
         return [read(self.out, region, "lineage.csv") for region in REGIONS]
 
     def split(self, source, *options):
-        ended = run("country", "split", source, self.out, *options)
-        assert ended.returncode == 0, ended.stdout + ended.stderr
+        ended = ended_with(0, run("country", "split", source, self.out, *options))
         return ended.stdout.splitlines()[-1].split()
 
 
@@ -60,9 +59,8 @@ class TestLineage(Case):
             assert self.lineage() == [head + "".join(part) for part in wanted]
         splitting.MOST_ROWS = 2
         before = self.lineage()
-        with pytest.raises(streams.Trouble) as caught:
+        with pytest.raises(streams.Trouble, match="2 rows a region are too few"):
             splitting.split(streams.Folder(self.source), self.out, MOST, False, lambda words: None)
-        assert "2 rows a region are too few" in str(caught.value)
         assert self.lineage() == before
         assert [file for _, _, files in os.walk(self.out) for file in files if file.endswith(".new")] == []
 
@@ -95,16 +93,14 @@ class TestPublishing(Case):
 
     def first(self):
         self.split(os.path.join(YEARS, "2024"))
-        ended = self.publish(2024, "--new")
-        assert ended.returncode == 0, ended.stdout + ended.stderr
+        ended = ended_with(0, self.publish(2024, "--new"))
         return ended
 
     def refused(self, year, status, *words, options=()):
         """Nothing is published, and these words are said."""
         before = ledger.content_of(self.base) if os.path.exists(self.base) else None
         lines = len(ledger.lines_of(self.base))
-        ended = self.publish(year, *options)
-        assert ended.returncode == status, ended.stdout + ended.stderr
+        ended = ended_with(status, self.publish(year, *options))
         for word in words:
             assert word in ended.stdout + ended.stderr
         assert (ledger.content_of(self.base) if os.path.exists(self.base) else None, len(ledger.lines_of(self.base))) == (before, lines)
@@ -116,8 +112,7 @@ class TestPublishing(Case):
         assert not os.path.exists(os.path.join(self.out, "exact.txt"))
         before = [read(self.out, *name) for name in (("west", "parcels.csv"), ("country.txt",), ("west", "cert.txt"), ("published-2024.txt",))]
         self.split(self.source, "--lineage", os.path.join(YEARS, "2024", "lineage.csv"))
-        ended = self.publish(2025, "--lineage", os.path.join(self.source, "lineage.csv"))
-        assert ended.returncode == 0, ended.stdout + ended.stderr
+        ended = ended_with(0, self.publish(2025, "--lineage", os.path.join(self.source, "lineage.csv")))
         assert [read(self.out, "years", "2024", *name) for name in (("west", "parcels.csv"), ("country.txt",), ("west", "cert.txt"), ("published-2024.txt",))] == before
         assert [read(self.out, "years", year, "log.json") for year in ("2024", "2025")] == [line.decode() + "\n" for line in ledger.lines_of(self.base)]
         assert [os.path.exists(self.path("country", "years", year, "exact.txt")) for year in ("2024", "2025")] == [False, True]
@@ -172,8 +167,8 @@ class TestPublishing(Case):
         year = self.path("country", "years", "2024")
         with mock.patch.object(progress, "Bytes", Bytes):
             country_report.make([BUILT], year, None, year)
-            found = ledger.digests_of(year, ["west/parcels.csv", "country.txt"], "digests of the copy")
-        assert found == {name: ledger.digest_of(os.path.join(year, name)) for name in found}
+            found = ledger.digests_of({name: os.path.join(year, name) for name in ("west/parcels.csv", "country.txt")}, "digests of the copy")
+        assert found == {name: files.digest(os.path.join(year, name)) for name in found}
         assert [step.what for step in steps] == ["digests", "checking the country", "digests", "reading the parcels", "digests of the copy"]
         assert all(step.bytes == step.size for step in steps if step.what.startswith("digests"))
         assert 0 < steps[3].bytes <= steps[3].size

@@ -1,6 +1,5 @@
 """Tests that tools/prepare loses and adds nothing in silence: each kind of source that once lost land with status 0. Wants Shapely."""
 
-import json
 import os
 import resource
 import shutil
@@ -8,7 +7,6 @@ import signal
 import struct
 import subprocess
 import sys
-import tempfile
 import unittest.mock
 from pathlib import Path
 
@@ -16,9 +14,8 @@ import pytest
 from registers import made
 import dirty
 import stopping
-from calls import records
+from calls import ended_with, records
 from preparing_case import PREPARE, Case, ring
-from lpis_tools import identifiers
 
 EAST, NORTH = dirty.EAST, dirty.NORTH
 
@@ -36,8 +33,7 @@ class TestTexts(Case):
     def test_left_out(self):
         """With --accept a piece that cannot be read is left out, and the parcel's land with it: the balance has both."""
         self.tables([("A", f"POLYGON(({ring(0, 0)}))")], [("1", "A", "GRASS", f"POLYGON(({ring(0, 0, 5)}))"), ("2", "A", "TREES", f"POLYGON(({ring(5, 0, 5)})")])
-        run = self.run_on(self.sheets, "--accept")
-        assert run.returncode == 0, run.stdout + run.stderr
+        run = ended_with(0, self.run_on(self.sheets, "--accept"))
         assert [row["done"] for row in self.found() if row["kind"] == "shape"] == ["left out"]
         assert "gap A" in run.stdout
         assert "the balance adds up" in run.stdout
@@ -79,18 +75,11 @@ class TestTables(Case):
 
 
 class TestSystems(Case):
-    def source(self, number, text, move=(0, 0)):
+    def source(self, number, text):
         """The clean land in a system of that number and definition."""
-        path = dirty.make(self.path("l.gpkg"), [])
-        base = dirty.sqlite3.connect(path)
-        base.execute("INSERT OR REPLACE INTO gpkg_spatial_ref_sys VALUES ('x', ?, 'EPSG', ?, ?, NULL)", (number, number, text))
-        base.execute("UPDATE gpkg_geometry_columns SET srs_id = ?", (number,))
-        for name in ("parcels", "covers"):
-            for fid, blob in base.execute(f"SELECT fid, geom FROM {name}").fetchall():
-                base.execute(f"UPDATE {name} SET geom = ? WHERE fid = ?", (blob[:4] + struct.pack("<i", number) + blob[8:], fid))
-        base.commit()
-        base.close()
-        return path
+        shapes = (f"UPDATE {name} SET geom = CAST(substr(geom, 1, 4) || x'{struct.pack('<i', number).hex()}' || substr(geom, 9) AS BLOB)" for name in ("parcels", "covers"))
+        return made(dirty.make(self.path("l.gpkg"), []), f"INSERT OR REPLACE INTO gpkg_spatial_ref_sys VALUES ('x', {number}, 'EPSG', {number}, '{text}', NULL)",
+                    f"UPDATE gpkg_geometry_columns SET srs_id = {number}", *shapes)
 
     def test_false_areas(self):
         geographic = 'GEOGCS["x",DATUM["d",SPHEROID["s",6378137,298.257]],PRIMEM["Greenwich",0],UNIT["degree",0.0174532925199433]]'
@@ -109,8 +98,7 @@ class TestSystems(Case):
         source = self.path("m.gpkg")
         subprocess.run(["ogr2ogr", "-q", "-f", "GPKG", source, self.path("l.gpkg"), "-a_srs", "EPSG:3857", "parcels", "covers"], check=True)
         self.assert_refused(self.run_on(source), "there about 2.42 times as large")
-        run = self.run_on(source, "--epsg", "25832")
-        assert run.returncode == 0, run.stdout + run.stderr
+        ended_with(0, self.run_on(source, "--epsg", "25832"))
         assert sum(self.areas().values()) == pytest.approx(400 / 2.42, abs=2)
 
     def test_degrees(self):
@@ -152,8 +140,7 @@ class TestShapes(Case):
         """A repair adds no land unsaid: what a border encloses and what is left, a hole takes land away wherever it lies, and nobody's land is taken unnamed."""
         source = self.source()
         self.assert_refused(self.run_on(source), *(f"invalid: covers {number} (fid {number + 1}) ({after or 0:.3f} m2)" for number, (_, _, after) in enumerate(self.SHAPES.values())))
-        run = self.run_on(source, "--accept")
-        assert run.returncode == 0, run.stdout + run.stderr
+        run = ended_with(0, self.run_on(source, "--accept"))
         done = {row["identifier"]: row["words"] + row["done"] for row in self.found() if row["kind"] == "invalid"}
         for number, (name, (_, enclosed, after)) in enumerate(self.SHAPES.items()):
             assert (f"made valid: {after:.3f} m2 of the {enclosed:.3f} that its border encloses" if after else "nothing of it has an area") in done[str(number)], name
@@ -170,8 +157,7 @@ class TestShapes(Case):
         """The greatest change of a parcel is that from the source, not from the mended shape."""
         bow = [(EAST, NORTH), (EAST + 10, NORTH + 10), (EAST + 10, NORTH), (EAST, NORTH + 10), (EAST, NORTH)]
         source = self.package([("A", dirty.polygon(bow))], [("1", "A", "GRASS", dirty.polygon(bow))])
-        run = self.run_on(source, "--accept")
-        assert run.returncode == 0, run.stdout + run.stderr
+        ended_with(0, self.run_on(source, "--accept"))
         assert [(row["layer"], row["class"], row["mended_m2"]) for row in records(self.out, "balance.csv")] == [("covers", "GRASS", "50.000"), ("covers", "", "50.000"), ("parcels", "", "50.000")]
 
 
@@ -222,8 +208,7 @@ class TestNames(Case):
         """Padded identifiers are trimmed alike in all tables, and no digest is put behind them."""
         self.tables([("A".ljust(20), f"POLYGON(({ring(0, 0)}))"), ("B", f"POLYGON(({ring(10, 0)}))")],
                     [("1 ", "A", "GRASS ", f"POLYGON(({ring(0, 0)}))"), ("2", "B\u00a0", "TREES", f"POLYGON(({ring(10, 0)}))")])
-        run = self.run_on(self.sheets)
-        assert run.returncode == 0, run.stdout + run.stderr
+        run = ended_with(0, self.run_on(self.sheets))
         assert [row["parcel"] for row in records(self.out, "parcels.csv")] == ["A", "B"]
         assert [(row["piece"], row["parcel"], row["class"]) for row in records(self.out, "covers.csv")] == [("1", "A", "GRASS"), ("2", "B", "TREES")]
         assert sum(row["kind"] == "blanks" for row in self.found()) == 4, run.stdout
@@ -242,13 +227,6 @@ class TestNames(Case):
         self.assert_refused(self.run_on(source), "nameless: covers (fid 4711) (50.000 m2) at")
         run = self.run_on(source, "--accept")
         assert (run.returncode, records(self.out, "covers.csv")[1]["piece"]) == (0, "fid-4711"), run.stdout
-
-    def test_forms(self):
-        """One name in two forms of Unicode, letters that are none, control characters: two names stay two, and each is named."""
-        names = ["M\u00fchle", "Mu\u0308hle", "x\x07", "x\x08", "\u200b"]
-        made = [identifiers.made_of(name) for name in names]
-        assert len(set(made)) == len(names)
-        assert all(map(identifiers.is_one, made)), made
 
 
 class TestWhole(Case):
@@ -283,25 +261,10 @@ class TestWhole(Case):
         status, told = stopping.stopped([PREPARE, source, self.out], f"prepare: reading {source}\n")
         assert (status, "Traceback" in told, "stopped by SIGINT: no table is written" in told, os.listdir(self.out)) == (130, False, True, []), told
 
-    def test_balance(self):
-        """Every kind of dirt at once: the balance adds up, by class, and what was left out is in the report with area, place and shape."""
-        run = self.run_on(dirty.make(self.path("l.gpkg"), dirty.ALL), "--accept")
-        assert run.returncode == 0, run.stdout + run.stderr
-        assert "the balance adds up to the square metre" in run.stdout
-        for row in records(self.out, "balance.csv"):
-            parts = [float(row[f"{column}_m2"]) for column in ("source", "mended", "left_out", "settled")]
-            assert sum(parts) == pytest.approx(float(row["tables_m2"]), abs=0.5), str(row)
-        features = json.loads(Path(self.out, "report.geojson").read_text(encoding="utf-8"))["features"]
-        left = {feature["properties"]["identifiers"]: feature for feature in features if feature["properties"]["kind"] == "left out"}
-        assert (left["bare"]["properties"]["area_m2"], bool(left["bare"]["geometry"])) == (100, True)
 
-
-class TestAlone:
-    def test_help(self):
-        """--help and --version need no Shapely."""
-        with tempfile.TemporaryDirectory() as folder:
-            os.makedirs(os.path.join(folder, "shapely"))
-            Path(folder, "shapely", "__init__.py").write_text("raise ImportError\n", encoding="ascii")
-            for word, wanted in (("--help", "--accept"), ("--version", "lpis-prepare ")):
-                run = subprocess.run([sys.executable, PREPARE, word], capture_output=True, text=True, check=False, env={**os.environ, "PYTHONPATH": folder})
-                assert (run.returncode, wanted in run.stdout) == (0, True), run.stdout + run.stderr
+def test_help(tmp_path):
+    """--help and --version need no Shapely."""
+    (tmp_path / "shapely.py").write_text("raise ImportError\n", encoding="ascii")
+    for word, wanted in (("--help", "--accept"), ("--version", "lpis-prepare ")):
+        run = subprocess.run([sys.executable, PREPARE, word], capture_output=True, text=True, check=False, env={**os.environ, "PYTHONPATH": str(tmp_path)})
+        assert (run.returncode, wanted in run.stdout) == (0, True), run.stdout + run.stderr

@@ -10,7 +10,7 @@ import pytest
 import dirty
 import stopping
 from places import TOOLS, TOP
-from spare import Spare
+from spare import Spare, write_script
 from lpis_tools import ending, shapely_there
 
 # Runs a program of its own in the background, which hears no INT, and waits for it.
@@ -30,10 +30,6 @@ CASES = (
 OF_SHAPELY = (("prepare", "{0}/land.gml {0}/out", "ogr2ogr"),)
 
 
-def is_alive(pid):
-    return bool(ending.stat_of(pid))
-
-
 class TestEnding(Spare):
     def set_up(self):
         for name in ("bin", "tmp", "country", "country/only"):
@@ -44,17 +40,11 @@ class TestEnding(Spare):
         for name in ("parcels", "covers", "classes"):
             shutil.copy(os.path.join(EXACT, f"{name}.csv"), self.path("country/only"))
         for name in ("lpis", "ogr2ogr"):
-            with open(self.path(f"bin/{name}"), "w", encoding="ascii") as file:
-                file.write(STANDIN)
-            os.chmod(file.name, 0o755)
+            write_script(STANDIN, self.path(f"bin/{name}"))
 
     def pids(self):
         """Of the stand-ins that have begun."""
-        found = []
-        for name in os.listdir(self.folder):
-            if name.startswith("pids."):
-                found += map(int, Path(self.path(name)).read_text(encoding="ascii").split())
-        return found
+        return [int(word) for path in Path(self.folder).glob("pids.*") for word in path.read_text(encoding="ascii").split()]
 
     def start(self, tool, words, program, ready=stopping.hears_signals):
         surroundings = {**os.environ, "PATH": f"{self.path('bin')}:{os.environ['PATH']}", "LPIS": self.path("bin/lpis"), "PIDS": self.folder, "TMPDIR": self.path("tmp")}
@@ -67,16 +57,15 @@ class TestEnding(Spare):
         run.send_signal(number)
         told = run.communicate()[1]
         assert (run.returncode, "Traceback" in told, f"stopped by {number.name}" in told) == (128 + number, False, True), told
-        assert (bool(self.pids()), [pid for pid in self.pids() if is_alive(pid)]) == (True, []), told
+        assert (bool(self.pids()), [pid for pid in self.pids() if ending.stat_of(pid)]) == (True, []), told
         left = [os.path.join(at, name) for at, folders, files in os.walk(self.folder) for name in folders + files if name.endswith(".new") or name.startswith((".new-", ".prepare-"))]
         assert (os.listdir(self.path("tmp")), left) == ([], [])
 
     def all_of(self, cases):
         for place, case in enumerate(cases):
             self.stopped(stopping.SIGNALS[place % 3], *case)
-            for name in os.listdir(self.folder):
-                if name.startswith("pids."):
-                    os.remove(self.path(name))
+            for path in Path(self.folder).glob("pids.*"):
+                path.unlink()
 
     def test_tools(self):
         self.all_of(CASES)
@@ -98,12 +87,9 @@ class TestEnding(Spare):
         for number in (signal.SIGHUP, signal.SIGTERM):
             run.send_signal(number)
         run.communicate()
-        assert (run.returncode, [pid for pid in self.pids() if is_alive(pid)]) == (128 + signal.SIGTERM, [])
+        assert (run.returncode, [pid for pid in self.pids() if ending.stat_of(pid)]) == (128 + signal.SIGTERM, [])
 
     def test_stubborn(self):
         """A program that hears neither INT nor TERM."""
-        with open(self.path("bin/lpis"), "r+", encoding="ascii") as file:
-            text = file.read().replace("sleep 3600 &", 'trap "" INT TERM\nsleep 3600 &')
-            file.seek(0)
-            file.write(text)
+        write_script(STANDIN.replace("sleep 3600 &", 'trap "" INT TERM\nsleep 3600 &'), self.path("bin/lpis"))
         self.stopped(signal.SIGTERM, *CASES[3])

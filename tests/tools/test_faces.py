@@ -12,6 +12,10 @@ import pytest
 import places
 from lpis_tools import shapely_there
 
+if shapely_there.is_there():
+    import numpy
+    from lpis_tools import land, leftward, noding, rounding, wkb
+    from shapely import wkt
 MOST_MEGABYTES = 300
 MANY = """
 import sys
@@ -43,9 +47,6 @@ def place_of(edge, place):
 class TestFaces:
     def test_leftward(self):
         """Stars of edges around random corners, near and far from one another, and at the ends of what the tables may have."""
-        import numpy
-        from lpis_tools.leftward import Leftward
-
         draw = random.Random(1)
         for scale in (3, 40, 5_000, 10**6, 2 * 10**10):
             for _ in range(30):
@@ -53,7 +54,7 @@ class TestFaces:
                 edges = [[*centre, *(value + draw.randint(-scale, scale) // draw.choice((1, 7, 100)) for value in centre)] for _ in range(12)]
                 edges += [[value - (1 if end % 2 else draw.choice((0, 1, 3))) for end, value in enumerate(edge)] for edge in edges]
                 asked = [[draw.randint(-2 * scale, 2 * scale), draw.choice([edge[1] for edge in edges] + [draw.randint(-scale, scale)])] for _ in range(40)]
-                found = Leftward(numpy.array(edges)).next_to(numpy.array(asked))
+                found = leftward.Leftward(numpy.array(edges)).next_to(numpy.array(asked))
                 for number, place in zip(found.tolist(), asked):
                     best = max((told for edge in edges if (told := place_of(edge, place))), default=None)
                     assert (None if number < 0 else place_of(edges[number], place)) == best, (edges, place)
@@ -61,9 +62,6 @@ class TestFaces:
     def test_leftward_of_heaps(self):
         """Edges in heaps of a few millimetres beside edges of many kilometres, and rows of places that have nothing to their left for long: a number of edges
         is looked at for each, however many there are, and the answer is that of all edges."""
-        import numpy
-        from lpis_tools import leftward
-
         draw = random.Random(2)
         for count in (200, 800):
             heap = [(draw.randrange(400) * 5, draw.randrange(400) * 5) for _ in range(count)]
@@ -81,9 +79,6 @@ class TestFaces:
 
     def test_swept(self):
         """The line that goes upward answers as the cells do: over grids with holes, edges of one corner, and places on the level of corners."""
-        import numpy
-        from lpis_tools import leftward
-
         draw = random.Random(3)
         for size in (1, 3, 10, 10**9):
             for _ in range(20):
@@ -99,8 +94,6 @@ class TestFaces:
 
     def test_turns(self):
         """Which way a ring goes is exact, also where it is a hair that doubles take for a line."""
-        from lpis_tools import noding, wkb
-
         draw, rings = random.Random(4), []
         for _ in range(3000):
             x, y = draw.uniform(4e5, 9e5), draw.uniform(5e6, 6e6)
@@ -118,9 +111,6 @@ class TestFaces:
 
     def test_members(self):
         """Squares of a grid, given to a few owners at random: each owner's area is kept, and each hole lies in its shell."""
-        from lpis_tools import land, rounding, wkb
-        from shapely import wkt
-
         draw = random.Random(2)
         for share in (0.3, 0.5, 0.8):
             cells = {(x, y): draw.choice("AB") for x in range(16) for y in range(16) if draw.random() < share}
@@ -136,8 +126,6 @@ class TestFaces:
 
     def test_heaps(self):
         """150 shapes that all overlap: each two of them, once, in little time."""
-        from lpis_tools import land, rounding, wkb
-
         rows = []
         for number in range(150):
             x, y = 0.37 * number, 0.53 * (number * 61 % 150)

@@ -4,7 +4,7 @@ import json
 import shlex
 
 import pytest
-from calls import tool
+from calls import ended_with, tool
 from places import BUILT
 from lpis_tools import cutting
 
@@ -59,8 +59,7 @@ def release(tmp_path):
 
 def test_each_kind_of_fault(release):
     """Each fault once and no more, of two pieces on one place one of both; the overlap's place is in metres and moved back."""
-    run = faults(release, release / "out.geojson")
-    assert run.returncode == 1, run.stderr
+    ended_with(1, faults(release, release / "out.geojson"))
     features = json.loads((release / "out.geojson").read_text(encoding="utf-8"))["features"]
     found = {(f["properties"]["code"], f["properties"]["names"]) for f in features}
     inner = {names for code, names in found if code in ("41", "43") and ("c6" in names or names == "inner")}

@@ -3,6 +3,7 @@ system stands for is left out where pyproj is not there."""
 
 import contextlib
 import random
+import re
 import struct
 import time
 from unittest import mock
@@ -75,9 +76,8 @@ class TestTexts:
 
     @pytest.mark.parametrize("text, words", BROKEN)
     def test_broken(self, text, words):
-        with pytest.raises(wkb.Unreadable) as raised:
+        with pytest.raises(wkb.Unreadable, match=re.escape(words)):
             wkt.read(text)
-        assert words in str(raised.value), text
 
     def test_empty(self):
         assert [wkt.read(text) for text in ("POLYGON EMPTY", "multipolygon z empty")] == [None, None]
@@ -160,9 +160,8 @@ class TestBytes:
                  (struct.pack("<BII", 1, 16, 1) + dirty.polygon(square), "a net of triangles"), (dirty.polygon(square) + b"x", "1 bytes behind its end"), (struct.pack("<BII", 1, 6, 2) + dirty.polygon(square) + dirty.EMPTY, "polygon 2 of the shape is empty"),
                  (dirty.arc(*[(float(x), 0.0) for x in range(4)]), "arcs through 4 points"), (b"", "end too early"), (b"\2\0\0\0\0", "no well-known binary")]
         for blob, words in cases:
-            with pytest.raises(wkb.Unreadable) as raised:
+            with pytest.raises(wkb.Unreadable, match=re.escape(words)):
                 wkb.read(blob)
-            assert words in str(raised.value)
         assert wkb.read(dirty.EMPTY) is None
 
     def test_cut_off(self):
@@ -259,13 +258,12 @@ class TestSystems:
         assert "there about 2.42 times as large" in systems.of_number(3857).at((0.0, 6_446_275.8))
 
 
-class TestWithoutLibrary:
-    def test_numbers(self):
-        """Zones are known, and degrees by their definition; what else there is is refused, with what to install."""
-        with mock.patch.object(systems, "library", lambda: None):
-            for number, text, why in ((25832, "", ""), (32733, "", ""), (None, '\nGEOGCS["x"]', "degrees"), (None, 'COMPD_CS["c",GEOGCS["x"]]', "degrees"), (3035, "", "python3-pyproj"), (None, 'PROJCS["x",GEOGCS["y"]]', "python3-pyproj")):
-                system = systems.of_definition(number, text)
-                assert why in system.why and bool(why) == bool(system.why), system
+def test_numbers():
+    """Zones are known, and degrees by their definition; what else there is is refused, with what to install."""
+    with mock.patch.object(systems, "library", lambda: None):
+        for number, text, why in ((25832, "", ""), (32733, "", ""), (None, '\nGEOGCS["x"]', "degrees"), (None, 'COMPD_CS["c",GEOGCS["x"]]', "degrees"), (3035, "", "python3-pyproj"), (None, 'PROJCS["x",GEOGCS["y"]]', "python3-pyproj")):
+            system = systems.of_definition(number, text)
+            assert why in system.why and bool(why) == bool(system.why), system
 
 
 class TestPackages(Files):

@@ -3,7 +3,6 @@ lands_trial.py. Wants Shapely."""
 
 import math
 import os
-from pathlib import Path
 
 import pytest
 from lpis_tools import shapely_there
@@ -98,17 +97,3 @@ class TestLands:
         assert (fails(small), [len(ring) for ring in row.shape.members[0]]) == (True, [4, 4])
         assert all(value == round(value) for point in row.shape.points() for value in point), row.shape.points()
         assert len(whole.rows()) == 122
-
-    def test_judge(self):
-        """The judge sees what is wrong: land that is gone, a name that is another's, a balance that does not add up."""
-        land = Land.of_rows(*alike([[box(0, 0)]], [[box(10, 0)]], [[box(20, 0)]]))
-        assert lands_trial.of_land(land, self.runner, self.folder) == []
-        out = os.path.join(self.folder, "accepted")
-        for file, old, new, kind in (("parcels.csv", "550010.000 5400010.000", "550010.000 5400009.000", "balance"), ("covers.csv", "K1,P1", "K7,P1", "silent"),
-                                     ("balance.csv", "parcels,,300.000", "parcels,,299.000", "balance"), ("balance.csv", "0.000,0.000,0.000,300.000", "0.000,1.000,0.000,300.000", "uneven")):
-            path = os.path.join(out, file)
-            text = Path(path).read_text(encoding="utf-8")
-            assert old in text
-            Path(path).write_text(text.replace(old, new), encoding="utf-8")
-            assert kind in [fault[0] for fault in lands_trial.Judge(land, out).judge()], (file, new)
-            Path(path).write_text(text, encoding="utf-8")

@@ -9,10 +9,10 @@ from pathlib import Path
 
 import pytest
 from asking import write_release
-from calls import tool
+from calls import ended_with, tool
 from places import BUILT, TOP
 from registers import RELEASE, SPAN, TEXT, made
-from spare import Spare
+from spare import Spare, read
 from lpis_tools import lineage_faults, shapely_there, years
 
 EXAMPLES = os.path.join(TOP, "examples", "exact")
@@ -64,7 +64,7 @@ class Years(Spare):
     prefix = "years "
 
     def read(self, *names):
-        return Path(self.path(*names)).read_text(encoding="utf-8").split("\n")[1:-1]
+        return read(self.path(*names)).split("\n")[1:-1]
 
     def register(self, shapes):
         texts = [f"INSERT INTO lpis_text VALUES ('{name}', '{wkt}')" for name, wkt in shapes.items() if name != "m"]
@@ -82,14 +82,12 @@ class TestProposals(Years):
 
     def test_of_the_examples(self):
         ran = tool("lineage", os.path.join(EXAMPLES, "2024"), os.path.join(EXAMPLES, "2025"), self.path("proposed.csv"))
-        with open(os.path.join(EXAMPLES, "2025", "lineage.csv"), encoding="ascii") as file:
-            wanted = sorted(line.rstrip("\n").rstrip("0") for line in [*file][1:])
+        wanted = sorted(line.rstrip("0") for line in read(EXAMPLES, "2025", "lineage.csv").splitlines()[1:])
         assert (0, wanted) == (ran.returncode, sorted(line.rstrip("0") for line in self.read("proposed.csv")))
 
     def test_of_a_register(self):
         base = self.register({**OLDER, "m": OLDER["m"]})
-        ran = tool("lineage", "--register", base, write(self.path("new"), NEWER), self.path("new"))
-        assert 1 == ran.returncode, ran.stderr
+        ran = ended_with(1, tool("lineage", "--register", base, write(self.path("new"), NEWER), self.path("new")))
         assert ["a,a1,1", "a,a2,1", "b,,0"] == sorted(self.read("new", "lineage.csv"))
         assert "unclear m: the register keeps no shape of it" in ran.stdout
         assert "used before early: last in 2023" in ran.stdout

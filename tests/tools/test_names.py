@@ -6,7 +6,7 @@ import os
 import random
 
 import pytest
-from spare import Spare
+from spare import Spare, write
 from calls import records
 import preparing_case
 from lpis_tools import shapely_there
@@ -25,22 +25,11 @@ ODD = ("a", "A", "a  ", " a", "a\u00a0", "7", "7.0", "=1+1", "+1", "-1", "@x", "
 SETTINGS = {"max_examples": 150, "deadline": None, "derandomize": True}
 
 
-class Row(dict):
-    """A row of a layer, as `land.Row`, without a shape."""
-
-    def __init__(self, number, **fields):
-        super().__init__(fields)
-        self.number, self.fields, self.found, self.place, self.why = number, self, None, None, ""
-
-    def __missing__(self, name):
-        return ""
-
-
 def layers_of(parcels, classes, rng):
     """Layers with these names of parcels and classes. A piece may name its parcel with blanks before and behind."""
     padded = [f"{' ' * rng.randrange(3)}{name}{' ' * rng.randrange(3)}" for name in parcels]
-    rows = [Row(number, parcel=name) for number, name in enumerate(parcels, 1)]
-    covers = [Row(number, piece=name, parcel=other, **{"class": classes[number % len(classes)]}) for number, (name, other) in enumerate(zip(parcels, padded))]
+    rows = [naming.land.Row(number, {"parcel": name}) for number, name in enumerate(parcels, 1)]
+    covers = [naming.land.Row(number, {"piece": name, "parcel": other, "class": classes[number % len(classes)]}) for number, (name, other) in enumerate(zip(parcels, padded))]
     return {name: naming.land.Layer(name, found) for name, found in (("parcels", rows), ("covers", covers))}
 
 
@@ -116,12 +105,11 @@ class TestYears(Spare):
         """A table of one's own may tell names apart that differ in blanks, exchange two names, and name an absent one; what cannot be read is refused."""
         def found(text, parcels):
             path = os.path.join(self.folder, "own.csv")
-            with open(path, "w", encoding="utf-8") as file:
-                file.write(text)
+            write(text, path)
             work = preparing.Preparation(layers_of(parcels, ["G"], random.Random(0)), 25832, lambda _: None)
             given = naming.Names(work, naming.given_identifiers(path))
             for other in work.layers["covers"].rows:
-                other["parcel"] = parcels[0]
+                other.fields["parcel"] = parcels[0]
             given.run()
             return [other["parcel"] for other in work.layers["parcels"].rows], given.renamed["parcel"], len(work.hopeless())
 

@@ -17,6 +17,9 @@ from places import BUILT, TOOLS, TOP
 from spare import Kept
 from lpis_tools import shapely_there
 
+if shapely_there.is_there():
+    import neighbours
+    import two_years
 PARCELS = int(os.environ.get("PARCELS", "0"))
 FEW, MEGABYTE = 200, 1024
 CAN = shapely_there.is_there() and BUILT and shutil.which("ogrinfo")
@@ -32,8 +35,6 @@ def lines_of_guide():
 class TestNation(Kept):
     @classmethod
     def set_up(cls):
-        import two_years
-
         cls.edits, cls.told = two_years.make(PARCELS or FEW, cls.folder), {}
         os.symlink(TOOLS, os.path.join(cls.folder, "tools"))
         for line in lines_of_guide():
@@ -82,8 +83,6 @@ class TestNation(Kept):
 
     def test_source_that_stays(self):
         """A parcel whose rows are the same in both sources has the same text: all edits are between corners, so that no new border ends on one of it."""
-        import neighbours
-
         found = neighbours.Neighbours(*(self.path(f"land-{year}.gpkg") for year in (2026, 2027)), *(self.path("country", "years", year) for year in ("2026", "2027")))
         assert len(found.unchanged()) > self.edits
         assert found.other() == []

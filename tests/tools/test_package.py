@@ -14,9 +14,9 @@ import time
 import zipfile
 
 import pytest
-from calls import done, run
+from calls import done, ended_with, run
 from places import BUILT, TOP
-from spare import Kept
+from spare import Kept, write_script
 import stopping
 import tables
 
@@ -149,8 +149,7 @@ class TestPackages(Kept):
         for text, wanted in ((f"     9.0 5 passed, 1 failed\n# commit {commit}\n", 1), (f"     9.0 6 passed, 0 failed\n# commit {commit}, with changes\n", 1),
                              (f"     9.0 6 passed, 0 failed\n# date 2030-01-02\n# commit {commit}\n", 0)):
             log.write_text(text, encoding="ascii")
-            ended = run(finished / "dev" / "package", "--without-page")
-            assert ended.returncode == wanted, ended.stderr
+            ended = ended_with(wanted, run(finished / "dev" / "package", "--without-page"))
         assert f"test 2030-01-02 on {commit}: 6 passed, 0 failed\n" in (finished / "out" / "package" / "facts").read_text(encoding="ascii")
         assert re.search(r"^lpis-\d+\.\d+\.\d+-linux-x86_64\.tar\.gz$", next((finished / "out" / "package").glob("*.tar.gz")).name)
         version = done(BUILT, "--version").split()[1]
@@ -163,8 +162,7 @@ class TestPackages(Kept):
         tools = self.top / "tools"
         tools.mkdir()
         for name in ("rt", "wasm-opt"):
-            (tools / name).write_text("#!/bin/sh\nexit 1\n", encoding="ascii")
-            (tools / name).chmod(0o755)
+            write_script("#!/bin/sh\nexit 1\n", tools / name)
         other = house(self.top / "no page", self.house)
         ended = run(other / "dev" / "package", "--unfinished", env={**os.environ, "PATH": f"{tools}:{os.environ['PATH']}"})
         assert (ended.returncode, "rt ended with status 1" in ended.stderr, "--without-page packs the rest" in ended.stderr) == (64, True, True), ended.stderr
@@ -264,8 +262,7 @@ class TestPackages(Kept):
 
     @pytest.mark.skipif(not (WHOLE and shutil.which("lintian")), reason="WHOLE is not set, or there is no lintian (Debian: lintian)")
     def test_lintian(self):
-        ended = run("lintian", "--fail-on", "error", "--allow-root", self.package)
-        assert ended.returncode == 0, ended.stdout + ended.stderr
+        ended_with(0, run("lintian", "--fail-on", "error", "--allow-root", self.package))
 
     @pytest.mark.skipif(not (shutil.which("dpkg-deb") and shutil.which("dpkg")), reason="no dpkg (Debian: dpkg)")
     def test_package(self):

@@ -1,6 +1,7 @@
 """Tests tools/prepare over a source with every kind of dirt. Wants Shapely; a system of coordinates is transformed where ogr2ogr is there, and the
 tables go through `lpis` where it is built or named by LPIS: else that is left out."""
 
+import json
 import os
 import shutil
 import subprocess
@@ -9,14 +10,13 @@ import unittest.mock
 from pathlib import Path
 
 import pytest
-from calls import records, tool
+from calls import done, ended_with, records, tool
 from places import BUILT, TOOLS
-from spare import Kept, Spare
+from spare import Kept, Spare, read
 import dirty
 import exact
 from lpis_tools import identifiers, shapely_there
 
-HAS_SHAPELY = shapely_there.python() is not None
 # Kind, layer, identifier and words that must come, for each kind of dirt.
 WANTED = [
     ("shape", "covers", "null.2", "no shape (NULL)", "left out"), ("shape", "parcels", "empty", "an empty shape", "made of its pieces"),
@@ -30,7 +30,7 @@ WANTED = [
 ]
 
 
-@pytest.mark.skipif(not HAS_SHAPELY, reason=shapely_there.LACKING)
+@pytest.mark.skipif(not shapely_there.python(), reason=shapely_there.LACKING)
 class TestDirt(Kept):
     @classmethod
     def set_up(cls):
@@ -52,11 +52,10 @@ class TestDirt(Kept):
         assert "prepare: testing" in run.stderr
 
     def test_mended(self):
-        run = self.runs[1]
-        assert run.returncode == 0, run.stdout + run.stderr
+        run = ended_with(0, self.runs[1])
         found = records(self.outs[1], "prepared.csv")
-        for kind, layer, name, words, done in WANTED:
-            assert any(row["kind"] == kind and row["layer"] == layer and row["identifier"] == name and words in row["words"] and done in row["done"] for row in found), run.stdout
+        for kind, layer, name, words, mended in WANTED:
+            assert any(row["kind"] == kind and row["layer"] == layer and row["identifier"] == name and words in row["words"] and mended in row["done"] for row in found), run.stdout
         parcels, covers = {row["parcel"] for row in records(self.outs[1], "parcels.csv")}, records(self.outs[1], "covers.csv")
         assert {"clean1", "null", "empty", "curve", "z", "degrees", "crossing", "doubled", "wide", "wide-2", "narrow", "stranger", "line", "m", "open"} <= parcels
         assert not ({"bare", "twin"} & parcels)
@@ -65,6 +64,9 @@ class TestDirt(Kept):
         names = {(row["kind"], row["old"]): row["new"] for row in records(self.outs[1], "identifiers.csv")}
         assert names["parcel", "M\u00fchle"] in parcels
         assert all(identifiers.is_one(name) for row in covers for name in (row["piece"], row["parcel"], row["class"]))
+        features = json.loads(read(self.outs[1], "report.geojson"))["features"]
+        left = {feature["properties"]["identifiers"]: feature for feature in features if feature["properties"]["kind"] == "left out"}
+        assert (left["bare"]["properties"]["area_m2"], bool(left["bare"]["geometry"])) == (100, True)
         assert records(self.outs[1], "classes.csv") == [{"class": "GRASS", "percent": "100"}, {"class": "TREES", "percent": "30"}]
 
     def test_sound(self):
@@ -75,12 +77,11 @@ class TestDirt(Kept):
     def test_yes(self):
         cert = self.path("cert.txt")
         for command in ("cut", "check"):
-            run = subprocess.run([BUILT, command, self.outs[1], cert], capture_output=True, text=True, check=False)
-            assert run.returncode == 0, run.stdout + run.stderr
-        assert run.stdout.splitlines() == exact.judged(self.outs[1])[1]
+            told = done(BUILT, command, self.outs[1], cert)
+        assert told.splitlines() == exact.judged(self.outs[1])[1]
 
 
-@pytest.mark.skipif(not HAS_SHAPELY, reason=shapely_there.LACKING)
+@pytest.mark.skipif(not shapely_there.python(), reason=shapely_there.LACKING)
 class TestSources(Spare):
     def set_up(self):
         self.out = self.path("out")
@@ -98,16 +99,14 @@ class TestSources(Spare):
         run = tool("prepare", self.path("l.gpkg"), self.out)
         assert (run.returncode, run.stderr.count("no layer")) == (64, 2), run.stderr
         words = [word for name in ("parcels=blocks", "covers=cover", "parcels.parcel=block_id", "covers.piece=id", "covers.parcel=block", "covers.class=kind") for word in ("--name", name)]
-        run = tool("prepare", self.path("l.gpkg"), self.out, *words)
-        assert run.returncode == 0, run.stderr
+        run = ended_with(0, tool("prepare", self.path("l.gpkg"), self.out, *words))
         assert "classes.csv, a row class,percent for each of: GRASS" in run.stdout
         assert tool("prepare", self.path("l.gpkg"), self.out, "--name", "blocks").returncode == 64
 
     def test_zone(self):
         with unittest.mock.patch.object(dirty, "EAST", 32_550_000):
             dirty.make(self.path("l.gpkg"), [], 4647)
-        run = tool("prepare", self.path("l.gpkg"), self.out)
-        assert run.returncode == 0, run.stdout
+        ended_with(0, tool("prepare", self.path("l.gpkg"), self.out))
         assert {row["identifier"] for row in records(self.out, "prepared.csv") if row["kind"] == "prefix"} == {f"clean{number}{part}" for number in range(1, 5) for part in ("", ".1", ".2")}
         assert records(self.out, "parcels.csv")[0]["wkt"].startswith("MULTIPOLYGON(((5500")
 
@@ -136,8 +135,7 @@ class TestSources(Spare):
     @pytest.mark.skipif(not shutil.which("ogr2ogr"), reason="no ogr2ogr")
     def test_other_formats(self):
         subprocess.run(["ogr2ogr", "-q", "-f", "GML", self.path("l.gml"), dirty.make(self.path("l.gpkg"), []), "parcels", "covers"], check=True, capture_output=True)
-        run = tool("prepare", self.path("l.gml"), self.out)
-        assert run.returncode == 0, run.stdout + run.stderr
+        ended_with(0, tool("prepare", self.path("l.gml"), self.out))
         assert len(records(self.out, "covers.csv")) == 8
 
     @pytest.mark.skipif(not shutil.which("ogr2ogr"), reason="no ogr2ogr")
@@ -160,8 +158,7 @@ class TestSources(Spare):
             for name, lines in tables.items():
                 with open(self.path(os.path.join("sheets", name)), "w", encoding=encoding, newline="") as file:
                     file.write("\r\n".join(lines) + "\r\n")
-            run = tool("prepare", self.path("sheets"), self.out)
-            assert run.returncode == 0, run.stdout + run.stderr
+            run = ended_with(0, tool("prepare", self.path("sheets"), self.out))
             assert "parcels 1 of 1 pieces 2 of 2" in run.stdout
             covers, classes = records(self.out, "covers.csv"), records(self.out, "classes.csv")
             assert {row["class"] for row in covers} == {row["class"] for row in classes}
@@ -195,25 +192,23 @@ class TestSources(Spare):
         run = tool("prepare", path, self.out, "--identifiers", self.path("names.csv"))
         assert (run.returncode, "would be clean2, which is another's" in run.stdout) == (1, True), run.stdout
         Path(self.path("names.csv")).write_text("kind,old,new\nparcel,M\u00fchle,Mill\n", encoding="utf-8")
-        run = tool("prepare", path, self.out, "--identifiers", self.path("names.csv"))
-        assert run.returncode == 0, run.stdout
+        ended_with(0, tool("prepare", path, self.out, "--identifiers", self.path("names.csv")))
         assert "Mill" in {row["parcel"] for row in records(self.out, "parcels.csv")}
 
 
-class TestNames:
-    def test_identifiers(self):
-        made = [identifiers.made_of(name) for name in ("M\u00fchle", "Muehle ", "field 7", "field_7", "\u6c34\u7530", "a" * 80, "\u00c9t\u00e9")]
-        assert all(map(identifiers.is_one, made)), made
-        assert len(set(made)) == len(made)
-        assert (made[0][:7], made[6][:4]) == ("Muehle_", "Ete_")
+def test_identifiers():
+    """Of names in other letters or forms of Unicode, with blanks, or of control characters: no two have the same."""
+    names = ("M\u00fchle", "Muehle ", "field 7", "field_7", "\u6c34\u7530", "a" * 80, "\u00c9t\u00e9", "Mu\u0308hle", "x\x07", "x\x08", "\u200b")
+    made = [identifiers.made_of(name) for name in names]
+    assert all(map(identifiers.is_one, made)), made
+    assert len(set(made)) == len(made)
+    assert (made[0][:7], made[6][:4]) == ("Muehle_", "Ete_")
 
 
-class TestAnotherPython:
+def test_the_tool_goes_on_there():
     """Where this Python has no Shapely, and the system's has."""
-
-    def test_the_tool_goes_on_there(self):
-        is_there = unittest.mock.patch.object(shapely_there, "is_there", lambda python=None: python == shapely_there.SYSTEM)
-        with is_there, unittest.mock.patch.object(sys, "executable", "/nowhere/python3"), unittest.mock.patch.object(os, "execv") as begun:
-            shapely_there.go_on_if_there()
-            assert shapely_there.python() == shapely_there.SYSTEM
-        begun.assert_called_once_with(shapely_there.SYSTEM, [shapely_there.SYSTEM, *sys.argv])
+    is_there = unittest.mock.patch.object(shapely_there, "is_there", lambda python=None: python == shapely_there.SYSTEM)
+    with is_there, unittest.mock.patch.object(sys, "executable", "/nowhere/python3"), unittest.mock.patch.object(os, "execv") as begun:
+        shapely_there.go_on_if_there()
+        assert shapely_there.python() == shapely_there.SYSTEM
+    begun.assert_called_once_with(shapely_there.SYSTEM, [shapely_there.SYSTEM, *sys.argv])

@@ -1,6 +1,7 @@
 """Tests tools/prepare --previous: over a source in doubles and the same with ninety exact splits and merges a year later. Wants Shapely; the program for
 `lpis exact` and `publish`, where it is built or named by LPIS."""
 
+import filecmp
 import os
 import re
 import shutil
@@ -9,11 +10,15 @@ import sys
 from pathlib import Path
 
 import pytest
-from calls import records, tool
+from calls import done, ended_with, records, tool
 from places import BUILT, HELPERS
 from spare import Kept, Spare
 from lpis_tools import shapely_there
 
+if shapely_there.is_there():
+    import edits
+    import exact
+    from shapely import wkt
 PARCELS, EDITS, SEED = 400, 90, 1
 COUNTED = re.compile(r"borders as in .*: (\d+) of its (\d+); this year's rounding has (\d+) of them otherwise, (\d+) by more than half a millimetre")
 SOURCE = 'POLYGON((500000.5 5400000.25,500010.1 5400000.25,500010.1 5400010,500000.5 5400010,500000.5 5400000.25))'
@@ -27,8 +32,6 @@ class TestYears(Kept):
 
     @classmethod
     def set_up(cls):
-        import edits
-
         cls.made = {}
         subprocess.run([sys.executable, os.path.join(HELPERS, "make_coverage.py"), str(PARCELS), "1", cls.path("source")], check=True)
         cls.made["edits"] = edits.make(cls.path("source"), cls.path("edited"), EDITS, SEED)
@@ -39,8 +42,7 @@ class TestYears(Kept):
 
     def proposed(self, name):
         """How many splits and merges are proposed between the first year and a folder, and how many of them are exact."""
-        told = tool("lineage", self.path("first"), self.path(name), self.path(f"{name}.csv"))
-        assert 0 == told.returncode, told.stdout + told.stderr
+        ended_with(0, tool("lineage", self.path("first"), self.path(name), self.path(f"{name}.csv")))
         table = records(self.path(f"{name}.csv"))
         groups = {row["old"] if row["new"].startswith(f"{row['old']}-") and not row["new"].startswith(f"{row['old']}-P") else row["new"]: row["exact"] for row in table}
         return len(groups), sum(map(int, groups.values()))
@@ -62,13 +64,9 @@ class TestYears(Kept):
         borders, of_last_year, drawn, reported = self.counts("same")
         assert (of_last_year, 0, 0) == (borders, drawn, reported)
         for name in ("parcels.csv", "covers.csv"):
-            with open(self.path("first", name), "rb") as first, open(self.path("same", name), "rb") as second:
-                assert first.read() == second.read()
+            assert filecmp.cmp(self.path("first", name), self.path("same", name), shallow=False)
 
     def test_the_tables_are_a_sound_map(self):
-        import edits
-        import exact
-
         subprocess.run([sys.executable, os.path.join(HELPERS, "make_coverage.py"), "36", "2", self.path("few")], check=True)
         edits.make(self.path("few"), self.path("few edited"), 12, SEED, 0.0001)
         for source, out, *more in (("few", "few first"), ("few edited", "few kept", "--accept", "--previous", self.path("few first"))):
@@ -77,8 +75,6 @@ class TestYears(Kept):
         assert ([], "yes") == (wrong, lines[-1])
 
     def test_what_lies_elsewhere_is_reported(self):
-        from shapely import wkt
-
         reported = records(self.path("kept"), "kept.csv")
         assert (self.counts("kept")[3], {"kept"}) == (len(reported), {row["kind"] for row in reported})
         assert "kept" not in {row["kind"] for row in records(self.path("kept"), "report.csv")}
@@ -99,9 +95,7 @@ class TestYears(Kept):
         assert 0 == tool("lineage", first, kept, kept).returncode
         for words in (["cut", first, cert], ["publish", base, "2024", first, cert], ["cut", kept, cert], ["exact", base, kept, cert, self.path("exact.txt")],
                       ["publish", base, "2025", kept, self.path("exact.txt")]):
-            ran = subprocess.run([BUILT, *words], capture_output=True, text=True, check=False)
-            assert 0 == ran.returncode, ran.stdout + ran.stderr
-            told += ran.stdout.splitlines()
+            told += done(BUILT, *words).splitlines()
         assert (f"exact {EDITS}", "published 2025") == (next(line for line in told if line.startswith("exact ")), told[-1])
         assert [] == [line for line in told if line.startswith("lineage ") and not line.endswith(" exact")]
 

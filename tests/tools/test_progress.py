@@ -9,21 +9,11 @@ from unittest import mock
 from lpis_tools import progress, watching
 
 
-class File(io.StringIO):
-    """A file, or a terminal."""
-
-    def __init__(self, is_terminal):
-        super().__init__()
-        self.is_terminal = is_terminal
-
-    def isatty(self):
-        return self.is_terminal
-
-
 class TestProgress:
     def told(self, seconds, is_terminal=False, count=100):
         """What is told where each of so many takes so many seconds."""
-        file, now = File(is_terminal), [0.0]
+        file, now = io.StringIO(), [0.0]
+        file.isatty = lambda: is_terminal
         step = progress.Progress("tool", "rounding", count, "cells", lambda: now[0], file)
         for _ in range(count):
             now[0] += seconds
@@ -62,7 +52,7 @@ class TestProgress:
 
     def test_watched(self):
         """A program that says nothing: what it reads, by the system's count, and never all of it."""
-        file, now = File(False), [0.0]
+        file, now = io.StringIO(), [0.0]
         shown = progress.Bytes("tool", "reading", 3 << 20, clock=lambda: now[0], file=file)
         with subprocess.Popen(["sh", "-c", "head -c 4000000 /dev/zero >/dev/null; read line"], stdin=subprocess.PIPE) as run, mock.patch.object(watching, "EACH", 0.01), watching.Watched(run.pid, shown):
             now[0] = 11.0

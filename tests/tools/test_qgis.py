@@ -1,7 +1,7 @@
 """Tests the QGIS plugin without a window: each algorithm by `qgis_process`, over worked data in a folder with a space and an umlaut, its results beside
 those of the tools. Wants QGIS, Shapely and the program, built or named by LPIS."""
 
-import csv
+import filecmp
 import json
 import os
 import re
@@ -9,15 +9,15 @@ import shutil
 import sqlite3
 import struct
 import subprocess
-import tempfile
 import zipfile
 from pathlib import Path
 
 import pytest
-from calls import tool
+from calls import done, ended_with, records, tool
 import dirty
+import registers
 from places import BUILT, TOOLS, TOP
-from spare import Kept
+from spare import Kept, read, write
 from lpis_tools import shapely_there
 
 EXAMPLES = os.path.join(TOP, "examples")
@@ -39,25 +39,20 @@ def layer(path):
 
 def system(path):
     """The EPSG number of a layer."""
-    base = sqlite3.connect(path)
-    number = base.execute("SELECT organization_coordsys_id FROM gpkg_geometry_columns JOIN gpkg_spatial_ref_sys USING (srs_id)").fetchone()[0]
-    base.close()
+    ((number,),) = registers.rows(path, "SELECT organization_coordsys_id FROM gpkg_geometry_columns JOIN gpkg_spatial_ref_sys USING (srs_id)")
     return number
 
 
-class TestZips:
-    def test_a_zip_has_the_plugin(self):
-        plugin = os.path.join(TOOLS, "qgis", "lpis")
-        with tempfile.TemporaryDirectory() as spare:
-            made = [subprocess.run([os.path.join(TOP, "dev", "qgis_zip"), os.path.join(spare, name)], capture_output=True, text=True, check=True).stdout.strip() for name in ("a", "b")]
-            with open(made[0], "rb") as first, open(made[1], "rb") as second:
-                assert first.read() == second.read()
-            with zipfile.ZipFile(made[0]) as file:
-                found = {name: file.read(name) for name in file.namelist()}
-        names = [name for name in os.listdir(plugin) if name.endswith((".py", ".txt"))]
-        assert {f"lpis/{name}" for name in names} == set(found)
-        for name in names:
-            assert Path(plugin, name).read_bytes() == found[f"lpis/{name}"]
+def test_a_zip_has_the_plugin(tmp_path):
+    plugin = os.path.join(TOOLS, "qgis", "lpis")
+    made = [done(os.path.join(TOP, "dev", "qgis_zip"), tmp_path / name).strip() for name in ("a", "b")]
+    assert filecmp.cmp(*made, shallow=False)
+    with zipfile.ZipFile(made[0]) as file:
+        found = {name: file.read(name) for name in file.namelist()}
+    names = [name for name in os.listdir(plugin) if name.endswith((".py", ".txt"))]
+    assert {f"lpis/{name}" for name in names} == set(found)
+    for name in names:
+        assert Path(plugin, name).read_bytes() == found[f"lpis/{name}"]
 
 
 @pytest.mark.skipif(bool(LACKING), reason=LACKING)
@@ -78,8 +73,7 @@ class TestAlgorithms(Kept):
     def run_it(self, name, **values):
         """The results of an algorithm."""
         words = [f"--{key}={value}" for key, value in values.items()]
-        ran = subprocess.run([PROCESS, "--json", "run", f"lpis:{name}", *words], env=self.surroundings, capture_output=True, text=True, check=False, timeout=SECONDS)
-        assert 0 == ran.returncode, ran.stdout + ran.stderr
+        ran = ended_with(0, subprocess.run([PROCESS, "--json", "run", f"lpis:{name}", *words], env=self.surroundings, capture_output=True, text=True, check=False, timeout=SECONDS))
         return json.loads(ran.stdout[ran.stdout.index("{"):])["results"]
 
     def test_all_are_there(self):
@@ -105,8 +99,7 @@ class TestAlgorithms(Kept):
         found = self.run_it("allfaults", DIR=folder, POINTS=self.path("p.gpkg"), LINES=self.path("l.gpkg"), POLYGONS=self.path("a.gpkg"))
         out = self.path("faults.geojson")
         told = tool("faults", folder, out, "--lpis", BUILT).stdout
-        with open(out, encoding="utf-8") as file:
-            wanted = sorted(feature["properties"]["code"] for feature in json.load(file)["features"] if feature["geometry"])
+        wanted = sorted(feature["properties"]["code"] for feature in json.loads(read(out))["features"] if feature["geometry"])
         rows = [row["code"] for name in "pla" for row in layer(self.path(f"{name}.gpkg"))]
         assert (wanted, int(told.splitlines()[-1].split()[1])) == (sorted(rows), found["COUNT"])
 
@@ -114,15 +107,13 @@ class TestAlgorithms(Kept):
         assert "published 2024" == self.run_it("publish", REGISTER=self.base, YEAR=2024, DIR=self.path("2024"), NEW="true")["VERDICT"]
         os.remove(self.path("2025", "lineage.csv"))
         self.run_it("lineage", REGISTER=self.base, NEW=self.path("2025"), SHARED=self.path("shared.gpkg"))
-        with open(os.path.join(EXAMPLES, "exact", "2025", "lineage.csv"), encoding="ascii") as file:
-            wanted = {(row["old"], row["new"], row["exact"] or "0") for row in csv.DictReader(file)}
+        wanted = {(row["old"], row["new"], row["exact"] or "0") for row in records(EXAMPLES, "exact", "2025", "lineage.csv")}
         assert wanted == {(row["old"], row["new"], row["exact"]) for row in layer(self.path("shared.gpkg")) if row["row"] == "proposed"}
         assert "published 2025" == self.run_it("publish", REGISTER=self.base, YEAR=2025, DIR=self.path("2025"))["VERDICT"]
         found = self.run_it("trace", REGISTER=self.base, ID="slope", DESCENDANTS=self.path("slope.gpkg"))
         assert (2, ["slope-1", "slope-2"]) == (found["COUNT"], sorted(row["parcel"] for row in layer(self.path("slope.gpkg"))))
         self.run_it("keptshapes", REGISTER=self.base, SHAPES=self.path("kept.gpkg"))
-        with open(self.path("2025", "parcels.csv"), encoding="ascii") as file:
-            assert {row["parcel"] for row in csv.DictReader(file)} == {row["parcel"] for row in layer(self.path("kept.gpkg"))}
+        assert {row["parcel"] for row in records(self.path("2025", "parcels.csv"))} == {row["parcel"] for row in layer(self.path("kept.gpkg"))}
 
     def test_a_country(self):
         country = self.path("country")
@@ -140,8 +131,7 @@ class TestAlgorithms(Kept):
         source, land = self.path("land.gpkg"), os.path.join(EXAMPLES, "exact", "2024")
         for name in () if os.path.exists(source) else ("parcels", "covers"):
             path = self.path(f"{name}.csv")
-            with open(os.path.join(land, f"{name}.csv"), encoding="ascii") as file, open(path, "w", encoding="ascii") as moved:
-                moved.write(re.sub(r"([(,])(-?\d+) (-?\d+)", lambda it: f"{it[1]}{int(it[2]) + 500000} {int(it[3]) + 5000000}", file.read()))
+            write(re.sub(r"([(,])(-?\d+) (-?\d+)", lambda it: f"{it[1]}{int(it[2]) + 500000} {int(it[3]) + 5000000}", read(land, f"{name}.csv")), path)
             subprocess.run(["ogr2ogr", "-f", "GPKG", "-update", "-append", source, path, "-oo", "GEOM_POSSIBLE_NAMES=wkt", "-nln", name, "-a_srs", "EPSG:25832", "-nlt", "PROMOTE_TO_MULTI"], check=True)
         return source, os.path.join(land, "classes.csv")
 
@@ -156,8 +146,7 @@ class TestAlgorithms(Kept):
         source, classes = self.land()
         subprocess.run([os.path.join(TOOLS, "prepare"), source, self.path("beside"), "--classes", classes], check=True, capture_output=True)
         for name in ("parcels", "covers", "classes"):
-            with open(self.path("out", f"{name}.csv"), "rb") as first, open(self.path("beside", f"{name}.csv"), "rb") as second:
-                assert second.read() == first.read()
+            assert filecmp.cmp(self.path("out", f"{name}.csv"), self.path("beside", f"{name}.csv"), shallow=False)
 
     def test_prepare_with_last_year(self):
         source, classes = self.land()
@@ -194,8 +183,7 @@ class TestAlgorithms(Kept):
         subprocess.run([os.path.join(TOOLS, "prepare"), source, self.path("located"), "--classes", classes], check=True, capture_output=True)
         points = [(500000 + x, 5000000 + y) for x, y in ((10, 10), (-500.25, 3), (40, 30.123456789), (20, 20), (0, 0), (60, 5))]
         photos = self.points("photos.gpkg", points)
-        with open(self.path("points.csv"), "w", encoding="ascii") as file:
-            file.write("point,x,y\n" + "".join(f"{number},{x:.9f},{y:.9f}\n" for number, (x, y) in enumerate(points)))
+        write("point,x,y\n" + "".join(f"{number},{x:.9f},{y:.9f}\n" for number, (x, y) in enumerate(points)), self.path("points.csv"))
         found = self.run_it("locatepoints", INPUT=photos, DIR=self.path("located"), LOCATED=self.path("answers.gpkg"))
         told = subprocess.run([BUILT, "locate", self.path("located"), self.path("located", "cert.txt"), self.path("points.csv")], capture_output=True, text=True, check=True).stdout
         wanted = [line.split()[3::2] if line.split()[2] == "parcel" else [None] * 3 for line in told.splitlines()[:-1]]

@@ -1,7 +1,6 @@
 """Tests tools/report and the page of tools/faults, beside a stand-in for lpis, and with lpis itself where it is built or named by LPIS. The page is
 opened by headless Chromium, which looks at the picture: left out where it is not there."""
 
-import html
 import json
 import os
 import re
@@ -10,13 +9,13 @@ import subprocess
 from pathlib import Path
 
 import pytest
-from calls import tool
+from browser import CHROMIUM, Browser
+from calls import ended_with, tool
 from places import BUILT, TOOLS, TOP
 from registers import RELEASE, SPAN, made
-from spare import Spare
+from spare import Spare, write_script
 from lpis_tools import page, shapely_there
 
-CHROMIUM = next((path for path in map(shutil.which, ("chromium", "chromium-browser", "google-chrome")) if path), None)
 # Answers `yes` with the areas of the tables, or the line that LINE has; `cut` finds no fault.
 STANDIN = f"""#!/usr/bin/env python3
 import os, sys
@@ -100,26 +99,18 @@ const head = (number, text) => Array.from(document.querySelectorAll('table.sorte
 """
 
 
-def tried(path, script, size="1200,900"):
-    """What a script has put into `results` in headless Chromium."""
-    text = Path(path).read_text(encoding="utf-8")
-    done = f"<script>{HELPERS}(async () => {{ {script} }})().catch(error => {{ results.error = String(error); }}).then(() => {{ document.title = JSON.stringify(results); }});</script>"
-    Path(path + ".tried.html").write_text(text.replace("</body>", done + "</body>"), encoding="utf-8")
-    try:
-        run = subprocess.run([CHROMIUM, "--headless", "--no-sandbox", "--disable-gpu", "--disable-dev-shm-usage", f"--user-data-dir={path}.profile", "--host-resolver-rules=MAP * ~NOTFOUND",
-                              "--virtual-time-budget=60000", f"--window-size={size}", "--dump-dom", f"file://{path}.tried.html"], capture_output=True, text=True, timeout=400, check=False)
-    except subprocess.TimeoutExpired:
-        raise pytest.skip.Exception("Chromium did not answer in seven minutes") from None
-    found = re.search(r"<title>(\{.*?\})</title>", run.stdout, re.DOTALL)
-    assert found, run.stderr[-500:]
-    return json.loads(html.unescape(found[1]))
+def tried(path, script, width=1200, height=900):
+    """What a script puts into `results` in headless Chromium."""
+    with Browser() as browser:
+        browser.call("Emulation.setDeviceMetricsOverride", width=width, height=height, deviceScaleFactor=1, mobile=False)
+        browser.open(path, "document.readyState === 'complete'")
+        return browser.value(f"(async () => {{ {HELPERS} {script} return results; }})()")
 
 
 class TestReports(Spare):
     def set_up(self):
         self.program = self.path("lpis")
-        Path(self.program).write_text(STANDIN, encoding="utf-8")
-        os.chmod(self.program, 0o755)
+        write_script(STANDIN, self.program)
         Path(self.path("facts")).write_text("commit 0123456789ab\nkit rattle-kit-0 logic 1\n", encoding="utf-8")
         Path(self.path("cert.txt")).write_text("lpis-cert 2\n", encoding="utf-8")
         self.release = release(self.path("release"), ["A", "B", "C"])
@@ -214,8 +205,8 @@ class TestReports(Spare):
         for name in ("parcels", "covers"):
             path = os.path.join(new, name + ".csv")
             text = Path(path).read_text(encoding="ascii")
-            with open(path, "w", encoding="ascii") as file:
-                file.write(re.sub("5500([45])([07])", lambda found: f"5500{found[1]}{6 if found[2] == '0' else 7}" if found[0] != "550050" else "550056", text))
+            text = re.sub("5500([45])([07])", lambda found: f"5500{found[1]}{6 if found[2] == '0' else 7}" if found[0] != "550050" else "550056", text)
+            Path(path).write_text(text, encoding="ascii")
         run, told = self.report("--diff", self.release, folder=new)
         assert [row["parcel"] for row in told["difference"]["moved"]] == ["A", "B", "C"], run.stderr
         assert ["share nothing" in row["words"] for row in told["difference"]["moved"]] == [True, True, False]
@@ -296,9 +287,8 @@ class TestReports(Spare):
           point('pointerdown', 1000, 8000); point('pointerup', 1000, 8000); results.tapped = document.getElementById('name').textContent;
           results.wide = document.documentElement.scrollWidth <= innerWidth;
         """
-        for size in ("1200,900", "390,844"):
-            found = tried(self.path("r.html"), script, size)
-            assert found.get("error") is None
+        for size in ((1200, 900), (390, 844)):
+            found = tried(self.path("r.html"), script, *size)
             assert (found["drawn"], found["colours"]) == ("parcels 3 pieces 6", [page.FILLS[0], page.FILLS[1], "#ffffff"])
             assert [name.split("\n")[:2] for name in found["names"]] == [["parcel B2", "piece B2.1 GRASS"], ["parcel A", "piece A.2 TREES"], [""]]
             assert (found["up"], found["down"]) == (["A", "B2", "C"], ["C", "B2", "A"])
@@ -327,7 +317,7 @@ class TestReports(Spare):
           results.colours = [colour(left + 20000, top + 45000), colour(left + 60000, top + 45000)]; results.name = named(left + 60000, top + 45000);
           document.querySelector('[data-show=whole]').click(); await waited(); results.whole = canvas.dataset.drawn;
         """)
-        assert (found.get("error"), found["first"], found["whole"]) == (None, "parcels 20000 pieces 40000", "parcels 20001 pieces 40002")
+        assert (found["first"], found["whole"]) == ("parcels 20000 pieces 40000", "parcels 20001 pieces 40002")
         assert (found["rows"], found["more"]) == (page.FIRST_ROWS, page.FIRST_ROWS + 500)
         assert int(found["near"].split()[1]) < 30
         assert (found["colours"], found["name"]) == ([page.FILLS[0], page.FILLS[1]], "parcel P12345\npiece P12345.2 W")
@@ -346,6 +336,5 @@ class TestReports(Spare):
                 assert (run.returncode, told["status"] in (1, 2), "faults" in told) == (told["status"], True, True), run.stderr
                 assert len(self.shapes()["marks"]) > 0
         out = self.path("faults.html")
-        run = tool("faults", os.path.join(TOP, "examples", "overlap"), self.path("f.geojson"), "--html", out, "--lpis", BUILT)
-        assert run.returncode == 1, run.stderr
+        ended_with(1, tool("faults", os.path.join(TOP, "examples", "overlap"), self.path("f.geojson"), "--html", out, "--lpis", BUILT))
         assert "</i>faults: " in Path(out).read_text(encoding="utf-8")

@@ -176,6 +176,5 @@ class TestLands:
     def test_nothing(self):
         """A land without edges, and one whose shapes are points."""
         assert texts([], []) == ({}, {})
-        row = hard.Row(0, {"piece": "K", "parcel": "P", "class": "A"}, [[[(1.0, 1.0), (1.0000001, 1.0), (1.0, 1.0000001), (1.0, 1.0)]]])
-        assert isinstance(row.found, wkb.Found)
+        row = hard.Row(0, {"piece": "K", "parcel": "P", "class": "A"}, wkb.Found([[[(1.0, 1.0), (1.0000001, 1.0), (1.0, 1.0000001), (1.0, 1.0)]]]))
         assert texts([], [row]) == ({"P": None}, {})

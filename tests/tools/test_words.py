@@ -9,7 +9,7 @@ from pathlib import Path
 import pytest
 from calls import run, tool
 from places import TOOLS, TOP
-from spare import Spare
+from spare import Spare, write, write_script
 from lpis_tools import installed
 
 NAMES = ("explain", "faults", "report")
@@ -25,10 +25,8 @@ class TestWords(Spare):
         os.makedirs(os.path.join(lib, "program"))
         for name in installed.COMMANDS:
             shutil.copy(os.path.join(TOOLS, name), lib)
-        with open(os.path.join(lib, "program", "lpis"), "w", encoding="ascii") as file:
-            file.write(STANDIN)
-        os.chmod(file.name, 0o755)
-        Path(lib, "program", "facts").write_text("commit 0123456789ab\nkit rattle-kit-0 logic 1\n", encoding="ascii")
+        write_script(STANDIN, lib, "program", "lpis")
+        write("commit 0123456789ab\nkit rattle-kit-0 logic 1\n", lib, "program", "facts")
         return lib
 
     def test_version(self):
@@ -82,14 +80,13 @@ class TestWords(Spare):
         assert installed.NOTE in text or not re.search(r"(?<![\w/])(?:bench|crates|dev|tests)/\w", text), name
 
     def test_names_of_the_source(self):
-        with open(os.path.join(self.folder, "identifiers.csv"), "w", encoding="utf-8") as file:
-            file.write("kind,old,new\nparcel,M\u00fchle,Muehle_a48e56\npiece,M\u00fchle,x\nparcel,\u00d6d 1 ,Oed_1_123456\n")
+        write("kind,old,new\nparcel,M\u00fchle,Muehle_a48e56\npiece,M\u00fchle,x\nparcel,\u00d6d 1 ,Oed_1_123456\n", self.folder, "identifiers.csv")
         for name, wanted in (("M\u00fchle", "Muehle_a48e56"), ("\u00d6d 1", "Oed_1_123456"), ("north", "north"), ("B\u00e4r", "Baer_")):
             done = tool("explain", self.folder, "--name", name)
             assert (done.returncode, done.stdout.startswith(wanted)) == (0, True), done.stdout + done.stderr
         assert tool("explain", os.path.join(self.folder, "none"), "--name", "A").returncode == 64
         for name, lines in (("parcels", 'parcel,wkt\nMuehle_a48e56,"POLYGON((0 0,1 0,1 1,0 0))"\n'), ("covers", 'piece,parcel,class,wkt\nC,A,G,"POLYGON((0 0,1 0,1 1,0 0))"\n')):
-            Path(self.folder, name + ".csv").write_text(lines, encoding="ascii")
+            write(lines, self.folder, name + ".csv")
         for line in ("refused 44 parcel Muehle_a48e56", "refused 37 parcels row 1"):
             done = tool("explain", self.folder, input=line + "\n")
             assert "parcel Muehle_a48e56 is 'M\u00fchle' in the source" in done.stdout

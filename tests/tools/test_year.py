@@ -9,10 +9,10 @@ from pathlib import Path
 
 import pytest
 from registers import made
-from calls import tool
+from calls import ended_with, tool
 from places import BUILT, TOP
-from spare import Spare
-from lpis_tools import ledger
+from spare import Spare, read
+from lpis_tools import files, ledger
 
 EXAMPLES = os.path.join(TOP, "examples", "exact")
 
@@ -93,21 +93,18 @@ class TestYears(Case):
         return sorted(os.listdir(os.path.join(self.folder, folder)))
 
     def test_two_years(self):
-        ran = self.year(2024, "--new")
-        assert 0 == ran.returncode, ran.stdout + ran.stderr
-        ran = self.year(2025)
-        assert 0 == ran.returncode, ran.stdout + ran.stderr
+        ended_with(0, self.year(2024, "--new"))
+        ran = ended_with(0, self.year(2025))
         assert "exact 2" in ran.stdout
         assert {"cert.txt", "exact.txt", "published-2025.txt", "report-2025.json", "report-2025.html"} <= set(self.files("2025"))
-        with open(os.path.join(self.folder, "2025", "published-2025.txt"), encoding="ascii") as file:
-            assert file.read().endswith("lineage yard merged exact\npublished 2025\n")
+        assert read(self.folder, "2025", "published-2025.txt").endswith("lineage yard merged exact\npublished 2025\n")
         entries, faults = ledger.entries_of(self.lines())
         assert ([2024, 2025], [], entries[0]["content"]) == ([entry["year"] for entry in entries], faults, entries[1]["content_before"])
-        assert entries[1]["certificate"] == ledger.digest_of(os.path.join(self.folder, "2025", "exact.txt"))
+        assert entries[1]["certificate"] == files.digest(os.path.join(self.folder, "2025", "exact.txt"))
         assert 0 == run("--verify", self.base).returncode
         copy = f"{self.base}.before-2025"
         assert entries[0]["content"] == ledger.content_of(copy)
-        assert f"{ledger.digest_of(copy)}  lpis.db.before-2025\n" == Path(f"{copy}.sha256").read_text(encoding="ascii")
+        assert f"{files.digest(copy)}  lpis.db.before-2025\n" == Path(f"{copy}.sha256").read_text(encoding="ascii")
 
     def test_what_it_stops_at(self):
         this = datetime.date.today().year
@@ -133,8 +130,7 @@ class TestYears(Case):
         folder = os.path.join(self.folder, "2024")
         shutil.copytree(os.path.join(EXAMPLES, "2024"), folder)
         os.remove(os.path.join(folder, "lineage.csv"))
-        ran = self.year(2024, "--new")
-        assert 0 == ran.returncode, ran.stdout + ran.stderr
+        ended_with(0, self.year(2024, "--new"))
         assert "old,new\n" == Path(folder, "lineage.csv").read_text(encoding="ascii")
 
     def test_a_register_without_its_log_is_a_stop(self):

@@ -10,12 +10,12 @@ import shutil
 
 from shapely import wkt
 
+from . import files
 from .between import Gap
 from .rounding import Conflicts
 
 FOLDER, FACTS = ".rounded", "rounded.json"
 TABLES = ("parcels.csv", "covers.csv")
-PART = 1 << 20
 HERE = os.path.dirname(os.path.realpath(__file__))
 
 
@@ -30,14 +30,8 @@ def digest_of(paths, words):
             whole = os.path.join(path, name) if os.path.isdir(path) else path + (name or "")
             if os.path.isfile(whole):
                 digest.update(f"{name}\0{os.path.getsize(whole)}\0".encode(errors="surrogateescape"))
-                add_file(digest, whole)
+                files.digest(whole, digest)
     return digest.hexdigest()
-
-
-def add_file(digest, path):
-    with open(path, "rb") as file:
-        while part := file.read(PART):
-            digest.update(part)
 
 
 class Rounded:

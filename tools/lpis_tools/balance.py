@@ -18,24 +18,8 @@ SHAPED = ("parcels", "covers")
 COLUMNS = ("source", "mended", "left out", "settled", "tables")
 FILE = "balance.csv"
 ZONE = 1_000_000  # metres: eastings may have the number of their zone before them
-MOST = 1e16  # square metres: more than the range of the tables has
 NEAR = 0.5  # square metres: what a balance that adds up may miss
 UNIT = 1 << 40  # parts of a square metre: sums are whole numbers of them, so that their order changes nothing
-
-
-def area_of(members):
-    """The square metres of polygons by their points: each shell without its holes, whatever lies where."""
-    try:
-        area = math.fsum((1 if number == 0 else -1) * abs(ring_area(ring)) for member in members or () for number, ring in enumerate(member))
-    except (OverflowError, ValueError):
-        area = math.inf
-    return area if abs(area) < MOST else 0.0  # of coordinates that no map has: their row is left out by name
-
-
-def ring_area(ring):
-    """About its first point, so that long coordinates keep their last digits."""
-    x, y = ring[0] if ring else (0, 0)
-    return math.fsum((a[0] - x) * (b[1] - y) - (b[0] - x) * (a[1] - y) for a, b in zip(ring, ring[1:])) / 2
 
 
 class Entry:

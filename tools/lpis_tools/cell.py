@@ -3,6 +3,7 @@ and their part of the balance. All of it goes into one file, a record a line, wh
 
 from __future__ import annotations
 
+import contextlib
 import hashlib
 import json
 import os
@@ -12,7 +13,7 @@ from shapely import wkb as shapely_wkb
 from shapely.geometry import box
 from shapely.prepared import prep
 
-from . import balance, conflicts, files, last_year, outcome, polygons, rounding, store, ways, wkb
+from . import balance, conflicts, files, land, last_year, outcome, polygons, rounding, store, ways, wkb
 from .snapping import REACH
 
 FAR = 2 * REACH  # from a shape, whose borders move
@@ -22,29 +23,17 @@ BESIDE = "SELECT id, left, low, right, high FROM box WHERE left <= ? AND right >
 FIELDS = "SELECT id, is_cover, name, parcel, class, area, why, shape, read FROM row JOIN shape USING (id) WHERE id = ? AND is_kept"
 
 
-class Row:
+class Row(land.Row):
     """A row of the store, as the rounding and the report want it. `read` is its shape as it was read, where that is another. Its number is its name: who reads
     a result finds the row by it, wherever it stands then."""
 
-    __slots__ = ("area", "digest", "fields", "found", "id", "is_cover", "number", "read", "why")
+    __slots__ = ("area", "digest", "id", "is_cover", "read")
 
     def __init__(self, own, is_cover, name, parcel, land_class, area, why, shape, read):
         self.fields = {"piece": name, "parcel": parcel, "class": land_class} if is_cover else {"parcel": parcel}
         self.id, self.number, self.is_cover, self.area, self.why = own, (is_cover, name), is_cover, area, why
         self.found, self.read = (wkb.Found.of_blob(blob) if blob else None for blob in (shape, read))
         self.digest = [is_cover, name, parcel, land_class, why, *(hashlib.sha256(blob).hexdigest() if blob else "" for blob in (shape, read))]
-
-    def __getitem__(self, name):
-        return self.fields.get(name) or ""
-
-
-class Layer:
-    """The rows of a layer whose shapes are valid."""
-
-    is_valid = True
-
-    def __init__(self, name, rows):
-        self.name, self.rows = name, rows
 
 
 class Near:
@@ -103,16 +92,17 @@ class Cell:
 
 def made(path, number, results):
     """The name of the file that has what a cell gives; it is made where it is not there."""
-    base = sqlite3.connect(f"file:{path}?mode=ro", uri=True)
-    try:
-        cell = Cell(base, number)
-    finally:
-        base.close()
-    name = cell.name()
+    return written(path, results, lambda base: Cell(base, number), records_of)
+
+
+def written(path, results, read, records_of_it):
+    """The name of the file that has the records of what is read of a store; it is made where it is not there."""
+    with contextlib.closing(sqlite3.connect(f"file:{path}?mode=ro", uri=True)) as base:
+        found = read(base)
+    name = found.name()
     if not os.path.exists(os.path.join(results, name)):
         with files.anew(os.path.join(results, name)) as file:
-            for record in records_of(cell):
-                file.write(json.dumps(record) + "\n")
+            file.writelines(json.dumps(record) + "\n" for record in records_of_it(found))
     return name
 
 
@@ -120,7 +110,10 @@ def records_of(cell):
     """The records of a cell: `piece` and `parcel` with the text, `loss`, `greatest` with the greatest change of a parcel, `sum` of the balance, and the ways beside land that
     nobody has."""
     made_map = rounding.Map(cell.parcels, cell.covers, lambda words: None, then=cell.then)
-    texts = {"covers": texts_of_pieces(cell, made_map), "parcels": texts_of_parcels(cell, made_map)}
+    own = cell.own["parcels"]
+    # The texts of pieces of other cells are right near this one's alone.
+    texts = {"covers": [(cell.covers[number], text) for number, text in made_map.polygons(made_map.pieces)],
+             "parcels": [(own[number], text) for number, text in made_map.polygons(made_map.parcels_of_faces(own))]}
     for kind, name in (("piece", "covers"), ("parcel", "parcels")):
         yield from ((kind, row[kind], text) for row, text in texts[name] if row["parcel"] in cell.wanted)
     whole = balance.Balance({})
@@ -128,7 +121,7 @@ def records_of(cell):
         for row in rows:
             entry = whole.entries[id(row)] = balance.Entry(name, row, row.area)
             entry.founds = (row.read,) if row.read else entry.founds
-    source = conflicts.Source({"parcels": Layer("parcels", cell.parcels), "covers": Layer("covers", cell.covers)})
+    source = conflicts.Source({name: land.Layer(name, rows, is_valid=True) for name, rows in (("parcels", cell.parcels), ("covers", cell.covers))})
     conflicts.find_conflicts(source, lambda words: None, conflicts_of(cell, made_map))
     before = [loss.words for loss in source.losses]
     compared = Compared(source, cell, texts, whole)
@@ -141,18 +134,6 @@ def records_of(cell):
     for (layer, land_class), sums in whole.sums.items():
         yield "sum", layer, land_class, list(sums.values())
     yield from ways.ways_of(made_map, cell.wanted)
-
-
-def texts_of_pieces(cell, made_map):
-    """The rows of pieces with their texts: those of other cells are right near this one's alone."""
-    return [(cell.covers[number], text) for number, text in made_map.polygons(made_map.pieces)]
-
-
-def texts_of_parcels(cell, made_map):
-    rows = {row["parcel"]: number for number, row in enumerate(cell.own["parcels"])}
-    nobody = rounding.faces.NOBODY
-    of_piece = rounding.numpy.array([rows.get(row["parcel"], nobody) for row in cell.covers] + [nobody], int)
-    return [(cell.own["parcels"][number], text) for number, text in made_map.polygons(of_piece[made_map.pieces])]
 
 
 def conflicts_of(cell, made_map):
@@ -170,7 +151,7 @@ class Compared(outcome.Outcome):
     def __init__(self, source, cell, texts, whole):
         super().__init__(source, self.own_records, whole)
         self.cell, self.texts = cell, texts
-        source.layers = {name: Layer(name, rows) for name, rows in cell.own.items()}
+        source.layers = {name: land.Layer(name, rows, is_valid=True) for name, rows in cell.own.items()}
 
     def own_records(self, name):
         for row, text in self.texts[name]:

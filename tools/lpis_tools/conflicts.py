@@ -68,11 +68,6 @@ class Loss:
         return point.x, point.y
 
 
-def number_of(row):
-    """By what a row is found in its layer."""
-    return getattr(row, "fid", None) or row.number
-
-
 def parts_of(shape):
     """The polygons of whatever an operation gave."""
     if shape is None or shape.is_empty:
@@ -111,7 +106,7 @@ def by_geos(what, rows, operation, *shapes):
     try:
         return operation(*shapes)
     except (ShapelyError, ValueError) as error:
-        named = ", ".join(f"{layer} {name}" + (f" (row {number_of(row)})" if row else "") for layer, name, row in rows)
+        named = ", ".join(f"{layer} {name}" + (f" (row {row.number})" if row else "") for layer, name, row in rows)
         raise land.Trouble(f"{what} of {named} cannot be worked out: mend the shape ({str(error).splitlines()[0][:80]})") from None
 
 
@@ -122,30 +117,13 @@ def pieces_found(kind, names, rows, shape, words):
             yield Loss(kind, names, words, part, width, part.area, "parcels" if kind == "gap" else "covers", rows)
 
 
-class Shapes:
-    """The shapes of rows, each made when it is asked for."""
-
-    def __init__(self):
-        self.founds = {}
-
-    def put(self, row):
-        self.founds[id(row)] = row
-
-    def has(self, row):
-        return id(row) in self.founds
-
-    def get(self, key):
-        row = self.founds.get(key)
-        return shape_of(row.found) if row else None
-
-
 class Source:
-    """A land whose shapes are valid: `shapes` has them by the row."""
+    """A land whose shapes are valid: `shaped` has the ids of the rows that have one."""
 
     KEYS = {"parcels": "parcel", "covers": "piece"}
 
     def __init__(self, layers):
-        self.losses, self.layers, self.shapes = [], layers, Shapes()
+        self.losses, self.layers, self.shaped = [], layers, set()
         self.parcels, self.covers = ([row for row in layers[name].rows if self.has_land(layers[name], column, row)] for name, column in self.KEYS.items())
         self.pieces_of, self.boxes_of = {}, {}
         for row in self.covers:
@@ -171,8 +149,12 @@ class Source:
                 shape = self.mended(layer, column, row, shape)
             if shape.is_empty:
                 return False
-        self.shapes.put(row)
+        self.shaped.add(id(row))
         return True
+
+    def shape(self, row):
+        """The shape of a row, made when it is asked for; None where it has no land."""
+        return shape_of(row.found) if id(row) in self.shaped else None
 
     @staticmethod
     def is_far(row):
@@ -187,7 +169,7 @@ class Source:
         mended = by_geos("the shape", [(layer.name, row[column], row)], polygons_by, row.found.members)
         words = f"{why}; mended it has {mended.area:.3f} m2 of the {max(mended.area, enclosed_by(row.found.members).area):.3f} that its border encloses"
         row.found = wkb.Found(members_of(mended))
-        self.losses.append(Loss("invalid", [row[column]], words, mended, None, mended.area, layer.name, [number_of(row)]))
+        self.losses.append(Loss("invalid", [row[column]], words, mended, None, mended.area, layer.name, [row.number]))
         return mended
 
 
@@ -196,21 +178,21 @@ def find_names(source):
     for name, column in Source.KEYS.items():
         rows = {}
         for row in source.layers[name].rows:
-            rows.setdefault(row[column], []).append(number_of(row))
+            rows.setdefault(row[column], []).append(row.number)
         words = "the tables have one row with the land of all" if name == "parcels" else "lpis refuses it (34)"
         source.losses += [Loss("doubled", [who], f"{len(found)} rows have this identifier: {words}", layer=name, rows=found) for who, found in rows.items() if len(found) > 1]
     for name, column in (("parcels", "parcel"), ("covers", "piece"), ("covers", "class")):
         rows = {}
         for row in source.layers[name].rows:
             if not identifiers.is_one(row[column]):
-                rows.setdefault(row[column], []).append(number_of(row))
+                rows.setdefault(row[column], []).append(row.number)
         source.losses += [Loss("identifier", [who], f"this {column} is no identifier, in {len(found)} row{'s' * (len(found) > 1)}: lpis refuses it (33)", layer=name, rows=found)
                           for who, found in rows.items()]
     known = {row["parcel"] for row in source.layers["parcels"].rows}
     for row in source.layers["covers"].rows:
         if row["parcel"] not in known:
-            shape = source.shapes.get(id(row))
-            source.losses.append(Loss("stranger", [row["piece"], row["parcel"]], "the piece names a parcel that is not there: lpis refuses it (35)", shape, None, shape.area if shape else None, "covers", [number_of(row)]))
+            shape = source.shape(row)
+            source.losses.append(Loss("stranger", [row["piece"], row["parcel"]], "the piece names a parcel that is not there: lpis refuses it (35)", shape, None, shape.area if shape else None, "covers", [row.number]))
 
 
 def find_conflicts(source, say, found=None, between=land.BETWEEN):
@@ -229,23 +211,23 @@ def find_conflicts(source, say, found=None, between=land.BETWEEN):
 
 
 def find_overlap(source, row, other):
-    shapes = [source.shapes.get(id(one)) for one in (row, other)]
+    shapes = [source.shape(one) for one in (row, other)]
     both = by_geos("the overlap", [("covers", one["piece"], one) for one in (row, other)], shapes[0].intersection, shapes[1])
     first, second = sorted((row, other), key=lambda one: one["piece"])
-    source.losses += pieces_found("overlap", [first["piece"], second["piece"]], [number_of(first), number_of(second)], both, "both pieces have this place")
+    source.losses += pieces_found("overlap", [first["piece"], second["piece"]], [first.number, second.number], both, "both pieces have this place")
 
 
 def find_gap(source, row):
     named = [("parcels", row["parcel"], row)]
-    whole = by_geos("the pieces", named, unary_union, [source.shapes.get(id(piece)) for piece in source.pieces_near(row)])
-    gap = by_geos("the gaps", named, source.shapes.get(id(row)).difference, whole)
-    source.losses += pieces_found("gap", [row["parcel"]], [number_of(row)], gap, "the parcel has this place, and none of its pieces")
+    whole = by_geos("the pieces", named, unary_union, [source.shape(piece) for piece in source.pieces_near(row)])
+    gap = by_geos("the gaps", named, source.shape(row).difference, whole)
+    source.losses += pieces_found("gap", [row["parcel"]], [row.number], gap, "the parcel has this place, and none of its pieces")
 
 
 def find_outside(source, piece, row):
     named = [("parcels", row["parcel"], row), ("covers", piece["piece"], piece)]
-    outside = by_geos("the outside", named, source.shapes.get(id(piece)).difference, source.shapes.get(id(row)))
-    source.losses += pieces_found("outside", [piece["piece"], row["parcel"]], [number_of(piece), number_of(row)], outside, "the piece has this place, and its parcel has not")
+    outside = by_geos("the outside", named, source.shape(piece).difference, source.shape(row))
+    source.losses += pieces_found("outside", [piece["piece"], row["parcel"]], [piece.number, row.number], outside, "the piece has this place, and its parcel has not")
 
 
 def between_all(gaps):
@@ -265,4 +247,4 @@ def kept_of(border, rows):
     between = unary_union(parts_of(make_valid(Polygon(ring))))
     name = "piece" if rows and rows[0]["piece"] else "parcel"
     words = f"the border is that of last year's tables, {border.beside:.1f} mm beside this year's rounding"
-    return Loss("kept", sorted(row[name] for row in rows), words, LineString(after) if between.is_empty else between, None, between.area, "covers" if name == "piece" else "parcels", [number_of(row) for row in rows])
+    return Loss("kept", sorted(row[name] for row in rows), words, LineString(after) if between.is_empty else between, None, between.area, "covers" if name == "piece" else "parcels", [row.number for row in rows])

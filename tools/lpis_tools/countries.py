@@ -107,18 +107,9 @@ class OfCountry:
                 self.say_copies(refusal.names[0].encode())
 
     def say_country_line(self):
-        path = os.path.join(self.top, "country.txt")
-        try:
-            with open(path, "rb") as file:
-                lines = file.read().split(b"\n")
-        except OSError as error:
-            self.say(f"{path}: {error.strerror}")
+        lines = self.say_line_of(os.path.join(self.top, "country.txt"))
+        if lines is None:
             return
-        number = self.refusal.cert_line
-        count = len(lines) - (lines[-1] == b"")
-        self.say(f"{path} has {count} lines{'' if lines[-1] == b'' else ', the last without its line end'}")
-        if 1 <= number <= count:
-            self.say(f"  line {number}: {quoted(lines[number - 1])}")
         try:
             tiles.read(b"\n".join(lines).decode("latin-1"))
         except tiles.Unreadable as error:
@@ -126,8 +117,7 @@ class OfCountry:
 
     def tiling(self):
         try:
-            with open(os.path.join(self.top, "country.txt"), encoding="latin-1", newline="") as file:
-                return tiles.read(file.read())
+            return tiles.of_folder(self.top)
         except (OSError, tiles.Unreadable):
             return None
 

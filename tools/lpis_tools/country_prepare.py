@@ -52,10 +52,8 @@ class Run(prepared.Run):
         starts, are_metres = self.stored(work, layers)
         names = passes.Names(work, self.given)
         self.say("names, and what they name")
-        shown = progress.Progress("country", "names", passes.STEPS, "steps")
-        for _ in self.named(work, names, starts, are_metres):
-            shown.add()
-        shown.end()
+        for _ in progress.each(self.named(work, names, starts, are_metres), "country", "names", passes.STEPS, "steps", 1):
+            pass
         work.at(passes.CLASSES)
         classes = self.tested_classes(work, names)
         self.last_year(work)

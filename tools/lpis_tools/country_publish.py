@@ -5,7 +5,7 @@ import subprocess
 import sys
 from collections import Counter
 
-from . import ending, engines, ledger, origin, program, progress, splitting, watching, words, yearly
+from . import ending, engines, ledger, origin, program, progress, splitting, tiles, watching, words, yearly
 from .country_years import Kept
 from .tables import Table
 from .yearly import Stop
@@ -76,7 +76,7 @@ def publish(command, said, say):
     """Answers 0 where the country is published."""
     progress.Quiet.tool = "country"
     yearly.look_at_places(said, "the certificates, and what is printed,")
-    last, regions, kept = yearly.last_year(said), engines.regions_of(said.folder), Kept(said.folder, said.year)
+    last, regions, kept = yearly.last_year(said), tiles.of_folder(said.folder).folders, Kept(said.folder, said.year)
     kept.look()
     if said.lineage:
         splitting.deal(said.lineage, regions, said.folder, say)

@@ -6,6 +6,7 @@ from __future__ import annotations
 import datetime
 import os
 import subprocess
+from collections import Counter
 from dataclasses import dataclass, field
 
 from . import country_changes, differences, ending, origin, page, progress, registers, release_page, report, streams, tiles, watching
@@ -38,14 +39,6 @@ class Country:
 
 def is_one(folder):
     return os.path.isfile(os.path.join(folder, "country.txt"))
-
-
-def tiling_of(folder):
-    try:
-        with open(os.path.join(folder, "country.txt"), encoding="latin-1", newline="") as file:
-            return tiles.read(file.read())
-    except tiles.Unreadable as error:
-        raise report.Trouble(f"{folder}/country.txt: {error}") from None
 
 
 def answered(command, folder, size):
@@ -92,7 +85,7 @@ def files_of(folder, tiling):
 def make(command, folder, register=None, old=None):
     """Runs `lpis country`, and reports what is known of the country, of a register, and of an older year."""
     began = datetime.datetime.now(datetime.timezone.utc)
-    tiling = tiling_of(folder)
+    tiling = tiles.of_folder(folder)
     files = files_of(folder, tiling)
     run = answered(command, folder, sum(file["bytes"] for file in files.values()))
     if files_of(folder, tiling) != files:
@@ -108,11 +101,11 @@ def make(command, folder, register=None, old=None):
         raise report.Trouble(f"lpis reports {totals} of {len(passed)} regions, and the tables have {count} parcels with {area} m2 of {len(regions)} by this tool: one of the two is wrong")
     facts = {"date": began.strftime("%Y-%m-%dT%H:%M:%SZ"), "folder": os.path.abspath(folder), "program": report.of_program(command), "files": files, "answer": answer, "status": run.returncode,
              "country": totals, "origin": origin.facts(folder, None)}
-    tiles, facts["nowhere"] = country_changes.reported(folder, tiling)
+    by_tile, facts["nowhere"] = country_changes.reported(folder, tiling)
     if old is not None:
         found, changed = country_changes.difference(old, folder, tiling)
-        facts["difference"], tiles = {"old": os.path.abspath(old), **found}, {name: {**row, **changed[name]} for name, row in tiles.items()}
-    facts["regions"] = [{"region": name, **passed.get(name, {}), **tiles[name]} for name in tiling.folders]
+        facts["difference"], by_tile = {"old": os.path.abspath(old), **found}, {name: {**row, **changed[name]} for name, row in by_tile.items()}
+    facts["regions"] = [{"region": name, **passed.get(name, {}), **by_tile[name]} for name in tiling.folders]
     if register is not None:
         facts["register"] = registers.facts(register)
     country = Country(facts, tiling, regions)
@@ -146,11 +139,8 @@ def chart_of(country):
         left, low, right, high = box
         words = f"{row['parcels']} parcels, {hectares(row['area'])}" if "area" in row else "has no answer"
         layer.add(row["region"], [[[(left, low), (right, low), (right, high), (left, high), (left, low)]]], words)
-    side, counts = max(whole[2] - whole[0], whole[3] - whole[1]) // CELLS + 1, {}
-    for region in country.regions.values():
-        for x, y in region.corners:
-            cell = (x - whole[0]) // side, (whole[3] - y) // side
-            counts[cell] = counts.get(cell, 0) + 1
+    side = max(whole[2] - whole[0], whole[3] - whole[1]) // CELLS + 1
+    counts = Counter(((x - whole[0]) // side, (whole[3] - y) // side) for region in country.regions.values() for x, y in region.corners)
     marks = [(*map(float, country.place), country.facts["answer"])] if country.place else []
     return page.Map(tiles=layer, marks=marks, cells=(side, [(x, y, count) for (x, y), count in sorted(counts.items())]))
 

@@ -47,7 +47,7 @@ class Kept:
         self.copy(os.path.basename(printed))
         with open(os.path.join(self.made, LOG), "wb") as file:
             file.write(ledger.lines_of(register)[-1] + b"\n")
-        found = ledger.digests_of(self.made, list(entry["tables"]), "digests of the copy")
+        found = ledger.digests_of({name: os.path.join(self.made, name) for name in entry["tables"]}, "digests of the copy")
         wrong = [name for name, digest in entry["tables"].items() if found[name] != digest]
         os.rename(self.made, self.place)
         return wrong

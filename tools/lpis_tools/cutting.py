@@ -13,6 +13,7 @@ from concurrent.futures import FIRST_COMPLETED, ThreadPoolExecutor, wait
 from dataclasses import dataclass
 
 from . import ending, polygons, refusal
+from .trouble import Trouble
 
 FAR = 19_000_000_000  # of the coordinates' range, with room to spare
 GAP = 10_000
@@ -20,10 +21,6 @@ POINTS_A_CALL = 200_000
 UNITS_A_CALL = 4_000
 MOST_FAULTS = 200_000
 PARTS = 8  # what is left after a refusal is asked in so many calls
-
-
-class Trouble(Exception):
-    """`lpis` failed, or printed what is no answer here."""
 
 
 @dataclass

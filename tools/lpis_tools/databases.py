@@ -2,11 +2,27 @@
 statement runs, signals are heard. GDAL would end at the first broken row."""
 
 import os
+import pathlib
 import sqlite3
 
 STEPS, STEPS_A_BYTE, AT_ONCE = 10_000_000, 100, 100_000  # of SQLite's machine, for all that is asked of a file
 ROWS, BYTES_A_ROW = 200_000, 8  # of one answer: more than a file of its size has
 ENDLESS = "it asks for more work than a file of its size can: a view without an end?"
+
+
+def opened(path, seconds=5.0):
+    """A connection for reading, which waits so long for who writes the file. One in a folder that only another user may write is read as one that does not
+    change, where no -wal is there and nobody writes it."""
+    name = pathlib.Path(path).resolve().as_uri()
+    for mode in ("mode=ro", "immutable=1"):
+        connection = sqlite3.connect(f"{name}?{mode}", uri=True, timeout=seconds)
+        try:
+            connection.execute("SELECT count(*) FROM sqlite_master").fetchone()
+            return guarded(connection)
+        except (sqlite3.Error, UnicodeDecodeError) as error:  # a schema that is no text is the second
+            connection.close()
+            if mode != "mode=ro" or "locked" in str(error) or not os.path.isfile(path) or os.path.exists(f"{path}-wal"):
+                raise
 
 
 def guarded(connection):

@@ -32,8 +32,8 @@ def difference(old, land, folder):
 def of_shapes(old, new, differing, rows):
     """Of two years' shapes, with the names that both have and whose shapes differ, and what the rows of lineage say."""
     (to, came), changed, others = rows, [], []
-    added = [{"parcel": name, "area": area_of(new[name]), "from": came.get(name, [])} for name in sorted(name for name in new if name not in old)]
-    gone = [{"parcel": name, "area": area_of(old[name]), "to": [other for other in to.get(name, []) if other], "ended": "" in to.get(name, []),
+    added = [{"parcel": name, "area": decimal(polygons.doubled(new[name]), AREA), "from": came.get(name, [])} for name in sorted(name for name in new if name not in old)]
+    gone = [{"parcel": name, "area": decimal(polygons.doubled(old[name]), AREA), "to": [other for other in to.get(name, []) if other], "ended": "" in to.get(name, []),
              "explained": name in to} for name in sorted(name for name in old if name not in new)]
     for name in progress.over(differing, "comparing parcels that changed", "parcels"):
         before, after = polygons.doubled(old[name]), polygons.doubled(new[name])
@@ -42,10 +42,6 @@ def of_shapes(old, new, differing, rows):
         elif set(polygons.points(old[name])) != set(polygons.points(new[name])):
             others.append(name)
     return {"new": added, "gone": gone, "changed": changed, "other_shape_same_area": others, "moved": moved(differing, old, new), "kept": len(old) - len(gone) - len(changed) - len(others)}
-
-
-def area_of(members):
-    return decimal(polygons.doubled(members), AREA)
 
 
 def moved(differing, old, new):

@@ -12,17 +12,14 @@ MOST_STRETCHES = 2000
 
 def geojson(shapes, place, line, epsg=None, stretches=()):
     """Shapes (kind, name, members), stretches of border that differ, and a place, in metres."""
-    features = []
-    for kind, name, members in shapes:
-        rings = [[[[x / 1000, y / 1000] for x, y in ring] for ring in member] for member in members]
-        features.append({"type": "Feature", "properties": {"kind": kind, "name": name, "line": line},
-                         "geometry": {"type": "MultiPolygon", "coordinates": rings}})
+    def feature(kind, name, form, coordinates):
+        return {"type": "Feature", "properties": {"kind": kind, "name": name, "line": line}, "geometry": {"type": form, "coordinates": coordinates}}
+
+    features = [feature(kind, name, "MultiPolygon", [[[[x / 1000, y / 1000] for x, y in ring] for ring in member] for member in members]) for kind, name, members in shapes]
     if stretches:
-        lines = [[[x / 1000, y / 1000] for x, y in stretch] for stretch in stretches]
-        features.append({"type": "Feature", "properties": {"kind": "differs", "name": "", "line": line}, "geometry": {"type": "MultiLineString", "coordinates": lines}})
+        features.append(feature("differs", "", "MultiLineString", [[[x / 1000, y / 1000] for x, y in stretch] for stretch in stretches]))
     if place:
-        features.append({"type": "Feature", "properties": {"kind": "place", "name": "", "line": line},
-                         "geometry": {"type": "Point", "coordinates": [float(place[0] / 1000), float(place[1] / 1000)]}})
+        features.append(feature("place", "", "Point", [float(value / 1000) for value in place]))
     return collection(features, epsg)
 
 

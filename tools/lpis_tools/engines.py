@@ -31,16 +31,6 @@ all: $(REGIONS:%=%/cert.txt)
 """
 
 
-def regions_of(folder):
-    """The regions of a country, in order."""
-    path = os.path.join(folder, "country.txt")
-    with open(path, encoding="latin-1", newline="") as file:
-        try:
-            return tiles.read(file.read()).folders
-        except tiles.Unreadable as error:
-            raise Trouble(f"{path}: {error}") from None
-
-
 def prepared(words, folder, kind, plan, what=""):
     """Has the jobs of a kind done; answers the names of the files that they give. `what` is done, where that is not as usual."""
     if kind == "part":
@@ -63,7 +53,7 @@ def prepared(words, folder, kind, plan, what=""):
 
 def by_snakemake(folder, target, at_once, profile, is_quiet, surroundings):
     """Runs a target of the Snakefile, which goes on where a job is refused."""
-    if not snakefile.is_there():
+    if shutil.which("snakemake") is None:
         raise Trouble("there is no snakemake")
     put_snakefile(folder)
     own = os.path.join(folder, snakefile.OWN)
@@ -118,11 +108,10 @@ def run(command, words, regions):
     if shutil.which("make") is None:
         raise Trouble("there is no make")
     engine = ["make", "-f", "Makefile", "-r", "-k", "--no-print-directory", "-j", str(at_once)]
-    surroundings, shown = {**os.environ, "LPIS": program.replace("$", "$$")}, progress.Progress("country", "cutting", len(regions), "regions")  # make works out what it has of the environment
+    surroundings = {**os.environ, "LPIS": program.replace("$", "$$")}  # make works out what it has of the environment
     with ending.start(engine, cwd=folder, env=surroundings, stdout=subprocess.PIPE, text=True) as make:
-        for _ in make.stdout:  # a line of each region that is cut
-            shown.add()
-    shown.end()
+        for _ in progress.each(make.stdout, "country", "cutting", len(regions), "regions", 1):  # a line of each region that is cut
+            pass
 
 
 def faults_of(command, folder, refused, say):
@@ -151,7 +140,7 @@ def tell(features):
 
 
 def cut(command, words, say):
-    regions = regions_of(words.folder)
+    regions = tiles.of_folder(words.folder).folders
     run(command, words, regions)
     refused = [region for region in regions if not is_cut(words.folder, region)]
     for region in refused:

@@ -223,19 +223,23 @@ class Explained(OfGroups, OfCountry):
         if not self.cert:
             self.say(f"line {self.refusal.cert_line} of the certificate (name it by --cert to see the line)")
             return
+        lines = self.say_line_of(self.cert)
+        if lines and lines[0].endswith(b"\r"):
+            self.say("  its lines end with CR LF (Windows): LF alone is read")
+
+    def say_line_of(self, path):
+        """How many lines a file has, and the one that the refusal names. All of them, or None where it cannot be read."""
         try:
-            with open(self.cert, "rb") as file:
+            with open(path, "rb") as file:
                 lines = file.read().split(b"\n")
         except OSError as error:
-            self.say(f"{self.cert}: {error.strerror}")
-            return
-        number = self.refusal.cert_line
-        count = len(lines) - (lines[-1] == b"")
-        self.say_sentence("lines", path=self.cert, count=count, without="" if lines[-1] == b"" else SENTENCES["without"])
+            self.say(f"{path}: {error.strerror}")
+            return None
+        number, count = self.refusal.cert_line, len(lines) - (lines[-1] == b"")
+        self.say_sentence("lines", path=path, count=count, without="" if lines[-1] == b"" else SENTENCES["without"])
         if 1 <= number <= count:
             self.say_sentence("line", "  ", number=number, text=quoted(lines[number - 1]))
-        if lines[0].endswith(b"\r"):
-            self.say("  its lines end with CR LF (Windows): LF alone is read")
+        return lines
 
     def say_pair(self):
         numbers = [int(n) for n in self.refusal.names]
@@ -272,10 +276,9 @@ class Explained(OfGroups, OfCountry):
 
     def say_shapes(self):
         refusal = self.refusal
-        for name in refusal.as_parcels():
-            self.find_shape("parcels", "parcel", name)
-        for name in refusal.as_pieces():
-            self.find_shape("covers", "piece", name)
+        table, column = ("parcels", "parcel") if refusal.kind in ("parcel", "parcels") else ("covers", "piece")
+        for name in refusal.names:
+            self.find_shape(table, column, name)
         found = [members for _, _, members in self.shapes]
         if refusal.code in ("43", "44", "66") and found:
             self.say_pieces_of(refusal.names[0], found[0])

@@ -4,9 +4,11 @@
     with files.fresh(path) as file     in its place from the start; what lies there is removed first, and a link is not followed
     with files.more(path) as file      goes on with a file of one's own; a link is not followed
     files.forget()                     removes what is not whole, where a tool ends at once
+    files.digest(path)                 the sha256 of a file
 """
 
 import contextlib
+import hashlib
 import itertools
 import os
 import secrets
@@ -16,6 +18,8 @@ import stat
 NEW = ".new"  # how the names of files end that are not whole
 MADE = os.O_WRONLY | os.O_CREAT | os.O_EXCL | os.O_NOFOLLOW | os.O_CLOEXEC
 TEXT = {"encoding": "utf-8", "errors": "backslashreplace"}  # bytes of a folder's name that are no letters are no crash
+
+PART = 1 << 20  # bytes at once
 
 _unfinished = set()
 
@@ -98,6 +102,15 @@ def aside(path):
 def remove(path):
     with contextlib.suppress(FileNotFoundError):
         os.remove(path)
+
+
+def digest(path, found=None):
+    """The sha256 of a file; of more before it where a digest is begun."""
+    found = hashlib.sha256() if found is None else found
+    with open(path, "rb") as file:
+        while part := file.read(PART):
+            found.update(part)
+    return found.hexdigest()
 
 
 def forget():

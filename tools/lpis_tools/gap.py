@@ -5,12 +5,11 @@ from __future__ import annotations
 import hashlib
 import json
 import os
-import sqlite3
 
 import numpy
 
-from . import between, conflicts, files, ways
-from .cell import record_of
+from . import between, conflicts, ways
+from .cell import record_of, written
 from .noding import cells_along, key_of
 
 RULE = "lpis gaps 1"  # what another rule gave is not taken
@@ -70,14 +69,9 @@ def name_of(folder, cell):
 
 def made(path, number, results):
     """The name of the file that has the arms of a cell; it is made where it is not there."""
-    base = sqlite3.connect(f"file:{path}?mode=ro", uri=True)
-    try:
-        lines = Lines(base, number, results)
-    finally:
-        base.close()
-    name = lines.name()
-    if not os.path.exists(os.path.join(results, name)):
-        with files.anew(os.path.join(results, name)) as file:
-            for loss in conflicts.between_all(between.arms(lines.a, lines.b, lines.names, lines.width, lines.own)):
-                file.write(json.dumps(("loss", record_of(loss, loss.words))) + "\n")
-    return name
+    return written(path, results, lambda base: Lines(base, number, results), records_of)
+
+
+def records_of(lines):
+    for loss in conflicts.between_all(between.arms(lines.a, lines.b, lines.names, lines.width, lines.own)):
+        yield "loss", record_of(loss, loss.words)

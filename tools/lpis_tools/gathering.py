@@ -12,7 +12,6 @@ from . import around, conflicts, land, rounding, ways
 from .conflicts import ORDER, Loss
 
 CONFLICTS = ("overlap", "gap", "outside")
-FIELDS = "kind, names, words, told, shape, width, area, layer, rows, is_grave, x, y"
 FOUND = "SELECT id FROM row WHERE is_cover = ? AND name = ? AND is_kept"
 TEXT = "SELECT cell, at FROM row JOIN text USING (id) WHERE is_cover = 0 AND name = ? AND is_kept"
 AS_TOLD, AS_FOUND = "words || told", "words"
@@ -39,14 +38,11 @@ class Losses:
     def __init__(self, base):
         self.base = base
 
-    def add(self, loss, told="", conflict=(0, None, None)):
-        place, shape = loss.place() or (None, None), None if loss.shape is None else shapely_wkb.dumps(loss.shape)
-        whole = Loss(loss.kind, loss.names, loss.words + told, None, loss.width, loss.area, is_grave=loss.is_grave)
-        self.put(loss.kind, loss.names, loss.words, told, shape, loss.width, loss.area, loss.layer, loss.rows, loss.is_grave, place, whole.stops(), conflict)
-
-    def put(self, kind, names, words, told, shape, width, area, layer, rows, is_grave, place, stops, conflict):
-        self.base.execute("INSERT INTO loss VALUES (NULL, ?, ?, ?, ?, ?, ?, ?, ?, ?, ?, ?, ?, ?, ?, ?, ?, ?)",
-                          (*conflict, stops, ORDER.index(kind), width or area or 0, BETWEEN.join(names), words, told, shape, width, area, layer, json.dumps(rows), is_grave, *place))
+    def add(self, loss, told="", blob=None, conflict=(0, None, None)):
+        """Adds a loss, with what is told behind its words. `blob` is its shape where that is not made."""
+        blob = shapely_wkb.dumps(loss.shape) if blob is None and loss.shape is not None else blob
+        sizes = ORDER.index(loss.kind), loss.width or loss.area or 0, BETWEEN.join(loss.names), loss.words, told, blob, loss.width, loss.area
+        self.base.execute(f"INSERT INTO loss VALUES (NULL{', ?' * 17})", (*conflict, loss.stops(), *sizes, loss.layer, json.dumps(loss.rows), loss.is_grave, *(loss.place() or (None, None))))
 
     def __iter__(self):
         return self.those("1 ORDER BY is_stopping DESC, kind, size DESC, names, seq", AS_TOLD)
@@ -155,8 +151,7 @@ class Gathered:
         conflict = (0, None, None)
         if kind in CONFLICTS and loss.is_wide():
             conflict = (1, *places) if kind == "outside" else (1, min(places), max(places))
-        shape = bytes.fromhex(found["shape"]) if found["shape"] else None
-        self.losses.put(kind, loss.names, loss.words, found["told"], shape, loss.width, loss.area, loss.layer, numbers, loss.is_grave, loss.known_place or (None, None), loss.stops(), conflict)
+        self.losses.add(loss, found["told"], bytes.fromhex(found["shape"]) if found["shape"] else None, conflict)
 
     # The tables.
 

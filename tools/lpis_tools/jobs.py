@@ -59,13 +59,13 @@ def work(folder, words):
 
 def do_all(folder, kind, count, workers, shown):
     """Has the jobs of a kind done by worker processes; answers the names of their files, in order."""
-    waiting, names, lock = queue.SimpleQueue(), [None] * count, threading.Lock()
-    for number in range(count):
+    waiting, names, lock, workers = queue.SimpleQueue(), [None] * count, threading.Lock(), max(1, min(workers, count))
+    for number in [*range(count), *[None] * workers]:  # each worker ends at a None
         waiting.put(number)
 
     def go():
         with ending.start([sys.executable, TOOL, "job", folder], stdin=subprocess.PIPE, stdout=subprocess.PIPE, text=True) as worker:
-            while (number := taken(waiting)) is not None:
+            for number in iter(waiting.get, None):
                 try:
                     print(kind, number, file=worker.stdin, flush=True)
                     names[number] = worker.stdout.readline().strip() or None
@@ -78,20 +78,13 @@ def do_all(folder, kind, count, workers, shown):
             with contextlib.suppress(BrokenPipeError):
                 worker.stdin.close()
 
-    threads = [threading.Thread(target=go, daemon=True) for _ in range(max(1, min(workers, count)))]
+    threads = [threading.Thread(target=go, daemon=True) for _ in range(workers)]
     for thread in threads:
         thread.start()
     for thread in threads:
         thread.join()
     judge(names, kind)
     return names
-
-
-def taken(waiting):
-    try:
-        return waiting.get_nowait()
-    except queue.Empty:
-        return None
 
 
 def done(folder, kind, plan):

@@ -14,20 +14,13 @@ from dataclasses import dataclass, field
 
 from . import databases, ending, sheets, systems, unforeseen, wkb, wkt
 from .printing import readable
+from .trouble import Trouble
 
 COLUMNS = {"parcels": ["parcel"], "covers": ["piece", "parcel", "class"], "classes": ["class", "percent"]}
 SHAPED = ("parcels", "covers")
 BETWEEN = 1.0  # metres: wider land that no parcel has is a road, or whatever else is none
 PACKAGE = b"SQLite format 3\0"
 USUAL = "that of most shapes"
-
-
-class Trouble(Exception):
-    """The land cannot be read: one line for each reason."""
-
-    def __init__(self, *reasons):
-        super().__init__("\n".join(reasons))
-        self.reasons = list(reasons)
 
 
 class Row:
@@ -118,26 +111,16 @@ def is_of_another_program(folder):
 
 
 def connected(path):
-    """A connection for reading. A file of another user in a folder that only that one may write is read as one that does not change, where no -wal is there."""
-    for mode in ("mode=ro", "immutable=1"):
-        connection = sqlite3.connect(f"file:{path.replace('%', '%25').replace('?', '%3f').replace('#', '%23')}?{mode}", uri=True)
-        try:
-            connection.execute("SELECT count(*) FROM sqlite_master")
-            return databases.guarded(connection)
-        except (sqlite3.Error, UnicodeDecodeError) as error:  # a schema that is no text is the second
-            connection.close()
-            if "locked" in str(error):
-                raise Trouble(f"{path}: another program is writing it ({error})") from None
-            if mode != "mode=ro" or os.path.exists(f"{path}-wal"):
-                raise Trouble(f"{path}: {error}") from None
+    """A connection for reading."""
+    try:
+        return databases.opened(path)
+    except (sqlite3.Error, UnicodeDecodeError) as error:
+        raise Trouble(f"{path}: another program is writing it ({error})" if "locked" in str(error) else f"{path}: {error}") from None
 
 
 def is_package(path):
-    connection = connected(path)
-    try:
+    with contextlib.closing(connected(path)) as connection:
         return connection.execute("SELECT count(*) FROM sqlite_master WHERE name = 'gpkg_contents'").fetchone() == (1,)
-    finally:
-        connection.close()
 
 
 def as_package(path, spare, *words):

@@ -68,10 +68,7 @@ class LastYear:
 
     def __init__(self, folder):
         self.folder, self.system, self.counts = folder, previous.system_of(folder), None
-        try:
-            self.folders = [os.path.join(folder, region) for region in years.regions_of(folder)]
-        except years.Trouble as trouble:
-            raise land.Trouble(str(trouble)) from None
+        self.folders = [os.path.join(folder, region) for region in years.regions_of(folder)]
         for name in ("covers", "parcels"):
             for path in (tables.path_of(each, name) for each in self.folders):
                 if not os.path.isfile(path):
@@ -107,9 +104,9 @@ class LastYear:
 
     def put(self, base, paths):
         """Takes the corners into a store, piece by piece, from the files that the parts gave. None of them where this year's land lies is trouble."""
-        count, is_near, shown = 0, False, progress.Progress("country", "last year's corners by their places", len(paths), "parts")
+        count, is_near = 0, False
         land_box = base.execute("SELECT min(left), min(low), max(right), max(high) FROM row").fetchone()
-        for path in paths:
+        for path in progress.each(paths, "country", "last year's corners by their places", len(paths), "parts", 1):
             base.execute("ATTACH ? AS part", (path,))
             base.execute("INSERT INTO corner SELECT id + ?, places FROM part.corner", (count,))
             base.execute("INSERT INTO box_of_corner SELECT id + ?, left, right, low, high FROM part.corner", (count,))
@@ -118,7 +115,6 @@ class LastYear:
             count += base.execute("SELECT count(*) FROM part.corner").fetchone()[0]
             base.commit()
             base.execute("DETACH part")
-            shown.add()
         if not is_near:
             raise land.Trouble(f"{self.folder}: no piece of its tables lies where this source does: is it of another place, or of another system?")
 

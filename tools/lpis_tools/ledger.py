@@ -1,12 +1,12 @@
 """The log beside a register: a line a published year, each with the digest of the line before, and what the register held then."""
 
+import contextlib
 import fcntl
 import hashlib
 import json
 import os
-from contextlib import contextmanager
 
-from . import progress, registers
+from . import files, progress, registers
 
 FIRST = "0" * 64
 AT_ONCE = 1000  # rows between two looks at the clock
@@ -20,29 +20,19 @@ def path_of(register):
     return f"{register}.log"
 
 
-def digest_of(path):
-    """The sha256 of a file."""
-    digest = hashlib.sha256()
-    with open(path, "rb") as file:
-        while block := file.read(1 << 20):
-            digest.update(block)
-    return digest.hexdigest()
-
-
-def digests_of(folder, names, what):
-    """The sha256 of files of a folder, by their names, with the progress of their bytes."""
-    shown, found = progress.Bytes(progress.Quiet.tool, what, sum(os.path.getsize(os.path.join(folder, name)) for name in names)), {}
-    for name in names:
-        found[name] = digest_of(os.path.join(folder, name))
-        shown.took(os.path.getsize(os.path.join(folder, name)))
+def digests_of(paths, what):
+    """The sha256 of files by their names, with the progress of their bytes."""
+    shown, found = progress.Bytes(progress.Quiet.tool, what, sum(map(os.path.getsize, paths.values()))), {}
+    for name, path in paths.items():
+        found[name] = files.digest(path)
+        shown.took(os.path.getsize(path))
     shown.end()
     return found
 
 
 def content_of(register):
     """The sha256 of each table's rows, in the order of their keys: the same for the same content, however the file is laid out."""
-    base = registers.opened(register)
-    try:
+    with contextlib.closing(registers.opened(register)) as base:
         there = {name for (name,) in base.execute("SELECT name FROM sqlite_schema WHERE type = 'table'")}
         digests, tables = {}, [table for table in ORDERED if table in there]
         shown = progress.Progress(progress.Quiet.tool, "reading the register", sum(base.execute(f"SELECT count(*) FROM {table}").fetchone()[0] for table in tables), "rows")
@@ -56,8 +46,6 @@ def content_of(register):
             digests[table] = digest.hexdigest()
         shown.end()
         return digests
-    finally:
-        base.close()
 
 
 def lines_of(register):
@@ -73,7 +61,7 @@ def own_digest(entry):
     return hashlib.sha256(json.dumps({key: entry[key] for key in sorted(entry) if key != "own"}).encode()).hexdigest()
 
 
-@contextmanager
+@contextlib.contextmanager
 def held(register):
     """The log, open at its end, held by one process at a time."""
     mode = os.stat(register).st_mode & 0o666 if os.path.exists(register) else 0o666

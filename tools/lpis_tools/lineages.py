@@ -1,40 +1,21 @@
 """The marked splits and merges of a lineage table, with the shapes that a register keeps of the last release."""
 
 import sqlite3
-from dataclasses import dataclass
 
 from . import polygons
+from .areas import AREA, decimal
+from .changes import Group
 from .registers import Kept
 from .tables import shown
 
 
-@dataclass
-class Group:
-    """A split, whose whole is an old shape, or a merge, whose whole is a new one; `others` are its successors, or its predecessors."""
-
-    is_merge: bool
-    name: bytes
-    others: list
-    rows: list
-
-    def in_words(self):
-        return "a merge into it" if self.is_merge else "a split of it"
-
-
 def group_of(table, name):
-    """The marked split or merge of an identifier, or None where marked rows make none. A kept successor is not among its predecessors."""
+    """The marked split or merge of an identifier, and its rows; None and no rows where marked ones make none. A kept successor is not among the parts."""
     marked = [(row, table.field(record, "old"), table.field(record, "new")) for row, record in table.rows() if table.field(record, "exact") == b"1"]
     split = [(row, new) for row, old, new in marked if old == name]
     merge = [(row, old) for row, old, new in marked if new == name]
-    if merge:
-        return Group(True, name, sorted(old for _, old in merge), [row for row, _ in merge])
-    return Group(False, name, sorted(new for _, new in split), [row for row, _ in split]) if len(split) > 1 else None
-
-
-def blocks_of(path):
-    """The `exact` blocks of a certificate, each as its kind and its identifier."""
-    with open(path, "rb") as file:
-        return [tuple(line.split()[1:3]) for line in file if line.startswith(b"exact ") and len(line.split()) == 4]
+    found = merge or (split if len(split) > 1 else [])
+    return Group(bool(merge), name, tuple(sorted(part for _, part in found))) if found else None, [row for row, _ in found]
 
 
 class OfGroups:
@@ -70,18 +51,18 @@ class OfGroups:
         name, table = self.refusal.names[0].encode(), self.table("lineage")
         if self.refusal.exact_code == "6a":
             self.say_blocks()
-        group = group_of(table, name) if table else None
+        group, rows = group_of(table, name) if table else (None, [])
         if group is None:
             if table:
                 self.say(f"no marked rows of {table.path} are a split of {shown(name)}, or a merge into it")
             return
-        self.say(f"{shown(name)} has {len(group.rows)} marked rows, {group.in_words()}:")
-        for row in group.rows:
+        self.say(f"{shown(name)} has {len(rows)} marked rows, {'a merge into it' if group.is_merge else 'a split of it'}:")
+        for row in rows:
             self.say_row_of_lineage(table, row, table.record(row))
         kept = self.kept()
-        whole, parts = self.find_new([group.name]) if group.is_merge else [], [] if group.is_merge else self.find_new(group.others)
+        whole, parts = self.find_new([group.name]) if group.is_merge else [], [] if group.is_merge else self.find_new(group.parts)
         if kept:
-            old = self.find_old(kept, [*group.others, group.name] if group.is_merge else [group.name])
+            old = self.find_old(kept, [*group.parts, group.name] if group.is_merge else [group.name])
             self.say_difference(*((whole, old) if group.is_merge else (old, parts)))
 
     def find_new(self, names):
@@ -105,7 +86,7 @@ class OfGroups:
             return
         more = sum(map(polygons.doubled, parts)) - polygons.doubled(wholes[0])
         self.say("the parts together have the area of the whole" if more == 0
-                 else f"the parts together have {polygons.square_metres(abs(more))} m2 {'more' if more > 0 else 'less'} than the whole")
+                 else f"the parts together have {decimal(abs(more), AREA)} m2 {'more' if more > 0 else 'less'} than the whole")
         self.stretches = polygons.residue(wholes[0], parts)
         if not self.stretches:
             self.say("their borders agree: `lpis exact` finds flats for them")
@@ -126,7 +107,8 @@ class OfGroups:
             self.say("name the certificate by --cert CERT to see its blocks")
             return
         try:
-            blocks = blocks_of(self.cert)
+            with open(self.cert, "rb") as file:
+                blocks = [line.split()[1:3] for line in file if line.startswith(b"exact ") and len(line.split()) == 4]
         except OSError as error:
             self.say(f"{self.cert}: {error.strerror}")
             return

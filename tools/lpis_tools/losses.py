@@ -14,10 +14,9 @@ from shapely.geometry import mapping
 
 from . import balance, causes, cells, files, land, outcome
 from .accepting import Left
-from .conflicts import ORDER, Loss, Source, find_conflicts, find_names, number_of, parts_of, polygons_by
+from .conflicts import ORDER, Loss, Source, find_conflicts, find_names, polygons_by
 from .findings import readable
 
-__all__ = ["Loss", "conflicts_alone", "first_lines", "number_of", "parts_of", "polygons_by", "report"]
 MOST_TOLD = 20
 MOST_REASONS = 3
 APART = ("between", "kept")  # kinds that have files of their own, where there are any
@@ -49,7 +48,7 @@ def find_all(source, tables, say, whole, seen, between, of_gaps=None):
     for entry in whole.left_out(layers):
         name, members = entry.row[Source.KEYS[entry.layer]], [member for found in entry.founds for member in found.members]
         shape = polygons_by(members) if members else None
-        source.losses.append(Loss("left out", [name], "it was left out before the rounding: prepared.csv has the reason", shape, None, entry.area, entry.layer, [number_of(entry.row)]))
+        source.losses.append(Loss("left out", [name], "it was left out before the rounding: prepared.csv has the reason", shape, None, entry.area, entry.layer, [entry.row.number]))
     for name, layer in layers.items():
         source.losses += [Loss("column", [column], f"the column {column} of the layer {name} is in no table", layer=name) for column in layer.others]
     found = outcome.Outcome(source, tables, whole).find()

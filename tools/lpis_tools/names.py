@@ -8,10 +8,6 @@ import os
 from . import cells, identifiers
 
 
-class Unreadable(OSError):
-    """The table of names is there, and is none."""
-
-
 class SourceNames:
     """The names that tools/prepare changed, by kind: parcel, piece and class."""
 
@@ -23,7 +19,7 @@ class SourceNames:
         except FileNotFoundError:
             pass  # nothing was changed
         except (UnicodeDecodeError, csv.Error) as error:
-            raise Unreadable(f"{path} cannot be read: {error}") from None
+            raise OSError(f"{path} cannot be read: {error}") from None
 
     def of(self, identifier):
         """What identifiers.csv has of an identifier of the tables, as (kind, old)."""

@@ -8,23 +8,24 @@ from fractions import Fraction
 import numpy
 
 from . import wkb
+from .trouble import Trouble
 
 PART = 1 << 16  # edges or shapes at once
 MOST_PASSES = 100
 WIDE = 1 << 31  # differences below it have products that fit a number of 64 bits
 
 
-class Restless(Exception):
+class Restless(Trouble):
     """The borders do not come to rest."""
 
 
 class Rings:
-    """The rings of shapes in one array of points, in metres."""
+    """The rings of shapes in one array of points, in metres. A shape may be None."""
 
     def __init__(self, founds, first=0):
         parts, sizes, owners, holes = [], [], [], []
         for owner, found in enumerate(founds, first):
-            for at, count, is_hole in wkb.rings_of(found.blob):
+            for at, count, is_hole in wkb.rings_of(found.blob) if found else ():
                 parts.append(found.blob[at : at + 16 * count])
                 sizes.append(count)
                 owners.append(owner)
@@ -65,11 +66,6 @@ def edges_of(founds):
     """The edges of many shapes, some of them at a time."""
     parts = [Rings(founds[start : start + PART], start).edges() for start in range(0, len(founds), PART)]
     return (numpy.concatenate(some) for some in zip(*parts)) if parts else (numpy.zeros((0, 4)), numpy.zeros(0, int))
-
-
-def numbered(keys):
-    """Different keys, ascending, and the number of each."""
-    return numpy.unique(keys, return_inverse=True)
 
 
 def expanded(counts):
@@ -170,11 +166,11 @@ class Network:
     def take(self, first, last, sides):
         backwards = first > last
         first, last = numpy.where(backwards, last, first), numpy.where(backwards, first, last)
-        keys, number = numbered((first << 32) | last)
+        keys, number = numpy.unique((first << 32) | last, return_inverse=True)
         self.first, self.last = keys >> 32, keys & 0xFFFFFFFF
         edge, owner, count = sides
         count = numpy.where(backwards[edge], -count, count)
-        pairs, place = numbered((number[edge] << 32) | owner)
+        pairs, place = numpy.unique((number[edge] << 32) | owner, return_inverse=True)
         counts = numpy.bincount(place, count, len(pairs)).astype(int)
         kept = counts != 0
         self.edge, self.owner, self.count = pairs[kept] >> 32, pairs[kept] & 0xFFFFFFFF, counts[kept]

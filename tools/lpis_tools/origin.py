@@ -9,6 +9,7 @@ import re
 from collections import Counter
 
 from . import balance, cells
+from .areas import hectares
 from .printing import escaped
 
 csv.field_size_limit(1 << 30)
@@ -17,10 +18,6 @@ NUMBER = re.compile(r"[+-]?[0-9]{1,18}(\.[0-9]{1,9})?", re.ASCII)
 GONE = ("lost", "left out")
 NEAR = 0.001  # square metres: the last digit of balance.csv
 LAYERS = {"parcels": "parcels", "covers": "pieces"}
-
-
-class Unreadable(OSError):
-    """A file of a run before is there, and is no table."""
 
 
 def paths(folder):
@@ -37,7 +34,7 @@ def records(folder, name):
             for row in csv.DictReader(file):
                 yield {name: cells.plain(value) for name, value in row.items() if isinstance(value, str)}
         except csv.Error as error:
-            raise Unreadable(f"{path} cannot be read to its end: {error}") from None
+            raise OSError(f"{path} cannot be read to its end: {error}") from None
 
 
 def number(text):
@@ -82,11 +79,6 @@ def faults(table, classes):
     wrong += [f"balance.csv, report.csv and prepared.csv are of other tables: {name} has {of_balance.get(name, 0.0):.3f} m2 there, and {of_tables.get(name, 0.0):.3f} here"
               for name in sorted({*of_balance, *of_tables}) if abs(of_balance.get(name, 0.0) - of_tables.get(name, 0.0)) > NEAR]
     return wrong
-
-
-def hectares(area):
-    """An area in square metres."""
-    return f"{area / 10_000:,.4f} ha"
 
 
 def lines(found):

@@ -13,7 +13,7 @@ from shapely.prepared import prep
 
 from . import land, polygons, progress
 from .along import Along, edges_of
-from .conflicts import LEAST, Loss, Source, by_geos, number_of, parts_of, polygons_by, width_of
+from .conflicts import LEAST, Loss, Source, by_geos, parts_of, polygons_by, width_of
 from .snapping import pixel_of
 
 ROUNDED = 0.001  # metres: what a border moves by rounding, at most
@@ -110,10 +110,10 @@ class Outcome:
         """A row that has a row in the tables."""
         for other in OTHERS[name]:
             if record[other] != row[other]:
-                self.add("changed", name, [row[column]], f"its {other} is {row[other]} in the source and {record[other]} in the tables", [number_of(row)], None).is_grave = True
-        if not self.source.shapes.has(row):
+                self.add("changed", name, [row[column]], f"its {other} is {row[other]} in the source and {record[other]} in the tables", [row.number], None).is_grave = True
+        if id(row) not in self.source.shaped:
             after = self.valid(name, row[column], members)
-            self.add("made", name, [row[column]], f"{row.why or 'it has no shape that can be used'}: it was made of its pieces", [number_of(row)], after)
+            self.add("made", name, [row[column]], f"{row.why or 'it has no shape that can be used'}: it was made of its pieces", [row.number], after)
             self.whole.book(row, after.area, 0.0)
             return
         if self.whole.is_as_read(row) and is_rounded(row.found.members, members):
@@ -121,7 +121,7 @@ class Outcome:
             self.whole.book(row, before, area - before)
             self.least(name, row, column, before, area)
             return
-        now = self.source.shapes.get(id(row))
+        now = self.source.shape(row)
         self.compare(name, row, column, self.before(row, now), now, self.valid(name, row[column], members))
 
     @staticmethod
@@ -145,21 +145,21 @@ class Outcome:
         is_grave = change > before.length * ROUNDED + TINY
         if is_grave or self.is_greatest(name, change):
             words = f"{gone.area:.3f} m2 went and {come.area:.3f} m2 came, from {before.area:.3f} to {after.area:.3f} m2"
-            loss = Loss("changed", [row[column]], words, by_geos("the change", named, gone.union, come), None, change, name, [number_of(row)], is_grave)
+            loss = Loss("changed", [row[column]], words, by_geos("the change", named, gone.union, come), None, change, name, [row.number], is_grave)
             self.source.losses += [loss] if is_grave else []
             self.keep_greatest(name, change, loss)
         narrow = [(what, part) for what, found in (("a spike", gone), ("a notch", come)) for part in parts_of(found) if width_of(part) < LEAST and part.length > 4 * ROUNDED]
         for (what, part), leads_away in zip(narrow, lead_away(after, [part for _, part in narrow])):
             if leads_away:
                 words = f"{what} of {part.length / 2:.3f} m, narrower than a millimetre, is not in the tables"
-                self.source.losses.append(Loss("spike", [row[column]], words, part, None, part.area, name, [number_of(row)]))
+                self.source.losses.append(Loss("spike", [row[column]], words, part, None, part.area, name, [row.number]))
 
     def least(self, name, row, column, before, area):
         """Of a row that was rounded alone the change is no more than its border has room for."""
         change = abs(area - before)
         if self.is_greatest(name, change):
             words = f"rounded alone, from {before:.3f} to {area:.3f} m2"
-            self.keep_greatest(name, change, Loss("changed", [row[column]], words, self.source.shapes.get(id(row)), None, change, name, [number_of(row)]))
+            self.keep_greatest(name, change, Loss("changed", [row[column]], words, self.source.shape(row), None, change, name, [row.number]))
 
     def is_greatest(self, name, change):
         return name == "parcels" and (self.greatest is None or change > self.greatest[0])
@@ -169,14 +169,14 @@ class Outcome:
             self.greatest = change, loss
 
     def lose(self, name, column, row, is_told):
-        shape = self.source.shapes.get(id(row))
-        self.add("lost", name, [row[column]], NAMESAKE if is_told and row.found else self.why_lost(name, row), [number_of(row)], shape, self.whole.area_of(row))
+        shape = self.source.shape(row)
+        self.add("lost", name, [row[column]], NAMESAKE if is_told and row.found else self.why_lost(name, row), [row.number], shape, self.whole.area_of(row))
         self.whole.book(row, self.whole.area_of(row) if shape is None else shape.area, None)
 
     def why_lost(self, name, row):
         if row.found is None:
             return row.why
-        if row.found and self.source.shapes.get(id(row)) is None:
+        if row.found and self.source.shape(row) is None:
             return "its shape has no area"
         if name == "parcels":
             return "narrower than a millimetre, or other parcels' pieces have its whole place" if row["parcel"] in self.source.pieces_of else "no piece names it"

@@ -11,7 +11,7 @@ import string
 from dataclasses import dataclass, field
 from decimal import Decimal
 
-from . import printing
+from . import polygons, printing
 from .areas import hectares
 
 HERE = os.path.dirname(os.path.realpath(__file__))
@@ -81,15 +81,6 @@ class Steps(dict):
         return letters
 
 
-def box_of(shapes):
-    """Least x and y and greatest x and y of the shells of some shapes, or None."""
-    points = [point for members in shapes for member in members for point in member[0]]
-    if not points:
-        return None
-    xs, ys = [p[0] for p in points], [p[1] for p in points]
-    return min(xs), min(ys), max(xs), max(ys)
-
-
 class Map:
     """Layers and marks in one frame of whole numbers, north above."""
 
@@ -105,12 +96,12 @@ class Map:
             self.note = f"{len(pieces.shapes)} pieces are not drawn: they have {points} points, and at most {MOST_POINTS} are"
             self.layers["pieces"] = Layer()
         shapes = [shape for layer in self.layers.values() for shape in layer.shapes] + [[[[mark[:2]]]] for mark in self.marks]
-        left, low, right, self.top = (int(value) for value in box_of(shapes) or (0, 0, 1, 1))
+        left, low, right, self.top = (int(value) for value in polygons.box(shapes) or (0, 0, 1, 1))
         self.left = left
         self.unit = int(max(right - left, self.top - low) // FAR) + 1
         self.whole = self.frame((left, low, right, self.top))
         near = [shape for name, shape in zip(self.layers["parcels"].names, self.layers["parcels"].shapes) if name not in self.strays]
-        self.first = self.frame(box_of(near or shapes) or (0, 0, 1, 1))
+        self.first = self.frame(polygons.box(near or shapes) or (0, 0, 1, 1))
         self.cells = cells or (1, [])
 
     def at(self, x, y):

@@ -7,7 +7,7 @@ from collections import Counter
 from itertools import islice
 
 from . import balance, land, naming, preparing, store, wkb
-from .conflicts import Loss, number_of, polygons_by
+from .conflicts import Loss, polygons_by
 from .store import Row
 
 TABLES, SHAPES, VALID, NAMES, PARCELS, PIECES, STRANGERS, BARE, CLASSES, CONFLICTS = range(10)  # steps, in the order in which a region's are told
@@ -227,4 +227,4 @@ def left_out(base):
         row = Row(base, *fields)
         layer = "covers" if "piece" in row.fields else "parcels"
         shape = polygons_by(wkb.unpacked(blob)) if blob else None
-        yield Loss("left out", [row["piece" if layer == "covers" else "parcel"]], "it was left out before the rounding: prepared.csv has the reason", shape, None, area, layer, [number_of(row)])
+        yield Loss("left out", [row["piece" if layer == "covers" else "parcel"]], "it was left out before the rounding: prepared.csv has the reason", shape, None, area, layer, [row.number])

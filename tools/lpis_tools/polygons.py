@@ -114,12 +114,6 @@ def doubled(members):
     return sum((1 if number == 0 else -1) * abs(doubled_area(ring)) for member in members for number, ring in enumerate(member))
 
 
-def square_metres(doubled_millimetres):
-    """A doubled area, not below 0, in square metres with every digit."""
-    value = 5 * doubled_millimetres
-    return f"{value // 10**7}.{value % 10**7:07}"
-
-
 def edges(members):
     """The edges in normal orientation: shells counter-clockwise, holes clockwise, loops left out."""
     for member in members:

@@ -2,7 +2,6 @@
 
 from __future__ import annotations
 
-import csv
 import filecmp
 import os
 import shutil
@@ -196,15 +195,8 @@ class Run:
             used = sorted({row["class"] for row in work.layers["covers"].rows})
             print(f"classes: write {self.path('classes.csv')}, a row class,percent for each of: {' '.join(used)}")
         else:
-            write_classes(classes, os.path.join(self.made, "classes.csv"))
+            rounding.write(self.made, "classes.csv", ["class", "percent"], sorted(classes.items()))
 
     def put(self, _whole):
         """Puts the tables in their place; the balance stands there."""
         recipe.put(self.made, self.words.out, [name for name in TABLES if os.path.exists(os.path.join(self.made, name))])
-
-
-def write_classes(classes, path):
-    with open(path, "w", newline="", encoding="utf-8") as file:
-        table = csv.writer(file, lineterminator="\n")
-        table.writerow(["class", "percent"])
-        table.writerows(sorted(classes.items()))

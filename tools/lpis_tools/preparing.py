@@ -6,10 +6,10 @@ from shapely import wkb as shapely_wkb
 from shapely.validation import explain_validity
 
 from . import land, progress, systems, unforeseen, wkb
-from .balance import area_of
 from .boxes import Boxes
 from .conflicts import enclosed_by, members_of, polygons_by
 from .findings import NOTES, Finding
+from .sizes import areas_of
 
 FAR = 20_000_000.0
 ZONE = 1_000_000.0
@@ -223,4 +223,4 @@ def size_of(row):
         inner = shape.representative_point() if shape.is_valid else None
     except ValueError:
         inner = None
-    return area_of(row.found.members), (inner.x, inner.y) if inner else ((box[0] + box[2]) / 2, (box[1] + box[3]) / 2)
+    return areas_of([row.found])[0], (inner.x, inner.y) if inner else ((box[0] + box[2]) / 2, (box[1] + box[3]) / 2)

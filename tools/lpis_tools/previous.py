@@ -74,7 +74,7 @@ class Previous:
         starts, owners, ways, told = numpy.searchsorted(edge, numpy.arange(len(edges.ends) + 1)), owners_of(edges), {}, {}
         for one in others(edge, over, is_moved, borders):
             part = slice(starts[one], starts[one + 1])
-            way = Way(around, corners.points[corner[part]].tolist(), over[part].tolist(), is_moved[part].tolist())
+            way = Way(around, corners.points[corner[part]].tolist(), over[part].tolist())
             ways[one] = way.numbers()
             for before, after in way.changes():
                 told.setdefault((before, after), set()).update(owners(one))
@@ -151,8 +151,8 @@ class Way:
     """An edge's way over corners, parted at those that last year had, with last year's borders between these. `before` are the corners of this year alone,
     `over` their numbers where they were moved."""
 
-    def __init__(self, around, before, over, is_moved):
-        self.around, self.before, self.over, self.is_moved = around, before, over, is_moved
+    def __init__(self, around, before, over):
+        self.around, self.before, self.over = around, before, over
         stops = [0, *(place for place in range(1, len(over) - 1) if around.has(over[place])), len(over) - 1]
         self.parts = [(first, last, around.between(over[first], over[last])) for first, last in zip(stops, stops[1:])]
 

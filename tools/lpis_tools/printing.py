@@ -8,7 +8,6 @@ import sys
 
 # Of what is printed: all but line ends, tabs, and the return before a line that is printed anew.
 UNSEEN = re.compile("(?!^\r)[\x00-\x08\x0b-\x1f\x7f-\x9f\u061c\u200e\u200f\u2028-\u202e\u2066-\u2069\ud800-\udfff]")
-SHORT = {"\n": "\\n", "\r": "\\r", "\t": "\\t"}
 
 
 def escaped(text):
@@ -22,10 +21,8 @@ def readable(name):
 
 
 def written_out(letter):
-    code = ord(letter)
-    if 0xDC80 <= code <= 0xDCFF:  # a byte that is no letter
-        code -= 0xDC00
-    return SHORT.get(letter) or (f"\\x{code:02x}" if code < 256 else f"\\u{code:04x}" if code < 65536 else f"\\U{code:08x}")
+    byte = ord(letter) - 0xDC00  # of what is no letter
+    return f"\\x{byte:02x}" if 0x80 <= byte <= 0xFF else letter.encode("unicode_escape").decode("ascii")
 
 
 class Printed(io.TextIOWrapper):

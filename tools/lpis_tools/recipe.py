@@ -8,7 +8,6 @@ from collections import Counter
 
 from . import accepting, ending, files, land, progress, shapely_there, sheets, unforeseen, words
 
-TROUBLE = 64
 MOST_WIDE = 100.0  # metres
 TABLES = ("parcels", "covers", "classes")
 REPORT = "OUT/report.csv, OUT/report.geojson and OUT/balance.csv have what was lost, settled and changed."
@@ -66,12 +65,8 @@ def stop_at_once(name, *folders):
     ending.listen(last)
 
 
-def run(name, text):
-    """The comparison from its words to its report, and its status."""
-    return words.ended(name, lambda: compared(name, text), land.Trouble)
-
-
 def compared(name, text):
+    """The comparison from its words to its report, and its status."""
     said, say = parser(name, text).parse_args(accepting.arguments_of(sys.argv[1:])), teller(name)
     shapely_there.go_on(name)
     from . import balance, conflicts, losses
@@ -192,12 +187,12 @@ def differing_classes(table, of_land, path):
 
 
 def lacking_classes(table, layers, path):
-    from .conflicts import Loss, number_of
+    from .conflicts import Loss
 
     known, rows, column = {record.get("class") for record in table}, {}, column_of(table)
     for row in layers["covers"].rows:
         if row["class"] not in known:
-            rows.setdefault(row["class"], []).append(number_of(row))
+            rows.setdefault(row["class"], []).append(row.number)
     wrong = [Loss("class", [name], f"{len(found)} pieces have this class, and {path} has not: lpis refuses it (36)", layer="covers", rows=found) for name, found in rows.items()]
     most = 100 if column == "percent" else 1
     return wrong + [Loss("class", [record.get("class") or ""], f"its {column} is {record.get(column)!r}, no whole number from 0 to {most}: lpis refuses it (3b)", layer="classes")

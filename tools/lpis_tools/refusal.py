@@ -31,12 +31,6 @@ class Refusal:
     year: str = ""
     region: str = ""  # of a country
 
-    def as_parcels(self):
-        return self.names if self.kind in ("parcel", "parcels") else []
-
-    def as_pieces(self):
-        return self.names if self.kind in ("piece", "pieces") else []
-
 
 def read(line):
     """The refusal that a line reports, or None where it is no such line."""

@@ -2,55 +2,36 @@
 
 from __future__ import annotations
 
-import pathlib
+import contextlib
 import sqlite3
 
 from . import databases, polygons, unforeseen
+from .trouble import Trouble
 
 SECONDS = 60  # to wait for a publish that holds the register
 
 
-class Unreadable(Exception):
+class Unreadable(Trouble):
     """This file is no register that can be read."""
 
 
 def opened(path):
     """A connection that reads alone, or an error of SQLite: texts of the schema that are no letters are one too."""
+    unforeseen.at(path)
     try:
-        return connected(path)
+        return databases.opened(path, SECONDS)
     except UnicodeDecodeError as error:
         raise sqlite3.DatabaseError(f"its schema is damaged: {error}") from None
-
-
-def connected(path):
-    """Reads alone. Where the register's folder can't be written, and nobody holds the register, the file is read as one that does
-    not change."""
-    unforeseen.at(path)
-    name = pathlib.Path(path).resolve().as_uri()
-    connection = sqlite3.connect(f"{name}?mode=ro", uri=True, timeout=SECONDS)
-    try:
-        connection.execute("SELECT 1 FROM sqlite_schema").fetchone()
-        return databases.guarded(connection)
-    except sqlite3.OperationalError:
-        if not pathlib.Path(path).is_file() or pathlib.Path(f"{path}-wal").exists():
-            raise
-    connection.close()
-    connection = sqlite3.connect(f"{name}?immutable=1", uri=True)
-    connection.execute("SELECT 1 FROM sqlite_schema").fetchone()
-    return databases.guarded(connection)
 
 
 def facts(path):
     """The years of a register, and what it holds of the last of them."""
     try:
-        connection = opened(path)
-        try:
+        with contextlib.closing(opened(path)) as connection:
             years = [int(year) for (year,) in connection.execute("SELECT year FROM lpis_release ORDER BY year")]
             (live,), (all_of_them,) = connection.execute("SELECT count(*) FROM lpis_span WHERE until = 0 UNION ALL SELECT count(*) FROM lpis_span")
             has_texts = connection.execute("SELECT 1 FROM sqlite_schema WHERE name = 'lpis_text'").fetchone()
             shapes = connection.execute("SELECT count(*) FROM lpis_text").fetchone()[0] if has_texts else 0
-        finally:
-            connection.close()
     except (sqlite3.Error, ValueError, TypeError) as error:  # a year that is no number, text that is none
         raise Unreadable(f"{path} is no register of version 2 or 3 that can be read: {databases.why(error)}") from None
     return {"path": path, "years": years, "live": live, "identifiers": all_of_them, "shapes": shapes}

@@ -3,36 +3,24 @@ became of the parcels of an older release, which years a register has."""
 
 from __future__ import annotations
 
+import contextlib
 import datetime
-import hashlib
 import os
 from dataclasses import dataclass, field
 
-from . import codes, differences, ending, explaining, finding, origin, polygons, program, progress, registers
+from . import codes, differences, ending, explaining, ledger, origin, polygons, program, registers
 from .areas import AREA, ELIGIBLE, decimal
+from .files import digest
 from .tables import Table, path_of, shown
+from .trouble import Trouble
 
 TABLES = ("parcels", "covers", "classes")
 MOST_DIGITS = 9  # of a percentage that is shown; more are refused as it is
 
 
-class Trouble(Exception):
-    """The report cannot be made."""
-
-
-def digest(path):
-    with open(path, "rb") as file:
-        return hashlib.file_digest(file, "sha256").hexdigest() if hasattr(hashlib, "file_digest") else hashlib.sha256(file.read()).hexdigest()
-
-
 def digests(paths):
     there = {name: path for name, path in paths.items() if os.path.isfile(path)}
-    shown, found = progress.Bytes("report", "digests", sum(map(os.path.getsize, there.values()))), {}
-    for name, path in there.items():
-        found[name] = {"path": path, "bytes": os.path.getsize(path), "sha256": digest(path)}
-        shown.took(found[name]["bytes"])
-    shown.end()
-    return found
+    return {name: {"path": there[name], "bytes": os.path.getsize(there[name]), "sha256": found} for name, found in ledger.digests_of(there, "digests").items()}
 
 
 @dataclass
@@ -46,31 +34,24 @@ class Land:
 
 def read(folder):
     land = Land()
-    tables = {}
-    for name in TABLES:
-        try:
-            tables[name] = Table(path_of(folder, name), name)
-        except FileNotFoundError:
-            continue  # lpis says so
-    if "parcels" in tables:
-        table = tables["parcels"]
-        for _, record in table.rows():
-            members = polygons.read(table.field(record, "wkt"))
-            if members:
-                land.parcels.setdefault(shown(table.field(record, "parcel")), members)
-    if "covers" in tables:
-        table = tables["covers"]
-        for _, record in table.rows():
-            members = polygons.read(table.field(record, "wkt"))
-            if members:
-                land.pieces.append((*(shown(table.field(record, name)) for name in ("piece", "parcel", "class")), members))
-    if "classes" in tables:
-        table = tables["classes"]
+    for table, record in records(folder, "parcels"):
+        if members := polygons.read(table.field(record, "wkt")):
+            land.parcels.setdefault(shown(table.field(record, "parcel")), members)
+    for table, record in records(folder, "covers"):
+        if members := polygons.read(table.field(record, "wkt")):
+            land.pieces.append((*(shown(table.field(record, name)) for name in ("piece", "parcel", "class")), members))
+    for table, record in records(folder, "classes"):
         column, factor = ("percent", 1) if "percent" in table.names else ("eligible", 100)
-        for _, record in table.rows():
-            text = table.field(record, column)
-            land.percents[shown(table.field(record, "class"))] = int(text) * factor if text.isdigit() and len(text) <= MOST_DIGITS else None
+        text = table.field(record, column)
+        land.percents[shown(table.field(record, "class"))] = int(text) * factor if text.isdigit() and len(text) <= MOST_DIGITS else None
     return land
+
+
+def records(folder, name):
+    """The records of a table, each with the table; none where it is not there, which lpis says."""
+    with contextlib.suppress(FileNotFoundError):
+        table = Table(path_of(folder, name), name)
+        yield from ((table, record) for _, record in table.rows())
 
 
 def by_class(land):
@@ -192,8 +173,3 @@ def refusal_of(line, folder, cert):
     if explained.place:
         facts["place"] = [f"{float(value / 1000):.6f}" for value in explained.place]
     return facts
-
-
-def faults_of(command, folder):
-    """All faults, where they are of the tables or of the map."""
-    return finding.find(command, folder)[1]

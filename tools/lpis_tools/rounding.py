@@ -14,9 +14,8 @@ from shapely import wkb as shapely_wkb
 from . import faces, snapping
 from .between import Between
 from .land import BETWEEN
-from .noding import Restless
+from .polygons import metres
 
-__all__ = ["Conflicts", "Map", "Restless", "release", "shape_of"]
 MOST_NAMESAKES = 10  # parcels of one name, beyond which it is not asked which of them a piece lies outside of: they are rows of their own
 warnings.filterwarnings("ignore", module="shapely")
 
@@ -35,12 +34,6 @@ class Conflicts:
     outsides: list
     kept: list  # borders of last year's tables that this year's rounding has otherwise, each with its rows
     between: list  # land that nobody has between parcels
-
-
-def metres(value):
-    """Whole millimetres as metres with three decimals."""
-    sign, value = ("-" if value < 0 else ""), abs(value)
-    return f"{sign}{value // 1000}.{value % 1000:03}"
 
 
 class Map:

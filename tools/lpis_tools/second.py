@@ -7,13 +7,14 @@ import sys
 import tempfile
 
 from . import ending, registers
+from .trouble import Trouble
 
 TOOLS = os.path.dirname(os.path.dirname(os.path.realpath(__file__)))
 PLACES = (os.path.join(TOOLS, "audit"), os.path.join(os.path.dirname(TOOLS), "audit"))  # installed beside the tools, or of the repository
 YES = "two programs agree: yes, and their reports are equal"
 
 
-class Disagree(Exception):
+class Disagree(Trouble):
     """Two programs do not agree: words."""
 
 

@@ -27,10 +27,10 @@ def go_on_if_there():
         os.execv(SYSTEM, [SYSTEM, *sys.argv])
 
 
-def go_on(name, status=64):
+def go_on(name):
     """Returns where Shapely is there."""
     go_on_if_there()
     if is_there():
         return
     print(f"{name}: {LACKING}", file=sys.stderr)
-    sys.exit(status)
+    sys.exit(64)

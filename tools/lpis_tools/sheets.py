@@ -10,9 +10,7 @@ from dataclasses import dataclass
 from itertools import islice
 
 from . import unforeseen
-from .wkt import read as polygons_of
 
-__all__ = ["Fault", "Sheet", "encoding_of", "polygons_of", "read"]
 csv.field_size_limit(1 << 30)
 WINDOWS = "cp1252"
 PART = 1 << 20

@@ -3,7 +3,6 @@
 from __future__ import annotations
 
 import os
-import shutil
 import subprocess
 
 SNAKEFILE = """# A country by Snakemake, which runs what is missing or whose inputs changed: the parts of its source and the cells (by `country prepare`), the
@@ -31,6 +30,7 @@ REGIONS = [line.split()[1] for line in lines_of("country.txt") if line.startswit
 wildcard_constraints:
     part="[0-9a-f]{64}",
     cell="[0-9]+",
+    kind="cell|gap",
     region="[A-Za-z0-9_-]+",
 
 
@@ -66,28 +66,16 @@ rule part:
         "{COUNTRY} job .cells part {params.number} >/dev/null"
 
 
-rule cell:
+rule of_cell:
     input:
         ".cells/rows.db",
     output:
-        ".cells/{cell}.cell",
+        ".cells/{cell}.{kind}",
     resources:
         mem_mb=1000,
         runtime=60,
     shell:
-        "{COUNTRY} job .cells cell {wildcards.cell} >/dev/null"
-
-
-rule gap:
-    input:
-        ".cells/rows.db",
-    output:
-        ".cells/{cell}.gap",
-    resources:
-        mem_mb=1000,
-        runtime=60,
-    shell:
-        "{COUNTRY} job .cells gap {wildcards.cell} >/dev/null"
+        "{COUNTRY} job .cells {wildcards.kind} {wildcards.cell} >/dev/null"
 
 
 rule cut:
@@ -140,7 +128,3 @@ def surroundings(more):
 def knows(option):
     run = subprocess.run(["snakemake", "--help"], capture_output=True, text=True, check=False, cwd="/")
     return option in run.stdout
-
-
-def is_there():
-    return shutil.which("snakemake") is not None

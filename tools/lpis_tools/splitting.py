@@ -10,6 +10,7 @@ import zlib
 from array import array
 
 from . import balance, files, parting, progress, tiles
+from .areas import AREA, decimal
 from .streams import Folder, OneFile, Stream, Trouble, ended, measured, shown
 
 MOST_TOLD = 20
@@ -57,8 +58,7 @@ class Sums:
 
     def counts(self):
         """As `lpis country` writes them: parcels, pieces, the area of the parcels."""
-        area = 5 * self.doubled.get(PARCELS, 0)
-        return f"parcels {self.rows['parcels']} pieces {self.rows['covers']} area {area // 10**7}.{area % 10**7:07}"
+        return f"parcels {self.rows['parcels']} pieces {self.rows['covers']} area {decimal(self.doubled.get(PARCELS, 0), AREA)}"
 
 
 def tracked(source, name, stream):
@@ -147,11 +147,10 @@ def tiling_of(land, out, most, anew, say):
     """The tiling that stands in the folder, where it fits, else a new one; and the regions of each parcel."""
     path = os.path.join(out, "country.txt")
     if os.path.exists(path) and not anew:
-        with open(path, encoding="latin-1", newline="") as file:
-            try:
-                tiling = tiles.read(file.read())
-            except tiles.Unreadable as error:
-                raise Trouble(f"{path}: {error}; with --anew new cuts are made") from None
+        try:
+            tiling = tiles.of_folder(out)
+        except tiles.Unreadable as error:
+            raise Trouble(f"{error}; with --anew new cuts are made") from None
         say(f"the {len(tiling.folders)} regions of {path} are used again")
         places = placed(tiling, land.boxes)
         full = overfull(tiling, places, land.boxes, most)
@@ -228,31 +227,18 @@ def write_regions(land, tiling, places, out, say):
 def write_lineage(path, folders, out, say):
     """The new tables of lineage: the source's rows, the first to the first region, as many to each as a table may have. Answers their paths, and how many
     rows there are."""
-    header, count, waiting = "old,new\n", 0, iter(folders)
-    paths = [os.path.join(out, folder, "lineage.csv") for folder in folders]
-    rows = []
+    stream, count = None, 0
     if path:
         say(f"dealing out the rows of {path}")
         stream = Stream(OneFile(path), "lineage", ["old", "new"])
-        header, rows = stream.header, stream
-    for each in paths:
-        write_new(each, header)
-    file = None
-    try:
-        for row, _, raw in rows:
-            if (row - 1) % MOST_ROWS == 0:
-                folder = next(waiting, None)
-                if folder is None:
-                    raise Trouble(f"{path}: {MOST_ROWS} rows a region are too few: it has more")
-                if file:
-                    file.close()
-                file = files.more(os.path.join(out, folder, f"lineage.csv{NEW}"), encoding="latin-1", newline="")
-            file.write(ended(raw))
-            count = row
-    finally:
-        if file:
-            file.close()
-    return paths, count
+    writer = Writer(out, folders, "lineage", stream.header if stream else "old,new\n")
+    for count, _, raw in stream or ():
+        region = (count - 1) // MOST_ROWS
+        if region == len(folders):
+            raise Trouble(f"{path}: {MOST_ROWS} rows a region are too few: it has more")
+        writer.add((region,), ended(raw))
+    writer.flush()
+    return writer.paths, count
 
 
 def deal(path, folders, out, say):
@@ -277,15 +263,13 @@ def clear(out, folders):
 class New(Folder):
     """The tables that were written beside those of a region."""
 
-    def lines(self, name):
-        with open(os.path.join(self.path, f"{name}.csv{NEW}"), encoding="latin-1", newline="") as file:
-            yield from file
+    ENDING = f".csv{NEW}"
 
 
 def sums_of(land, tiling, places, out):
     """What the regions have, each row in the first region of its parcel."""
-    sums, shown = Sums(), progress.Progress("country", "looking for every row", len(tiling.folders), "regions")
-    for region, folder in enumerate(tiling.folders):
+    sums = Sums()
+    for region, folder in enumerate(progress.each(tiling.folders, "country", "looking for every row", len(tiling.folders), "regions", 1)):
         new = New(os.path.join(out, folder))
         for _, (name, wkt), raw in Stream(new, "parcels", ["parcel", "wkt"]):
             if places.first[land.numbers[name]] == region:
@@ -293,7 +277,6 @@ def sums_of(land, tiling, places, out):
         for _, (name, land_class, wkt), raw in Stream(new, "covers", ["parcel", "class", "wkt"]):
             if places.first[land.numbers[name]] == region:
                 sums.add("covers", raw, ("covers", land_class or "(no class)"), measured(wkt)[1])
-        shown.add()
     for _, _, raw in Stream(New(out), "classes", ["class", "class"]):
         sums.add("classes", raw, None, 0)
     return sums

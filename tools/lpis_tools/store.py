@@ -43,19 +43,16 @@ def new(path, *tables):
     return base
 
 
-class Row:
+class Row(land.Row):
     """A row of the store. Its shape is read when it is asked for, and written when it is set."""
 
-    __slots__ = ("base", "box", "fields", "id", "number", "place", "read", "why")
+    __slots__ = ("base", "box", "id", "read")
 
     def __init__(self, base, number, is_cover, own, name, parcel, land_class, why, x, y, *box):
         self.base, self.id, self.number, self.why, self.box = base, number, own, why, box if box[0] is not None else None
         self.place = None if x is None else (x, y)
         self.fields = {"piece": name, "parcel": parcel, "class": land_class} if is_cover else {"parcel": parcel}
         self.read = dict(self.fields)
-
-    def __getitem__(self, name):
-        return self.fields.get(name) or ""
 
     @property
     def found(self):
@@ -85,7 +82,7 @@ class Layer:
     """The rows of a layer in a store that the passes over names look at: those whose names are not identifiers as they stand."""
 
     def __init__(self, base, name, outline):
-        self.base, self.name, self.is_cover, self.outline = base, name, int(name == "covers"), outline
+        self.base, self.name, self.is_cover = base, name, int(name == "covers")
         self.key, self.others, self.system = outline.key, outline.others, outline.system
 
     def among(self, condition, words=()):
@@ -106,10 +103,7 @@ class Layer:
         return self.among("is_odd")
 
     def keep(self, test):
-        dropped = []
-        for row in self.rows:
-            if not test(row):
-                dropped.append((row.id,))
+        dropped = [(row.id,) for row in self.rows if not test(row)]
         self.base.executemany("UPDATE row SET is_kept = 0 WHERE id = ?", dropped)
 
     def groups(self, column, _key):

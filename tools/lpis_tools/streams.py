@@ -7,7 +7,7 @@ import os
 from itertools import islice
 from operator import mul
 
-from . import unforeseen
+from . import trouble, unforeseen
 from .printing import escaped
 from .tables import COLUMNS, FREE, INSTEAD
 
@@ -16,30 +16,30 @@ MARK = "\xef\xbb\xbf"  # the byte order mark; bytes are letters here, one for on
 FAR = 20_000_000_000
 
 
-class Trouble(Exception):
+class Trouble(trouble.Trouble):
     """What a source has that can't be split, line by line."""
-
-    def __init__(self, *reasons):
-        super().__init__("\n".join(reasons))
-        self.reasons = reasons
 
 
 class Folder:
     """The tables parcels.csv, covers.csv and classes.csv of a folder, and lineage.csv where it is there."""
 
+    ENDING = ".csv"
+
     def __init__(self, path):
         self.path = path
 
+    def path_of(self, name):
+        return os.path.join(self.path, f"{name}{self.ENDING}")
+
     def lines(self, name):
-        with open(os.path.join(self.path, f"{name}.csv"), encoding="latin-1", newline="") as file:
-            yield from file
+        return lines_of(self.path_of(name))
 
     def size(self, name):
-        return os.path.getsize(os.path.join(self.path, f"{name}.csv"))
+        return os.path.getsize(self.path_of(name))
 
     def lineage(self):
         """The path of the table of lineage, or None."""
-        path = os.path.join(self.path, "lineage.csv")
+        path = self.path_of("lineage")
         return path if os.path.exists(path) else None
 
 
@@ -50,8 +50,12 @@ class OneFile:
         self.path = path
 
     def lines(self, _name):
-        with open(self.path, encoding="latin-1", newline="") as file:
-            yield from file
+        return lines_of(self.path)
+
+
+def lines_of(path):
+    with open(path, encoding="latin-1", newline="") as file:
+        yield from file
 
 
 def records(lines):

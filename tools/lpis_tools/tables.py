@@ -46,12 +46,8 @@ def is_identifier(field):
     return 1 <= len(field) <= 40 and LETTERS.issuperset(field)
 
 
-class Unreadable(OSError):
-    """A table that is there, and cannot be read to its end: it is no shorter table."""
-
-
 class Table:
-    """A table's header and records, with the line on which each record begins."""
+    """A table's header and records, with the line on which each record begins. One that cannot be read to its end is an OSError, and no shorter table."""
 
     def __init__(self, path, name):
         self.path, self.name = path, name
@@ -73,7 +69,7 @@ class Table:
                     self.lines.append(line)
                 line = reader.line_num + 1
         except csv.Error as error:
-            raise Unreadable(errno.EBADMSG, f"it cannot be read behind line {line} ({error})", path) from None
+            raise OSError(errno.EBADMSG, f"it cannot be read behind line {line} ({error})", path) from None
         self.header = self.records[0] if self.records else []
         self.names = [field.decode("latin-1").lower() for field in self.header]
 

@@ -1,6 +1,9 @@
 """The tiling of a country: country.txt, whose lines cut the plane in prefix order, and the tiles that a box meets. Whole millimetres."""
 
+import os
 import re
+
+from .streams import Trouble
 
 HEAD = "lpis-country 1"
 FAR = 20_000_000_000
@@ -9,7 +12,7 @@ NAME = re.compile(r"[A-Za-z0-9_-]{1,100}")
 NUMBER = re.compile(r"0|-?[1-9][0-9]{0,10}")
 
 
-class Unreadable(Exception):
+class Unreadable(Trouble):
     """A line of country.txt that is none."""
 
 
@@ -62,6 +65,16 @@ class Tiling:
             if box[side] < cut:
                 waiting.append(place + 1)
         return found
+
+
+def of_folder(folder):
+    """The tiling that stands in a country's folder."""
+    path = os.path.join(folder, "country.txt")
+    with open(path, encoding="latin-1", newline="") as file:
+        try:
+            return read(file.read())
+        except Unreadable as error:
+            raise Unreadable(f"{path}: {error}") from None
 
 
 def node_of(line):

@@ -11,6 +11,7 @@ import sys
 
 from . import databases, ending, installed, printing, program, unforeseen
 from .printing import readable
+from .trouble import Trouble
 
 TROUBLE = 64
 FAILED = f"status {unforeseen.STATUS}: this tool failed; the sentence names where, and a file with the traceback."
@@ -78,7 +79,7 @@ def ended(name, main, *troubles):
         printing.finish()
         return status
     except Exception as error:
-        status = told(name, error, (OSError, subprocess.CalledProcessError, *troubles))
+        status = told(name, error, (OSError, subprocess.CalledProcessError, Trouble, *troubles))
     except KeyboardInterrupt as stopped:
         say(name, stopped)
         status = getattr(stopped, "status", 130)
@@ -117,7 +118,7 @@ def told(name, error, troubles):
     if isinstance(error, troubles):
         for reason in getattr(error, "reasons", [error]):
             say(name, installed.here(str(reason)))
-        return TROUBLE
+        return getattr(error, "status", TROUBLE)
     say(name, unforeseen.sentence(name, error))
     return unforeseen.STATUS
 

@@ -9,12 +9,13 @@ import subprocess
 import sys
 
 from . import ending, files, ledger, program, registers, words, years
+from .trouble import Trouble
 
 STOPPED = 1
 MOST_STEP = 3  # years after the last one
 
 
-class Stop(Exception):
+class Stop(Trouble):
     """The year is not done: words, and the status."""
 
     def __init__(self, said, status=STOPPED):
@@ -63,7 +64,7 @@ def back_up(register, year):
             source.backup(copy)
         copy.close()
         source.close()
-    digest = ledger.digest_of(path)
+    digest = files.digest(path)
     with files.anew(f"{path}.sha256") as file:
         file.write(f"{digest}  {os.path.basename(path)}\n")
     print(f"backup {path} sha256 {digest}")
@@ -94,8 +95,8 @@ def entry_of(said, command, tables, cert, printed, before):
     facts = program.facts(command)
     return {
         "time": datetime.datetime.now(datetime.timezone.utc).isoformat(timespec="seconds"), "user": getpass.getuser(), "year": said.year,
-        "program": {"commit": facts.get("commit", ""), "kit": facts.get("kit", ""), "sha256": ledger.digest_of(command[0])},
-        "tables": ledger.digests_of(said.folder, tables, "digests of what was published"),
-        "certificate": ledger.digest_of(cert) if cert else "", "printed": ledger.digest_of(printed),
+        "program": {"commit": facts.get("commit", ""), "kit": facts.get("kit", ""), "sha256": files.digest(command[0])},
+        "tables": ledger.digests_of({name: os.path.join(said.folder, name) for name in tables}, "digests of what was published"),
+        "certificate": files.digest(cert) if cert else "", "printed": files.digest(printed),
         "content_before": before, "content": ledger.content_of(said.register), "register_anyway": said.register_anyway, "year_anyway": said.year_anyway,
     }

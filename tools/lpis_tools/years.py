@@ -8,6 +8,7 @@ from dataclasses import dataclass, field
 
 from . import databases, polygons, progress, registers, streams, tiles
 from .tables import Table, is_identifier, path_of, shown
+from .trouble import Trouble
 
 CACHED = 64_000  # kilobytes of a year
 TABLES = """
@@ -17,10 +18,6 @@ CREATE TABLE used (name TEXT PRIMARY KEY, until INTEGER) WITHOUT ROWID;
 CREATE VIRTUAL TABLE box USING rtree(id, left, right, low, high);
 BEGIN;
 """
-
-
-class Trouble(Exception):
-    """A year cannot be read."""
 
 
 class Rows:
@@ -116,26 +113,23 @@ class Row:
 
 def regions_of(folder):
     """The regions of a country; of a release one without a name."""
-    path = os.path.join(folder, "country.txt")
-    if not os.path.isfile(path):
+    if not os.path.isfile(os.path.join(folder, "country.txt")):
         return [""]
     try:
-        with open(path, encoding="latin-1", newline="") as file:
-            return tiles.read(file.read()).folders
+        return tiles.of_folder(folder).folders
     except (tiles.Unreadable, OSError) as error:
-        raise Trouble(f"{path}: {error}") from None
+        raise Trouble(str(error)) from None
 
 
 def of_folder(folder, path="", parts_of=lambda folder, regions: None):
     """The parcels of a folder. `parts_of` may read regions by themselves: their files, or None."""
     year, regions = Year(folder, Shapes(path)), regions_of(folder)
-    parts, shown = parts_of(folder, regions), progress.Progress(progress.Quiet.tool, f"reading {folder}", len(regions), "regions")
-    for number, region in enumerate(regions):
+    parts = parts_of(folder, regions)
+    for number, region in enumerate(progress.each(regions, progress.Quiet.tool, f"reading {folder}", len(regions), "regions", 1)):
         if parts:
             take_region(year, parts[number], path_of(os.path.join(folder, region), "parcels"))
         else:
             add_region(year, os.path.join(folder, region), region)
-        shown.add()
     return year
 
 
@@ -206,7 +200,6 @@ def opened(path):
         base = registers.opened(path)
     except sqlite3.Error as error:
         raise Trouble(f"{path}: {error}") from None
-    is_good = False
     try:
         tables = {name for (name,) in base.execute("SELECT name FROM sqlite_schema WHERE type = 'table'")}
         if not {"lpis_release", "lpis_span"} <= tables:
@@ -214,13 +207,10 @@ def opened(path):
         last = base.execute("SELECT max(year) FROM lpis_release").fetchone()[0]
         if not isinstance(last, (int, type(None))):
             raise Trouble(strange(path))
-        is_good = True
-        return base, tables, last
-    except (sqlite3.Error, UnicodeError) as error:
-        raise Trouble(f"{path}: {databases.why(error)}") from None
-    finally:
-        if not is_good:
-            base.close()
+    except (sqlite3.Error, UnicodeError, Trouble) as error:
+        base.close()
+        raise error if isinstance(error, Trouble) else Trouble(f"{path}: {databases.why(error)}") from None
+    return base, tables, last
 
 
 def strange(path):

@@ -6,7 +6,7 @@ import ctypes
 import mmap
 import tempfile
 from pathlib import Path
-from typing import Any, NamedTuple, Protocol
+from typing import Any, NamedTuple, Union
 
 from . import tree
 from .refusals import Failed
@@ -23,18 +23,6 @@ class Answer(NamedTuple):
 
     text: str
     status: int
-
-
-class Backend(Protocol):
-    """Calls over bytes."""
-
-    name: str
-
-    def area(self, table: bytes) -> Answer: ...
-
-    def check(self, parcels: bytes, covers: bytes, classes: bytes, certificate: bytes) -> Answer: ...
-
-    def cut(self, parcels: bytes, covers: bytes, classes: bytes) -> tuple[Answer, bytes]: ...
 
 
 class Reply(ctypes.Structure):
@@ -146,6 +134,7 @@ def loaded() -> Library:
         raise Failed(f"{path} is no library that loads here: {error}") from None
 
 
+Backend = Union[Library, Program]
 _chosen: list[Backend] = []
 
 

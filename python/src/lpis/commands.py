@@ -2,6 +2,7 @@
 
 from __future__ import annotations
 
+import functools
 import os
 import sys
 from typing import NoReturn
@@ -19,29 +20,6 @@ def tool(name: str) -> NoReturn:
     os.execv(sys.executable, [sys.executable, str(home() / name), *sys.argv[1:]])
 
 
-def country() -> NoReturn:
-    tool("country")
-
-
-def explain() -> NoReturn:
-    tool("explain")
-
-
-def faults() -> NoReturn:
-    tool("faults")
-
-
-def lineage() -> NoReturn:
-    tool("lineage")
-
-
-def prepare() -> NoReturn:
-    tool("prepare")
-
-
-def report() -> NoReturn:
-    tool("report")
-
-
-def year() -> NoReturn:
-    tool("year")
+country, explain, faults, lineage, prepare, report, year = (
+    functools.partial(tool, name) for name in ("country", "explain", "faults", "lineage", "prepare", "report", "year")
+)

@@ -2,6 +2,7 @@
 
 from __future__ import annotations
 
+import contextlib
 import os
 import re
 import sqlite3
@@ -86,11 +87,8 @@ class Register:
         if not self.path.exists():
             return {}
         try:
-            connection = tree.module("registers").opened(self.path)
-            try:
+            with contextlib.closing(tree.module("registers").opened(self.path)) as connection:
                 return {name: Shape(text) for name, text in connection.execute("SELECT id, wkt FROM lpis_text ORDER BY id")}
-            finally:
-                connection.close()
         except sqlite3.Error as error:
             raise Failed(f"{self.path} has no shapes that can be read: {error}") from None
 

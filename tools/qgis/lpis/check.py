@@ -5,7 +5,7 @@ import tempfile
 
 from qgis.core import (
     QgsProcessing, QgsProcessingException, QgsProcessingOutputNumber, QgsProcessingOutputString, QgsProcessingParameterFeatureSink,
-    QgsProcessingParameterFile,
+    QgsProcessingParameterFile, QgsWkbTypes,
 )
 
 from . import places, styles
@@ -15,9 +15,8 @@ TABLES = ("parcels.csv", "covers.csv", "classes.csv")
 YES, REFUSED, UNREADABLE = 0, 1, 2
 FAULT_COLUMNS = [("code", TEXT), ("names", TEXT), ("meaning", TEXT), ("place", TEXT), ("line", TEXT)]
 SHAPE_COLUMNS = [("kind", TEXT), ("name", TEXT), ("line", TEXT)]
-# What a shape is, what its output is called, and which geometries it takes.
-KINDS = (("POINTS", "points", POINTS, ("Point", "MultiPoint")), ("LINES", "lines", LINES, ("LineString", "MultiLineString")),
-         ("POLYGONS", "polygons", POLYGONS, ("Polygon", "MultiPolygon")))
+# Of each kind of shape the form of its output, and what a parameter calls it.
+KINDS = {"POINTS": (POINTS, QgsProcessing.TypeVectorPoint), "LINES": (LINES, QgsProcessing.TypeVectorLine), "POLYGONS": (POLYGONS, QgsProcessing.TypeVectorPolygon)}
 
 
 def is_older(cert, folder):
@@ -28,19 +27,13 @@ def is_older(cert, folder):
 
 def by_kind(features, columns):
     """The rows of each output, by what the shapes are."""
-    rows = {name: [] for name, *_ in KINDS}
+    rows = {name: [] for name in KINDS}
     for properties, shape in features:
-        name = next(name for name, _, kind, _ in KINDS if shape.type() == kind_of(kind))
+        name = next(name for name, (form, _) in KINDS.items() if shape.type() == QgsWkbTypes.geometryType(form))
         if name != "POINTS":
             shape.convertToMultiType()
         rows[name].append(([str(properties.get(column) or "") for column, _ in columns], shape))
     return rows
-
-
-def kind_of(form):
-    from qgis.core import QgsWkbTypes
-
-    return QgsWkbTypes.geometryType(form)
 
 
 class Folder(Styled):
@@ -65,14 +58,13 @@ class Folder(Styled):
         return places.done(places.run([places.lpis(), "cut", folder, cert], feedback), "lpis cut", (REFUSED, UNREADABLE))
 
     def add_shapes(self, words, before=""):
-        for name, kind, form, _ in KINDS:
-            source = {POINTS: QgsProcessing.TypeVectorPoint, LINES: QgsProcessing.TypeVectorLine}.get(form, QgsProcessing.TypeVectorPolygon)
-            self.addParameter(QgsProcessingParameterFeatureSink(before + name, f"{words}: {kind}", source, optional=True, createByDefault=True))
+        for name, (_, source) in KINDS.items():
+            self.addParameter(QgsProcessingParameterFeatureSink(before + name, f"{words}: {name.lower()}", source, optional=True, createByDefault=True))
 
     def fill_shapes(self, place, paths, columns, before=""):
         """Writes the shapes of GeoJSON files, where they are there, into the outputs of their kinds."""
         rows = by_kind((found for path in paths if os.path.exists(path) for found in features_of(path)), columns)
-        return {before + name: self.fill(before + name, place, columns, form, rows[name]) for name, _, form, _ in KINDS}
+        return {before + name: self.fill(before + name, place, columns, form, rows[name]) for name, (form, _) in KINDS.items()}
 
     def explained(self, words, line, place, feedback):
         """The words of a refusal, and its shapes as layers."""
@@ -160,8 +152,6 @@ class CheckCountry(Folder):
         self.addOutput(QgsProcessingOutputNumber("STATUS", "Status of lpis"))
 
     def processAlgorithm(self, parameters, context, feedback):
-        from qgis.core import QgsWkbTypes
-
         place, folder = (parameters, context), self.parameterAsFile(parameters, "DIR", context)
         ran = places.done(places.run([places.lpis(), "country", folder], feedback), "lpis country", (REFUSED, UNREADABLE))
         if ran.status == YES and ran.last() != "yes":

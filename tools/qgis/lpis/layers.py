@@ -5,10 +5,12 @@ import json
 import os
 import re
 import sqlite3
+from pathlib import Path
 
+from osgeo import ogr
 from qgis.core import (
     QgsCoordinateReferenceSystem, QgsFeature, QgsField, QgsFields, QgsGeometry, QgsProcessingAlgorithm, QgsProcessingException,
-    QgsProcessingParameterCrs, QgsProcessingUtils, QgsRectangle, QgsWkbTypes,
+    QgsProcessingParameterCrs, QgsProcessingParameterDefinition, QgsProcessingUtils, QgsRectangle, QgsWkbTypes,
 )
 from qgis.PyQt.QtCore import QVariant
 
@@ -46,13 +48,18 @@ class Algorithm(QgsProcessingAlgorithm):
         folders = [str(parameters[name]) for name in self.FOLDERS if parameters.get(name)]
         return found if found and found.isValid() else next(filter(QgsCoordinateReferenceSystem.isValid, map(system_of, folders)), QgsCoordinateReferenceSystem())
 
-    def fill(self, name, place, columns, kind, rows):
-        """Writes rows, each its values and a shape or none, into an output; answers where it is, or None where it is not wanted."""
+    def fill(self, name, place, columns, kind, rows, source=None):
+        """Writes rows, each its values and a shape or none, into an output; answers where it is, or None where it is not wanted. The columns of a source stand
+        before these, and its system is taken where the release's is not known."""
         parameters, context = place
-        fields = QgsFields()
+        fields, system = QgsFields(), self.system(parameters, context)
         for column, form in columns:
             fields.append(QgsField(column, form))
-        sink, where = self.parameterAsSink(parameters, name, context, fields, kind, self.system(parameters, context))
+        if source:
+            fields, system = QgsProcessingUtils.combineFields(source.fields(), fields), system if system.isValid() else source.sourceCrs()
+        sink, where = self.parameterAsSink(parameters, name, context, fields, kind, system)
+        if sink is None and not self.parameterDefinition(name).flags() & QgsProcessingParameterDefinition.FlagOptional:
+            raise QgsProcessingException(self.invalidSinkError(parameters, name))
         if sink is None:
             return None
         for values, shape in rows:
@@ -130,26 +137,13 @@ def features_of(path):
         collection = json.load(file)
     for feature in collection["features"]:
         if feature.get("geometry"):
-            yield feature["properties"], QgsGeometry.fromWkt(wkt_of(feature["geometry"]))
-
-
-def wkt_of(geometry):
-    """The text of a GeoJSON geometry."""
-    def points(places):
-        return "(" + ", ".join(f"{place[0]!r} {place[1]!r}" for place in places) + ")"
-
-    def nested(places, depth):
-        return points(places) if depth == 0 else "(" + ", ".join(nested(place, depth - 1) for place in places) + ")"
-
-    kind, places = geometry["type"], geometry["coordinates"]
-    depth = {"Point": -1, "LineString": 0, "MultiPoint": 0, "Polygon": 1, "MultiLineString": 1, "MultiPolygon": 2}[kind]
-    return f"{kind.upper()} " + (points([places]) if depth < 0 else nested(places, depth))
+            shape = QgsGeometry()
+            shape.fromWkb(bytes(ogr.CreateGeometryFromJson(json.dumps(feature["geometry"])).ExportToWkb()))
+            yield feature["properties"], shape
 
 
 def kept_of(register):
     """The identifiers of a register's last release: first year, and the text of the shape or None."""
-    from pathlib import Path
-
     if not os.path.isfile(register):
         raise QgsProcessingException(f"{register} is not there")
     address = Path(register).resolve().as_uri()

@@ -6,15 +6,15 @@ import os
 import tempfile
 
 from qgis.core import (
-    QgsCoordinateTransform, QgsFeature, QgsField, QgsFields, QgsGeometry, QgsPointXY, QgsProcessing, QgsProcessingException, QgsProcessingOutputNumber, QgsProcessingOutputString,
-    QgsProcessingParameterFeatureSink, QgsProcessingParameterFeatureSource, QgsProcessingParameterFile, QgsProcessingUtils,
+    QgsCoordinateTransform, QgsGeometry, QgsPointXY, QgsProcessing, QgsProcessingException, QgsProcessingOutputNumber, QgsProcessingOutputString,
+    QgsProcessingParameterFeatureSink, QgsProcessingParameterFeatureSource, QgsProcessingParameterFile,
 )
 
 from . import places, styles
 from .check import REFUSED, UNREADABLE, YES, Folder
 from .layers import POINTS, TEXT
 
-ADDED = ("parcel", "piece", "class")
+ADDED = [("parcel", TEXT), ("piece", TEXT), ("class", TEXT)]
 
 
 class LocatePoints(Folder):
@@ -46,7 +46,7 @@ class LocatePoints(Folder):
             ran = self.located(folder, cert, points, feedback)
         feedback.pushInfo(ran.last())
         found = answers(ran.lines) if ran.status == YES else {}
-        self.written = {"LOCATED": self.write(source, points, found, place), **self.explained([folder, "--cert", cert], ran.last(), place, feedback)}
+        self.written = {"LOCATED": self.fill("LOCATED", place, ADDED, POINTS, rows_of(points, found), source), **self.explained([folder, "--cert", cert], ran.last(), place, feedback)}
         return {**self.written, "VERDICT": ran.last(), "STATUS": ran.status, "INSIDE": sum(map(bool, found.values()))}
 
     def points(self, source, place):
@@ -77,24 +77,11 @@ class LocatePoints(Folder):
                 writer.writerows([number, f"{point.x():.9f}", f"{point.y():.9f}"] for number, (_, point) in enumerate(points))
             return places.done(places.run([places.lpis(), "locate", folder, cert, table], feedback, quiet=True), "lpis locate", (REFUSED, UNREADABLE))
 
-    def write(self, source, points, found, place):
-        """The points with the columns of their layer, and the parcel, piece and class of each that was located."""
-        parameters, context = place
-        added = QgsFields()
-        for name in ADDED:
-            added.append(QgsField(name, TEXT))
-        fields = QgsProcessingUtils.combineFields(source.fields(), added)
-        system = self.system(parameters, context)
-        sink, where = self.parameterAsSink(parameters, "LOCATED", context, fields, POINTS, system if system.isValid() else source.sourceCrs())
-        if sink is None:
-            raise QgsProcessingException(self.invalidSinkError(parameters, "LOCATED"))
-        for number, (feature, point) in enumerate(points) if found else ():
-            one = QgsFeature(fields)
-            one.setAttributes([*feature.attributes(), *(found[number] or [None] * len(ADDED))])
-            one.setGeometry(QgsGeometry.fromPointXY(QgsPointXY(point)))
-            if not sink.addFeature(one):
-                raise QgsProcessingException(f"feature {feature.id()} could not be written")
-        return where
+
+def rows_of(points, found):
+    """The columns of each point's feature with what was found of it, and the point; nothing where no point was located."""
+    for number, (feature, point) in enumerate(points if found else ()):
+        yield [*feature.attributes(), *(found[number] or [None] * len(ADDED))], QgsGeometry.fromPointXY(QgsPointXY(point))
 
 
 def answers(lines):

@@ -4,9 +4,9 @@ import os
 import tempfile
 
 from qgis.core import (
-    QgsCoordinateTransformContext, QgsGeometry, QgsPointXY, QgsProcessing, QgsProcessingException, QgsProcessingOutputNumber, QgsProcessingOutputString, QgsProcessingParameterBoolean,
-    QgsProcessingParameterFeatureSink, QgsProcessingParameterFeatureSource, QgsProcessingParameterField, QgsProcessingParameterFile,
-    QgsProcessingParameterFolderDestination, QgsProcessingParameterNumber, QgsVectorFileWriter,
+    QgsCoordinateTransformContext, QgsFeature, QgsFeatureRequest, QgsField, QgsFields, QgsGeometry, QgsPointXY, QgsProcessing, QgsProcessingException, QgsProcessingOutputNumber,
+    QgsProcessingOutputString, QgsProcessingParameterBoolean, QgsProcessingParameterFeatureSink, QgsProcessingParameterFeatureSource, QgsProcessingParameterField,
+    QgsProcessingParameterFile, QgsProcessingParameterFolderDestination, QgsProcessingParameterNumber, QgsVectorFileWriter,
 )
 
 from . import places, styles
@@ -87,8 +87,6 @@ class PrepareRelease(Folder):
 
     def export(self, parameters, context, layer, package, is_first):
         """Writes a layer into the GeoPackage under the names that the tool reads. All of its features have to arrive."""
-        from qgis.core import QgsFeature, QgsFeatureRequest, QgsField, QgsFields
-
         source = self.parameterAsSource(parameters, layer, context)
         if source is None:
             raise QgsProcessingException(self.invalidSourceError(parameters, layer))
