@@ -1,6 +1,7 @@
 """Tests tools/country prepare: a source with every kind of dirt against tools/prepare, its regions by `lpis country` where the program is built or named
 by LPIS. Wants Shapely."""
 
+import contextlib
 import csv
 import os
 import re
@@ -37,6 +38,15 @@ def assert_same(one, other, *names):
     """Files of two folders are the same."""
     for name in names:
         assert read(one, name) == read(other, name), name
+
+
+def workers_of(folder):
+    """The words of each process that name something in a folder."""
+    found = []
+    for words in Path("/proc").glob("[0-9]*/cmdline"):
+        with contextlib.suppress(OSError):
+            found.append(words.read_bytes())
+    return [words for words in found if os.fsencode(folder) in words]
 
 
 class TestSources(Case):
@@ -194,7 +204,10 @@ class TestSources(Case):
                     started.terminate()
         assert started.returncode == 128 + signal.SIGTERM
         assert not [name for name in os.listdir(folder) if name.startswith(".prepare")]
-        time.sleep(0.1)
+        last = time.monotonic() + 10
+        while workers_of(folder) and time.monotonic() < last:
+            time.sleep(0.05)
+        assert workers_of(folder) == []
 
     @pytest.mark.skipif(not shutil.which("snakemake"), reason="there is no snakemake")
     def test_snakemake(self):
