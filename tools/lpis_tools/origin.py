@@ -9,7 +9,6 @@ import re
 from collections import Counter
 
 from . import balance, cells
-from .areas import hectares
 from .printing import escaped
 
 csv.field_size_limit(1 << 30)
@@ -85,9 +84,9 @@ def lines(found):
     """In words, for the page and for the terminal."""
     if found is None:
         return ["nothing is beside the tables of what was left out or changed before them (prepared.csv, report.csv, balance.csv)"]
-    gone = [f"{one['rows']} {LAYERS[one['layer']]}, {hectares(number(one['area']))}" for one in found["gone"]]
+    gone = [f"{one['rows']} {LAYERS[one['layer']]}, {balance.hectares(number(one['area']))} ha" for one in found["gone"]]
     told = ["left out of the source: " + "; ".join(gone)] if gone else []
-    changed = [f"{row['stopping']} {LAYERS[row['layer']]}, {hectares(number(row['area_of_stopping']))}" for row in found["report"] if row["kind"] == "changed" and row["stopping"] and row["layer"] in LAYERS]
+    changed = [f"{row['stopping']} {LAYERS[row['layer']]}, {balance.hectares(number(row['area_of_stopping']))} ha" for row in found["report"] if row["kind"] == "changed" and row["stopping"] and row["layer"] in LAYERS]
     if changed:
         told.append(f"changed by more than rounding: {'; '.join(changed)}")
     accepted = sum(row["stopping"] for row in found["report"])
