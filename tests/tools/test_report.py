@@ -266,7 +266,8 @@ class TestReports(Spare):
     def test_in_a_browser(self):
         """Colours, names, search, rows, heads, wheel and drag, at the size of a desk and of a telephone."""
         new = release(self.path("wide"), ["B2", "C", "A"], lineage=["B,B2"], width=11)
-        self.report("--diff", self.release, folder=new)
+        last = shutil.copytree(self.release, self.path("wider_than_a_telephone" * 5))
+        self.report("--diff", last, folder=new)
         script = """
           results.whole = map.view.scale; results.drawn = canvas.dataset.drawn;
           results.colours = [colour(5500, 8000), colour(5500, 3000), colour(15000, 3000)];
@@ -285,8 +286,6 @@ class TestReports(Spare):
           map.fit(data.map.first); canvas.dispatchEvent(new WheelEvent('wheel', { deltaY: -1, clientX: 300, clientY: 300 })); results.wheel = map.view.scale;
           map.fit(data.map.first); const left = map.view.x; point('pointerdown', 0, 0); point('pointermove', 9000, 0); point('pointerup', 9000, 0); results.dragged = map.view.x < left;
           point('pointerdown', 1000, 8000); point('pointerup', 1000, 8000); results.tapped = document.getElementById('name').textContent;
-          // The map takes its width when the event of another width comes.
-          for (let turn = 0; turn < 50 && document.documentElement.scrollWidth > innerWidth; turn++) await new Promise(done => setTimeout(done, 100));
           results.wide = document.documentElement.scrollWidth <= innerWidth;
         """
         for size in ((1200, 900), (390, 844)):
