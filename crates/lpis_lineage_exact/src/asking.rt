@@ -23,6 +23,7 @@ use crate::shapes::shape_of;
 use lpis_checker::ExactPart;
 use lpis_lineage::{Change, Group};
 use lpis_memory::Sequence;
+use lpis_register_rows::KeptShape;
 use lpis_rings::Polygon;
 use lpis_tables::Id;
 use std::alloc::{AllocError, AllocFailed, Global};
@@ -56,7 +57,7 @@ impl<T: Drop> From<AllocFailed<T>> for AskFault {
 }
 
 /// A copy of the shape that is kept of an identifier.
-fn kept_copy(alloc: Global, kept: &[(Id, Polygon)], id: &Id) -> Result<Polygon, AskFault>
+fn kept_copy(alloc: Global, kept: &[KeptShape], id: &Id) -> Result<Polygon, AskFault>
     requires ascending { IsAscending (shape_ids kept.now) }
     ensures shape { IfOk result (λ x. shape_named kept.now id.now ≡ Some x) }
     ensures unkept { IfErr result (IsFirstLacking kept.now (id.now ∷ [])) }
@@ -68,7 +69,7 @@ fn kept_copy(alloc: Global, kept: &[(Id, Polygon)], id: &Id) -> Result<Polygon, 
 }
 
 /// Copies of the shapes that are kept of identifiers, in their order.
-fn kept_copies(alloc: Global, kept: &[(Id, Polygon)], ids: &[Id]) -> Result<Vec<Polygon>, AskFault>
+fn kept_copies(alloc: Global, kept: &[KeptShape], ids: &[Id]) -> Result<Vec<Polygon>, AskFault>
     requires ascending { IsAscending (shape_ids kept.now) }
     ensures shapes { IfOk result (λ v. AllZip (HasShape (shape_named kept.now)) ids.now v.items) }
     ensures unkept { IfErr result (IsFirstLacking kept.now ids.now) }
@@ -82,7 +83,7 @@ fn kept_copies(alloc: Global, kept: &[(Id, Polygon)], ids: &[Id]) -> Result<Vec<
 }
 
 /// A copy of the new shape of an identifier.
-fn new_copy(alloc: Global, new: &[(Id, Polygon)], id: &Id) -> Result<Polygon, AllocError>
+fn new_copy(alloc: Global, new: &[KeptShape], id: &Id) -> Result<Polygon, AllocError>
     requires ascending { IsAscending (shape_ids new.now) }
     ensures { IfOk result (λ x. shape_named new.now id.now ≡ Some x) }
 {
@@ -93,7 +94,7 @@ fn new_copy(alloc: Global, new: &[(Id, Polygon)], id: &Id) -> Result<Polygon, Al
 }
 
 /// Copies of the new shapes of identifiers, in their order.
-fn new_copies(alloc: Global, new: &[(Id, Polygon)], ids: &[Id]) -> Result<Vec<Polygon>, AllocError>
+fn new_copies(alloc: Global, new: &[KeptShape], ids: &[Id]) -> Result<Vec<Polygon>, AllocError>
     requires ascending { IsAscending (shape_ids new.now) }
     ensures { IfOk result (λ v. AllZip (HasShape (shape_named new.now)) ids.now v.items) }
 {
@@ -108,8 +109,8 @@ fn new_copies(alloc: Global, new: &[(Id, Polygon)], ids: &[Id]) -> Result<Vec<Po
 /// The part that a split asks for: the old shape, made up of its successors'.
 fn split_part(
     alloc: Global,
-    kept: &[(Id, Polygon)],
-    new: &[(Id, Polygon)],
+    kept: &[KeptShape],
+    new: &[KeptShape],
     group: &Group,
 ) -> Result<ExactPart, AskFault>
     requires ascending { IsAscending (shape_ids kept.now) }
@@ -133,8 +134,8 @@ fn split_part(
 /// The part that a merge asks for: the successor's shape, made up of its predecessors'.
 fn merge_part(
     alloc: Global,
-    kept: &[(Id, Polygon)],
-    new: &[(Id, Polygon)],
+    kept: &[KeptShape],
+    new: &[KeptShape],
     group: &Group,
 ) -> Result<ExactPart, AskFault>
     requires ascending { IsAscending (shape_ids kept.now) }
@@ -158,8 +159,8 @@ fn merge_part(
 /// The part that a group asks for.
 fn part_of(
     alloc: Global,
-    kept: &[(Id, Polygon)],
-    new: &[(Id, Polygon)],
+    kept: &[KeptShape],
+    new: &[KeptShape],
     group: &Group,
 ) -> Result<ExactPart, AskFault>
     requires ascending { IsAscending (shape_ids kept.now) }
@@ -178,8 +179,8 @@ fn part_of(
 /// The parts that groups ask for, in their order.
 fn parts_of(
     alloc: Global,
-    kept: &[(Id, Polygon)],
-    new: &[(Id, Polygon)],
+    kept: &[KeptShape],
+    new: &[KeptShape],
     groups: &[Group],
 ) -> Result<Vec<ExactPart>, AskFault>
     requires ascending { IsAscending (shape_ids kept.now) }
@@ -208,8 +209,8 @@ fn parts_of(
 pub fn wanted_parts(
     alloc: Global,
     change: &Change,
-    kept: &[(Id, Polygon)],
-    new: &[(Id, Polygon)],
+    kept: &[KeptShape],
+    new: &[KeptShape],
 ) -> Result<Vec<ExactPart>, AskFault>
     requires ascending { IsAscending (shape_ids kept.now) }
     requires new_ascending { IsAscending (shape_ids new.now) }

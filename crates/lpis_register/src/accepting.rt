@@ -27,9 +27,8 @@ use lpis_lineage::{Change, History, IdSet, Row, Step, accept};
 use lpis_lineage_exact::{
     sound_maps_have_such_shapes, wanted_parts, what_is_shown_has_exact_lineage,
 };
-use lpis_register_rows::shapes_in;
+use lpis_register_rows::{KeptShape, shapes_in};
 use lpis_release::Parcel;
-use lpis_rings::Polygon;
 use lpis_tables::Id;
 use std::alloc::{AllocError, Global};
 
@@ -42,7 +41,7 @@ pub(crate) struct Writing {
     /// The identifiers that no release held.
     pub(crate) fresh: Vec<Id>,
     /// The shapes of its parcels, ascending by identifier.
-    pub(crate) shapes: Vec<(Id, Polygon)>,
+    pub(crate) shapes: Vec<KeptShape>,
 }
 
 /// A release that may follow the history that it was accepted for. The register alone makes one.
@@ -93,13 +92,17 @@ fn step_of(
     Ok(step)
 }
 
-/// The shapes of parcels, ascending by identifier. They are copies: a register keeps them when the
-/// release is let go.
-fn kept_of(alloc: Global, parcels: &[Parcel]) -> Result<Vec<(Id, Polygon)>, AllocError>
+/// The shapes of parcels, ascending by identifier. They are copies, or share what is kept already: a
+/// register keeps them when the release is let go.
+fn kept_of(
+    alloc: Global,
+    parcels: &[Parcel],
+    kept: &[KeptShape],
+) -> Result<Vec<KeptShape>, AllocError>
     requires distinct { IsDistinct same_id (parcel_ids parcels.now) }
     ensures { IfOk result (λ shapes. AreKept parcels.now shapes.items) }
 {
-    shapes_in(alloc, parcels)
+    shapes_in(alloc, parcels, kept)
 }
 
 /// Refuses a release whose exact splits and merges the blocks of its certificate don't show, when
@@ -108,8 +111,8 @@ fn kept_of(alloc: Global, parcels: &[Parcel]) -> Result<Vec<(Id, Polygon)>, Allo
 fn check_groups(
     alloc: Global,
     change: &Change,
-    kept: &[(Id, Polygon)],
-    new: &[(Id, Polygon)],
+    kept: &[KeptShape],
+    new: &[KeptShape],
     cert: &Cert,
 ) -> Result<(), PublishFault>
     requires ascending { IsAscending (shape_ids kept.now) }
@@ -137,7 +140,7 @@ fn check_groups(
 fn accept_later(
     alloc: Global,
     history: &History,
-    kept: &[(Id, Polygon)],
+    kept: &[KeptShape],
     year: u16,
     parcels: &[Parcel],
     rows: &[Row],
@@ -154,7 +157,7 @@ fn accept_later(
     sound_maps_have_such_shapes();
     what_is_shown_has_exact_lineage();
     let step = step_of(alloc, history, parcels, rows)?;
-    let shapes = kept_of(alloc, parcels)?;
+    let shapes = kept_of(alloc, parcels, kept)?;
     check_groups(alloc, &step.change, kept, shapes.as_slice(), cert)?;
     let Step {
         live,
@@ -174,7 +177,7 @@ fn accept_later(
 pub(crate) fn accept_parcels(
     alloc: Global,
     history: &History,
-    kept: &[(Id, Polygon)],
+    kept: &[KeptShape],
     year: u16,
     parcels: &[Parcel],
     rows: &[Row],

@@ -25,10 +25,8 @@ use crate::accepting::Writing;
 use crate::confirming::confirm;
 use crate::fault::PublishFault;
 use lpis_lineage::{History, IdSet};
-use lpis_register_rows::ShapeChange;
+use lpis_register_rows::{KeptShape, ShapeChange};
 use lpis_register_sql::{tables_in, write_release};
-use lpis_rings::Polygon;
-use lpis_tables::Id;
 use sqlite::{Alter, Connection, Error, ErrorCode, Transaction};
 use std::alloc::Global;
 
@@ -37,7 +35,7 @@ fn fill<S: Alter>(
     alloc: Global,
     tx: &mut Transaction<'_, S>,
     last: u16,
-    kept: &[(Id, Polygon)],
+    kept: &[KeptShape],
     writing: &Writing,
 ) -> Result<(), Error>
     ensures same_reference { tx.new.conn.ghost_name ≡ tx.old.conn.ghost_name }
@@ -70,7 +68,7 @@ fn write_at_end<S: Alter>(
     conn: &mut Connection<S>,
     history: &History,
     last: u16,
-    kept: &[(Id, Polygon)],
+    kept: &[KeptShape],
     writing: &Writing,
 ) -> Result<(), PublishFault>
     requires autocommit { conn.old.in_transaction ≡ false }
@@ -135,7 +133,7 @@ fn write_or_take_back<S: Alter>(
     conn: &mut Connection<S>,
     history: &mut History,
     last: u16,
-    kept: &[(Id, Polygon)],
+    kept: &[KeptShape],
     writing: &Writing,
 ) -> Result<(), PublishFault>
     requires autocommit { conn.old.in_transaction ≡ false }
@@ -165,7 +163,7 @@ pub(crate) fn commit_release<S: Alter>(
     alloc: Global,
     conn: &mut Connection<S>,
     history: &mut History,
-    kept: &[(Id, Polygon)],
+    kept: &[KeptShape],
     live: IdSet,
     writing: &Writing,
 ) -> Result<(), PublishFault>

@@ -6,10 +6,9 @@ ghost use Rattle.lpis_register_rows.specs.Histories.{IsSameHistory};
 ghost use Rattle.lpis_register.specs.private.Alike.{AreAlike, IsAlike};
 
 use lpis_lineage::{Entry, History, IdSet, Row};
+use lpis_register_rows::KeptShape;
 use lpis_release::is_same_polygon;
 use lpis_release::laws::tests_find_equal_rows;
-use lpis_rings::Polygon;
-use lpis_tables::Id;
 
 /// Whether two sets have the same identifiers.
 fn are_same_ids(a: &IdSet, b: &IdSet) -> bool
@@ -78,15 +77,15 @@ pub(crate) fn is_same_history(a: &History, b: &History) -> bool
 }
 
 /// Whether two shapes have the same identifier, and the same polygon point by point.
-fn is_same_shape(a: &(Id, Polygon), b: &(Id, Polygon)) -> bool
+fn is_same_shape(a: &KeptShape, b: &KeptShape) -> bool
     ensures { IsTrue result ↔ (a.now ≡ b.now) }
 {
     tests_find_equal_rows();
-    a.0 == b.0 && is_same_polygon(&a.1, &b.1)
+    a.id() == b.id() && is_same_polygon(a.polygon(), b.polygon())
 }
 
 /// Whether two lists of shapes are equal: identifiers and polygons, point by point.
-pub(crate) fn are_same_shapes(a: &[(Id, Polygon)], b: &[(Id, Polygon)]) -> bool
+pub(crate) fn are_same_shapes(a: &[KeptShape], b: &[KeptShape]) -> bool
     ensures { IsTrue result ↔ (a.now ≡ b.now) }
 {
     let mut rest = b.iter();

@@ -22,10 +22,8 @@ use crate::fault::PublishFault;
 use crate::finding::{history_at, shapes_at};
 use crate::opening::fault_of;
 use lpis_lineage::History;
-use lpis_register_rows::{Version, texts_keep_one_list_of_shapes};
+use lpis_register_rows::{KeptShape, Version, texts_keep_one_list_of_shapes};
 use lpis_register_sql::{Found, load_found_inside, load_texts_inside};
-use lpis_rings::Polygon;
-use lpis_tables::Id;
 use sqlite::{Alter, Transaction};
 use std::alloc::Global;
 use std::mem::drop;
@@ -58,7 +56,7 @@ fn texts_inside<S: Alter>(
     tx: &mut Transaction<'_, S>,
     found: &Found,
     history: &History,
-) -> Result<Vec<(Id, Polygon)>, PublishFault>
+) -> Result<Vec<KeptShape>, PublishFault>
     ensures same_reference { tx.new.conn.ghost_name ≡ tx.old.conn.ghost_name }
     ensures quiet { IsQuiet (state S.Store tx.old.conn.now) (state S.Store tx.new.conn.now) }
     ensures tells { TellsFound found.now (state S.Store tx.old.conn.now)
@@ -82,7 +80,7 @@ fn shapes_inside<S: Alter>(
     found: &Found,
     version: Version,
     history: &History,
-) -> Result<Vec<(Id, Polygon)>, PublishFault>
+) -> Result<Vec<KeptShape>, PublishFault>
     ensures same_reference { tx.new.conn.ghost_name ≡ tx.old.conn.ghost_name }
     ensures quiet { IsQuiet (state S.Store tx.old.conn.now) (state S.Store tx.new.conn.now) }
     ensures tells { TellsFound found.now (state S.Store tx.old.conn.now)
@@ -109,7 +107,7 @@ fn shapes_told<S: Alter>(
     version: Version,
     told: History,
     history: &History,
-    shapes: &[(Id, Polygon)],
+    shapes: &[KeptShape],
 ) -> Result<bool, PublishFault>
     ensures same_reference { tx.new.conn.ghost_name ≡ tx.old.conn.ghost_name }
     ensures quiet { IsQuiet (state S.Store tx.old.conn.now) (state S.Store tx.new.conn.now) }
@@ -137,7 +135,7 @@ fn told_inside<S: Alter>(
     tx: &mut Transaction<'_, S>,
     found: &Found,
     history: &History,
-    shapes: &[(Id, Polygon)],
+    shapes: &[KeptShape],
 ) -> Result<bool, PublishFault>
     ensures same_reference { tx.new.conn.ghost_name ≡ tx.old.conn.ghost_name }
     ensures quiet { IsQuiet (state S.Store tx.old.conn.now) (state S.Store tx.new.conn.now) }
@@ -174,7 +172,7 @@ pub(crate) fn confirm<S: Alter>(
     tx: &mut Transaction<'_, S>,
     found: &Found,
     history: &History,
-    shapes: &[(Id, Polygon)],
+    shapes: &[KeptShape],
 ) -> Result<(), PublishFault>
     ensures same_reference { tx.new.conn.ghost_name ≡ tx.old.conn.ghost_name }
     ensures quiet { IsQuiet (state S.Store tx.old.conn.now) (state S.Store tx.new.conn.now) }

@@ -22,11 +22,10 @@ use crate::fault::PublishFault;
 use crate::opening::{Loaded, fault_of};
 use lpis_lineage::History;
 use lpis_register_rows::{
-    Rows, RowsFault, TextRow, Version, history_of, shapes_of, texts_keep_one_list_of_shapes,
+    KeptShape, Rows, RowsFault, TextRow, Version, history_of, shapes_of,
+    texts_keep_one_list_of_shapes,
 };
 use lpis_register_sql::{Found, load_found, load_texts};
-use lpis_rings::Polygon;
-use lpis_tables::Id;
 use sqlite::{Alter, Connection};
 use std::alloc::Global;
 
@@ -83,7 +82,7 @@ pub(crate) fn shapes_at(
     alloc: Global,
     history: &History,
     texts: Vec<TextRow>,
-) -> Result<Vec<(Id, Polygon)>, PublishFault>
+) -> Result<Vec<KeptShape>, PublishFault>
     ensures are { IfOk result (λ shapes. ShapesAre texts.items shapes.items
         × AreLive (last_live history.now) shapes.items) }
     ensures unlawful { IfErr result (λ e. e ≡ Unlawful
@@ -103,7 +102,7 @@ fn find_texts<S: Alter>(
     conn: &mut Connection<S>,
     found: &Found,
     history: &History,
-) -> Result<Vec<(Id, Polygon)>, PublishFault>
+) -> Result<Vec<KeptShape>, PublishFault>
     requires autocommit { conn.old.in_transaction ≡ false }
     ensures autocommit { conn.new.in_transaction ≡ false }
     ensures reads { LeavesAll (state S.Store conn.old) (state S.Store conn.new) result }
@@ -127,7 +126,7 @@ fn find_shapes<S: Alter>(
     found: &Found,
     version: Version,
     history: &History,
-) -> Result<Vec<(Id, Polygon)>, PublishFault>
+) -> Result<Vec<KeptShape>, PublishFault>
     requires autocommit { conn.old.in_transaction ≡ false }
     ensures autocommit { conn.new.in_transaction ≡ false }
     ensures reads { LeavesAll (state S.Store conn.old) (state S.Store conn.new) result }

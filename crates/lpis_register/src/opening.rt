@@ -11,8 +11,7 @@ ghost use Rattle.lpis_register.specs.declared.fault.PublishFault.TheVariants.{Me
 
 use crate::fault::PublishFault;
 use lpis_lineage::History;
-use lpis_rings::Polygon;
-use lpis_tables::Id;
+use lpis_register_rows::KeptShape;
 use sqlite::{Error, ErrorCode};
 use std::alloc::Global;
 
@@ -20,7 +19,7 @@ use std::alloc::Global;
 #[derive(Drop)]
 pub(crate) struct Loaded {
     pub(crate) history: History,
-    pub(crate) shapes: Vec<(Id, Polygon)>,
+    pub(crate) shapes: Vec<KeptShape>,
     ghost ascending: { IsAscending (shape_ids shapes.items) } by { Prim.hlevel props },
 }
 

@@ -9,9 +9,8 @@ ghost use Rattle.lpis_register.specs.declared.fault.PublishFault.TheVariants.{St
 use crate::fault::PublishFault;
 use crate::finding::find_rows;
 use lpis_lineage::History;
+use lpis_register_rows::KeptShape;
 use lpis_register_sql::tables_in;
-use lpis_rings::Polygon;
-use lpis_tables::Id;
 use sqlite::{Alter, Connection};
 use std::alloc::{AllocError, Global};
 
@@ -36,15 +35,14 @@ pub(crate) fn read_history<S: Alter>(
 /// Copies of shapes, in their order.
 pub(crate) fn copied_shapes(
     alloc: Global,
-    shapes: &[(Id, Polygon)],
-) -> Result<Vec<(Id, Polygon)>, AllocError>
+    shapes: &[KeptShape],
+) -> Result<Vec<KeptShape>, AllocError>
     ensures { IfOk result (λ copies. copies.items ≡ shapes.now) }
 {
     let mut copies = Vec::with_capacity(alloc, shapes.len())?;
     for shape in shapes {
-        let id = shape.0.copy()?;
-        let polygon = shape.1.copy(alloc)?;
-        copies.push((id, polygon))?;
+        let copy = shape.copy()?;
+        copies.push(copy)?;
     }
     Ok(copies)
 }

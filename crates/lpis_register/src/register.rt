@@ -25,7 +25,7 @@ use lpis_cert::Cert;
 use lpis_checker::Yes;
 use lpis_country_seam::Joined;
 use lpis_lineage::{Change, History, Row};
-use lpis_rings::Polygon;
+use lpis_register_rows::KeptShape;
 use lpis_tables::Id;
 use sqlite::{Alter, Connection};
 use std::alloc::Global;
@@ -41,7 +41,7 @@ pub struct Register<S: Alter> {
     /// The history that its tables say.
     history: History,
     /// The shapes that they keep: those of the last release's parcels, ascending by identifier.
-    shapes: Vec<(Id, Polygon)>,
+    shapes: Vec<KeptShape>,
     alloc: Global,
 }
 
@@ -91,7 +91,7 @@ impl<S: Alter> Register<S> {
 
     /// The shapes of the last release's parcels, ascending by identifier, lent. Nothing is read,
     /// and it takes no memory.
-    pub fn current_shapes(&self) -> &[(Id, Polygon)]
+    pub fn current_shapes(&self) -> &[KeptShape]
         ensures kept { result.now ≡ self.now.held.shapes }
         ensures ascending { IsAscending (shape_ids result.now) }
     {
@@ -100,7 +100,7 @@ impl<S: Alter> Register<S> {
 
     /// Copies of the shapes of the last release's parcels, ascending by identifier. Those of
     /// releases that were published in version 1 or 2 are not there.
-    pub fn shapes(&mut self) -> Result<Vec<(Id, Polygon)>, PublishFault>
+    pub fn shapes(&mut self) -> Result<Vec<KeptShape>, PublishFault>
         ensures kept { IfOk result (λ copies. copies.items ≡ self.old.held.shapes) }
         ensures same { self.new ≡ self.old }
         ensures memory { IfErr result (λ fault. fault ≡ Memory) }

@@ -6,7 +6,7 @@ ghost use Rattle.std.specs.List.Sorted.{IsSortedByKey};
 ghost use Rattle.std.specs.Ordering.{nat_cmp};
 ghost use Rattle.lpis_lineage.specs.Order.{IsAscending};
 
-use lpis_rings::Polygon;
+use crate::kept_shape::KeptShape;
 use lpis_tables::Id;
 
 /// What bears an identifier.
@@ -20,13 +20,13 @@ pub(crate) trait Named: Drop {
         ensures { result.now ≡ id_of self.now };
 }
 
-impl Named for (Id, Polygon) {
+impl Named for KeptShape {
     ghost use Rattle.lpis_register_rows.specs.Shapes.{Shape};
 
     ghost id_of = { λ (shape : Shape). shape.0 };
 
     fn id(&self) -> &Id {
-        &self.0
+        KeptShape::id(self)
     }
 }
 

@@ -1,6 +1,6 @@
 //! Shapes of parcels.
 
-ghost use Rattle.std.specs.Prelude.{◌≡◌, ◌↔◌, true, List, map, IfErr, IfOk, IsTrue};
+ghost use Rattle.std.specs.Prelude.{◌≡◌, ◌↔◌, true, List, map, IfErr, IfOk, IfSome, IsTrue};
 ghost use Rattle.std.specs.List.{AllByRecursion, AllZip, IsDistinct};
 ghost use Rattle.lpis_tables.specs.Ids.{is_id, same_id};
 ghost use Rattle.lpis_lineage.specs.Lineage.{last_live};
@@ -17,12 +17,14 @@ ghost use Rattle.lpis_register_rows.specs.Shapes.{ShapesAre, TextsStand, shape_i
 ghost use Rattle.lpis_register_rows.specs.Shapes.{parcel_shape as the_shape_of};
 
 use crate::fault::RowsFault;
+use crate::kept_shape::KeptShape;
 use crate::known::read_id;
 use crate::named::{ascend, sort};
 use crate::rows::TextRow;
 use crate::spelling::has_text;
 use lpis_lineage::{History, IdSet};
-use lpis_release::Parcel;
+use lpis_release::laws::tests_find_equal_rows;
+use lpis_release::{Parcel, is_same_polygon};
 use lpis_rings::Polygon;
 use lpis_tables::Id;
 use lpis_wkt::laws::function_of_text;
@@ -43,7 +45,7 @@ fn polygon_of(alloc: Global, text: &str) -> Result<Polygon, RowsFault>
 }
 
 /// The shape of a text.
-fn shape_of(alloc: Global, text: &TextRow) -> Result<(Id, Polygon), RowsFault>
+fn shape_of(alloc: Global, text: &TextRow) -> Result<KeptShape, RowsFault>
     ensures spelled { IfOk result (IsTextOfShape text.now) }
     ensures id { IfOk result HasId }
     ensures refused { IfErr result (λ e. e ≡ Unlawful → (shape : Shape)
@@ -51,11 +53,11 @@ fn shape_of(alloc: Global, text: &TextRow) -> Result<(Id, Polygon), RowsFault>
 {
     let id = read_id(alloc, text.id.as_str())?;
     let polygon = polygon_of(alloc, text.wkt.as_str())?;
-    Ok((id, polygon))
+    Ok(KeptShape::new(alloc, id, polygon)?)
 }
 
 /// The shapes of texts, in their order. Each text is let go once it is read.
-fn told_shapes(alloc: Global, texts: Vec<TextRow>) -> Result<Vec<(Id, Polygon)>, RowsFault>
+fn told_shapes(alloc: Global, texts: Vec<TextRow>) -> Result<Vec<KeptShape>, RowsFault>
     ensures spelled { IfOk result (λ v. AllZip IsTextOfShape texts.items v.items) }
     ensures ids { IfOk result (λ v. AllByRecursion HasId v.items) }
     ensures refused { IfErr result (λ e. e ≡ Unlawful → (order : List Shape)
@@ -70,18 +72,18 @@ fn told_shapes(alloc: Global, texts: Vec<TextRow>) -> Result<Vec<(Id, Polygon)>,
 }
 
 /// What is left of shapes once the first is passed, where it bears this identifier.
-fn pass<'a>(shapes: &'a [(Id, Polygon)], id: &Id) -> &'a [(Id, Polygon)]
+fn pass<'a>(shapes: &'a [KeptShape], id: &Id) -> &'a [KeptShape]
     ensures { result.now ≡ passed shapes.now id.now }
 {
     match shapes.split_first() {
-        Some((first, others)) if first.0 == *id => others,
+        Some((first, others)) if first.id() == id => others,
         _ => shapes,
     }
 }
 
 /// Whether the identifiers of shapes, which ascend, are among those of a set. The two are walked
 /// side by side.
-fn are_among(live: &IdSet, shapes: &[(Id, Polygon)]) -> bool
+fn are_among(live: &IdSet, shapes: &[KeptShape]) -> bool
     requires ascending { IsAscending (shape_ids shapes.now) }
     ensures { IsTrue result ↔ AreAmong live.now shapes.now }
 {
@@ -93,7 +95,7 @@ fn are_among(live: &IdSet, shapes: &[(Id, Polygon)]) -> bool
 }
 
 /// Whether the identifiers of shapes, which ascend, are live in the last release.
-fn are_live(history: &History, shapes: &[(Id, Polygon)]) -> bool
+fn are_live(history: &History, shapes: &[KeptShape]) -> bool
     requires ascending { IsAscending (shape_ids shapes.now) }
     ensures { IsTrue result ↔ AreAmong (last_live history.now) shapes.now }
 {
@@ -110,7 +112,7 @@ pub fn shapes_of(
     alloc: Global,
     texts: Vec<TextRow>,
     history: &History,
-) -> Result<Vec<(Id, Polygon)>, RowsFault>
+) -> Result<Vec<KeptShape>, RowsFault>
     ensures are { IfOk result (λ v. ShapesAre texts.items v.items) }
     ensures live { IfOk result (λ v. AreLive (last_live history.now) v.items) }
     ensures unlawful { IfErr result (λ e. e ≡ Unlawful
@@ -128,49 +130,69 @@ pub fn shapes_of(
     Ok(shapes)
 }
 
-/// An equal identifier, which is well formed.
-fn copy_of(id: &Id) -> Result<Id, AllocError>
-    ensures same { IfOk result (λ copy. copy ≡ id.now) }
-    ensures id { is_id id.now ≡ true }
+/// The kept shape that is that of a parcel, where it is found: they ascend by identifier.
+fn kept_of<'a>(kept: &'a [KeptShape], parcel: &Parcel) -> Option<&'a KeptShape>
+    ensures { IfSome result (λ shape. shape.now ≡ the_shape_of parcel.now) }
 {
-    let _ = id.as_str();
-    id.copy()
+    match kept.binary_search_by(|shape| shape.id().cmp(&parcel.id)) {
+        Ok(index) if is_shape_of(&kept[index], parcel) => Some(&kept[index]),
+        _ => None,
+    }
 }
 
-/// A copy of the shape of a parcel.
-fn copied_shape(alloc: Global, parcel: &Parcel) -> Result<(Id, Polygon), AllocError>
+/// Whether a kept shape is that of a parcel: its identifier, and its polygon point by point.
+fn is_shape_of(shape: &KeptShape, parcel: &Parcel) -> bool
+    ensures { IsTrue result → shape.now ≡ the_shape_of parcel.now }
+{
+    tests_find_equal_rows();
+    *shape.id() == parcel.id && is_same_polygon(shape.polygon(), &parcel.polygon)
+}
+
+/// The shape of a parcel: one that is kept shares its polygon, else it is a copy.
+fn shape_in(alloc: Global, parcel: &Parcel, kept: &[KeptShape]) -> Result<KeptShape, AllocError>
     ensures same { IfOk result (λ shape. shape ≡ the_shape_of parcel.now) }
     ensures id { IfOk result (λ shape. is_id shape.0 ≡ true) }
     ensures spelled { IfOk result IsSpelled }
 {
     has_text(&parcel.polygon);
-    let id = copy_of(&parcel.id)?;
-    let polygon = parcel.polygon.copy(alloc)?;
-    Ok((id, polygon))
+    let _ = parcel.id.as_str();
+    match kept_of(kept, parcel) {
+        Some(shape) => shape.copy(),
+        None => KeptShape::new(alloc, parcel.id.copy()?, parcel.polygon.copy(alloc)?),
+    }
 }
 
-/// Copies of the shapes of parcels, in their order.
-fn copied_shapes(alloc: Global, parcels: &[Parcel]) -> Result<Vec<(Id, Polygon)>, AllocError>
+/// The shapes of parcels, in their order.
+fn parcel_shapes(
+    alloc: Global,
+    parcels: &[Parcel],
+    kept: &[KeptShape],
+) -> Result<Vec<KeptShape>, AllocError>
     ensures same { IfOk result (λ v. v.items ≡ map the_shape_of parcels.now) }
     ensures live { IfOk result (λ v. AreLive (parcel_ids parcels.now) v.items) }
     ensures spelled { IfOk result (λ v. AllByRecursion IsSpelled v.items) }
 {
     let mut shapes = Vec::with_capacity(alloc, parcels.len())?;
     for parcel in parcels {
-        let shape = copied_shape(alloc, parcel)?;
+        let shape = shape_in(alloc, parcel, kept)?;
         shapes.push(shape)?;
     }
     Ok(shapes)
 }
 
-/// The shapes of parcels, no two of one identifier, ascending by identifier.
-pub fn shapes_in(alloc: Global, parcels: &[Parcel]) -> Result<Vec<(Id, Polygon)>, AllocError>
+/// The shapes of parcels, no two of one identifier, ascending by identifier. Those that are kept
+/// already, as kept ones that ascend by identifier tell, share their polygons.
+pub fn shapes_in(
+    alloc: Global,
+    parcels: &[Parcel],
+    kept: &[KeptShape],
+) -> Result<Vec<KeptShape>, AllocError>
     requires distinct { IsDistinct same_id (parcel_ids parcels.now) }
     ensures are { IfOk result (λ v. AreShapesOf parcels.now v.items) }
     ensures live { IfOk result (λ v. AreLive (parcel_ids parcels.now) v.items) }
     ensures spelled { IfOk result (λ v. AllByRecursion IsSpelled v.items) }
 {
-    let mut shapes = copied_shapes(alloc, parcels)?;
+    let mut shapes = parcel_shapes(alloc, parcels, kept)?;
     sort(&mut shapes);
     Ok(shapes)
 }

@@ -4,8 +4,8 @@ ghost use Rattle.std.specs.Prelude.{◌≡◌, ◌+◌, ◌<◌, ◌++◌, [], M
 ghost use Rattle.lpis_register_rows.specs.Shapes.{edits_of, text_edits};
 ghost use Rattle.lpis_register_rows.specs.Editing.{edits_in};
 
+use crate::kept_shape::KeptShape;
 use lpis_release::is_same_polygon;
-use lpis_rings::Polygon;
 use lpis_tables::Id;
 use std::cmp::Ordering;
 
@@ -15,26 +15,26 @@ pub enum Edit<'a> {
     /// The one of this identifier is deleted.
     Deletes(&'a Id),
     /// That of this shape takes the place of the one of its identifier.
-    Replaces(&'a (Id, Polygon)),
+    Replaces(&'a KeptShape),
     /// That of this shape is inserted.
-    Inserts(&'a (Id, Polygon)),
+    Inserts(&'a KeptShape),
 }
 
 /// Shapes that are kept, and those that follow them, both ascending by identifier.
 #[derive(Clone, Copy)]
 pub struct ShapeChange<'a> {
     /// Those that are kept.
-    pub kept: &'a [(Id, Polygon)],
+    pub kept: &'a [KeptShape],
     /// Those that follow.
-    pub shapes: &'a [(Id, Polygon)],
+    pub shapes: &'a [KeptShape],
 }
 
 /// What becomes of the text of a kept shape where one of its identifier follows: nothing where both
 /// have the same points.
-fn edit_of<'a>(kept: &(Id, Polygon), shape: &'a (Id, Polygon)) -> Option<Edit<'a>>
+fn edit_of<'a>(kept: &KeptShape, shape: &'a KeptShape) -> Option<Edit<'a>>
     ensures { edits_in result ≡ edits_of kept.now shape.now }
 {
-    if is_same_polygon(&kept.1, &shape.1) {
+    if is_same_polygon(kept.polygon(), shape.polygon()) {
         None
     } else {
         Some(Edit::Replaces(shape))
@@ -56,18 +56,21 @@ pub fn next_edit(change: ShapeChange<'_>) -> Option<(Option<Edit<'_>>, ShapeChan
     match (kept.split_first(), shapes.split_first()) {
         (None, None) => None,
         (Some((first, kept)), None) => {
-            Some((Some(Edit::Deletes(&first.0)), ShapeChange { kept, shapes }))
+            Some((
+                Some(Edit::Deletes(first.id())),
+                ShapeChange { kept, shapes },
+            ))
         }
         (None, Some((shape, shapes))) => {
             Some((Some(Edit::Inserts(shape)), ShapeChange { kept, shapes }))
         }
-        (Some((first, others)), Some((shape, more))) => match first.0.cmp(&shape.0) {
+        (Some((first, others)), Some((shape, more))) => match first.id().cmp(shape.id()) {
             Ordering::Less => {
                 let rest = ShapeChange {
                     kept: others,
                     shapes,
                 };
-                Some((Some(Edit::Deletes(&first.0)), rest))
+                Some((Some(Edit::Deletes(first.id())), rest))
             }
             Ordering::Equal => {
                 let rest = ShapeChange {

@@ -9,8 +9,7 @@ ghost use Rattle.lpis_register_sql.specs.Within.{Makes};
 ghost use Rattle.lpis_register_sql.specs.private.Lines.{text_at};
 
 use crate::statements::run;
-use lpis_register_rows::Edit;
-use lpis_rings::Polygon;
+use lpis_register_rows::{Edit, KeptShape};
 use lpis_tables::Id;
 use lpis_wkt_writer::write;
 use sqlite::{Alter, Error, Transaction, params};
@@ -43,14 +42,14 @@ fn replace_text_at<S: Alter>(tx: &mut Transaction<'_, S>, id: &str, wkt: &str) -
 fn replace_text<S: Alter>(
     alloc: Global,
     tx: &mut Transaction<'_, S>,
-    shape: &(Id, Polygon),
+    shape: &KeptShape,
 ) -> Result<(), Error>
     ensures same_reference { tx.new.conn.ghost_name ≡ tx.old.conn.ghost_name }
     ensures makes { Makes S.Store (edit_statement (Replaces (written_text shape.now)) ∷ [])
         tx.old.conn.now tx.new.conn.now result }
 {
-    let wkt = write(alloc, &shape.1)?;
-    replace_text_at(tx, shape.0.as_str(), wkt.as_str())
+    let wkt = write(alloc, shape.polygon())?;
+    replace_text_at(tx, shape.id().as_str(), wkt.as_str())
 }
 
 /// One more text, its columns apart.
@@ -70,14 +69,14 @@ fn insert_text_at<S: Alter>(tx: &mut Transaction<'_, S>, id: &str, wkt: &str) ->
 fn insert_text<S: Alter>(
     alloc: Global,
     tx: &mut Transaction<'_, S>,
-    shape: &(Id, Polygon),
+    shape: &KeptShape,
 ) -> Result<(), Error>
     ensures same_reference { tx.new.conn.ghost_name ≡ tx.old.conn.ghost_name }
     ensures makes { Makes S.Store (edit_statement (Inserts (written_text shape.now)) ∷ [])
         tx.old.conn.now tx.new.conn.now result }
 {
-    let wkt = write(alloc, &shape.1)?;
-    insert_text_at(tx, shape.0.as_str(), wkt.as_str())
+    let wkt = write(alloc, shape.polygon())?;
+    insert_text_at(tx, shape.id().as_str(), wkt.as_str())
 }
 
 /// What becomes of a text.

@@ -36,9 +36,8 @@ use lpis_checker::ExactPart;
 use lpis_lineage::{Change, History, LineageFault, Row, accept};
 use lpis_lineage_exact::{AskFault, wanted_parts};
 use lpis_register::{PublishFault, Register, ids_of};
-use lpis_register_rows::shapes_in;
+use lpis_register_rows::{KeptShape, shapes_in};
 use lpis_release::{Parcel, Release};
-use lpis_rings::Polygon;
 use lpis_run::{Answer, DONE, Failure, Outcome, PrintFault, REFUSED, Submission};
 use lpis_tables::Id;
 use sqlite::Alter;
@@ -120,9 +119,9 @@ fn answer_to_parts(alloc: Global, cert: Cert, parts: &[ExactPart]) -> Result<Out
 /// The answer to parcels that may follow, and a certificate; these are their shapes.
 fn answer_to_change(
     alloc: Global,
-    kept: &[(Id, Polygon)],
+    kept: &[KeptShape],
     change: &Change,
-    new: &[(Id, Polygon)],
+    new: &[KeptShape],
     cert: Cert,
 ) -> Result<Outcome, AllocError>
     requires ascending { IsAscending (shape_ids kept.now) }
@@ -165,7 +164,7 @@ pub fn change_of(
 /// have.
 pub fn fill_change(
     alloc: Global,
-    kept: &[(Id, Polygon)],
+    kept: &[KeptShape],
     change: &Change,
     parcels: &[Parcel],
     cert: Cert,
@@ -178,7 +177,7 @@ pub fn fill_change(
         → IfOk result (λ o. IsBlocksOutcome (submitted r cert rows)
         (holdings h kept.now) (outputs_of o)) }
 {
-    let new = shapes_in(alloc, parcels)?;
+    let new = shapes_in(alloc, parcels, kept)?;
     answer_to_change(alloc, kept, change, new.as_slice(), cert)
 }
 
@@ -186,7 +185,7 @@ pub fn fill_change(
 fn answer_to_rows(
     alloc: Global,
     history: &History,
-    kept: &[(Id, Polygon)],
+    kept: &[KeptShape],
     release: &Release,
     rows: &[Row],
     cert: Cert,
@@ -207,7 +206,7 @@ fn answer_to_rows(
 fn answer_to_submission(
     alloc: Global,
     history: &History,
-    kept: &[(Id, Polygon)],
+    kept: &[KeptShape],
     said: ReadSubmission,
 ) -> Result<Outcome, AllocError>
     requires ascending { IsAscending (shape_ids kept.now) }

@@ -1,6 +1,6 @@
 use Rattle.std.proofs.Common.{arith}
 use Rattle.lpis_register_rows.proofs.ShapeLemmas.{copied-live}
-use Rattle.lpis_register_rows.proofs.shapes.copied_shapes.Goals as goal
+use Rattle.lpis_register_rows.proofs.shapes.parcel_shapes.Goals as goal
 
 pub returns-clause-live : goal.returns-clause-live
 returns-clause-live c = copied-live c.args.parcels.now c.loop-parcel.parcel-index c.loop-parcel.shapes.items
