@@ -92,8 +92,8 @@ fn step_of(
     Ok(step)
 }
 
-/// The shapes of parcels, ascending by identifier. They are copies, or share what is kept already: a
-/// register keeps them when the release is let go.
+/// The shapes of parcels, ascending by identifier: those that are kept already, and copies of the
+/// others. A register keeps them when the release is let go.
 fn kept_of(
     alloc: Global,
     parcels: &[Parcel],

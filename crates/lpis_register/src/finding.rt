@@ -14,7 +14,7 @@ ghost use Rattle.lpis_register.specs.Saying.{SaysNoShapes, SaysNoTables, SaysSha
 ghost use Rattle.lpis_register.specs.private.Finding.{SeesFound};
 ghost use Rattle.lpis_register.specs.private.Finding.{SeesHistory};
 ghost use Rattle.lpis_register.specs.private.Finding.{SeesNoHistory, TellsFound};
-ghost use Rattle.lpis_register_rows.specs.declared.fault.RowsFault.TheVariants.{Unlawful as NoHistory};
+ghost use Rattle.lpis_register_rows.specs.declared.fault.RowsFault.TheVariants.{Unlawful as OfRows};
 ghost use Rattle.lpis_register_rows.specs.declared.version.Version.TheVariants.{Third};
 ghost use Rattle.lpis_register.specs.declared.fault.PublishFault.TheVariants.{Store, Unlawful};
 
@@ -31,7 +31,7 @@ use std::alloc::Global;
 
 /// Why rows are not read.
 fn fault_of_rows(fault: RowsFault) -> PublishFault
-    ensures unlawful { result ≡ Unlawful → fault ≡ NoHistory }
+    ensures unlawful { result ≡ Unlawful → fault ≡ OfRows }
     ensures no_store { result ≢ Store }
     ensures kind { IsOpeningFault result }
 {
