@@ -123,12 +123,12 @@ class TestTables(Case):
         def cut(identifier, percent=100):
             return lpis.cut([{"parcel": identifier, "geometry": square(0, 0)}], [{"piece": "a", "parcel": identifier, "class": "G", "geometry": square(0, 0)}], {"G": percent})
 
-        for identifier in (None, float("nan"), "Mühle", "a b", 'q"', ""):
+        for identifier in (None, float("nan"), "Mühle", "a b", 'q"', "", "a\r"):
             refused = self.refused(cut, identifier)
             assert (refused.code, refused.identifiers) == ("33", (identifier if isinstance(identifier, str) else "",))
         for identifier in ("a", 1, 1.0, b"a"):
             cut(identifier)
-        for percent in (0.5, "x", None, 101, -1):
+        for percent in (0.5, "x", None, 101, -1, float("inf"), "1\r"):
             assert self.refused(cut, "a", percent).code == "3b", percent
         cut("a", 30.0)
         assert self.refused(lpis.cut, [{"geometry": square(0, 0)}], [], {}).line == "refused 31 parcels row 0"
