@@ -115,7 +115,7 @@ class Names:
     def in_case_alone(self, layer, column):
         """Names those that people may take for one."""
         for names in sorted(map(sorted, self.work.layers[layer].groups(column, alike))):
-            self.work.findings.append(Finding("alike", layer, None, names[0], f"the {column}s {' and '.join(names)} differ in case, or in .0, alone", "kept as they are", True))
+            self.work.findings.append(Finding("alike", layer, None, names[0], f"the {column}{'es' if column == 'class' else 's'} {' and '.join(names)} differ in case, or in .0, alone", "kept as they are", True))
 
 
 def join(work, whole):
