@@ -177,6 +177,9 @@ class TestCountries(Years):
         write(os.path.join(country, "east"), {"a2": box(8, 0, 20, 11)})
         with pytest.raises(years.Trouble, match="a2: the region west has another shape of it"):
             years.of_folder(country)
+        for rows, words in (("a,a1,1\nb,\n", "row 2: 2 fields, and the header has 3"), ("a,a1,,\n", "row 1: 4 fields"), ("a,a1,yes\n", "row 1: an old identifier")):
+            with pytest.raises(years.Trouble, match=words):
+                years.rows_of(os.path.join(write(self.path("rows"), {}, rows), "lineage.csv"))
         write(os.path.join(country, "east"), {})
         with open(os.path.join(country, "east", "parcels.csv"), "a", encoding="ascii") as file:
             file.write(f'k,"{NEWER["k"]}"\n' * 2)
