@@ -158,6 +158,8 @@ class TestTables(Case):
         moved = lpis.prepare(parcels.to_crs(3857), covers.to_crs(3857), classes)
         assert (moved.is_written, "system" in [row["kind"] for row in moved.findings]) == (False, True), moved.said
         assert list(report.to_frame("classes")["eligible"]) == [Decimal("61.500000000")]
+        with pytest.raises(ValueError, match="classes: two columns of the frame have one name"):
+            lpis.table(classes.set_axis(["percent", "percent"], axis=1), "classes")
 
 
 @pytest.mark.skipif(not BUILT, reason="the program is not built")
@@ -310,8 +312,9 @@ class TestRegisters(Case):
         shapes = register.shapes()
         assert dict(zip(shapes, lpis.area(list(shapes.values())))) == {row.parcel: row.area for row in published.parcels}
 
-    def test_no_register(self):
-        path = self.top / "other.db"
+    def test_no_register(self, monkeypatch):
+        monkeypatch.chdir(self.top)
+        path = pathlib.Path("-other.db")
         path.write_bytes(b"no database")
         for ask in (lambda: lpis.Register(path).years, lpis.Register(path).shapes, lambda: lpis.Register(path).trace("a")):
             with pytest.raises(lpis.Failed) as caught:
@@ -376,10 +379,11 @@ class TestPreparing(Case):
         assert (stopped.is_written, stopped.parcels, "overlap" in stopped.said) == (False, None, True), stopped.said
         with pytest.raises(ValueError, match="no parcels were written"):
             stopped.to_frame("parcels")
-        for accept in (True, ["overlap", "outside", "changed", "lost"]):
+        for accept in (True, ["overlap", "outside", "changed", "lost"], "overlap,outside,changed,lost"):
             made = lpis.prepare(parcels, covers, {"G": 100}, accept=accept)
             assert (made.is_written, "overlap" in {row["kind"] for row in made.settled}) == (True, True), made.said
-        with pytest.raises(lpis.Failed, match="none.gpkg"):
-            lpis.prepare(self.top / "none.gpkg")
+        for path, accept, words in ((self.top / "none.gpkg", (), "none.gpkg"), ("-none.gpkg", (), "-none.gpkg: No such file"), ("none", ["gaps"], "gaps is none of table, system")):
+            with pytest.raises(lpis.Failed, match=words):
+                lpis.prepare(path, accept=accept)
         with pytest.raises(TypeError):
             lpis.prepare(parcels)

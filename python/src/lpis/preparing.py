@@ -83,18 +83,18 @@ def prepare(parcels: Table, covers: Table | None = None, classes: Table | None =
     """
     with tempfile.TemporaryDirectory(prefix="lpis-") as spare:
         target = Path(out) if out is not None else Path(spare, "out")
-        words = [sys.executable, str(tree.home() / "prepare"), str(source_of(Path(spare, "land"), parcels, covers)), str(target)]
+        words = [sys.executable, str(tree.home() / "prepare")]
         if classes is not None:
             table = Path(spare, "classes.csv")
             table.write_bytes(data_of(classes, "classes"))
             words += ["--classes", str(table)]
         if accept:
-            words += ["--accept", *([] if accept is True else [",".join(accept)])]
+            words.append("--accept" if accept is True else f"--accept={accept if isinstance(accept, str) else ','.join(accept)}")
         for option, value in (("previous", previous), ("identifiers", identifiers), ("epsg", epsg), ("between", between)):
             words += [f"--{option}", os.fspath(value) if isinstance(value, os.PathLike) else str(value)] if value is not None else []
         for wanted, found in (names or {}).items():
             words += ["--name", f"{wanted}={found}"]
-        ended = tree.ended(words)
+        ended = tree.ended([*words, "--", str(source_of(Path(spare, "land"), parcels, covers)), str(target)])
         if ended.returncode not in (0, 1):
             raise Failed(USAGE.sub("", ended.stderr).strip() or f"lpis-prepare ended with status {ended.returncode}")
         return read(target, ended.returncode == 0, ended.stdout)

@@ -50,6 +50,8 @@ def table(source: Table, name: str) -> bytes:
 def rows_of(source: Any, name: str) -> Iterator[dict[str, Any]]:
     """The rows of what is no file."""
     if hasattr(source, "to_dict") and not hasattr(source, "__geo_interface__"):
+        if len(set(source.columns)) < len(source.columns):
+            raise ValueError(f"{name}: two columns of the frame have one name")
         source = source.to_dict("records")
     found = getattr(source, "__geo_interface__", source)
     if not isinstance(found, Mapping):
