@@ -157,6 +157,9 @@ class TestTables(Case):
             assert lpis.area(layer) == [100, 105]
         moved = lpis.prepare(parcels.to_crs(3857), covers.to_crs(3857), classes)
         assert (moved.is_written, "system" in [row["kind"] for row in moved.findings]) == (False, True), moved.said
+        for system, words in (("+proj=merc +lat_ts=60 +ellps=GRS80", r"areas in its projection \(mercator"), ("+proj=tmerc +lon_0=9.3 +ellps=GRS80 +units=us-ft", "units of 0.3048"), ("+proj=longlat +ellps=bessel", "degrees")):
+            with pytest.raises(lpis.Failed, match=f"parcels: it is in .*{words}.*: transform it"):
+                lpis.prepare(parcels.set_crs(system, allow_override=True), covers, classes)
         assert list(report.to_frame("classes")["eligible"]) == [Decimal("61.500000000")]
         with pytest.raises(ValueError, match="classes: two columns of the frame have one name"):
             lpis.table(classes.set_axis(["percent", "percent"], axis=1), "classes")

@@ -113,6 +113,7 @@ class TestSystems(Case):
     def test_mixed(self):
         self.tables([("A", f"SRID=25832;POLYGON(({ring(0, 0)}))")], [("1", "A", "GRASS", f"SRID=25832;POLYGON(({ring(0, 0, 5)}))"), ("2", "A", "GRASS", f"SRID=25833;POLYGON(({ring(5, 0, 5)}))")])
         self.assert_refused(self.run_on(self.sheets), "shape: covers 2 (row 2)", "its own system has the number 25833")
+        self.assert_refused(self.run_on(self.sheets, "--epsg", "25833"), "could not be transformed to EPSG:25833: texts of shapes are not transformed here")
 
 
 class TestShapes(Case):

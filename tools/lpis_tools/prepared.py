@@ -107,6 +107,8 @@ class Run:
             work.find("classes", "classes", None, f"{self.path('classes.csv')} has other rows than the table classes of the source: remove it, or name it by --classes", "")
 
     def transformed(self, name, epsg, outlined=()):
+        if os.path.isdir(self.words.land) and not land.is_of_another_program(self.words.land):
+            raise land.Trouble("texts of shapes are not transformed here: do so where they were written, or make a GeoPackage of them")
         made, _ = land.as_package(self.words.land, self.spare, self.names.get(name, name), "-t_srs", f"EPSG:{epsg}")
         return land.read(made, land.of_made(self.names), (name,), self.spare, outlined)[name]
 

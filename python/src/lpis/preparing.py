@@ -114,9 +114,13 @@ def source_of(folder: Path, parcels: Table, covers: Table | None) -> Path:
 
 def with_system(table: Any, name: str) -> bytes:
     """A table as bytes, each shape with the number of the system that a GeoPandas frame has."""
-    to_epsg = getattr(getattr(table, "crs", None), "to_epsg", None)
-    epsg = to_epsg() if to_epsg else None
+    crs: Any = getattr(table, "crs", None)
+    epsg = crs.to_epsg() if hasattr(crs, "to_epsg") else None
     if epsg is None:
+        boxes = [table.total_bounds] if len(getattr(table, "total_bounds", ())) and len(table) else []
+        system = tree.module("systems").of_definition(None, crs.to_wkt(), boxes) if hasattr(crs, "to_wkt") else None
+        if system and system.why:
+            raise Failed(f"{name}: it is in {system} ({system.why}): transform it to a system in metres, such as EPSG:25832")
         return data_of(table, name)
     texts = ({**row, SHAPE: text_of(row.get(SHAPE))} for row in rows_of(table, name))
     return written(({**row, SHAPE: f"SRID={epsg};{row[SHAPE]}" if row[SHAPE] else ""} for row in texts), name)
