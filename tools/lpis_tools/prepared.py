@@ -43,11 +43,9 @@ class Run:
 
     @staticmethod
     def read_table(path):
-        records, faults = naming.table_of(path)
+        records, faults = naming.table_of(path, ("class",))
         if faults:
             raise land.Trouble(*(f"{path}: {words}" for words in faults))
-        if records and "class" not in records[0]:
-            raise land.Trouble(f"{path}: no column class: there are {', '.join(records[0])}")
         return records
 
     def digest(self):
