@@ -206,13 +206,14 @@ def read_package(path, names, wanted, outlined):
             called = names.get(name, name)
             table = next((t for t in tables if t.lower() == called.lower()), None)
             if table is None:
-                if name in SHAPED:
+                if name in SHAPED or name in names:
                     reasons.append(f"no layer {called}: there are {', '.join(map(shown, tables)) or 'none'} (--name {name}=LAYER says which it is)")
                 continue
             columns = {row[1]: row for row in connection.execute(f"PRAGMA table_xinfo({quoted(table)})")}
             chosen, lacking, _ = chosen_of(list(columns), name, COLUMNS[name], names, f"layer {table}")
             reasons += lacking
-            shape, why = chosen_shape(shapes.get(table.lower(), []), name, names)
+            there = {column.lower() for column in columns}  # SQLite reads the name of a column that is not there as a text
+            shape, why = chosen_shape([shape for shape in shapes.get(table.lower(), []) if shape[0].lower() in there], name, names)
             if name in SHAPED and why:
                 reasons.append(f"layer {table}: {why}")
             elif not lacking:
@@ -309,7 +310,7 @@ def read_folder(path, names, wanted, spare=None, outlined=()):
         called = names.get(name, name)
         table = next((os.path.join(path, called + ending) for ending in ("", ".csv", ".CSV", ".txt", ".tsv") if os.path.isfile(os.path.join(path, called + ending))), None)
         if table is None:
-            if name in SHAPED:
+            if name in SHAPED or name in names:
                 reasons.append(f"no table {called}.csv in {path} (--name {name}=TABLE says which it is)")
             continue
         sheet = sheets.read(table)
