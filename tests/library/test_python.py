@@ -123,12 +123,12 @@ class TestTables(Case):
         def cut(identifier, percent=100):
             return lpis.cut([{"parcel": identifier, "geometry": square(0, 0)}], [{"piece": "a", "parcel": identifier, "class": "G", "geometry": square(0, 0)}], {"G": percent})
 
-        for identifier in (None, float("nan"), "Mühle", "a b", 'q"', ""):
+        for identifier in (None, float("nan"), "Mühle", "a b", 'q"', "", "a\r"):
             refused = self.refused(cut, identifier)
             assert (refused.code, refused.identifiers) == ("33", (identifier if isinstance(identifier, str) else "",))
         for identifier in ("a", 1, 1.0, b"a"):
             cut(identifier)
-        for percent in (0.5, "x", None, 101, -1):
+        for percent in (0.5, "x", None, 101, -1, float("inf"), "1\r"):
             assert self.refused(cut, "a", percent).code == "3b", percent
         cut("a", 30.0)
         assert self.refused(lpis.cut, [{"geometry": square(0, 0)}], [], {}).line == "refused 31 parcels row 0"
@@ -157,7 +157,12 @@ class TestTables(Case):
             assert lpis.area(layer) == [100, 105]
         moved = lpis.prepare(parcels.to_crs(3857), covers.to_crs(3857), classes)
         assert (moved.is_written, "system" in [row["kind"] for row in moved.findings]) == (False, True), moved.said
+        for system, words in (("+proj=merc +lat_ts=60 +ellps=GRS80", r"areas in its projection \(mercator"), ("+proj=tmerc +lon_0=9.3 +ellps=GRS80 +units=us-ft", "units of 0.3048"), ("+proj=longlat +ellps=bessel", "degrees")):
+            with pytest.raises(lpis.Failed, match=f"parcels: it is in .*{words}.*: transform it"):
+                lpis.prepare(parcels.set_crs(system, allow_override=True), covers, classes)
         assert list(report.to_frame("classes")["eligible"]) == [Decimal("61.500000000")]
+        with pytest.raises(ValueError, match="classes: two columns of the frame have one name"):
+            lpis.table(classes.set_axis(["percent", "percent"], axis=1), "classes")
 
 
 @pytest.mark.skipif(not BUILT, reason="the program is not built")
@@ -310,8 +315,9 @@ class TestRegisters(Case):
         shapes = register.shapes()
         assert dict(zip(shapes, lpis.area(list(shapes.values())))) == {row.parcel: row.area for row in published.parcels}
 
-    def test_no_register(self):
-        path = self.top / "other.db"
+    def test_no_register(self, monkeypatch):
+        monkeypatch.chdir(self.top)
+        path = pathlib.Path("-other.db")
         path.write_bytes(b"no database")
         for ask in (lambda: lpis.Register(path).years, lpis.Register(path).shapes, lambda: lpis.Register(path).trace("a")):
             with pytest.raises(lpis.Failed) as caught:
@@ -376,10 +382,11 @@ class TestPreparing(Case):
         assert (stopped.is_written, stopped.parcels, "overlap" in stopped.said) == (False, None, True), stopped.said
         with pytest.raises(ValueError, match="no parcels were written"):
             stopped.to_frame("parcels")
-        for accept in (True, ["overlap", "outside", "changed", "lost"]):
+        for accept in (True, ["overlap", "outside", "changed", "lost"], "overlap,outside,changed,lost"):
             made = lpis.prepare(parcels, covers, {"G": 100}, accept=accept)
             assert (made.is_written, "overlap" in {row["kind"] for row in made.settled}) == (True, True), made.said
-        with pytest.raises(lpis.Failed, match="none.gpkg"):
-            lpis.prepare(self.top / "none.gpkg")
+        for path, accept, words in ((self.top / "none.gpkg", (), "none.gpkg"), ("-none.gpkg", (), "-none.gpkg: No such file"), ("none", ["gaps"], "gaps is none of table, system")):
+            with pytest.raises(lpis.Failed, match=words):
+                lpis.prepare(path, accept=accept)
         with pytest.raises(TypeError):
             lpis.prepare(parcels)

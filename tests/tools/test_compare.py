@@ -240,6 +240,13 @@ class TestCompare(Case):
         assert (run.returncode, words in run.stderr, "Traceback" in run.stderr) == (64, True, False), run.stderr
         self.round()
         assert self.table("covers") == before
+        os.remove(os.path.join(self.out, "covers.csv"))
+        assert "covers.csv is not there" in ended_with(64, self.compare()).stderr
+
+    def test_header(self):
+        """A mark before it and columns in other letters are read, as lpis does."""
+        self.edit("covers", lambda line: f"\ufeff{line.upper()}" if "class,wkt" in line else line)
+        self.assert_even(ended_with(0, self.compare()))
 
     def test_all_rows(self):
         """The report has a row of each thing, however many there are."""

@@ -110,9 +110,10 @@ class TestSplits(Case):
             good.write(self.source)
             write(self.source, name, [*lines(self.source, name), row])
             self.refuse(*words)
-        good.write(self.source)
-        write(self.source, "covers", [row.replace("piece,parcel", "piece,block") for row in lines(self.source, "covers")])
-        self.refuse("covers.csv: no column parcel")
+        for name, column, other in (("covers", "parcel,", "block,"), ("classes", "percent", "share"), ("classes", "class,", "eligible,")):
+            good.write(self.source)
+            write(self.source, name, [row.replace(column, other) for row in lines(self.source, name)])
+            self.refuse(f"{name}.csv: no column {column.strip(',')}")
         shutil.rmtree(self.source)
         assert country("split", self.source, self.out).returncode == 64
         assert country("split", self.source).returncode == 64

@@ -113,6 +113,7 @@ class TestSystems(Case):
     def test_mixed(self):
         self.tables([("A", f"SRID=25832;POLYGON(({ring(0, 0)}))")], [("1", "A", "GRASS", f"SRID=25832;POLYGON(({ring(0, 0, 5)}))"), ("2", "A", "GRASS", f"SRID=25833;POLYGON(({ring(5, 0, 5)}))")])
         self.assert_refused(self.run_on(self.sheets), "shape: covers 2 (row 2)", "its own system has the number 25833")
+        self.assert_refused(self.run_on(self.sheets, "--epsg", "25833"), "could not be transformed to EPSG:25833: texts of shapes are not transformed here")
 
 
 class TestShapes(Case):
@@ -219,7 +220,7 @@ class TestNames(Case):
         self.tables([("A", f"POLYGON(({ring(0, 0)}))"), ("a", f"POLYGON(({ring(10, 0)}))"), ("7", f"POLYGON(({ring(20, 0)}))")],
                     [("1", "A", "GRASS", f"POLYGON(({ring(0, 0)}))"), ("2", "a", "Grass", f"POLYGON(({ring(10, 0)}))"), ("3", "7.0", "TREES", f"POLYGON(({ring(20, 0)}))")])
         run = self.run_on(self.sheets)
-        self.assert_refused(run, "the parcels A and a differ in case", "its parcel 7.0 is not there; 7 is, which differs in case, or in .0, alone", "and the table of classes has not; it has GRASS, which differs")
+        self.assert_refused(run, "the parcels A and a differ in case", "the classes GRASS and Grass differ in case", "its parcel 7.0 is not there; 7 is, which differs in case, or in .0, alone", "and the table of classes has not; it has GRASS, which differs")
 
     def test_nameless(self):
         source = self.package([("A", dirty.polygon(dirty.box(0, 0)))], [("1", "A", "GRASS", dirty.polygon(dirty.box(0, 0, 5))), (None, "A", "TREES", dirty.polygon(dirty.box(5, 0, 5)))])

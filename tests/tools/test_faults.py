@@ -21,9 +21,10 @@ COVERS = [
     f"c1,sound,G,{square(0, 0)}", f"c2,gap,G,{square(20, 0, 9.999)}", f"c3,left,G,{square(40, 0)}", f"c4,right,G,{square(49.999, 0)}",
     'c5,bow,G,"POLYGON((70 0,80 10,80 0,70 10,70 0))"', f"c6,inner,G,{square(90, 0)}", f"c7,inner,G,{square(95, 0, 5)}",
     f"c8,text,G,{square(0, 0)}", f"c9,stranger,G,{square(0, 0)}", f"c10,class,none,{square(150, 0)}", f"c 11,sound,G,{square(0, 0)}",
+    f'"c12\r",sound,G,{square(0, 0)}',
 ]
 WANTED = {
-    ("34", "sound"), ("38 14", "text"), ("37", "bare"), ("35", "c9 stranger"), ("36", "c10 class"), ("33", "c 11 sound"),
+    ("34", "sound"), ("38 14", "text"), ("37", "bare"), ("35", "c9 stranger"), ("36", "c10 class"), ("33", "c 11 sound"), ("33", r"c12\r sound"),
     ("43", "gap"), ("41", "left right"), ("40", "c5"),
 }
 

@@ -4,6 +4,7 @@ system stands for is left out where pyproj is not there."""
 import contextlib
 import random
 import re
+import shutil
 import struct
 import time
 from unittest import mock
@@ -192,7 +193,8 @@ class TestTables(Files):
     def test_faults(self):
         cases = [(f"{COLUMNS},CLASS\n{PIECE},WATER\n", 0, "two columns are called class: class and CLASS"), (f"{COLUMNS}\n{PIECE},x\n", 1, "line 2 has 5 fields, and the header has 4"),
                  (f"{COLUMNS}\n{PIECE}\n2,A\n", 2, "line 3 has 2 fields"), (f"{COLUMNS}\n\n{PIECE}\n2,A,GRASS,POLYGON({RING})\n", 2, "has 8 fields"), (f"{COLUMNS}\n{PIECE[:-1]}\n2,A,GRASS,x\n", 0, "a quotation mark that is not closed"),
-                 (f"{COLUMNS}\n1,A,\"GRASS\"x,y\n", 0, "it cannot be read behind line 2"), (f"{COLUMNS},wkt,wkt\n", 0, "two columns are called wkt")]
+                 (f"{COLUMNS}\n1,A,\"GRASS\"x,y\n", 0, "it cannot be read behind line 2"), (f"{COLUMNS},wkt,wkt\n", 0, "two columns are called wkt"),
+                 (f"{COLUMNS}\n1,M\x81hle\n".encode("latin-1"), 0, "bytes that are not cp1252")]
         for text, row, words in cases:
             layer, faults = self.faults(text)
             assert any(number == row and words in told for number, told in faults), (text, faults)
@@ -215,6 +217,12 @@ class TestTables(Files):
         for data in (b"class;percent\nGr\x81n;5\n", b"\xff\xfec\0l\0a\0;\0b\0\n\0x"):
             sheet = sheets.read(self.write("t.csv", data))
             assert sheet.records is not None and sheet.faults, data
+
+    @pytest.mark.skipif(not shutil.which("ogr2ogr"), reason="no ogr2ogr")
+    def test_words_of_another_program(self):
+        """What ogr2ogr says on several lines is told whole."""
+        with pytest.raises(land.Trouble, match="source layer has no coordinate system"):
+            land.as_package(self.write("t.csv", f'x,WKT\n1,"POLYGON({RING})"\n'), self.folder, "-t_srs", "EPSG:25833")
 
     def test_systems_of_texts(self):
         rows = [f'{number},A,GRASS,"SRID={srid};POLYGON({RING})"' for number, srid in enumerate((25832, 4326, 25832), 1)]

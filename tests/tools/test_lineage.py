@@ -13,7 +13,7 @@ from calls import ended_with, tool
 from places import BUILT, TOP
 from registers import RELEASE, SPAN, TEXT, made
 from spare import Spare, read
-from lpis_tools import lineage_faults, shapely_there, years
+from lpis_tools import lineage_faults, proposing, shapely_there, years
 
 EXAMPLES = os.path.join(TOP, "examples", "exact")
 REGISTER = RELEASE + SPAN + TEXT + "INSERT INTO lpis_release VALUES (2023), (2024); INSERT INTO lpis_span VALUES ('early', 2023, 2023);"
@@ -97,6 +97,10 @@ class TestProposals(Years):
         ran = tool("lineage", old, new, new)
         assert (64, ["a,a1,"]) == (ran.returncode, self.read("new", "lineage.csv"))
         assert "it stays as it is" in ran.stderr
+        for name, rows, error in (("lineage.csv", (), FileExistsError), ("half.csv", (1 / 0 for _ in "a"), ZeroDivisionError)):
+            with pytest.raises(error):
+                proposing.write_rows(os.path.join(new, name), rows)
+        assert (["lineage.csv", "parcels.csv"], ["a,a1,"]) == (sorted(os.listdir(new)), self.read("new", "lineage.csv"))
 
     def test_trouble_is_no_traceback(self):
         new = write(self.path("new"), NEWER)
@@ -177,6 +181,9 @@ class TestCountries(Years):
         write(os.path.join(country, "east"), {"a2": box(8, 0, 20, 11)})
         with pytest.raises(years.Trouble, match="a2: the region west has another shape of it"):
             years.of_folder(country)
+        for rows, words in (("a,a1,1\nb,\n", "row 2: 2 fields, and the header has 3"), ("a,a1,,\n", "row 1: 4 fields"), ("a,a1,yes\n", "row 1: an old identifier")):
+            with pytest.raises(years.Trouble, match=words):
+                years.rows_of(os.path.join(write(self.path("rows"), {}, rows), "lineage.csv"))
         write(os.path.join(country, "east"), {})
         with open(os.path.join(country, "east", "parcels.csv"), "a", encoding="ascii") as file:
             file.write(f'k,"{NEWER["k"]}"\n' * 2)

@@ -117,8 +117,11 @@ class TestYears(Spare):
         assert found("kind,old,new\nparcel,a,b\nparcel,b,a\n", ["a", "b"]) == (["b", "a"], {"a": "b", "b": "a"}, 0)
         assert found("kind,old,new\nparcel,x y,foo\n", ["a"])[1] == {"x y": "foo"}
         assert found("kind,old,new\nparcel,a,b\n", ["a", "b"])[2] == 1
-        with pytest.raises(naming.land.Trouble):
-            found('kind,old,new\nparcel,"a,b\n', ["a"])
+        for text, words in (('kind,old,new\nparcel,"a,b\n', "a quotation mark that is not closed"), ("old,new\na,b\n", "no column kind: there are old, new"), ("\n", "there are none"),
+                            ("kind,old,new\nparcels,a,b\n", "row 1: 'parcels', 'a', 'b'"), ("kind,old,new\nparcel,a,\n", "row 1"), ("kind,old,new\nparcel,,b\n", "row 1"),
+                            ("kind,old,new\nparcel,a,b\nparcel,a,b\nparcel,a,c\n", "row 3: 'parcel', 'a', 'c'")):
+            with pytest.raises(naming.land.Trouble, match=words):
+                found(text, ["a"])
 
 
 class TestWhole(preparing_case.Case):

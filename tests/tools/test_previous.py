@@ -124,7 +124,7 @@ class TestFolders(Spare):
     def test_no_tables(self):
         os.mkdir(self.path("empty"))
         self.refused(self.path("empty"), "has no table covers.csv")
-        self.refused(self.path("none"), "has no table covers.csv")
+        self.refused(self.path("none"), f"previous: {self.path('none')}: ")
         os.remove(os.path.join(self.land("half"), "parcels.csv"))
         self.refused(self.path("half"), "has no table parcels.csv")
 

@@ -155,6 +155,8 @@ class TestReports(Spare):
         assert any("overlap" in words for words in told["refusal"]["words"])
         assert len(self.shapes()["marks"]) == 1
         assert "</i>faults: 1</span>" in self.html()
+        for line, words in (("failed read cert", "an input could not be opened or read"), ("refused 41 A", "docs/FORMATS.md has no such line")):
+            assert words in self.report(line=line)[1]["refusal"]["words"][0]
 
     def test_difference(self):
         new = release(self.path("new"), ["A", "B2", "B3"], lineage=["B,B2", "B,B3", "X,"], width=11)

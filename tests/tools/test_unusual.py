@@ -81,6 +81,7 @@ class TestUnusual(Case):
             (lambda: self.package([], []), (1, "covers: it has no row")),
             (lambda: self.changed("ALTER TABLE covers ADD centre BLOB", "INSERT INTO gpkg_geometry_columns VALUES ('covers', 'centre', 'POINT', 25832, 0, 0)"),
              (64, "2 columns of shapes: there are geom, centre (--name covers.wkt=COLUMN says which it is)")),
+            (lambda: self.changed("UPDATE gpkg_geometry_columns SET column_name = 'shape' WHERE table_name = 'covers'"), (64, "layer covers: it has no column of shapes")),
             (lambda: self.package(*[[(*fields, self.POINT)] * 3 for fields in (["A"], ["A.1", "A", "GRASS"])]), (1, "no table is written")),
             (lambda: self.changed("ALTER TABLE covers ADD owner TEXT GENERATED ALWAYS AS (class) VIRTUAL"), (0, "owner: not taken over")),
             (lambda: self.package([("A", touching)], [("A.1", "A", "GRASS", touching)]), (1, "invalid: covers A.1 (fid 1) (100.000 m2)")),
@@ -109,7 +110,7 @@ class TestUnusual(Case):
         """--name LAYER.wkt chooses among columns of shapes, in any mix of cases; one that is not there is named with those that are."""
         source = self.changed("ALTER TABLE covers ADD outline BLOB", "INSERT INTO gpkg_geometry_columns VALUES ('covers', 'outline', 'POLYGON', 25832, 0, 0)", "UPDATE covers SET outline = geom, geom = NULL")
         for word, status, words in (("covers.wkt=Outline", 0, "columns that the tables do not have: geom"), ("covers.wkt=geom", 1, "no shape (NULL)"),
-                                    ("covers.wkt=way", 64, "no column of shapes way: there are geom, outline")):
+                                    ("covers.wkt=way", 64, "no column of shapes way: there are geom, outline"), ("classes=kinds", 64, "no layer kinds: there are ")):
             run = self.run_on(source, "--name", word)
             assert (run.returncode, words in run.stdout + run.stderr) == (status, True), run.stdout + run.stderr
         if shutil.which("ogr2ogr"):  # which calls the column by a name of its own

@@ -12,7 +12,7 @@ from registers import made
 from calls import ended_with, tool
 from places import BUILT, TOP
 from spare import Spare, read
-from lpis_tools import files, ledger
+from lpis_tools import files, ledger, yearly
 
 EXAMPLES = os.path.join(TOP, "examples", "exact")
 
@@ -105,6 +105,9 @@ class TestYears(Case):
         copy = f"{self.base}.before-2025"
         assert entries[0]["content"] == ledger.content_of(copy)
         assert f"{files.digest(copy)}  lpis.db.before-2025\n" == Path(f"{copy}.sha256").read_text(encoding="ascii")
+        with pytest.raises(yearly.Stop, match="published already"):  # by another run, while this one waited
+            yearly.back_up(self.base, 2025)
+        assert entries[0]["content"] == ledger.content_of(copy)
 
     def test_what_it_stops_at(self):
         this = datetime.date.today().year
@@ -114,11 +117,12 @@ class TestYears(Case):
         before = ledger.content_of(self.base)
         shutil.copytree(os.path.join(EXAMPLES, "2025"), os.path.join(self.folder, "next"))
         for words, status in (
-            (["2025", "next", "--new"], 1), (["2025", "2024/parcels.csv"], 64), (["2028", "next"], 1), (["2024", "next"], 1), (["2023", "next"], 1), (["2205", "next"], 1), ([str(this + 2), "next"], 1), (["2025", "none"], 64),
+            (["2025", "next", "--new"], 1), (["2025", "2024/parcels.csv"], 64), (["2028", "next"], 1), (["2024", "next"], 1), (["2024", "next", "--year-anyway"], 1), (["2023", "next"], 1), (["2205", "next"], 1), ([str(this + 2), "next"], 1), (["2025", "none"], 64),
         ):
             ran = run(self.base, words[0], os.path.join(self.folder, words[1]), *words[2:])
             assert (status, before, 1) == (ran.returncode, ledger.content_of(self.base), len(self.lines())), (words, ran.stderr)
             assert "Traceback" not in ran.stderr
+        assert not os.path.exists(f"{self.base}.before-2024")
         made(self.base, "UPDATE lpis_text SET wkt = replace(wkt, '.000', '.0')")
         ran = run(self.base, "2025", os.path.join(self.folder, "next"))
         assert 1 == ran.returncode

@@ -2,6 +2,7 @@
 
 from __future__ import annotations
 
+import argparse
 from collections import Counter
 
 from . import cells, land, sheets
@@ -40,7 +41,7 @@ def kinds_of(word):
     if word == ALL:
         return frozenset(KINDS)
     if not is_list(word):
-        raise ValueError
+        raise argparse.ArgumentTypeError(f"{word} is none of {', '.join(KINDS)}, or some of them with commas between")
     return frozenset(word.replace("-", " ").split(","))
 
 

@@ -33,7 +33,7 @@ class Writer:
         self.file = file
 
     def writerow(self, fields):
-        self.file.write(",".join(map(quoted, fields)) + "\n")
+        self.file.write((",".join(map(quoted, fields)) or '""') + "\n")
 
     def writerows(self, rows):
         for fields in rows:

@@ -19,7 +19,7 @@ class Explained(OfGroups, OfCountry):
         self.named = []  # identifiers of the row that is refused
         self.refusal = read(line)
         if self.refusal is None:
-            self.say("docs/FORMATS.md has no such line")
+            self.say(codes.FAILURES.get("".join(line.split()[1:2]) if line.startswith("failed ") else "", "docs/FORMATS.md has no such line"))
             return
         self.place = self.refusal.place
         self.enter(folder, self.refusal.region)

@@ -39,7 +39,7 @@ class Finding:
         size = f" ({self.area:.3f} m2)" if self.area is not None else ""
         at = f" at {self.place[0]:.3f} {self.place[1]:.3f}" if self.place else ""
         done = self.done if self.is_mended or (self.done and accept.takes(self)) else ""
-        return f"{self.kind}: {who}{size}{at}: {self.words}" + (f": {done}" if done else "")
+        return ": ".join(filter(None, (self.kind, f"{who}{size}{at}", self.words, done)))
 
     def record(self, accept):
         done = (self.done or NOTES.get(self.kind, "")) if self.is_mended or accept.takes(self) else ""

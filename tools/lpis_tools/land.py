@@ -129,7 +129,7 @@ def as_package(path, spare, *words):
         raise Trouble(f"{path} is no GeoPackage and no folder of CSV tables: ogr2ogr reads more (Debian: gdal-bin), and is not there")
     made = os.path.join(spare, f"land{len(os.listdir(spare))}.gpkg")
     run = ending.run(["ogr2ogr", "-q", "-f", "GPKG", made, path, *words], capture_output=True, text=True, check=False)
-    told = [line.strip() for line in run.stderr.splitlines() if line.strip()]
+    told = [" ".join(words.split()) for words in re.split(r"\n(?=ERROR|FAILURE|Warning)", re.sub(r"\n *->.*", "", run.stderr)) if words.strip()]  # without the names of drivers
     if run.returncode or not os.path.exists(made):
         raise Trouble(f"{path}: ogr2ogr cannot read it: {next((line for line in told if line.startswith(('ERROR', 'FAILURE'))), told[-1] if told else run.returncode)}")
     return made, list(dict.fromkeys(told))
@@ -167,7 +167,7 @@ def chosen_of(columns, name, wanted, names, where):
     for column in wanted:
         found = columns_of(columns, name, column, names)
         if not found:
-            reasons.append(f"{where}: no column {names.get(f'{name}.{column}', column)}: there are {', '.join(map(shown, columns))} (--name {name}.{column}=COLUMN says which it is)")
+            reasons.append(f"{where}: no column {names.get(f'{name}.{column}', column)}: there are {', '.join(map(shown, columns)) or 'none'} (--name {name}.{column}=COLUMN says which it is)")
         elif len(found) > 1:
             faults.append(sheets.Fault(0, f"two columns are called {column}: {' and '.join(map(shown, found))}"))
         else:
@@ -206,13 +206,14 @@ def read_package(path, names, wanted, outlined):
             called = names.get(name, name)
             table = next((t for t in tables if t.lower() == called.lower()), None)
             if table is None:
-                if name in SHAPED:
+                if name in SHAPED or name in names:
                     reasons.append(f"no layer {called}: there are {', '.join(map(shown, tables)) or 'none'} (--name {name}=LAYER says which it is)")
                 continue
             columns = {row[1]: row for row in connection.execute(f"PRAGMA table_xinfo({quoted(table)})")}
             chosen, lacking, _ = chosen_of(list(columns), name, COLUMNS[name], names, f"layer {table}")
             reasons += lacking
-            shape, why = chosen_shape(shapes.get(table.lower(), []), name, names)
+            there = {column.lower() for column in columns}  # SQLite reads the name of a column that is not there as a text
+            shape, why = chosen_shape([shape for shape in shapes.get(table.lower(), []) if shape[0].lower() in there], name, names)
             if name in SHAPED and why:
                 reasons.append(f"layer {table}: {why}")
             elif not lacking:
@@ -309,14 +310,14 @@ def read_folder(path, names, wanted, spare=None, outlined=()):
         called = names.get(name, name)
         table = next((os.path.join(path, called + ending) for ending in ("", ".csv", ".CSV", ".txt", ".tsv") if os.path.isfile(os.path.join(path, called + ending))), None)
         if table is None:
-            if name in SHAPED:
+            if name in SHAPED or name in names:
                 reasons.append(f"no table {called}.csv in {path} (--name {name}=TABLE says which it is)")
             continue
         sheet = sheets.read(table)
         columns = sheet.columns
         wanted_columns = [*COLUMNS[name], *(["wkt"] if name in SHAPED else [])]
         chosen, lacking, faults = chosen_of(columns, name, wanted_columns, names, table)
-        reasons += lacking
+        reasons += [] if sheet.faults else lacking
         layers[name] = layer = Layer(name, faults=sheet.faults + faults, others=[shown(column) for column in columns if column not in chosen.values()])
         if not lacking and not layer.faults:
             if name in outlined:

@@ -115,7 +115,7 @@ class Names:
     def in_case_alone(self, layer, column):
         """Names those that people may take for one."""
         for names in sorted(map(sorted, self.work.layers[layer].groups(column, alike))):
-            self.work.findings.append(Finding("alike", layer, None, names[0], f"the {column}s {' and '.join(names)} differ in case, or in .0, alone", "kept as they are", True))
+            self.work.findings.append(Finding("alike", layer, None, names[0], f"the {column}{'es' if column == 'class' else 's'} {' and '.join(names)} differ in case, or in .0, alone", "kept as they are", True))
 
 
 def join(work, whole):
@@ -199,25 +199,27 @@ def united(founds):
 
 # Tables of names and of classes.
 
-def table_of(path):
-    """A table of classes or identifiers, whatever program wrote it, with the names of its columns in small letters; and its faults."""
+def table_of(path, wanted):
+    """A table of classes or identifiers, whatever program wrote it, with the names of its columns in small letters; and its faults, such as columns wanted that it lacks."""
     sheet = sheets.read(path)
     columns = [name.lower() for name in sheet.columns]
     doubled = sorted({name for name in columns if columns.count(name) > 1})
     records = [dict(zip(columns, fields)) for _, fields in sheet.rows()]
-    return records, [*(fault.words + (f" (row {fault.row})" if fault.row else "") for fault in sheet.faults), *(f"two columns are called {name}" for name in doubled)]
+    lacking = [] if sheet.faults else [name for name in wanted if name not in columns]
+    return records, [*(fault.words + (f" (row {fault.row})" if fault.row else "") for fault in sheet.faults), *(f"two columns are called {name}" for name in doubled),
+                     *(f"no column {name}: there are {', '.join(columns) or 'none'}" for name in lacking)]
 
 
 def given_identifiers(path):
     """A table kind, old, new of an earlier year. What cannot be read of it is no name less."""
     given = {kind: {} for kind in KINDS}
-    records, faults = table_of(path) if path else ([], [])
+    records, faults = table_of(path, ("kind", "old", "new")) if path else ([], [])
     if faults:
         raise land.Trouble(*(f"{path}: {words}" for words in faults))
-    for record in records:
-        kind, old, new = (cells.plain(record.get(name) or "") for name in ("kind", "old", "new"))
-        if kind in given and old and new:
-            given[kind][old] = new
+    for number, record in enumerate(records, 1):
+        kind, old, new = (cells.plain(record[name]) for name in ("kind", "old", "new"))
+        if kind not in given or not old or not new or given[kind].setdefault(old, new) != new:
+            raise land.Trouble(f"{path} row {number}: {kind!r}, {old!r}, {new!r}: a kind (parcel, piece or class), an old name and the one new name of it are wanted")
     return given
 
 

@@ -198,10 +198,11 @@ def read_table(folder, name):
     path = os.path.join(folder, f"{name}.csv")
     if not os.path.exists(path):
         return
-    with open(path, newline="", encoding="utf-8", errors="replace") as file:
+    with open(path, newline="", encoding="utf-8-sig", errors="replace") as file:
         table = csv.DictReader(file, strict=True)
         try:
-            lacking = {"wkt", Source.KEYS[name], *OTHERS[name]} - set(table.fieldnames or ())
+            table.fieldnames = [column.lower() for column in table.fieldnames or ()]
+            lacking = {"wkt", Source.KEYS[name], *OTHERS[name]} - set(table.fieldnames)
             if lacking:
                 raise land.Trouble(f"{path}: no column {' and '.join(sorted(lacking))}")
             for number, record in enumerate(table, 1):

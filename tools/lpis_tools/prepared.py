@@ -43,11 +43,9 @@ class Run:
 
     @staticmethod
     def read_table(path):
-        records, faults = naming.table_of(path)
+        records, faults = naming.table_of(path, ("class",))
         if faults:
             raise land.Trouble(*(f"{path}: {words}" for words in faults))
-        if records and "class" not in records[0]:
-            raise land.Trouble(f"{path}: no column class: there are {', '.join(records[0])}")
         return records
 
     def digest(self):
@@ -107,6 +105,8 @@ class Run:
             work.find("classes", "classes", None, f"{self.path('classes.csv')} has other rows than the table classes of the source: remove it, or name it by --classes", "")
 
     def transformed(self, name, epsg, outlined=()):
+        if os.path.isdir(self.words.land) and not land.is_of_another_program(self.words.land):
+            raise land.Trouble("texts of shapes are not transformed here: do so where they were written, or make a GeoPackage of them")
         made, _ = land.as_package(self.words.land, self.spare, self.names.get(name, name), "-t_srs", f"EPSG:{epsg}")
         return land.read(made, land.of_made(self.names), (name,), self.spare, outlined)[name]
 

@@ -1,11 +1,13 @@
 """Proposes rows of lineage from the land that dropped parcels and new ones share: of each dropped parcel by the new ones whose boxes meet its own alone. Wants
 Shapely."""
 
-import csv
+import contextlib
+import errno
+import os
 from dataclasses import dataclass
 from functools import lru_cache
 
-from . import cells
+from . import cells, files
 from .changes import Changes
 from .years import Row
 
@@ -118,10 +120,17 @@ def are_exact(groups, ask):
     return ask.answers("exact", [(group.is_merge, group.name, group.parts) for group in groups], "comparing splits and merges")
 
 
+@contextlib.contextmanager
+def new_table(path):
+    """A table that takes its place when it is whole; one that is there by then stays, and is an error."""
+    with files.anew(path, newline="") as file:
+        yield cells.Writer(file)
+        if os.path.lexists(path):
+            raise FileExistsError(errno.EEXIST, os.strerror(errno.EEXIST), path)
+
+
 def write_rows(path, rows):
-    """Writes the table; one that is there stays, and is an error."""
-    with open(path, "x", encoding="ascii", newline="") as file:
-        writer = csv.writer(file, lineterminator="\n")
+    with new_table(path) as writer:
         writer.writerow(["old", "new", "exact"])
         writer.writerows([row.old, row.new, int(row.is_marked)] for row in rows)
 
@@ -129,8 +138,7 @@ def write_rows(path, rows):
 def write_report(path, found, rows, changes):
     """All that dropped parcels share with new ones, and what is proposed of it."""
     proposed = {(row.old, row.new): row for row in rows}
-    with open(path, "x", encoding="utf-8", newline="") as file:
-        writer = cells.Writer(file)
+    with new_table(path) as writer:
         writer.writerow(REPORT)
         for fate in found:
             kind = changes.kind(fate.name) or ""

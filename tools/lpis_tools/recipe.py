@@ -78,6 +78,8 @@ def compared(name, text):
         say(f"reading {said.land}")
         layers = land.read(said.land, spare=spare, wanted=TABLES)
         suited(layers)
+        if lacking := [table for name in land.SHAPED if not os.path.isfile(table := os.path.join(said.out, f"{name}.csv"))]:
+            raise land.Trouble(*(f"{table} is not there" for table in lacking))
         tell_notes(layers, say)
         whole = balance.Balance(layers)
         without_degrees([row for name in land.SHAPED for row in layers[name].rows if row.found])

@@ -2,12 +2,11 @@
 
 from __future__ import annotations
 
-import csv
 import os
 import tempfile
 from dataclasses import dataclass, field
 
-from . import cutting, polygons, refusal
+from . import cells, cutting, polygons, refusal
 from .tables import COLUMNS, KEYS, Table, path_of, shown
 
 NAMES = ("parcels", "covers", "classes")
@@ -92,7 +91,7 @@ def ask(command, table, rows):
     with tempfile.TemporaryDirectory() as folder:
         for name in NAMES:
             with open(path_of(folder, name), "w", newline="", encoding="latin-1") as file:
-                out = csv.writer(file, lineterminator="\n")
+                out = cells.Writer(file)
                 if name == table.name:
                     out.writerows([f.decode("latin-1") for f in record] for record in [table.header, *map(table.record, rows)])
                 else:

@@ -98,7 +98,7 @@ class Stream:
 
 def columns_of(name, names):
     """The columns that a table has to have once."""
-    return [INSTEAD.get(column, column) if column not in names else column for column in COLUMNS[name] if column not in {*INSTEAD.values(), *FREE}]
+    return [INSTEAD[column] if column not in names and INSTEAD.get(column) in names else column for column in COLUMNS[name] if column not in {*INSTEAD.values(), *FREE}]
 
 
 def shown(name):

@@ -43,9 +43,9 @@ def last_year(said):
     is_there = os.path.isfile(said.register)
     if is_there == said.new:
         raise Stop(f"{said.register} is {'there: without --new' if is_there else 'not there: a first year wants --new'}")
-    last = years.last_year(said.register) if is_there else 0
+    last = year_before(said.register, said.year) if is_there else 0
     most = datetime.date.today().year + 1
-    is_odd = said.year > most or (last and not last < said.year <= last + MOST_STEP)
+    is_odd = said.year > most or (last and said.year > last + MOST_STEP)
     if is_odd and not said.year_anyway:
         after = f"the last year of the register is {last}" if last else "the register is new"
         raise Stop(f"{said.year}: {after}, and next year is {most}; --year-anyway where that is meant")
@@ -56,8 +56,17 @@ def last_year(said):
     return last
 
 
+def year_before(register, year):
+    """The last year of a register. Where that is not before the year nothing may be done: a copy that is called the one before it would have it already."""
+    last = years.last_year(register)
+    if last >= year:
+        raise Stop(f"{year}: the last year of the register is {last}, and years ascend: it is published already, or mistyped")
+    return last
+
+
 def back_up(register, year):
     """A copy of the register, whole also while it is used, and open to nobody else than the register is; its digest beside it."""
+    year_before(register, year)  # once more, since another run may have published meanwhile
     path, mode = f"{register}.before-{year}", stat.S_IMODE(os.stat(register).st_mode)
     with files.beside(path, mode) as name:
         with sqlite3.connect(register, timeout=registers.SECONDS) as source, sqlite3.connect(name) as copy:
@@ -75,8 +84,7 @@ def told(command, *said):
     ran = ending.run([*command, *said], stdout=subprocess.PIPE, check=False)
     text = ran.stdout.decode("utf-8", "replace")
     if ran.returncode != 0:
-        line = (text.splitlines() or [""])[-1]
-        print(line)
+        line = (text.splitlines(keepends=True) or [""])[-1]
         if line.startswith("refused"):
             folder = next(word for word in said if os.path.isdir(word))
             ending.run([sys.executable, os.path.join(program.HERE, "explain"), folder], input=line.encode(), check=False)

@@ -83,18 +83,18 @@ def prepare(parcels: Table, covers: Table | None = None, classes: Table | None =
     """
     with tempfile.TemporaryDirectory(prefix="lpis-") as spare:
         target = Path(out) if out is not None else Path(spare, "out")
-        words = [sys.executable, str(tree.home() / "prepare"), str(source_of(Path(spare, "land"), parcels, covers)), str(target)]
+        words = [sys.executable, str(tree.home() / "prepare")]
         if classes is not None:
             table = Path(spare, "classes.csv")
             table.write_bytes(data_of(classes, "classes"))
             words += ["--classes", str(table)]
         if accept:
-            words += ["--accept", *([] if accept is True else [",".join(accept)])]
+            words.append("--accept" if accept is True else f"--accept={accept if isinstance(accept, str) else ','.join(accept)}")
         for option, value in (("previous", previous), ("identifiers", identifiers), ("epsg", epsg), ("between", between)):
             words += [f"--{option}", os.fspath(value) if isinstance(value, os.PathLike) else str(value)] if value is not None else []
         for wanted, found in (names or {}).items():
             words += ["--name", f"{wanted}={found}"]
-        ended = tree.ended(words)
+        ended = tree.ended([*words, "--", str(source_of(Path(spare, "land"), parcels, covers)), str(target)])
         if ended.returncode not in (0, 1):
             raise Failed(USAGE.sub("", ended.stderr).strip() or f"lpis-prepare ended with status {ended.returncode}")
         return read(target, ended.returncode == 0, ended.stdout)
@@ -114,9 +114,13 @@ def source_of(folder: Path, parcels: Table, covers: Table | None) -> Path:
 
 def with_system(table: Any, name: str) -> bytes:
     """A table as bytes, each shape with the number of the system that a GeoPandas frame has."""
-    to_epsg = getattr(getattr(table, "crs", None), "to_epsg", None)
-    epsg = to_epsg() if to_epsg else None
+    crs: Any = getattr(table, "crs", None)
+    epsg = crs.to_epsg() if hasattr(crs, "to_epsg") else None
     if epsg is None:
+        boxes = [table.total_bounds] if len(getattr(table, "total_bounds", ())) and len(table) else []
+        system = tree.module("systems").of_definition(None, crs.to_wkt(), boxes) if hasattr(crs, "to_wkt") else None
+        if system and system.why:
+            raise Failed(f"{name}: it is in {system} ({system.why}): transform it to a system in metres, such as EPSG:25832")
         return data_of(table, name)
     texts = ({**row, SHAPE: text_of(row.get(SHAPE))} for row in rows_of(table, name))
     return written(({**row, SHAPE: f"SRID={epsg};{row[SHAPE]}" if row[SHAPE] else ""} for row in texts), name)

@@ -99,7 +99,7 @@ class Register:
             Refused: 83 where no release had it, 84 where the file is no register.
             Failed: where there is no answer.
         """
-        return tuple(self._told({}, "trace", str(self.path), "--", identifier).text.split())
+        return tuple(self._told({}, "trace", "--", str(self.path), identifier).text.split())
 
     def exact(self, parcels: Table, covers: Table, classes: Table, certificate: CertificateSource, lineage: Table) -> Certificate:
         """The certificate with what shows that the marked splits and merges are exact: `publish` wants it where rows are marked.
@@ -116,7 +116,7 @@ class Register:
         with folder_of(**tables) as folder:
             cert, out = Path(folder, "cert.txt"), Path(folder, "exact.txt")
             cert.write_bytes(text_of(certificate))
-            self._told(tables, "exact", str(self.path), folder, str(cert), str(out))
+            self._told(tables, "exact", "--", str(self.path), folder, str(cert), str(out))
             return Certificate(out.read_bytes())
 
     def publish(self, year: int, parcels: Table, covers: Table, classes: Table, certificate: CertificateSource, lineage: Table = ()) -> Publication:
@@ -136,7 +136,7 @@ class Register:
         with folder_of(**tables) as folder:
             cert = Path(folder, "cert.txt")
             cert.write_bytes(text_of(certificate))
-            answer = self._told(tables, "publish", str(self.path), str(year), folder, str(cert))
+            answer = self._told(tables, "publish", "--", str(self.path), str(year), folder, str(cert))
         return Publication(answer.text, tables["covers"], tables["classes"])
 
     def _told(self, tables: dict[str, bytes], *words: str) -> Answer:

@@ -50,6 +50,8 @@ def table(source: Table, name: str) -> bytes:
 def rows_of(source: Any, name: str) -> Iterator[dict[str, Any]]:
     """The rows of what is no file."""
     if hasattr(source, "to_dict") and not hasattr(source, "__geo_interface__"):
+        if len(set(source.columns)) < len(source.columns):
+            raise ValueError(f"{name}: two columns of the frame have one name")
         source = source.to_dict("records")
     found = getattr(source, "__geo_interface__", source)
     if not isinstance(found, Mapping):
@@ -86,7 +88,7 @@ def written(rows: Iterable[dict[str, Any]], name: str) -> bytes:
     known = [*tree.module("tables").COLUMNS[name]]
     columns = [key for key in every[0] if key.lower() in known] if every else HEADERS[name]
     text = io.StringIO(newline="")
-    writer = csv.writer(text, lineterminator="\n")
+    writer = tree.module("cells").Writer(text)
     writer.writerow(columns)
     writer.writerows([text_of(row.get(key)) if key.lower() == SHAPE else field(row.get(key), key.lower()) for key in columns] for row in every)
     return text.getvalue().encode("utf-8", "backslashreplace")
@@ -97,7 +99,7 @@ def field(value: Any, column: str) -> str:
     value = value.item() if hasattr(value, "item") else value
     if is_missing(value):
         return ""
-    if column in WHOLE and isinstance(value, (bool, float)) and value == int(value):
+    if column in WHOLE and (isinstance(value, bool) or isinstance(value, float) and value.is_integer()):
         return str(int(value))
     return value.decode("utf-8", "backslashreplace") if isinstance(value, bytes) else str(value)
 
