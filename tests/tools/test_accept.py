@@ -49,8 +49,10 @@ class TestAccepted(Case):
         for given, wanted in ((["--accept", "LAND", "OUT"], ["--accept=all", "LAND", "OUT"]), (["LAND", "--accept", "left-out,gap", "OUT"], ["LAND", "--accept=left-out,gap", "OUT"]),
                               (["LAND", "OUT", "--accept", "--previous", "gap"], ["LAND", "OUT", "--accept=all", "--previous", "gap"])):
             assert accepting.arguments_of(given) == wanted
-        for words in (["--accept", "gapp"], ["--accept=gapp"], ["--between", "0"], ["--between", "nan"], ["--between", "wide"]):
-            assert self.run_on(self.source, *words).returncode == 64, words
+        for words, told in ((["--accept", "gapp"], "gapp is none of table, "), (["--accept=gapp"], "gapp is none of table, "), (["--accept", "gap,all", "--epsg", "1"], "gap,all is none of table, "),
+                            (["--accept", "--none"], "unrecognized arguments: --none"), (["more"], "unrecognized arguments: more"), (["--between", "0"], ""), (["--between", "nan"], ""), (["--between", "wide"], "")):
+            run = self.run_on(self.source, *words)
+            assert (run.returncode, told in run.stderr) == (64, True), (words, run.stderr)
 
     def test_rows(self):
         """Rows that somebody marked in copies of both tables pass, and those alone."""

@@ -67,7 +67,7 @@ def stop_at_once(name, *folders):
 
 def compared(name, text):
     """The comparison from its words to its report, and its status."""
-    said, say = parser(name, text).parse_args(accepting.arguments_of(sys.argv[1:])), teller(name)
+    said, say = accepting.parsed(parser(name, text), sys.argv[1:]), teller(name)
     shapely_there.go_on(name)
     from . import balance, conflicts, losses
 
