@@ -103,7 +103,8 @@ class TestSplits(Case):
         good = Land(1, 3, 3)
         for name, row, *words in [
             ("parcels", 'P000.000,"POLYGON((0 0,1 0,1 1,0 0))"', "parcels.csv row 10", "P000.000", "earlier row"), ("parcels", 'one,"POINT(0 0)"', "row 10", "one", "no polygon"),
-            ("parcels", 'one,"POLYGON EMPTY"', "no polygon"), ("parcels", 'one,"POLYGON((0 0,1 nan,1 1,0 0))"', "no polygon"), ("parcels", 'one,"POLYGON((0 0,20000000.001 1,1 1,0 0))"', "no polygon in range"),
+            ("parcels", 'one,"POLYGON EMPTY"', "no polygon"), ("parcels", 'one,"POLYGON((0 0,1 nan,1 1,0 0))"', "no polygon"), ("parcels", 'one,"POLYGON((0 0,1_0 0,1 1,0 0))"', "no polygon"),
+            ("parcels", 'one,"POLYGON((0 0,20000000.001 1,1 1,0 0))"', "no polygon in range"),
             ("covers", 'one,two,GRASS,"POLYGON((0 0,1 0,1 1,0 0))"', "covers.csv row 28", "two"), ("parcels", "one", "parcels.csv row 10: 1 fields"),
             ("covers", 'p1,P000.000,GRASS,"POLYGON((0 0,1 0,1 1,0))"', "covers.csv row 28: piece p1: its wkt is no polygon"), ("covers", 'p1,P000.000,GRASS,"POLYGON((0 0,1 0,1 1,0 0))\np2,P', "p1", "no polygon"),
         ]:

@@ -108,7 +108,7 @@ def text_of(name):
 
 def value_of(text):
     try:
-        return float(text.replace(",", ".")) if text else None
+        return cells.number(text) if text else None
     except ValueError:
         raise land.Trouble(f"{text!r} is no number, in a row that is accepted") from None
 

@@ -265,7 +265,7 @@ def classes(work, names, table, used=None):
 def share(text, factor):
     """A whole number of percent, or None."""
     try:
-        value = float(text.replace(",", ".")) * factor
+        value = cells.number(text) * factor
     except ValueError:
         return None
     return int(value) if 0 <= value <= 100 and value.is_integer() else None

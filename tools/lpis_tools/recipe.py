@@ -202,4 +202,4 @@ def lacking_classes(table, layers, path):
 
 
 def is_percent(text, most):
-    return text.isdecimal() and len(text) <= len(str(most)) and int(text) <= most
+    return text.isascii() and text.isdecimal() and len(text) <= len(str(most)) and int(text) <= most

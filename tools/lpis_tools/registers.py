@@ -24,10 +24,17 @@ def opened(path):
         raise sqlite3.DatabaseError(f"its schema is damaged: {error}") from None
 
 
+def is_empty(connection):
+    """Whether a database has nothing, which lpis takes for a register without a release."""
+    return not connection.execute("SELECT count(*) FROM sqlite_schema").fetchone()[0]
+
+
 def facts(path):
     """The years of a register, and what it holds of the last of them."""
     try:
         with contextlib.closing(opened(path)) as connection:
+            if is_empty(connection):
+                return {"path": path, "years": [], "live": 0, "identifiers": 0, "shapes": 0}
             years = [int(year) for (year,) in connection.execute("SELECT year FROM lpis_release ORDER BY year")]
             (live,), (all_of_them,) = connection.execute("SELECT count(*) FROM lpis_span WHERE until = 0 UNION ALL SELECT count(*) FROM lpis_span")
             has_texts = connection.execute("SELECT 1 FROM sqlite_schema WHERE name = 'lpis_text'").fetchone()

@@ -115,7 +115,7 @@ def measured(text):
     """The box of a polygon's text (least x and y, greatest x and y) in millimetres, and its doubled area; exact where it has at most three decimals.
     None where it is no such text."""
     head, _, body = text.partition("(")
-    if head.strip().upper() not in ("POLYGON", "MULTIPOLYGON"):
+    if head.strip().upper() not in ("POLYGON", "MULTIPOLYGON") or "_" in body:  # which Python takes in a number
         return None
     doubled, every_x, every_y = 0, [], []
     try:

@@ -203,7 +203,8 @@ def opened(path):
     try:
         tables = {name for (name,) in base.execute("SELECT name FROM sqlite_schema WHERE type = 'table'")}
         if not {"lpis_release", "lpis_span"} <= tables:
-            raise Trouble(f"{path} is no register of version 2 or 3: `lpis trace` opens and moves an older one")
+            is_older = any(name.startswith("lpis_") for name in tables)
+            raise Trouble(f"{path} is no register of version 2 or 3: " + ("`lpis trace` opens and moves an older one" if is_older else "it has no table of one; name the file that `publish` writes"))
         last = base.execute("SELECT max(year) FROM lpis_release").fetchone()[0]
         if not isinstance(last, (int, type(None))):
             raise Trouble(strange(path))
