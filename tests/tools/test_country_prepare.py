@@ -90,7 +90,7 @@ class TestSources(Case):
     def test_taken_up(self):
         """The run that accepts reads no row again, and takes up what was rounded without looking at a cell."""
         told = self.runs["accepted"][1].stderr
-        assert "cells are those that the run before has rounded\n" in told
+        assert "are those that the run before has rounded\n" in told
         assert "rounding" not in told
         cells = os.listdir(os.path.join(self.country, ".cells"))
         assert {"cells.json", "gaps.json"} <= set(cells)
@@ -101,10 +101,10 @@ class TestSources(Case):
         folder, source = shutil.copytree(self.country, self.path("country")), shutil.copy(self.land, self.path("land.gpkg"))
         made(source, "DELETE FROM covers WHERE fid = 1")
         ended = ended_with(0, tool("country", "prepare", source, folder, "--accept", "--parcels", 30))
-        assert re.search(r"comparing \d+ cells with those that a run before has rounded", ended.stderr)
+        assert re.search(r"comparing \d+ cells? with those that a run before has rounded", ended.stderr)
         assert re.search(r"cells as they were: \d+ of \d+, rounded: 1\n", ended.stderr)
         again = tool("country", "prepare", source, folder, "--accept", "--parcels", 30, "--between", 2)
-        assert (again.returncode, "cells are those that the run before has rounded\n" in again.stderr) == (0, True), again.stderr
+        assert (again.returncode, "are those that the run before has rounded\n" in again.stderr) == (0, True), again.stderr
 
     def test_as_one_release(self):
         one, other = self.runs["accepted"]
@@ -169,14 +169,17 @@ class TestSources(Case):
         assert_same(folder, self.country, *REPORTS, "country.txt", "split.txt", *of_regions)
 
     def killed(self, folder, *words):
-        """Kills a run that rounds, with all that it began: no table is there then, and the next run, which is answered, has the same bytes."""
+        """Kills a run that rounds, with all that it began, while another one is kept away: no table is there then, and the next run, which is answered, has the same bytes."""
         command = [os.path.join(TOOLS, "country"), "prepare", self.land, folder, "--accept", "--parcels", "30", *words]
         with subprocess.Popen(command, stdout=subprocess.DEVNULL, stderr=subprocess.PIPE, text=True, start_new_session=True) as started:
             for line in started.stderr:
                 if "rounding" in line:
+                    os.killpg(started.pid, signal.SIGSTOP)
+                    assert f"another run works in {folder}" in ended_with(64, run(*command)).stderr
                     os.killpg(started.pid, signal.SIGKILL)
         assert not [name for name in os.listdir(folder) if re.fullmatch(r"r\d+|country.txt|report.*", name)]
         again = ended_with(0, run(*command))
+        assert not [name for name in os.listdir(folder) if name.startswith((".prepare", ".source"))]
         self.assert_as_before(folder)
         return again
 

@@ -26,7 +26,8 @@ class Run:
         self.table = self.read_table(words.classes) if words.classes else None
         self.given = naming.given_identifiers(words.identifiers)
         os.makedirs(words.out, exist_ok=True)
-        self.made, self.spare = tempfile.mkdtemp(prefix=".prepare-", dir=words.out), tempfile.mkdtemp()
+        files.alone(words.out)
+        self.made, self.spare = files.folder(words.out, ".prepare-"), tempfile.mkdtemp()
         self.stop_at_once()
 
     def stop_at_once(self):

@@ -6,6 +6,7 @@ import contextlib
 import sqlite3
 
 from . import databases, polygons, unforeseen
+from .printing import counted
 from .trouble import Trouble
 
 SECONDS = 60  # to wait for a publish that holds the register
@@ -50,7 +51,7 @@ def in_words(found):
     if not years:
         return "no year is published in it"
     which = f"{years[0]}" if len(years) == 1 else f"{years[0]} to {years[-1]}"
-    return f"{len(years)} year{'s' * (len(years) > 1)} ({which}), {found['live']} live identifiers of {found['identifiers']}, {found['shapes']} shapes"
+    return f"{counted(len(years), 'year')} ({which}), {counted(found['live'], 'live identifier')} of {found['identifiers']}, {counted(found['shapes'], 'shape')}"
 
 
 class Kept:

@@ -7,6 +7,7 @@ import sqlite3
 from dataclasses import dataclass, field
 
 from . import databases, polygons, progress, registers, streams, tiles
+from .printing import counted
 from .tables import Table, is_identifier, path_of, shown
 from .trouble import Trouble
 
@@ -236,7 +237,7 @@ def rows_of(path, region=""):
     rows = []
     for number, record in table.rows():
         if len(record) != len(table.header):
-            raise Trouble(f"{path} row {number}: {len(record)} fields, and the header has {len(table.header)}")
+            raise Trouble(f"{path} row {number}: {counted(len(record), 'field')}, and the header has {len(table.header)}")
         old, new, mark = (table.field(record, name) for name in ("old", "new", "exact"))
         if not is_identifier(old) or (new and not is_identifier(new)) or mark not in (b"", b"0", b"1"):
             raise Trouble(f"{path} row {number}: an old identifier, a new one or none, and a mark 1, 0 or none are wanted")
