@@ -235,6 +235,8 @@ class TestSources(Case):
         for words, status, told in (((bare, self.path("out"), "--previous", self.path("none")), 1, "has no table covers.csv of last year"), ((bare, self.path("out"), "--previous", far), 64, "is it of another place"),
                                     ((bare, self.path("out"), "--previous", wrong), 64, "covers.csv row 1: P: its wkt is no polygon in millimetres"), ((bare, self.path("out")), 1, "there is no table of classes"), ((self.path("none.gpkg"), self.path("out")), 64, "none.gpkg"),
                                     ((bare, self.path("out"), "--parcels", "0"), 64, "limits are 1 or more"), ((bare, self.path("out"), "--name", "x"), 64, "--name is"),
-                                    ((bare, self.path("out"), "--workers", "-1"), 64, "--workers is"), ((bare, self.path("out"), "--tables", self.path("out")), 64, "--tables names")):
+                                    ((bare, self.path("out"), "--workers", "-1"), 64, "--workers is"), ((bare, self.path("out"), "--tables", self.path("out")), 64, "--tables names"),
+                                    ((bare, self.path("out"), "--previous", far, "--tables", far), 64, "--tables names"), ((bare, self.path("out"), "--tables", self.path("out/r0001")), 64, "--tables names"),
+                                    ((bare, far, "--previous", far), 64, "is last year's folder")):
             ended = tool("country", "prepare", *words)
             assert (ended.returncode, told in ended.stdout + ended.stderr, "Traceback" in ended.stderr) == (status, True, False), ended.stdout + ended.stderr

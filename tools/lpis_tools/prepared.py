@@ -21,6 +21,7 @@ class Run:
     def __init__(self, words, names, say):
         self.words, self.names, self.say, self.previous, self.before = words, names, say, None, None
         land.apart(words.land, words.out)
+        land.apart(words.previous or "", words.out, "last year's folder")
         self.accept = accepting.Accepting(words.accept, words.accept_from, ("left out", "made"))
         self.kept = again.Rounded(words.out, self.digest())
         self.table = self.read_table(words.classes) if words.classes else None
