@@ -266,6 +266,8 @@ class TestReports(Spare):
         for region in ("west", "southeast", "northeast"):
             Path(folder, region, "lineage.csv").write_text(f"old,new\n{region},\n", encoding="ascii")
         made(self.path("r.db"), RELEASE, SPAN, "INSERT INTO lpis_release VALUES (2025); INSERT INTO lpis_span VALUES ('A', 2025, 0)")
+        run, told = self.report("--register", self.path("r.db"), folder=folder)
+        assert (run.returncode, told, f"{folder} is a country: name no certificate CERT" in run.stderr) == (64, None, True), run.stderr
         run, told = self.report("--register", self.path("r.db"), line="refused 90 country line 1", folder=folder, cert=())
         assert (run.returncode, run.stdout.splitlines()[-1], told["register"]["years"]) == (1, "register 1 year (2025), 1 live identifier of 1, 0 shapes", [2025]), run.stderr
         assert {"classes.csv", "west/lineage.csv", "northeast/lineage.csv"} <= set(told["files"]), sorted(told["files"])
