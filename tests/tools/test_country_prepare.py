@@ -105,6 +105,10 @@ class TestSources(Case):
         assert re.search(r"cells as they were: \d+ of \d+, rounded: 1\n", ended.stderr)
         again = tool("country", "prepare", source, folder, "--accept", "--parcels", 30, "--between", 2)
         assert (again.returncode, "are those that the run before has rounded\n" in again.stderr) == (0, True), again.stderr
+        for kind in ("jsonl", "part"):
+            for path in Path(folder, ".cells").glob(f"*.{kind}"):
+                path.write_text("x", encoding="ascii")
+            assert "is not as it was written" in ended_with(64, tool("country", "prepare", source, folder, "--accept", "--parcels", 30, "--between", 2)).stderr
 
     def test_as_one_release(self):
         one, other = self.runs["accepted"]

@@ -3,6 +3,7 @@ rounded without the rest. Rows stand in the order of the source, the parcels fir
 
 from __future__ import annotations
 
+import os
 import sqlite3
 
 import numpy
@@ -148,6 +149,9 @@ def merged(path, parts):
     except sqlite3.OperationalError as error:
         files.remove(path)
         raise land.Trouble(f"{path} cannot be written: {error}") from None
+    except sqlite3.DatabaseError as error:
+        files.remove(path)
+        raise land.Trouble(f"a part beside {path} is not as it was written ({error}): delete {os.path.dirname(path)} and run it again") from None
 
 
 def filled(base, parts):
