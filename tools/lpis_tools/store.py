@@ -146,11 +146,10 @@ def merged(path, parts):
     try:
         base = new(path, ROWS, WHOLE, around.WAYS)
         return base, filled(base, parts)
-    except sqlite3.OperationalError as error:
-        files.remove(path)
-        raise land.Trouble(f"{path} cannot be written: {error}") from None
     except sqlite3.DatabaseError as error:
         files.remove(path)
+        if isinstance(error, sqlite3.OperationalError) and "no such" not in str(error):
+            raise land.Trouble(f"{path} cannot be written: {error}") from None
         raise land.Trouble(f"a part beside {path} is not as it was written ({error}): delete {os.path.dirname(path)} and run it again") from None
 
 
