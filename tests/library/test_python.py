@@ -296,6 +296,8 @@ class TestRegisters(Case):
             lpis.Register(self.top / "r.db")
         register = lpis.Register(self.top / "r.db", new=True)
         assert (register.years, register.shapes(), (self.top / "r.db").exists()) == ((), {}, False)
+        (self.top / "empty.db").touch()
+        assert (lpis.Register(self.top / "empty.db").years, lpis.Register(self.top / "empty.db").shapes()) == ((), {})
         before, after = release("exact/2024"), release("exact/2025")
         first = register.publish(2024, *before, lpis.cut(*before))
         assert (first.year, first.lineage, first.area, register.years) == (2024, (), 9600, (2024,))

@@ -49,8 +49,10 @@ class TestAccepted(Case):
         for given, wanted in ((["--accept", "LAND", "OUT"], ["--accept=all", "LAND", "OUT"]), (["LAND", "--accept", "left-out,gap", "OUT"], ["LAND", "--accept=left-out,gap", "OUT"]),
                               (["LAND", "OUT", "--accept", "--previous", "gap"], ["LAND", "OUT", "--accept=all", "--previous", "gap"])):
             assert accepting.arguments_of(given) == wanted
-        for words in (["--accept", "gapp"], ["--accept=gapp"], ["--between", "0"], ["--between", "nan"], ["--between", "wide"]):
-            assert self.run_on(self.source, *words).returncode == 64, words
+        for words, told in ((["--accept", "gapp"], "gapp is none of table, "), (["--accept=gapp"], "gapp is none of table, "), (["--accept", "gap,all", "--epsg", "1"], "gap,all is none of table, "),
+                            (["--accept", "--none"], "unrecognized arguments: --none"), (["more"], "unrecognized arguments: more"), (["--between", "0"], ""), (["--between", "nan"], ""), (["--between", "wide"], "")):
+            run = self.run_on(self.source, *words)
+            assert (run.returncode, told in run.stderr) == (64, True), (words, run.stderr)
 
     def test_rows(self):
         """Rows that somebody marked in copies of both tables pass, and those alone."""
@@ -78,7 +80,9 @@ class TestAccepted(Case):
         self.run_on(self.source)
         copy = self.marked("prepared.csv", lambda row: True, header=("who",))
         Path(self.path("yes.csv")).write_text("kind,layer,row,identifier,area_m2,x,y,accepted\nshape,covers,10,null.2,,,,yes\n", encoding="ascii")
-        for path, words in ((copy, "no column accepted: it is no copy of prepared.csv or report.csv"), (self.path("yes.csv"), "accepted is 'yes', and not 1, 0 or empty"), (self.path("none.csv"), "none.csv")):
+        Path(self.path("size.csv")).write_text("kind,layer,row,identifier,area_m2,x,y,accepted\nshape,covers,10,null.2,1_0,,,1\n", encoding="ascii")
+        for path, words in ((copy, "no column accepted: it is no copy of prepared.csv or report.csv"), (self.path("yes.csv"), "accepted is 'yes', and not 1, 0 or empty"),
+                            (self.path("size.csv"), "'1_0' is no number, in a row that is accepted"), (self.path("none.csv"), "none.csv")):
             run = self.run_on(self.source, "--accept-from", path)
             assert (run.returncode, words in run.stderr, "Traceback" in run.stderr) == (64, True, False), run.stderr
 

@@ -17,7 +17,7 @@ from calls import ended_with, records, tool
 from places import BUILT, TOOLS, TOP
 from spare import Spare
 import dirty
-from lpis_tools import shapely_there
+from lpis_tools import printing, shapely_there
 
 SECOND = TABLES[2] + """
 INSERT INTO lpis_format VALUES (1, 2);
@@ -158,7 +158,7 @@ class TestBeforeTheTables(Spare):
             assert "in all" not in html.split(f"<h2>{title}</h2>")[1].split("</thead>")[0], title
         assert "in all" in html.split("<h2>Classes</h2>")[1].split("</thead>")[0]
         changed = {row["layer"]: row for row in told["origin"]["report"] if row["kind"] == "changed"}
-        wanted = (f"{changed[layer]['stopping']} {words}, {float(changed[layer]['area_of_stopping']) / 10000:.4f} ha" for layer, words in (("covers", "pieces"), ("parcels", "parcels")))
+        wanted = (f"{printing.counted(changed[layer]['stopping'], word)}, {float(changed[layer]['area_of_stopping']) / 10000:.4f} ha" for layer, word in (("covers", "piece"), ("parcels", "parcel")))
         assert "changed by more than rounding: " + "; ".join(wanted) in text
         for name in ("prepared.csv", "report.csv", "balance.csv", "identifiers.csv"):
             digest = hashlib.sha256(Path(self.out, name).read_bytes()).hexdigest()

@@ -273,7 +273,7 @@ class TestNames(Case):
         dirty.make(self.land, ["z", "curve"])
         self.round()
         run = self.compare("--accept")
-        assert (run.returncode, "parcels: heights dropped in 1 rows" in run.stderr, "covers: arcs made straight" in run.stderr) == (0, True, True), run.stderr
+        assert (run.returncode, "parcels: heights dropped in 1 row\n" in run.stderr, "covers: arcs made straight" in run.stderr) == (0, True, True), run.stderr
         folder = os.path.join(self.folder, "sheets")
         os.makedirs(folder)
         for name, head, row in (("parcels", "parcel,wkt", "A"), ("covers", "piece,parcel,class,wkt", "A.1,A,GRASS")):
@@ -283,7 +283,7 @@ class TestNames(Case):
 
     def test_tables_of_classes(self):
         dirty.make(self.land, [])
-        for text, words in (("class,share\nGRASS,100\n", "it wants the columns class and percent"), ("class,percent,PERCENT\nGRASS,100,0\n", "each once"), ("class,percent\nGRASS\n", "1 fields"), ("", "none")):
+        for text, words in (("class,share\nGRASS,100\n", "it wants the columns class and percent"), ("class,percent,PERCENT\nGRASS,100,0\n", "each once"), ("class,percent\nGRASS\n", "has 1 field, and"), ("", "none")):
             self.round()
             self.put_classes(text)
             run = self.compare()

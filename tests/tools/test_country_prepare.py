@@ -90,7 +90,7 @@ class TestSources(Case):
     def test_taken_up(self):
         """The run that accepts reads no row again, and takes up what was rounded without looking at a cell."""
         told = self.runs["accepted"][1].stderr
-        assert "cells are those that the run before has rounded\n" in told
+        assert "are those that the run before has rounded\n" in told
         assert "rounding" not in told
         cells = os.listdir(os.path.join(self.country, ".cells"))
         assert {"cells.json", "gaps.json"} <= set(cells)
@@ -101,10 +101,14 @@ class TestSources(Case):
         folder, source = shutil.copytree(self.country, self.path("country")), shutil.copy(self.land, self.path("land.gpkg"))
         made(source, "DELETE FROM covers WHERE fid = 1")
         ended = ended_with(0, tool("country", "prepare", source, folder, "--accept", "--parcels", 30))
-        assert re.search(r"comparing \d+ cells with those that a run before has rounded", ended.stderr)
+        assert re.search(r"comparing \d+ cells? with those that a run before has rounded", ended.stderr)
         assert re.search(r"cells as they were: \d+ of \d+, rounded: 1\n", ended.stderr)
         again = tool("country", "prepare", source, folder, "--accept", "--parcels", 30, "--between", 2)
-        assert (again.returncode, "cells are those that the run before has rounded\n" in again.stderr) == (0, True), again.stderr
+        assert (again.returncode, "are those that the run before has rounded\n" in again.stderr) == (0, True), again.stderr
+        for kind in ("jsonl", "part"):
+            for path in Path(folder, ".cells").glob(f"*.{kind}"):
+                path.write_text("x", encoding="ascii")
+            assert "is not as it was written" in ended_with(64, tool("country", "prepare", source, folder, "--accept", "--parcels", 30, "--between", 2)).stderr
 
     def test_as_one_release(self):
         one, other = self.runs["accepted"]
@@ -169,14 +173,17 @@ class TestSources(Case):
         assert_same(folder, self.country, *REPORTS, "country.txt", "split.txt", *of_regions)
 
     def killed(self, folder, *words):
-        """Kills a run that rounds, with all that it began: no table is there then, and the next run, which is answered, has the same bytes."""
+        """Kills a run that rounds, with all that it began, while another one is kept away: no table is there then, and the next run, which is answered, has the same bytes."""
         command = [os.path.join(TOOLS, "country"), "prepare", self.land, folder, "--accept", "--parcels", "30", *words]
         with subprocess.Popen(command, stdout=subprocess.DEVNULL, stderr=subprocess.PIPE, text=True, start_new_session=True) as started:
             for line in started.stderr:
                 if "rounding" in line:
+                    os.killpg(started.pid, signal.SIGSTOP)
+                    assert f"another run works in {folder}" in ended_with(64, run(*command)).stderr
                     os.killpg(started.pid, signal.SIGKILL)
         assert not [name for name in os.listdir(folder) if re.fullmatch(r"r\d+|country.txt|report.*", name)]
         again = ended_with(0, run(*command))
+        assert not [name for name in os.listdir(folder) if name.startswith((".prepare", ".source"))]
         self.assert_as_before(folder)
         return again
 
@@ -232,6 +239,8 @@ class TestSources(Case):
         for words, status, told in (((bare, self.path("out"), "--previous", self.path("none")), 1, "has no table covers.csv of last year"), ((bare, self.path("out"), "--previous", far), 64, "is it of another place"),
                                     ((bare, self.path("out"), "--previous", wrong), 64, "covers.csv row 1: P: its wkt is no polygon in millimetres"), ((bare, self.path("out")), 1, "there is no table of classes"), ((self.path("none.gpkg"), self.path("out")), 64, "none.gpkg"),
                                     ((bare, self.path("out"), "--parcels", "0"), 64, "limits are 1 or more"), ((bare, self.path("out"), "--name", "x"), 64, "--name is"),
-                                    ((bare, self.path("out"), "--workers", "-1"), 64, "--workers is"), ((bare, self.path("out"), "--tables", self.path("out")), 64, "--tables names")):
+                                    ((bare, self.path("out"), "--workers", "-1"), 64, "--workers is"), ((bare, self.path("out"), "--tables", self.path("out")), 64, "--tables names"),
+                                    ((bare, self.path("out"), "--previous", far, "--tables", far), 64, "--tables names"), ((bare, self.path("out"), "--tables", self.path("out/r0001")), 64, "--tables names"),
+                                    ((bare, far, "--previous", far), 64, "is last year's folder")):
             ended = tool("country", "prepare", *words)
             assert (ended.returncode, told in ended.stdout + ended.stderr, "Traceback" in ended.stderr) == (status, True, False), ended.stdout + ended.stderr

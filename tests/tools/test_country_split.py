@@ -6,6 +6,7 @@ import random
 import shutil
 import sys
 import time
+import unittest.mock
 
 import pytest
 from calls import ended_with, tool
@@ -103,8 +104,9 @@ class TestSplits(Case):
         good = Land(1, 3, 3)
         for name, row, *words in [
             ("parcels", 'P000.000,"POLYGON((0 0,1 0,1 1,0 0))"', "parcels.csv row 10", "P000.000", "earlier row"), ("parcels", 'one,"POINT(0 0)"', "row 10", "one", "no polygon"),
-            ("parcels", 'one,"POLYGON EMPTY"', "no polygon"), ("parcels", 'one,"POLYGON((0 0,1 nan,1 1,0 0))"', "no polygon"), ("parcels", 'one,"POLYGON((0 0,20000000.001 1,1 1,0 0))"', "no polygon in range"),
-            ("covers", 'one,two,GRASS,"POLYGON((0 0,1 0,1 1,0 0))"', "covers.csv row 28", "two"), ("parcels", "one", "parcels.csv row 10: 1 fields"),
+            ("parcels", 'one,"POLYGON EMPTY"', "no polygon"), ("parcels", 'one,"POLYGON((0 0,1 nan,1 1,0 0))"', "no polygon"), ("parcels", 'one,"POLYGON((0 0,1_0 0,1 1,0 0))"', "no polygon"),
+            ("parcels", 'one,"POLYGON((0 0,20000000.001 1,1 1,0 0))"', "no polygon in range"),
+            ("covers", 'one,two,GRASS,"POLYGON((0 0,1 0,1 1,0 0))"', "covers.csv row 28", "two"), ("parcels", "one", "parcels.csv row 10: 1 field, "),
             ("covers", 'p1,P000.000,GRASS,"POLYGON((0 0,1 0,1 1,0))"', "covers.csv row 28: piece p1: its wkt is no polygon"), ("covers", 'p1,P000.000,GRASS,"POLYGON((0 0,1 0,1 1,0 0))\np2,P', "p1", "no polygon"),
         ]:
             good.write(self.source)
@@ -189,9 +191,13 @@ class TestSplits(Case):
                 splitting.split(Changing(self.source, name, edit), self.out, parting.Most(12, 10**6, 10**6), False, lambda words: None)
             assert self.times() == before
             assert [file for _, _, files in os.walk(self.out) for file in files if file.endswith(".new")] == []
+        with unittest.mock.patch.object(splitting, "settle", fails), pytest.raises(OSError):
+            splitting.split(streams.Folder(self.source), self.out, parting.Most(12, 10**6, 10**6), False, lambda words: None)
+        assert not os.path.exists(os.path.join(self.out, "split.txt"))  # tables of two sources are compared with none
 
     def test_words(self):
-        for words, status, text in ((["--version"], 0, "lpis-country "), (["--help"], 0, "usage: "), (["split", self.source, self.source], 64, "DIR is SOURCE"), (["split", "--parcels", "x", "a", "b"], 64, "usage: ")):
+        for words, status, text in ((["--version"], 0, "lpis-country "), (["--help"], 0, "usage: "), (["split", self.source, self.source], 64, "DIR is SOURCE"), (["split", "--parcels", "x", "a", "b"], 64, "usage: "),
+                                    (["split", "--parcels", "0", "a", "b"], 64, "limits are 1 or more"), (["cut", self.out, "--jobs", "-1"], 64, "--jobs is 1 or more")):
             ended = country(*words)
             assert (ended.returncode, text in ended.stdout + ended.stderr) == (status, True), ended.stdout + ended.stderr
 

@@ -196,6 +196,9 @@ class TestPublishing(Case):
         self.first()
         assert os.listdir(self.path("country", "years")) == ["2024"]
         self.refused(2024, 1, "without --new", options=["--new"])
+        os.rename(self.path("country", "years", "2024"), self.path("country", "years", ".2024.new"))  # as of a run that was killed behind its publication
+        self.refused(2024, 1, f"that is to be {self.path('country', 'years', '2024')}")
+        os.rename(self.path("country", "years", ".2024.new"), self.path("country", "years", "2024"))
         self.refused(2029, 1, "--year-anyway where that is meant")
         self.refused(2025, 64, "none.csv", options=["--lineage", self.path("none.csv")])
         self.split(self.source)

@@ -16,6 +16,7 @@ import dirty
 import stopping
 from calls import ended_with, records
 from preparing_case import PREPARE, Case, ring
+from lpis_tools import files
 
 EAST, NORTH = dirty.EAST, dirty.NORTH
 
@@ -258,9 +259,12 @@ class TestWhole(Case):
         assert [name for name in os.listdir(self.out) if name.startswith(".")] == []
 
     def test_interrupted(self):
+        """Nothing of this run stays, and nothing of one that was killed; what another run locks does."""
+        os.makedirs(os.path.join(self.out, ".prepare-killed00", "deep"))
+        living = files.folder(self.out, ".prepare-")
         source = dirty.make(self.path("l.gpkg"), dirty.ALL)
         status, told = stopping.stopped([PREPARE, source, self.out], f"prepare: reading {source}\n")
-        assert (status, "Traceback" in told, "stopped by SIGINT: no table is written" in told, os.listdir(self.out)) == (130, False, True, []), told
+        assert (status, "Traceback" in told, "stopped by SIGINT: no table is written" in told, os.listdir(self.out)) == (130, False, True, [os.path.basename(living)]), told
 
 
 def test_help(tmp_path):

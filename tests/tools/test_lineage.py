@@ -94,9 +94,9 @@ class TestProposals(Years):
 
     def test_nothing_is_written_over(self):
         old, new = write(self.path("old"), OLDER), write(self.path("new"), NEWER, "a,a1,\n")
-        ran = tool("lineage", old, new, new)
-        assert (64, ["a,a1,"]) == (ran.returncode, self.read("new", "lineage.csv"))
-        assert "it stays as it is" in ran.stderr
+        for out, told in ((new, "it stays as it is"), (self.path("none/rows.csv"), f"{self.path('none')} is no folder")):
+            ran = tool("lineage", old, new, out)
+            assert (64, ["a,a1,"], True) == (ran.returncode, self.read("new", "lineage.csv"), told in ran.stderr), ran.stderr
         for name, rows, error in (("lineage.csv", (), FileExistsError), ("half.csv", (1 / 0 for _ in "a"), ZeroDivisionError)):
             with pytest.raises(error):
                 proposing.write_rows(os.path.join(new, name), rows)

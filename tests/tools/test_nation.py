@@ -61,7 +61,7 @@ class TestNation(Kept):
         """What is published is checked on the way; the path has no other check, and the accepting run rounds nothing."""
         assert not [line for line in self.told if line.startswith("tools/country check")]
         assert "\nyes\npublished 2026\n" in self.ended("tools/country publish register.db 2026").stdout
-        assert "cells are those that the run before has rounded\n" in self.ended("tools/country prepare land-2026.gpkg country --accept").stderr
+        assert "are those that the run before has rounded\n" in self.ended("tools/country prepare land-2026.gpkg country --accept").stderr
 
     def test_two_years(self):
         """Nine regions; all splits and merges are exact and published; both years are kept, and each is a yes."""

@@ -123,6 +123,9 @@ class TestReports(Spare):
             told = json.loads(Path(self.path("r.json")).read_text(encoding="utf-8"))
         return run, told
 
+    def bytes_of_release(self):
+        return [path.read_bytes() for path in sorted(Path(self.release).iterdir())]
+
     def html(self):
         return Path(self.path("r.html")).read_text(encoding="utf-8")
 
@@ -178,11 +181,15 @@ class TestReports(Spare):
         made(self.path("r.db"), RELEASE, SPAN, "INSERT INTO lpis_release VALUES (2025), (2024), (2027); INSERT INTO lpis_span VALUES ('A', 2024, 0), ('B', 2024, 2025)")
         run, told = self.report("--register", self.path("r.db"))
         assert (told["register"]["years"], told["register"]["live"]) == ([2024, 2025, 2027], 1), run.stderr
-        assert "r.db: 3 years (2024 to 2027), 1 live identifiers of 2, 0 shapes" in run.stdout
+        assert "r.db: 3 years (2024 to 2027), 1 live identifier of 2, 0 shapes" in run.stdout
         assert "3 years (2024 to 2027)" in self.html()
-        for path in (self.path("none.db"), self.path("cert.txt")):
-            run, _ = self.report("--register", path)
-            assert (run.returncode, "is no register" in run.stderr) == (64, True), run.stderr
+        Path(self.path("empty.db")).touch()
+        assert "empty.db: no year is published in it" in self.report("--register", self.path("empty.db"))[0].stdout
+        before = self.bytes_of_release()
+        for word, path, told in (("--register", self.path("none.db"), "is no register"), ("--register", self.path("cert.txt"), "is no register"), ("--html", f"{self.release}/parcels.csv", "no html of this tool"),
+                                 ("--json", f"{self.release}/classes.csv", "no json of this tool"), ("--html", self.path("r.json"), "are one file: name two")):
+            run, _ = self.report(word, path)
+            assert (run.returncode, told in run.stderr, self.bytes_of_release()) == (64, True, before), run.stderr
 
     def test_stray(self):
         folder = release(self.path("far"), [f"P{number}" for number in range(20)])
@@ -259,8 +266,10 @@ class TestReports(Spare):
         for region in ("west", "southeast", "northeast"):
             Path(folder, region, "lineage.csv").write_text(f"old,new\n{region},\n", encoding="ascii")
         made(self.path("r.db"), RELEASE, SPAN, "INSERT INTO lpis_release VALUES (2025); INSERT INTO lpis_span VALUES ('A', 2025, 0)")
+        run, told = self.report("--register", self.path("r.db"), folder=folder)
+        assert (run.returncode, told, f"{folder} is a country: name no certificate CERT" in run.stderr) == (64, None, True), run.stderr
         run, told = self.report("--register", self.path("r.db"), line="refused 90 country line 1", folder=folder, cert=())
-        assert (run.returncode, run.stdout.splitlines()[-1], told["register"]["years"]) == (1, "register 1 year (2025), 1 live identifiers of 1, 0 shapes", [2025]), run.stderr
+        assert (run.returncode, run.stdout.splitlines()[-1], told["register"]["years"]) == (1, "register 1 year (2025), 1 live identifier of 1, 0 shapes", [2025]), run.stderr
         assert {"classes.csv", "west/lineage.csv", "northeast/lineage.csv"} <= set(told["files"]), sorted(told["files"])
         assert "1 year (2025)" in self.html()
 

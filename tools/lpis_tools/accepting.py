@@ -13,6 +13,7 @@ LAST = 0.0011  # the last digit of an area and of a place, as the tables have th
 KINDS = ("table", "system", "shape", "degrees", "far", "points", "invalid", "nameless", "identifier", "doubled", "stranger", "bare", "class", "classes", "percent", "previous", "lost", "left out", "made",
          "added", "overlap", "gap", "outside", "changed")
 WITHOUT_ROW = ("overlap", "gap", "outside")  # they are known by their identifiers and their place
+NO_KIND = f"{{}} is none of {', '.join(KINDS)}, or some of them with commas between"
 MOST_NAMED = 3
 
 
@@ -33,6 +34,17 @@ def arguments_of(words):
     return made
 
 
+def parsed(parser, words):
+    """What the words of a command line say. Where one is too many, a word behind --accept that is no list of kinds was meant as one."""
+    said, unknown = parser.parse_known_args(arguments_of(words))
+    for before, word in zip(words, words[1:]) if any(not word.startswith("-") for word in unknown) else ():
+        if before == "--accept" and word != ALL and not word.startswith("-") and not is_list(word):
+            parser.error(f"argument --accept: {NO_KIND.format(word)}")
+    if unknown:
+        parser.error(f"unrecognized arguments: {' '.join(unknown)}")
+    return said
+
+
 def is_list(word):
     return all(kind in KINDS for kind in word.replace("-", " ").split(","))
 
@@ -41,7 +53,7 @@ def kinds_of(word):
     if word == ALL:
         return frozenset(KINDS)
     if not is_list(word):
-        raise argparse.ArgumentTypeError(f"{word} is none of {', '.join(KINDS)}, or some of them with commas between")
+        raise argparse.ArgumentTypeError(NO_KIND.format(word))
     return frozenset(word.replace("-", " ").split(","))
 
 
@@ -96,7 +108,7 @@ def text_of(name):
 
 def value_of(text):
     try:
-        return float(text.replace(",", ".")) if text else None
+        return cells.number(text) if text else None
     except ValueError:
         raise land.Trouble(f"{text!r} is no number, in a row that is accepted") from None
 

@@ -4,6 +4,7 @@ and who reads such a table takes it off: every text is read back as what it was.
     table = cells.Writer(file)
     table.writerow([cells.text(name), area])        text: a stranger's; numbers stay as they are
     name = cells.plain(field)
+    area = cells.number(field)
 """
 
 import re
@@ -19,6 +20,13 @@ def text(field):
 
 def plain(field):
     return field[1:] if field.startswith("'") and FORMULA.match(field) else field
+
+
+def number(field):
+    """The number of a text, which may have a decimal comma; `ValueError` where it is none, or none but to Python: 1_00."""
+    if "_" in field or not field.isascii():
+        raise ValueError(field)
+    return float(field.replace(",", "."))
 
 
 def quoted(field):

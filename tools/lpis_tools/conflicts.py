@@ -13,6 +13,7 @@ from shapely.validation import explain_validity, make_valid
 from . import identifiers, land, progress, wkb
 from .between import width_of
 from .boxes import Boxes
+from .printing import counted
 from .rounding import Map, shape_of
 
 WIDE = 0.02  # metres: a conflict of this width is a fault of the source
@@ -186,7 +187,7 @@ def find_names(source):
         for row in source.layers[name].rows:
             if not identifiers.is_one(row[column]):
                 rows.setdefault(row[column], []).append(row.number)
-        source.losses += [Loss("identifier", [who], f"this {column} is no identifier, in {len(found)} row{'s' * (len(found) > 1)}: lpis refuses it (33)", layer=name, rows=found)
+        source.losses += [Loss("identifier", [who], f"this {column} is no identifier, in {counted(len(found), 'row')}: lpis refuses it (33)", layer=name, rows=found)
                           for who, found in rows.items()]
     known = {row["parcel"] for row in source.layers["parcels"].rows}
     for row in source.layers["covers"].rows:
@@ -199,7 +200,7 @@ def find_conflicts(source, say, found=None, between=land.BETWEEN):
     """The places in conflict, by Shapely: of the rows that have one where all borders are rounded together (`found`). What the rounding closes by itself
     is none."""
     found = found or Map(source.parcels, source.covers, say).conflicts(between)
-    say(f"conflicts: {len(found.overlaps)} overlaps, {len(found.gaps)} gaps, {len(found.outsides)} pieces outside of their parcel to be measured")
+    say(f"conflicts: {counted(len(found.overlaps), 'overlap')}, {counted(len(found.gaps), 'gap')}, {counted(len(found.outsides), 'piece')} outside of their parcel to be measured")
     for first, second in progress.over(found.overlaps, "measuring", "overlaps"):
         find_overlap(source, first, second)
     for row in progress.over(found.gaps, "measuring", "gaps"):

@@ -5,10 +5,10 @@ from __future__ import annotations
 
 import os
 import shutil
-import tempfile
 from collections import Counter
 
 from . import again, causes, engines, files, gathering, jobs, land, last_year, losses, naming, parts, passes, prepared, progress, splitting, store, streams
+from .printing import counted
 
 
 class Run(prepared.Run):
@@ -20,7 +20,7 @@ class Run(prepared.Run):
         super().__init__(words, names, say)
         self.results, self.base, self.gathered, self.whole = jobs.begin(self.path(jobs.FOLDER)), None, None, None
         shutil.rmtree(self.spare)
-        self.spare = tempfile.mkdtemp(prefix=".source-", dir=words.out)  # where all machines see it
+        self.spare = files.folder(words.out, ".source-")  # where all machines see it
         self.stop_at_once()
 
     def close(self):
@@ -126,14 +126,14 @@ class Run(prepared.Run):
         self.kept_files = [*self.kept_files, *(part["file"] for part in then)]
         names = jobs.kept(self.results, "cell", digest)
         if names is not None and len(names) == count:
-            self.say(f"the {count} cells are those that the run before has rounded")
+            self.say(f"the borders of {counted(count, 'cell')} are those that the run before has rounded")
             return names
         if self.previous:
             self.say(f"reading the corners of {self.previous.folder}")
             self.previous.put(self.base, [os.path.join(self.results, name) for name in engines.prepared(self.words, self.results, "part", then, "reading last year's corners")])
         before = set(filter(jobs.OWN.fullmatch, os.listdir(self.results)))
         is_first = not any(name.endswith(".jsonl") for name in before)
-        self.say(f"rounding {count} cells" if is_first else f"comparing {count} cells with those that a run before has rounded, and rounding what changed")
+        self.say(f"rounding {counted(count, 'cell')}" if is_first else f"comparing {counted(count, 'cell')} with those that a run before has rounded, and rounding what changed")
         names = engines.prepared(self.words, self.results, "cell", [None] * count, "rounding" if is_first else "comparing and rounding")
         if not is_first:
             taken = sum(name in before for name in names)
@@ -157,7 +157,7 @@ class Run(prepared.Run):
         counts = Counter(loss.kind for loss in seen.losses if loss.stops())
         counts["left out"] += sum(1 for _ in passes.left_out(self.base))
         kinds = ", ".join(f"{count} {kind}" for kind, count in counts.most_common() if count)
-        return f"--accept takes {sum(counts.values())} rows, which report.csv has then: {kinds}; what is left out or mended changes others, so that there are more of them than there is to look at now"
+        return f"--accept takes {counted(sum(counts.values()), 'row')}, which report.csv has then: {kinds}; what is left out or mended changes others, so that there are more of them than there is to look at now"
 
     def conflicts(self, _work, seen, _whole):
         return list(seen.losses.conflicts())

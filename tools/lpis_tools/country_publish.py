@@ -76,7 +76,12 @@ def publish(command, said, say):
     """Answers 0 where the country is published."""
     progress.Quiet.tool = "country"
     yearly.look_at_places(said, "the certificates, and what is printed,")
-    last, regions, kept = yearly.last_year(said), tiles.of_folder(said.folder).folders, Kept(said.folder, said.year)
+    kept = Kept(said.folder, said.year)
+    try:
+        last = yearly.last_year(said)
+    except Stop as stop:
+        raise Stop(f"{stop}{kept.left()}", stop.status) from None
+    regions = tiles.of_folder(said.folder).folders
     kept.look()
     if said.lineage:
         splitting.deal(said.lineage, regions, said.folder, say)

@@ -12,6 +12,7 @@ from dataclasses import dataclass, field
 from . import country_changes, differences, ending, origin, page, progress, registers, release_page, report, streams, tiles, watching
 from .areas import AREA, both, decimal, hectares
 from .explaining import Explained
+from .printing import counted
 
 CELLS = 60  # squares of the map's longer side, in which parcels are counted
 FILES = ("parcels", "covers", "classes")
@@ -137,7 +138,7 @@ def chart_of(country):
         if box[0] >= box[2] or box[1] >= box[3]:  # of a tile without land a mere point
             box[2], box[3] = box[0], box[1]
         left, low, right, high = box
-        words = f"{row['parcels']} parcels, {hectares(row['area'])}" if "area" in row else "has no answer"
+        words = f"{counted(row['parcels'], 'parcel')}, {hectares(row['area'])}" if "area" in row else "has no answer"
         layer.add(row["region"], [[[(left, low), (right, low), (right, high), (left, high), (left, low)]]], words)
     side = max(whole[2] - whole[0], whole[3] - whole[1]) // CELLS + 1
     counts = Counter(((x - whole[0]) // side, (whole[3] - y) // side) for region in country.regions.values() for x, y in region.corners)

@@ -25,6 +25,10 @@ class Kept:
         if os.path.lexists(self.place):
             raise Stop(f"{self.place} is there, with what was published before: move it away first; nothing was published")
 
+    def left(self):
+        """What is told of a copy that a killed run left: where the year is published it is whole."""
+        return f"; a run that was killed left its copy in {self.made}: where the year is published, that is to be {self.place}" if os.path.isdir(self.made) else ""
+
     @contextlib.contextmanager
     def copied(self, names):
         """Copies files of the country; what was not settled goes."""

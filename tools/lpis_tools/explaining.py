@@ -4,6 +4,7 @@ from . import codes, drawing, polygons
 from .countries import OfCountry
 from .lineages import OfGroups
 from .names import SourceNames
+from .printing import counted
 from .refusal import metres_of, read
 from .sentences import SENTENCES
 from .tables import COLUMNS, FREE, INSTEAD, KEYS, LETTERS, MARK, Table, is_identifier, kind_of_file, path_of, quoted, shown
@@ -164,7 +165,7 @@ class Explained(OfGroups, OfCountry):
         elif code in ("73", "74"):
             self.say_rows_beside(table, record, "")
         elif code == "3a":
-            self.say(f"  the table has {len(table.records) - 1} rows")
+            self.say(f"  the table has {counted(len(table.records) - 1, 'row')}")
 
     def say_marks(self, table, record):
         """The rows that share an identifier with a marked one, and which of them are marked."""
@@ -205,7 +206,7 @@ class Explained(OfGroups, OfCountry):
         if table is None:
             return
         alike = [quoted(table.field(r, name)) for _, r in table.rows() if table.field(r, name).strip().lower() == value.strip().lower()]
-        self.say(f"  {table.path} has {len(table.records) - 1} rows, none of {name} {quoted(value)}" + (f"; {alike[0]} differs in case alone" if alike else ""))
+        self.say(f"  {table.path} has {counted(len(table.records) - 1, 'row')}, none of {name} {quoted(value)}" + (f"; {alike[0]} differs in case alone" if alike else ""))
 
     def say_text(self, text):
         offset = self.refusal.offset

@@ -3,31 +3,58 @@
     with files.anew(path) as file      beside the place under a name that nobody can foresee, and then renamed; the mode of what stood there is kept
     with files.fresh(path) as file     in its place from the start; what lies there is removed first, and a link is not followed
     with files.more(path) as file      goes on with a file of one's own; a link is not followed
+    files.own(html=path)               refuses a path where something else stands than what the tool writes there
+    files.folder(out, ".prepare-")     a new folder in another; those that killed runs left there go
+    files.alone(out)                   keeps other runs away from a folder
     files.forget()                     removes what is not whole, where a tool ends at once
     files.digest(path)                 the sha256 of a file
 """
 
 import contextlib
+import fcntl
 import hashlib
 import itertools
 import os
 import secrets
 import shutil
 import stat
+import string
+import tempfile
+
+from .trouble import Trouble
 
 NEW = ".new"  # how the names of files end that are not whole
 MADE = os.O_WRONLY | os.O_CREAT | os.O_EXCL | os.O_NOFOLLOW | os.O_CLOEXEC
+FOLDER = os.O_RDONLY | os.O_DIRECTORY | os.O_NOFOLLOW | os.O_CLOEXEC
+RANDOM = set(string.ascii_lowercase + string.digits + "_")  # of a temporary name
 TEXT = {"encoding": "utf-8", "errors": "backslashreplace"}  # bytes of a folder's name that are no letters are no crash
+
+HEADS = {"html": b'<!DOCTYPE html>\n<html lang="en">', "json": b'{\n "date": ', "geojson": b'{\n "type": "FeatureCollection"', "svg": b"<svg xmlns="}  # of what tools write
 
 PART = 1 << 20  # bytes at once
 
-_unfinished = set()
+_unfinished, _alone = set(), {}
 
 
 def is_device(path):
     """Whether a path is no file but a terminal, a pipe or another thing that takes bytes and can't be renamed over. /dev/shm has files."""
     whole = os.path.abspath(path)
     return os.path.dirname(whole) in ("/dev", "/dev/fd") or whole.startswith("/proc/") or (os.path.exists(path) and not os.path.isfile(path))
+
+
+def own(**outputs):
+    """Refuses a file in the place of an output that does not begin as that does, since it may be an input; and two outputs of one place."""
+    outputs = {kind: path for kind, path in outputs.items() if path and not is_device(path)}
+    if len(set(map(os.path.realpath, outputs.values()))) < len(outputs):
+        raise Trouble(f"{' and '.join(outputs.values())} are one file: name two")
+    for kind, path in outputs.items():
+        if not os.path.isdir(os.path.dirname(path) or "."):
+            raise Trouble(f"{path} cannot be written: {os.path.dirname(path)} is no folder")
+        if os.path.isfile(path):
+            with open(path, "rb") as file:
+                begun = file.read(len(HEADS[kind]))
+            if begun and begun != HEADS[kind]:
+                raise Trouble(f"{path} is there, and no {kind} of this tool: it stays as it is; name another file, or move it away")
 
 
 def mode_of(path):
@@ -97,6 +124,44 @@ def aside(path):
     copy = next(place for number in itertools.count(1) if not os.path.lexists(place := f"{name}-{number}{end}"))
     shutil.copy2(path, copy, follow_symlinks=False)
     return copy
+
+
+def folder(out, prefix):
+    """A new folder in another, locked as long as this process lives. Those of runs that were killed have no lock, and are removed."""
+    for entry in os.scandir(out):
+        if entry.name.startswith(prefix) and set(entry.name[len(prefix) :]) <= RANDOM and entry.is_dir(follow_symlinks=False):
+            with contextlib.suppress(OSError), locked(entry.path, fcntl.LOCK_EX | fcntl.LOCK_NB):
+                shutil.rmtree(entry.path, ignore_errors=True)
+    made = tempfile.mkdtemp(prefix=prefix, dir=out)
+    fcntl.flock(os.open(made, FOLDER), fcntl.LOCK_SH)
+    return made
+
+
+def alone(path):
+    """Locks a folder for the rest of this process, which writes there; where another one does, that is said. Of a file system without such locks nothing is known."""
+    handle = os.open(path, os.O_RDONLY | os.O_DIRECTORY | os.O_CLOEXEC)
+    found = os.fstat(handle)
+    if (found.st_dev, found.st_ino) in _alone:
+        os.close(handle)
+        return
+    try:
+        fcntl.flock(handle, fcntl.LOCK_EX | fcntl.LOCK_NB)
+    except BlockingIOError:
+        os.close(handle)
+        raise Trouble(f"another run works in {path}: wait for its end") from None
+    except OSError:
+        pass
+    _alone[found.st_dev, found.st_ino] = handle
+
+
+@contextlib.contextmanager
+def locked(path, kind):
+    handle = os.open(path, FOLDER)
+    try:
+        fcntl.flock(handle, kind)
+        yield
+    finally:
+        os.close(handle)
 
 
 def remove(path):

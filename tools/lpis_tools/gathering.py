@@ -15,6 +15,7 @@ CONFLICTS = ("overlap", "gap", "outside")
 FOUND = "SELECT id FROM row WHERE is_cover = ? AND name = ? AND is_kept"
 TEXT = "SELECT cell, at FROM row JOIN text USING (id) WHERE is_cover = 0 AND name = ? AND is_kept"
 AS_TOLD, AS_FOUND = "words || told", "words"
+DAMAGED = (ValueError, TypeError, KeyError, IndexError)  # what reading a file gives that is none of a cell
 MOST_OPEN = 200  # files at once
 WAY = f'["{ways.KIND}", '.encode()
 BETWEEN = "\x01"  # names in the order of lists of names
@@ -77,12 +78,15 @@ class Gathered:
         for cell in range(len(self.names)):
             try:
                 self.read_cell(cell)
-            except (ValueError, TypeError, KeyError, IndexError):
-                raise land.Trouble(f"{self.path(cell)} is not as it was written: delete {self.folder} and run it again") from None
+            except DAMAGED:
+                raise self.damaged(self.names[cell]) from None
             progress.add()
         if self.greatest and not self.greatest[2]:
             self.add_loss(self.greatest[1])
         self.base.commit()
+
+    def damaged(self, name):
+        return land.Trouble(f"{os.path.join(self.folder, name)} is not as it was written: delete {self.folder} and run it again")
 
     def tell_causes(self, of_gaps):
         """Says of gaps what they come of."""
@@ -103,9 +107,12 @@ class Gathered:
     def read_arms(self, names, progress):
         """Takes the land between parcels that is a narrow arm, by the files that have it."""
         for name in names:
-            with open(os.path.join(self.folder, name), encoding="utf-8") as file:
-                for line in file:
-                    self.take(*json.loads(line))
+            try:
+                with open(os.path.join(self.folder, name), encoding="utf-8") as file:
+                    for line in file:
+                        self.take(*json.loads(line))
+            except DAMAGED:
+                raise self.damaged(name) from None
             progress.add()
         self.whole.between = math.fsum(area for (area,) in self.base.execute("SELECT area FROM loss WHERE kind = ?", (ORDER.index("between"),)))
         self.base.commit()

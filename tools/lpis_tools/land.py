@@ -98,10 +98,10 @@ def read(path, names=None, wanted=("parcels", "covers"), spare=None, outlined=()
     return layers
 
 
-def apart(path, out):
-    """Refuses a folder that is the source and the place of the tables at once: they would be written over it."""
+def apart(path, out, what="the source"):
+    """Refuses a folder that is the source, or last year's, and the place of the tables at once: they would be written over it."""
     if os.path.isdir(path) and os.path.realpath(path) == os.path.realpath(out):
-        raise Trouble(f"{out} is the source: name another folder for the tables")
+        raise Trouble(f"{out} is {what}: name another folder for the tables")
 
 
 def is_of_another_program(folder):

@@ -16,6 +16,7 @@ from . import balance, causes, cells, files, land, outcome
 from .accepting import Left
 from .conflicts import ORDER, Loss, Source, find_conflicts, find_names, polygons_by
 from .findings import readable
+from .printing import counted
 
 MOST_TOLD = 20
 MOST_REASONS = 3
@@ -142,7 +143,7 @@ def line_of(loss):
 def why_nothing(losses, whole):
     """Why tables have no row: the commonest reasons of the source's rows."""
     found = whole.reasons() or Counter(loss.words for loss in losses if loss.kind in ("lost", "left out"))
-    return "; ".join(f"{count} row{'s' * (count > 1)}: {words}" for words, count in found.most_common(MOST_REASONS)) or "the tables have no row"
+    return "; ".join(f"{counted(count, 'row')}: {words}" for words, count in found.most_common(MOST_REASONS)) or "the tables have no row"
 
 
 def report(layers, out, accept, say, epsg=None, counts=None, whole=None, tables=None, source=None, seen=None, between=land.BETWEEN, refusal="", of_gaps=None):

@@ -11,6 +11,7 @@ from shapely.ops import unary_union
 from . import cells, files, identifiers, land, sheets, wkb
 from .conflicts import members_of
 from .findings import Finding
+from .printing import counted
 
 COLUMNS = (("parcels", ["parcel"]), ("covers", ["piece", "parcel", "class"]))
 KINDS = ("parcel", "piece", "class")
@@ -257,7 +258,7 @@ def classes(work, names, table, used=None):
     near = {alike(name): name for name in rows}
     for name in sorted(set(used) - set(rows)):
         other = near.get(alike(name))
-        words = f"{used[name]} pieces have this class, and the table of classes has not" + (f"; it has {other}, which differs in case, or in .0, alone" if other else "")
+        words = f"{counted(used[name], 'piece')} {'has' if used[name] == 1 else 'have'} this class, and the table of classes has not" + (f"; it has {other}, which differs in case, or in .0, alone" if other else "")
         work.findings.append(Finding("class", "covers", None, name, words))
     return rows
 
@@ -265,7 +266,7 @@ def classes(work, names, table, used=None):
 def share(text, factor):
     """A whole number of percent, or None."""
     try:
-        value = float(text.replace(",", ".")) * factor
+        value = cells.number(text) * factor
     except ValueError:
         return None
     return int(value) if 0 <= value <= 100 and value.is_integer() else None

@@ -9,14 +9,14 @@ import re
 from collections import Counter
 
 from . import balance, cells
-from .printing import escaped
+from .printing import counted, escaped
 
 csv.field_size_limit(1 << 30)
 FILES = ("prepared.csv", "report.csv", "balance.csv", "identifiers.csv")
 NUMBER = re.compile(r"[+-]?[0-9]{1,18}(\.[0-9]{1,9})?", re.ASCII)
 GONE = ("lost", "left out")
 NEAR = 0.001  # square metres: the last digit of balance.csv
-LAYERS = {"parcels": "parcels", "covers": "pieces"}
+LAYERS = {"parcels": "parcel", "covers": "piece"}
 
 
 def paths(folder):
@@ -84,14 +84,14 @@ def lines(found):
     """In words, for the page and for the terminal."""
     if found is None:
         return ["nothing is beside the tables of what was left out or changed before them (prepared.csv, report.csv, balance.csv)"]
-    gone = [f"{one['rows']} {LAYERS[one['layer']]}, {balance.hectares(number(one['area']))} ha" for one in found["gone"]]
+    gone = [f"{counted(one['rows'], LAYERS[one['layer']])}, {balance.hectares(number(one['area']))} ha" for one in found["gone"]]
     told = ["left out of the source: " + "; ".join(gone)] if gone else []
-    changed = [f"{row['stopping']} {LAYERS[row['layer']]}, {balance.hectares(number(row['area_of_stopping']))} ha" for row in found["report"] if row["kind"] == "changed" and row["stopping"] and row["layer"] in LAYERS]
+    changed = [f"{counted(row['stopping'], LAYERS[row['layer']])}, {balance.hectares(number(row['area_of_stopping']))} ha" for row in found["report"] if row["kind"] == "changed" and row["stopping"] and row["layer"] in LAYERS]
     if changed:
         told.append(f"changed by more than rounding: {'; '.join(changed)}")
     accepted = sum(row["stopping"] for row in found["report"])
     if accepted:
-        told.append(f"accepted by --accept: {accepted} rows of report.csv: {kinds_of(found['report'])}")
+        told.append(f"accepted by --accept: {counted(accepted, 'row')} of report.csv: {kinds_of(found['report'])}")
     return [*told, *found["faults"]] or ["nothing of the source was left out or changed by more than rounding"]
 
 

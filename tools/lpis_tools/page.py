@@ -151,7 +151,7 @@ class Map:
         there += [(COLOURS["region"], WORDS["region"])] * bool(self.layers["tiles"].names)
         if self.cells[1]:
             most = max(count for _, _, count in self.cells[1])
-            there += [(COLOURS["cells"][0], "a few parcels"), (COLOURS["cells"][9], f"{most} parcels in a square of {self.cells[0] / 1000:.0f} m")]
+            there += [(COLOURS["cells"][0], "a few parcels"), (COLOURS["cells"][9], f"{printing.counted(most, 'parcel')} in a square of {self.cells[0] / 1000:.0f} m")]
         there += [(COLOURS["fault"], f"{WORDS['fault']}s: {len(self.marks)}")] * bool(self.marks)
         there.append((COLOURS["chosen"], WORDS["chosen"]))
         return "".join(f'<span><i style="background:{fill}"></i>{escaped(words)}</span>' for fill, words in there)

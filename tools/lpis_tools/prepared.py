@@ -21,12 +21,14 @@ class Run:
     def __init__(self, words, names, say):
         self.words, self.names, self.say, self.previous, self.before = words, names, say, None, None
         land.apart(words.land, words.out)
+        land.apart(words.previous or "", words.out, "last year's folder")
         self.accept = accepting.Accepting(words.accept, words.accept_from, ("left out", "made"))
         self.kept = again.Rounded(words.out, self.digest())
         self.table = self.read_table(words.classes) if words.classes else None
         self.given = naming.given_identifiers(words.identifiers)
         os.makedirs(words.out, exist_ok=True)
-        self.made, self.spare = tempfile.mkdtemp(prefix=".prepare-", dir=words.out), tempfile.mkdtemp()
+        files.alone(words.out)
+        self.made, self.spare = files.folder(words.out, ".prepare-"), tempfile.mkdtemp()
         self.stop_at_once()
 
     def stop_at_once(self):

@@ -9,6 +9,7 @@ from . import land, progress, systems, unforeseen, wkb
 from .boxes import Boxes
 from .conflicts import enclosed_by, members_of, polygons_by
 from .findings import NOTES, Finding
+from .printing import counted
 from .sizes import areas_of
 
 FAR = 20_000_000.0
@@ -110,7 +111,7 @@ class Preparation:
         are_metres = any(land.reads_as_metres(row.found.box()) for name in KEYS for row in self.layers[name].rows if row.found)
         for name in KEYS:
             layer = self.layers[name]
-            self.say(f"testing {len(layer.rows)} rows of {name}")
+            self.say(f"testing {counted(len(layer.rows), 'row')} of {name}")
             self.many(name, len(layer.rows))
             self.test(name, progress.over(layer.rows, f"testing rows of {name}"), are_metres)
             if not are_metres and any(row.found for row in layer.rows):

@@ -231,6 +231,6 @@ def system_of(folder):
     try:
         with open(os.path.join(folder, "report.geojson"), encoding="utf-8", errors="replace") as file:
             found = SYSTEM.search(file.read(400))
-    except FileNotFoundError:
+    except (FileNotFoundError, NotADirectoryError):
         return None
     return int(found[1]) if found else None

@@ -20,6 +20,11 @@ def readable(name):
     return name if name.isprintable() else f"'{escaped(name)}'"
 
 
+def counted(count, name):
+    """1 piece, 2 pieces."""
+    return f"{count} {name}{'' if count == 1 else 's'}"
+
+
 def written_out(letter):
     byte = ord(letter) - 0xDC00  # of what is no letter
     return f"\\x{byte:02x}" if 0x80 <= byte <= 0xFF else letter.encode("unicode_escape").decode("ascii")

@@ -7,6 +7,7 @@ import tempfile
 from collections import Counter
 
 from . import accepting, ending, files, land, progress, shapely_there, sheets, unforeseen, words
+from .printing import counted
 
 MOST_WIDE = 100.0  # metres
 TABLES = ("parcels", "covers", "classes")
@@ -67,7 +68,7 @@ def stop_at_once(name, *folders):
 
 def compared(name, text):
     """The comparison from its words to its report, and its status."""
-    said, say = parser(name, text).parse_args(accepting.arguments_of(sys.argv[1:])), teller(name)
+    said, say = accepting.parsed(parser(name, text), sys.argv[1:]), teller(name)
     shapely_there.go_on(name)
     from . import balance, conflicts, losses
 
@@ -148,7 +149,7 @@ def tell_notes(layers, say):
             say(f"{name}: {words}")
         counts = Counter(note for row in layer.rows if row.found for note in row.found.notes)
         for note, count in sorted(counts.items()):
-            say(f"{name}: {NOTES.get(note, note)} in {count} rows")
+            say(f"{name}: {NOTES.get(note, note)} in {counted(count, 'row')}")
 
 
 # The table of classes.
@@ -195,11 +196,11 @@ def lacking_classes(table, layers, path):
     for row in layers["covers"].rows:
         if row["class"] not in known:
             rows.setdefault(row["class"], []).append(row.number)
-    wrong = [Loss("class", [name], f"{len(found)} pieces have this class, and {path} has not: lpis refuses it (36)", layer="covers", rows=found) for name, found in rows.items()]
+    wrong = [Loss("class", [name], f"{counted(len(found), 'piece')} {'has' if len(found) == 1 else 'have'} this class, and {path} has not: lpis refuses it (36)", layer="covers", rows=found) for name, found in rows.items()]
     most = 100 if column == "percent" else 1
     return wrong + [Loss("class", [record.get("class") or ""], f"its {column} is {record.get(column)!r}, no whole number from 0 to {most}: lpis refuses it (3b)", layer="classes")
                     for record in table if not is_percent(str(record.get(column) or ""), most)]
 
 
 def is_percent(text, most):
-    return text.isdecimal() and len(text) <= len(str(most)) and int(text) <= most
+    return text.isascii() and text.isdecimal() and len(text) <= len(str(most)) and int(text) <= most

@@ -6,6 +6,7 @@ import contextlib
 import sqlite3
 
 from . import databases, polygons, unforeseen
+from .printing import counted
 from .trouble import Trouble
 
 SECONDS = 60  # to wait for a publish that holds the register
@@ -24,10 +25,17 @@ def opened(path):
         raise sqlite3.DatabaseError(f"its schema is damaged: {error}") from None
 
 
+def is_empty(connection):
+    """Whether a database has nothing, which lpis takes for a register without a release."""
+    return not connection.execute("SELECT count(*) FROM sqlite_schema").fetchone()[0]
+
+
 def facts(path):
     """The years of a register, and what it holds of the last of them."""
     try:
         with contextlib.closing(opened(path)) as connection:
+            if is_empty(connection):
+                return {"path": path, "years": [], "live": 0, "identifiers": 0, "shapes": 0}
             years = [int(year) for (year,) in connection.execute("SELECT year FROM lpis_release ORDER BY year")]
             (live,), (all_of_them,) = connection.execute("SELECT count(*) FROM lpis_span WHERE until = 0 UNION ALL SELECT count(*) FROM lpis_span")
             has_texts = connection.execute("SELECT 1 FROM sqlite_schema WHERE name = 'lpis_text'").fetchone()
@@ -43,7 +51,7 @@ def in_words(found):
     if not years:
         return "no year is published in it"
     which = f"{years[0]}" if len(years) == 1 else f"{years[0]} to {years[-1]}"
-    return f"{len(years)} year{'s' * (len(years) > 1)} ({which}), {found['live']} live identifiers of {found['identifiers']}, {found['shapes']} shapes"
+    return f"{counted(len(years), 'year')} ({which}), {counted(found['live'], 'live identifier')} of {found['identifiers']}, {counted(found['shapes'], 'shape')}"
 
 
 class Kept:

@@ -10,6 +10,7 @@ from decimal import Decimal
 from . import files, origin, page, polygons, registers
 from . import report as reports
 from .areas import AREA, both, decimal, hectares
+from .printing import counted
 
 MOST_STRAYS = 20  # that are named
 
@@ -61,7 +62,7 @@ def write_faults(path, folder, features):
     facts = [("release", os.path.abspath(folder)), ("made", datetime.datetime.now(datetime.timezone.utc).strftime("%Y-%m-%d %H:%M UTC")),
              ("parcels", len(land.parcels)), ("pieces", len(land.pieces)), ("faults", len(features))]
     title = f"Faults of {os.path.basename(os.path.abspath(folder))}"
-    answer = f"{len(features)} faults" if features else "no faults"
+    answer = counted(len(features), "fault") if features else "no faults"
     write(path, page.page(title, answer, not features, facts, chart_of(land, marks), [faults_table(features, numbers, land)]))
 
 
@@ -154,7 +155,7 @@ def changes_tables(facts, numbers=None):
     rows += [["gone", row["parcel"], row["area"], "", became(row)] for row in found["gone"]]
     rows += [["changed", row["parcel"], row["before"], row["after"], f"{row['difference']} m\u00b2" + (f", also from {' '.join(row['from'])}" if row["from"] else "")] for row in found["changed"]]
     others, unlooked = found["other_shape_same_area"], "" if found["moved"] is not None else "; whether kept ones moved was not looked for: Shapely is not there"
-    kept = f"{found['kept']} parcels are as they were" + (f", {len(others)} have another shape of the same area" if others else "") + unlooked
+    kept = f"{counted(found['kept'], 'parcel')} {'is as it was' if found['kept'] == 1 else 'are as they were'}" + (f", {len(others)} {'has' if len(others) == 1 else 'have'} another shape of the same area" if others else "") + unlooked
     keys = [numbers.get(row[1]) for row in rows] if numbers else []
     return [page.Table(f"Since {found['old']}: {'; '.join([*sums_of(found), kept])}", ["what", "parcel", "#area before m\u00b2", "#area after m\u00b2", "more"], rows, keys, is_mixed=True)]
 

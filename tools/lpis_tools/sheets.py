@@ -10,6 +10,7 @@ from dataclasses import dataclass
 from itertools import islice
 
 from . import unforeseen
+from .printing import counted
 
 csv.field_size_limit(1 << 30)
 WINDOWS = "cp1252"
@@ -66,7 +67,7 @@ class Sheet:
             if not any(field.strip() for field in fields):
                 self.blank += 1
             elif len(fields) != width:
-                self.faults.append(Fault(number, f"line {line} has {len(fields)} fields, and the header has {width}"))
+                self.faults.append(Fault(number, f"line {line} has {counted(len(fields), 'field')}, and the header has {width}"))
             else:
                 yield number, fields
 

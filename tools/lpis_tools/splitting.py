@@ -11,6 +11,7 @@ from array import array
 
 from . import balance, files, parting, progress, tiles
 from .areas import AREA, decimal
+from .printing import counted
 from .streams import Folder, OneFile, Stream, Trouble, ended, measured, shown
 
 MOST_TOLD = 20
@@ -82,7 +83,7 @@ class Land:
                 self.numbers[name] = len(self.boxes)
                 self.boxes.add(found[0])
                 self.sums.add("parcels", raw, PARCELS, found[1])
-        say(f"reading the pieces of {len(self.boxes)} parcels")
+        say(f"reading the pieces of {counted(len(self.boxes), 'parcel')}")
         for row, (piece, name, land_class, wkt), raw in tracked(source, "covers", Stream(source, "covers", ["piece", "parcel", "class", "wkt"])):
             number, found = self.numbers.get(name), measured(wkt)
             if number is None:
@@ -151,7 +152,7 @@ def tiling_of(land, out, most, anew, say):
             tiling = tiles.of_folder(out)
         except tiles.Unreadable as error:
             raise Trouble(f"{error}; with --anew new cuts are made") from None
-        say(f"the {len(tiling.folders)} regions of {path} are used again")
+        say(f"the tiling of {path} is used again: {counted(len(tiling.folders), 'region')}")
         places = placed(tiling, land.boxes)
         full = overfull(tiling, places, land.boxes, most)
         if full is None:
@@ -211,7 +212,7 @@ def write_regions(land, tiling, places, out, say):
     """The new tables of all regions beside those that stand; answers their paths."""
     paths = []
     for name in ("parcels", "covers"):
-        say(f"writing the {name} of {len(tiling.folders)} regions")
+        say(f"writing the {name} of {counted(len(tiling.folders), 'region')}")
         stream = Stream(land.source, name, ["parcel", "parcel"])
         writer = Writer(out, tiling.folders, name, stream.header)
         paths += writer.paths
@@ -307,6 +308,7 @@ def split(source, out, most, anew, say, lineage=None):
     land = Land(source, say)
     tiling, places = tiling_of(land, out, most, anew, say)
     os.makedirs(out, exist_ok=True)
+    files.alone(out)
     for folder in tiling.folders:
         os.makedirs(os.path.join(out, folder), exist_ok=True)
     try:
@@ -315,6 +317,7 @@ def split(source, out, most, anew, say, lineage=None):
         paths += more
         say("looking for every row of the source in the regions")
         whole = judge(land, tiling, places, out)
+        files.remove(os.path.join(out, COUNTS))  # who is stopped from here on leaves tables of two sources, which nothing is compared with
         changed = sum(map(settle, paths))
     finally:
         clear(out, tiling.folders)

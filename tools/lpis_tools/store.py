@@ -3,6 +3,7 @@ rounded without the rest. Rows stand in the order of the source, the parcels fir
 
 from __future__ import annotations
 
+import os
 import sqlite3
 
 import numpy
@@ -145,9 +146,11 @@ def merged(path, parts):
     try:
         base = new(path, ROWS, WHOLE, around.WAYS)
         return base, filled(base, parts)
-    except sqlite3.OperationalError as error:
+    except sqlite3.DatabaseError as error:
         files.remove(path)
-        raise land.Trouble(f"{path} cannot be written: {error}") from None
+        if isinstance(error, sqlite3.OperationalError) and "no such" not in str(error):
+            raise land.Trouble(f"{path} cannot be written: {error}") from None
+        raise land.Trouble(f"a part beside {path} is not as it was written ({error}): delete {os.path.dirname(path)} and run it again") from None
 
 
 def filled(base, parts):

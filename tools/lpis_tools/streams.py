@@ -8,7 +8,7 @@ from itertools import islice
 from operator import mul
 
 from . import trouble, unforeseen
-from .printing import escaped
+from .printing import counted, escaped
 from .tables import COLUMNS, FREE, INSTEAD
 
 csv.field_size_limit(1 << 30)
@@ -92,7 +92,7 @@ class Stream:
         width, fields = self.width, operator.itemgetter(*self.places)
         for row, (record, raw) in unforeseen.each("", self.records, f"{self.name}.csv"):
             if len(record) != width:
-                raise Trouble(f"{self.name}.csv row {row}: {len(record)} fields, and the header has {width}")
+                raise Trouble(f"{self.name}.csv row {row}: {counted(len(record), 'field')}, and the header has {width}")
             yield row, fields(record), raw
 
 
@@ -115,7 +115,7 @@ def measured(text):
     """The box of a polygon's text (least x and y, greatest x and y) in millimetres, and its doubled area; exact where it has at most three decimals.
     None where it is no such text."""
     head, _, body = text.partition("(")
-    if head.strip().upper() not in ("POLYGON", "MULTIPOLYGON"):
+    if head.strip().upper() not in ("POLYGON", "MULTIPOLYGON") or "_" in body:  # which Python takes in a number
         return None
     doubled, every_x, every_y = 0, [], []
     try:

@@ -70,6 +70,8 @@ class Tiling:
 def of_folder(folder):
     """The tiling that stands in a country's folder."""
     path = os.path.join(folder, "country.txt")
+    if not os.path.exists(path):
+        raise FileNotFoundError(f"{path} is not there: {folder} is no country that was split")
     with open(path, encoding="latin-1", newline="") as file:
         try:
             return read(file.read())

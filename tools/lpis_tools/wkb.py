@@ -7,6 +7,8 @@ from __future__ import annotations
 import math
 import struct
 
+from .printing import counted
+
 ARC = 0.0005  # metres that a straightened arc may lie beside the arc: no more than rounding does
 MOST_POINTS = 100_000  # of a shape: what arcs would make beyond them is not made
 FAR = 100_000_000.0  # metres: no map has places beyond it, and its arcs stay as they are
@@ -122,7 +124,7 @@ def judge_ring(ring):
     if not all(math.isfinite(value) for point in ring for value in point):
         raise Unreadable("a coordinate is no number", next((point for point in ring if all(map(math.isfinite, point))), None))
     if len(ring) < 4:
-        raise Unreadable(f"a ring has {len(ring)} point{'s' * (len(ring) > 1)} and not four or more", start)
+        raise Unreadable(f"a ring has {counted(len(ring), 'point')} and not four or more", start)
     if start != end:
         raise Unreadable(f"a ring is open: it begins at {start[0]} {start[1]} and ends at {end[0]} {end[1]}", start)
 

@@ -7,6 +7,7 @@ import sqlite3
 from dataclasses import dataclass, field
 
 from . import databases, polygons, progress, registers, streams, tiles
+from .printing import counted
 from .tables import Table, is_identifier, path_of, shown
 from .trouble import Trouble
 
@@ -203,7 +204,8 @@ def opened(path):
     try:
         tables = {name for (name,) in base.execute("SELECT name FROM sqlite_schema WHERE type = 'table'")}
         if not {"lpis_release", "lpis_span"} <= tables:
-            raise Trouble(f"{path} is no register of version 2 or 3: `lpis trace` opens and moves an older one")
+            is_older = any(name.startswith("lpis_") for name in tables)
+            raise Trouble(f"{path} is no register of version 2 or 3: " + ("`lpis trace` opens and moves an older one" if is_older else "it has no table of one; name the file that `publish` writes"))
         last = base.execute("SELECT max(year) FROM lpis_release").fetchone()[0]
         if not isinstance(last, (int, type(None))):
             raise Trouble(strange(path))
@@ -235,7 +237,7 @@ def rows_of(path, region=""):
     rows = []
     for number, record in table.rows():
         if len(record) != len(table.header):
-            raise Trouble(f"{path} row {number}: {len(record)} fields, and the header has {len(table.header)}")
+            raise Trouble(f"{path} row {number}: {counted(len(record), 'field')}, and the header has {len(table.header)}")
         old, new, mark = (table.field(record, name) for name in ("old", "new", "exact"))
         if not is_identifier(old) or (new and not is_identifier(new)) or mark not in (b"", b"0", b"1"):
             raise Trouble(f"{path} row {number}: an old identifier, a new one or none, and a mark 1, 0 or none are wanted")

@@ -86,9 +86,10 @@ class Register:
         """The shapes of the last release, by the parcels' identifiers."""
         if not self.path.exists():
             return {}
+        registers = tree.module("registers")
         try:
-            with contextlib.closing(tree.module("registers").opened(self.path)) as connection:
-                return {name: Shape(text) for name, text in connection.execute("SELECT id, wkt FROM lpis_text ORDER BY id")}
+            with contextlib.closing(registers.opened(self.path)) as connection:
+                return {} if registers.is_empty(connection) else {name: Shape(text) for name, text in connection.execute("SELECT id, wkt FROM lpis_text ORDER BY id")}
         except sqlite3.Error as error:
             raise Failed(f"{self.path} has no shapes that can be read: {error}") from None
 
