@@ -1,11 +1,12 @@
 //! Certificates.
 
-ghost use Rattle.std.specs.Prelude.{◌≤◌, ◌+◌, length, sum_by};
+ghost use Rattle.std.specs.Prelude.{◌≡◌, ◌≤◌, ◌+◌, [], length, sum_by};
 ghost use Rattle.lpis_cert.specs.Limits.{most_flats, greatest_count};
 ghost use Rattle.lpis_points.specs.Triangles.{most_triangles};
 
 use crate::part::{ExactBlock, PairLine, ParcelPart, PiecePart};
 use lpis_memory::Sequence;
+use std::alloc::Global;
 
 /// The most triangles of a certificate.
 pub const MOST_TRIANGLES: u64 = 2_000_000;
@@ -26,4 +27,21 @@ pub struct Cert {
     pub ghost flats_few: { sum_by (λ p. length p.flats) pieces + sum_by (λ p. length p.flats)
         parcels + sum_by (λ b. length b.flats) exact ≤ most_flats },
     pub ghost pairs_few: { length pairs ≤ greatest_count },
+}
+
+impl Cert {
+    /// A certificate without parts.
+    pub fn empty(alloc: Global) -> Cert
+        ensures pieces { result.pieces ≡ [] }
+        ensures parcels { result.parcels ≡ [] }
+        ensures exact { result.exact ≡ [] }
+        ensures pairs { result.pairs ≡ [] }
+    {
+        Cert {
+            pieces: Sequence::new(Vec::new(alloc)),
+            parcels: Sequence::new(Vec::new(alloc)),
+            exact: Sequence::new(Vec::new(alloc)),
+            pairs: Sequence::new(Vec::new(alloc)),
+        }
+    }
 }
