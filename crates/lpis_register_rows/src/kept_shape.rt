@@ -8,8 +8,8 @@ use std::alloc::{AllocError, Global};
 use std::marker::Model;
 use std::rc::Rc;
 
-/// A shape that is kept: the identifier of a parcel, and its polygon, which contracts see as a pair.
-/// Copies share it, so that a shape which stays from year to year takes its memory once.
+/// A shape that is kept: the identifier of a parcel, and its polygon. Contracts see the pair, and
+/// say nothing of the memory that copies share.
 #[derive(Drop)]
 pub struct KeptShape {
     shape: Rc<(Id, Polygon), Global>,
@@ -46,7 +46,7 @@ impl KeptShape {
         &self.shape.as_ref().1
     }
 
-    /// An equal shape, which shares it.
+    /// An equal shape.
     pub fn copy(&self) -> Result<KeptShape, AllocError>
         ensures { IfOk result (λ shape. shape ≡ self.now) }
     {

@@ -131,7 +131,7 @@ pub fn shapes_of(
 }
 
 /// The kept shape that is that of a parcel, where it is found: they ascend by identifier.
-fn kept_of<'a>(kept: &'a [KeptShape], parcel: &Parcel) -> Option<&'a KeptShape>
+fn kept_shape_of<'a>(kept: &'a [KeptShape], parcel: &Parcel) -> Option<&'a KeptShape>
     ensures { IfSome result (λ shape. shape.now ≡ the_shape_of parcel.now) }
 {
     match kept.binary_search_by(|shape| shape.id().cmp(&parcel.id)) {
@@ -148,7 +148,7 @@ fn is_shape_of(shape: &KeptShape, parcel: &Parcel) -> bool
     *shape.id() == parcel.id && is_same_polygon(shape.polygon(), &parcel.polygon)
 }
 
-/// The shape of a parcel: one that is kept shares its polygon, else it is a copy.
+/// The shape of a parcel: a copy of one that is kept, else one of its polygon.
 fn shape_in(alloc: Global, parcel: &Parcel, kept: &[KeptShape]) -> Result<KeptShape, AllocError>
     ensures same { IfOk result (λ shape. shape ≡ the_shape_of parcel.now) }
     ensures id { IfOk result (λ shape. is_id shape.0 ≡ true) }
@@ -156,7 +156,7 @@ fn shape_in(alloc: Global, parcel: &Parcel, kept: &[KeptShape]) -> Result<KeptSh
 {
     has_text(&parcel.polygon);
     let _ = parcel.id.as_str();
-    match kept_of(kept, parcel) {
+    match kept_shape_of(kept, parcel) {
         Some(shape) => shape.copy(),
         None => KeptShape::new(alloc, parcel.id.copy()?, parcel.polygon.copy(alloc)?),
     }
@@ -180,8 +180,8 @@ fn parcel_shapes(
     Ok(shapes)
 }
 
-/// The shapes of parcels, no two of one identifier, ascending by identifier. Those that are kept
-/// already, as kept ones that ascend by identifier tell, share their polygons.
+/// The shapes of parcels, no two of one identifier, ascending by identifier. Kept ones that ascend
+/// by identifier save memory, and change nothing else.
 pub fn shapes_in(
     alloc: Global,
     parcels: &[Parcel],
