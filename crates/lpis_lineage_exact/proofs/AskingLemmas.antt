@@ -8,16 +8,14 @@ use Rattle.lpis_rings.specs.declared.polygon.Member.{Member}
 use Rattle.lpis_lineage.proofs.Shared.{take-at}
 use Rattle.lpis_lineage.specs.Changes.{Changes, IsChange, kind_at}
 use Rattle.lpis_lineage.specs.ExactGroups.{AreExactGroups}
-use Rattle.lpis_lineage.specs.Faults.{faults}
-use Rattle.lpis_lineage.specs.Lineage.{last_live}
 use Rattle.lpis_lineage.specs.declared.exact.Group.{Group}
 use Rattle.lpis_lineage.specs.declared.kind.Kind.{Kind}
 use Rattle.lpis_lineage.specs.declared.row.Entry.{Entry}
 use Rattle.lpis_lineage.specs.declared.row.Row.{Row}
-use Rattle.lpis_release.specs.Release.{Contents, parcel_ids}
+use Rattle.lpis_release.specs.declared.parcel.Parcel.{Parcel}
 use Rattle.lpis_register_rows.specs.Shapes.{Shape}
 use Rattle.lpis_checker.specs.declared.exact.ExactPart.{ExactPart}
-use Rattle.lpis_lineage_exact.specs.Asking.{AsksFor, HasShape, IsMarked, IsUnkept, IsWanted, kinds_from, lacking, old_ids, part_shape, unkept, whole_shape}
+use Rattle.lpis_lineage_exact.specs.Asking.{AsksFor, HasShape, IsChangeTo, IsMarked, IsUnkept, IsWanted, kinds_from, lacking, old_ids, part_shape, unkept, whole_shape}
 use Rattle.lpis_lineage_exact.specs.Shapes.{shape_named, shapes_in}
 use Rattle.lpis_lineage_exact.specs.declared.asking.AskFault.{AskFault}
 use Rattle.lpis_lineage_exact.specs.declared.asking.AskFault.TheVariants.{Memory, NotKept}
@@ -110,30 +108,31 @@ first-of-groups kept new gs k g xs fault lt at z first =
 pub own-rows : (last live : List (List ℕ)) (rows : List Row) (c : Changes) → IsChange last live rows c → IsChange last live c.rows c
 own-rows last live rows c change = subst (λ (rs : List Row). IsChange last live rs c) (sym change.rows_are) change
 
-marked : (h : List Entry) (r : Contents) (rows : List Row) (c : Changes) (gs : List Group) → faults h (parcel_ids r.parcels) rows ≡ [] → IsChange (last_live h) (parcel_ids r.parcels) rows c
-    → AreExactGroups (kind_at c) c.rows gs → IsMarked h r rows gs
-marked h r rows c gs none change are = record {
-  none = none;
-  groups = subst (λ (rs : List Row). AreExactGroups (kinds_from h r rows) rs gs) change.rows_are (subst (λ (k : List ℕ → Option Kind). AreExactGroups k c.rows gs) (λ i id. change.kinds_are id i) are);
+marked : (h : List Entry) (parcels : List Parcel) (rows : List Row) (c : Changes) (gs : List Group) → IsChangeTo h parcels rows c
+    → AreExactGroups (kind_at c) c.rows gs → IsMarked h parcels rows gs
+marked h parcels rows c gs to are = record {
+  none = to.none;
+  groups = subst (λ (rs : List Row). AreExactGroups (kinds_from h parcels rows) rs gs) to.change.rows_are
+      (subst (λ (k : List ℕ → Option Kind). AreExactGroups k c.rows gs) (λ i id. to.change.kinds_are id i) are);
 }
 
 -- the parts of the exact groups of a change without a fault are those that the release asks for
-pub parts-are-asked : (h : List Entry) (kept : List Shape) (r : Contents) (rows : List Row) (c : Changes) (gs : List Group) (xs : List ExactPart) → faults h (parcel_ids r.parcels) rows ≡ []
-    → IsChange (last_live h) (parcel_ids r.parcels) rows c → AreExactGroups (kind_at c) c.rows gs → AllZip (IsWanted (shape_named kept) (shape_named (shapes_in r))) gs xs
-    → (hs : List Group) × AsksFor h kept r rows hs xs
-parts-are-asked h kept r rows c gs xs none change are parts = (
+pub parts-are-asked : (h : List Entry) (kept : List Shape) (parcels : List Parcel) (rows : List Row) (c : Changes) (gs : List Group) (xs : List ExactPart) → IsChangeTo h parcels rows c
+    → AreExactGroups (kind_at c) c.rows gs → AllZip (IsWanted (shape_named kept) (shape_named (shapes_in parcels))) gs xs
+    → (hs : List Group) × AsksFor h kept parcels rows hs xs
+parts-are-asked h kept parcels rows c gs xs to are parts = (
   gs,
   record {
-    marked = marked h r rows c gs none change are;
-    all_kept = all-kept kept (shape_named (shapes_in r)) gs xs parts;
+    marked = marked h parcels rows c gs to are;
+    all_kept = all-kept kept (shape_named (shapes_in parcels)) gs xs parts;
     parts = parts;
   },
 )
 
 -- the first old identifier of these groups to lack a kept shape is the one that the release lacks
-pub first-is-unkept : (h : List Entry) (kept : List Shape) (r : Contents) (rows : List Row) (c : Changes) (gs : List Group) (fault : AskFault) → faults h (parcel_ids r.parcels) rows ≡ []
-    → IsChange (last_live h) (parcel_ids r.parcels) rows c → AreExactGroups (kind_at c) c.rows gs → IsFirstLacking kept (flat_map old_ids gs) fault
-    → (id : List ℕ) → fault ≡ NotKept id → IsUnkept h kept r rows id
-first-is-unkept h kept r rows c gs fault none change are first id is =
+pub first-is-unkept : (h : List Entry) (kept : List Shape) (parcels : List Parcel) (rows : List Row) (c : Changes) (gs : List Group) (fault : AskFault) → IsChangeTo h parcels rows c
+    → AreExactGroups (kind_at c) c.rows gs → IsFirstLacking kept (flat_map old_ids gs) fault
+    → (id : List ℕ) → fault ≡ NotKept id → IsUnkept h kept parcels rows id
+first-is-unkept h kept parcels rows c gs fault to are first id is =
     let named : IsFirstLacking kept (flat_map old_ids gs) (NotKept id) = subst (IsFirstLacking kept (flat_map old_ids gs)) is first in
-    record { gs = gs; marked = marked h r rows c gs none change are; rest = named.0; is_first = named.1 }
+    record { gs = gs; marked = marked h parcels rows c gs to are; rest = named.0; is_first = named.1 }

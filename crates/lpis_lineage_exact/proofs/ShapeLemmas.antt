@@ -41,14 +41,14 @@ at-index [] k s e = cc e
 at-index (x ∷ xs) zero s e = (x, refl, same_Some (shape_of_parcel x) s e)
 at-index (x ∷ xs) (suc k) s e = at-index xs k s e
 
-held : (r : Contents) (shapes : List Shape) (id : List ℕ) (m : List Member) → IsPermutation (shapes_in r) shapes → shape_named shapes id ≡ Some m → Held r.parcels id m
+held : (r : Contents) (shapes : List Shape) (id : List ℕ) (m : List Member) → IsPermutation (shapes_in r.parcels) shapes → shape_named shapes id ≡ Some m → Held r.parcels id m
 held r shapes id m p e =
-    let among = Contains-permutation shapes (shapes_in r) (id, m) (IsPermutation-sym (shapes_in r) shapes p) (Contains-from_lookup same-exact id m shapes e) in
-    let x = at-index r.parcels among.0 (id, m) (slice_get-get_or (shapes_in r) among.0 (id, m) among.1 ∙ ap Some among.2) in
+    let among = Contains-permutation shapes (shapes_in r.parcels) (id, m) (IsPermutation-sym (shapes_in r.parcels) shapes p) (Contains-from_lookup same-exact id m shapes e) in
+    let x = at-index r.parcels among.0 (id, m) (slice_get-get_or (shapes_in r.parcels) among.0 (id, m) among.1 ∙ ap Some among.2) in
     record { index = among.0; parcel = x.0; at = x.1; is_id = ap (λ (s : Shape). s.0) (sym x.2); is_shape = ap (λ (s : Shape). s.1) x.2 }
 
 -- the shapes of a sound map, in whatever order, turn once at most
-pub turn_once : (r : Contents) (shapes : List Shape) → IsSoundMap r → IsPermutation (shapes_in r) shapes → ShapesTurnOnce (shape_named shapes)
+pub turn_once : (r : Contents) (shapes : List Shape) → IsSoundMap r → IsPermutation (shapes_in r.parcels) shapes → ShapesTurnOnce (shape_named shapes)
 turn_once r shapes s perm id m e = record { turns = λ p d. at p d }
   where
     h : Held r.parcels id m
@@ -59,7 +59,7 @@ turn_once r shapes s perm id m e = record { turns = λ p d. at p d }
         (all_at (λ (k : Parcel). TurnsTell (IsInParcel p k) (turns k.polygon p)) r.parcels h.index h.parcel h.at (s.turns.parcels p d)).0
 
 -- no point lies in two shapes of a sound map, in whatever order they are
-pub share_nothing : (r : Contents) (shapes : List Shape) → IsSoundMap r → IsPermutation (shapes_in r) shapes → ShapesShareNothing (shape_named shapes)
+pub share_nothing : (r : Contents) (shapes : List Shape) → IsSoundMap r → IsPermutation (shapes_in r.parcels) shapes → ShapesShareNothing (shape_named shapes)
 share_nothing r shapes s perm p d a b l k =
     let v = held r shapes a l.shape perm l.is in
     let w = held r shapes b k.shape perm k.is in
@@ -83,16 +83,17 @@ same-option None None to from = refl
 same-option None (Some x) to from = from x refl
 same-option (Some x) p to from = sym (to x refl)
 
--- the shapes of a release that ascend by identifier name the same as those in the order of its parcels
-pub named-alike : (r : Contents) (shapes : List Shape) → AreShapesOf r.parcels shapes → shape_named shapes ≡ shape_named (shapes_in r)
-named-alike r shapes are i id = same-option (shape_named shapes id) (shape_named (shapes_in r) id) (λ m. found-there shapes (shapes_in r) id m apart back)
-    (λ m. found-there (shapes_in r) shapes id m (distinct shapes are.ascend) are.same) i
+-- the shapes of parcels that ascend by identifier name the same as those in the order of the parcels
+pub named-alike : (parcels : List Parcel) (shapes : List Shape) → AreShapesOf parcels shapes → shape_named shapes ≡ shape_named (shapes_in parcels)
+named-alike parcels shapes are i id = same-option (shape_named shapes id) (shape_named (shapes_in parcels) id) (λ m. found-there shapes (shapes_in parcels) id m apart back)
+    (λ m. found-there (shapes_in parcels) shapes id m (distinct shapes are.ascend) are.same) i
   where
-    back : IsPermutation shapes (shapes_in r)
-    back = IsPermutation-sym (shapes_in r) shapes are.same
+    back : IsPermutation shapes (shapes_in parcels)
+    back = IsPermutation-sym (shapes_in parcels) shapes are.same
 
-    apart : IsDistinct same_id (shape_ids (shapes_in r))
-    apart = IsDistinct-IsPermutation same_id same-sym (shape_ids shapes) (shape_ids (shapes_in r)) (IsPermutation-map (λ (s : Shape). s.0) shapes (shapes_in r) back) (distinct shapes are.ascend)
+    apart : IsDistinct same_id (shape_ids (shapes_in parcels))
+    apart = IsDistinct-IsPermutation same_id same-sym (shape_ids shapes) (shape_ids (shapes_in parcels))
+        (IsPermutation-map (λ (s : Shape). s.0) shapes (shapes_in parcels) back) (distinct shapes are.ascend)
 
 -- ---- where a binary search finds an identifier
 ids-length : (kept : List Shape) → length (shape_ids kept) ≡ length kept

@@ -3,17 +3,14 @@
 ghost use Rattle.std.specs.Prelude.{◌≡◌, ◌∷◌, [], true, false, ℕ, List, Some, flat_map, IfErr};
 ghost use Rattle.std.specs.Prelude.{IfOk};
 ghost use Rattle.std.specs.List.{AllZip};
-ghost use Rattle.lpis_lineage.specs.Changes.{IsChange};
-ghost use Rattle.lpis_lineage.specs.Faults.{faults};
-ghost use Rattle.lpis_lineage.specs.Lineage.{last_live};
 ghost use Rattle.lpis_lineage.specs.Order.{IsAscending};
 ghost use Rattle.lpis_lineage.specs.declared.exact.Group.{Group};
 ghost use Rattle.lpis_lineage.specs.declared.row.Entry.{Entry};
 ghost use Rattle.lpis_lineage.specs.declared.row.Row.{Row};
-ghost use Rattle.lpis_release.specs.Release.{Contents, parcel_ids};
+ghost use Rattle.lpis_release.specs.declared.parcel.Parcel.{Parcel};
 ghost use Rattle.lpis_register_rows.specs.Shapes.{AreShapesOf, shape_ids};
-ghost use Rattle.lpis_lineage_exact.specs.Asking.{AsksFor, HasShape, IsUnkept, IsWanted};
-ghost use Rattle.lpis_lineage_exact.specs.Asking.{old_ids};
+ghost use Rattle.lpis_lineage_exact.specs.Asking.{AsksFor, HasShape, IsChangeTo, IsUnkept};
+ghost use Rattle.lpis_lineage_exact.specs.Asking.{IsWanted, old_ids};
 ghost use Rattle.lpis_lineage_exact.specs.Shapes.{shape_named};
 ghost use Rattle.lpis_lineage_exact.specs.private.Lacking.{IsFirstLacking};
 ghost use Rattle.lpis_lineage_exact.specs.declared.asking.AskFault.TheVariants.{Memory, NotKept};
@@ -214,16 +211,12 @@ pub fn wanted_parts(
 ) -> Result<Vec<ExactPart>, AskFault>
     requires ascending { IsAscending (shape_ids kept.now) }
     requires new_ascending { IsAscending (shape_ids new.now) }
-    ensures asks { (r : Contents) (h : List Entry) (rows : List Row)
-        → AreShapesOf r.parcels new.now
-        → faults h (parcel_ids r.parcels) rows ≡ []
-        → IsChange (last_live h) (parcel_ids r.parcels) rows change.now
-        → IfOk result (λ xs. (gs : List Group) × AsksFor h kept.now r rows gs xs.items) }
-    ensures unkept { (r : Contents) (h : List Entry) (rows : List Row)
-        → faults h (parcel_ids r.parcels) rows ≡ []
-        → IsChange (last_live h) (parcel_ids r.parcels) rows change.now
-        → IfErr result (λ fault. (id : List ℕ) → fault ≡ NotKept id
-        → IsUnkept h kept.now r rows id) }
+    ensures asks { (h : List Entry) (parcels : List Parcel) (rows : List Row)
+        → IsChangeTo h parcels rows change.now → AreShapesOf parcels new.now
+        → IfOk result (λ xs. (gs : List Group) × AsksFor h kept.now parcels rows gs xs.items) }
+    ensures unkept { (h : List Entry) (parcels : List Parcel) (rows : List Row)
+        → IsChangeTo h parcels rows change.now → IfErr result (λ fault. (id : List ℕ)
+        → fault ≡ NotKept id → IsUnkept h kept.now parcels rows id) }
 {
     let groups = marked_groups(alloc, change)?;
     parts_of(alloc, kept, new, groups.as_slice())

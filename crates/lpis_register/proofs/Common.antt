@@ -1,6 +1,5 @@
 -- The names that most proofs of this crate cite, passed on from one place. Declares nothing.
 pub use Rattle.lpis_lineage.specs.declared.row.Entry.{Entry}
-pub use Rattle.lpis_lineage.specs.Lineage.{last_live}
 pub use Rattle.lpis_register_rows.specs.Content.{Content}
 pub use Rattle.lpis_register_rows.specs.Shapes.{Shape}
 pub use Rattle.lpis_register_rows.specs.Histories.{TablesHave}

@@ -13,7 +13,7 @@ use Rattle.lpis_register_sql.specs.Unread.{IsUnread, Tells}
 use Rattle.lpis_register_sql.specs.declared.found.Found.{Found}
 use Rattle.lpis_register.proofs.FailingLemmas.{unread_cause}
 use Rattle.lpis_register.specs.Faults.{IsOpeningFault}
-use Rattle.lpis_register.specs.Histories.{ReadsHistory}
+use Rattle.lpis_register.specs.HistoryAnswers.{ReadsHistory}
 use Rattle.lpis_register.specs.declared.fault.PublishFault.TheVariants.{Memory, Store}
 use Rattle.lpis_register.specs.private.Finding.{SeesFound, SeesHistory, SeesNoHistory, TellsFound}
 

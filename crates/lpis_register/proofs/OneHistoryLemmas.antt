@@ -3,7 +3,8 @@ use Rattle.std.proofs.Common.{◌≡◌, ◌∙◌, refl, sym, ap, [], ◌∷◌
 use Rattle.std.proofs.lemmas.List.Sorted.{IsPermutation-refl}
 use Rattle.lpis_tables.specs.Ids.{has_id}
 use Rattle.lpis_lineage.specs.Lineage.{holds}
-use Rattle.lpis_register.proofs.Common.{Entry, last_live, Content, TablesHave, Shape, Version}
+use Rattle.lpis_lineage.specs.Lineage.{last_live}
+use Rattle.lpis_register.proofs.Common.{Entry, Content, TablesHave, Shape, Version}
 use Rattle.lpis_register.proofs.Common.{First, Third}
 use Rattle.lpis_register_rows.specs.declared.version.Version.TheVariants.{Second}
 use Rattle.lpis_register_rows.specs.Histories.{IsSameContent, IsSameHistory, only_format}

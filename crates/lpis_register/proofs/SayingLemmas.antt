@@ -7,7 +7,8 @@ use Rattle.lpis_register_rows.specs.Shapes.{TextsStand, AreLive, ShapesAre}
 use Rattle.lpis_register_sql.specs.Showing.{Shows, ShowsRows, ShowsTexts}
 use Rattle.lpis_register_sql.specs.declared.found.Found.{Found}
 use Rattle.lpis_register_sql.proofs.Shared.{stays_then}
-use Rattle.lpis_register.proofs.Common.{Content, Entry, HasCleanDisk, IsFailure, PublishFault, Shape, State, TablesHave, Third, Version, last_live}
+use Rattle.lpis_register.proofs.Common.{Content, Entry, HasCleanDisk, IsFailure, PublishFault, Shape, State, TablesHave, Third, Version}
+use Rattle.lpis_lineage.specs.Lineage.{last_live}
 use Rattle.lpis_register.proofs.ResultLemmas.{failure_lawful}
 use Rattle.lpis_register.specs.Saying.{SaysNoShapes, SaysNoTables, SaysShapes, SaysTables}
 use Rattle.lpis_register.specs.declared.opening.Loaded.{Loaded}

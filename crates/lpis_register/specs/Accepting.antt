@@ -25,19 +25,19 @@ pub record IsPrepared (c : Candidate) (before : List Entry) (a : Accepted) : Typ
   pub year_is : a.writing.year ≡ c.year
   pub step_is : IsStep before (candidate_ids c) c.rows a.live a.writing.change
       a.writing.fresh.items
-  pub kept_are : AreKept c.release.parcels a.writing.shapes.items
+  pub kept_are : AreKept c.parcels a.writing.shapes.items
 
 -- its exact splits and merges are those of points, by the shapes of before and its own
 abbrev pub HasExactLineage : Candidate → Holdings → Type 0
 HasExactLineage c before =
-    IsExactLineage (kinds_from before.history c.release c.rows) c.rows
-    (shape_named before.shapes) (shape_named (shapes_in c.release))
+    IsExactLineage (kinds_from before.history c.parcels c.rows) c.rows
+    (shape_named before.shapes) (shape_named (shapes_in c.parcels))
 
 -- the candidate may follow what is held, and the blocks of its certificate show what its exact
 -- groups ask for: it has exact lineage, and its own shapes turn once at most
 pub record IsAccepted (c : Candidate) (before : Holdings) (a : Accepted) : Type 0 where
   pub prepared : IsPrepared c before.history a
-  pub shown : IsShown before.history before.shapes c.release c.blocks c.rows
+  pub shown : IsShown before.history before.shapes c.parcels c.blocks c.rows
   pub exact : HasExactLineage c before
   pub once : ShapesTurnOnce (shape_named a.writing.shapes.items)
 

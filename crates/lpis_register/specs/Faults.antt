@@ -22,9 +22,9 @@ IsRefused c before (Year last) =
 IsRefused c before (Lineage fault) =
     IsAddFault before.history c.year (candidate_ids c) c.rows (add.Lineage fault)
 IsRefused c before (NotKept id) =
-    (last_year before.history < c.year) × IsUnkept before.history before.shapes c.release c.rows id
+    (last_year before.history < c.year) × IsUnkept before.history before.shapes c.parcels c.rows id
 IsRefused c before (Exact fault) = (last_year before.history < c.year) × (fault ≢ exact.Memory)
-    × IsUnshown before.history before.shapes c.release c.blocks c.rows fault
+    × IsUnshown before.history before.shapes c.parcels c.blocks c.rows fault
 IsRefused c before Store = Unit {0}
 IsRefused c before StoreMemory = Unit {0}
 IsRefused c before Unknown = ⊥
@@ -34,7 +34,7 @@ IsRefused c before Unlawful = ⊥
 -- fault, all old shapes are kept and the blocks show what the exact groups ask for
 abbrev pub PublishRefuses : {A : Type 0} → Candidate → Holdings → Result A PublishFault → Type 0
 PublishRefuses c before (Ok a) = (last_year before.history < c.year)
-    × IsShown before.history before.shapes c.release c.blocks c.rows
+    × IsShown before.history before.shapes c.parcels c.blocks c.rows
 PublishRefuses c before (Err fault) = IsRefused c before fault
 
 -- what an opening answers in place of a register

@@ -4,7 +4,8 @@ use Rattle.sqlite.specs.Held.{Held}
 use Rattle.lpis_cert.specs.declared.part.ExactBlock.{ExactBlock}
 use Rattle.lpis_lineage.specs.declared.row.Row.{Row}
 use Rattle.lpis_lineage.specs.declared.row.Entry.{Entry}
-use Rattle.lpis_release.specs.Release.{Contents, parcel_ids}
+use Rattle.lpis_release.specs.declared.parcel.Parcel.{Parcel}
+use Rattle.lpis_release.specs.Release.{parcel_ids}
 use Rattle.lpis_register_rows.specs.Shapes.{Shape}
 
 -- what a register holds: the history of its releases, and the shapes of the last one's parcels
@@ -20,18 +21,18 @@ pub record RegisterState (S : Type 0) : Type 0 where
   pub conn : Held S
   pub held : Holdings
 
--- a release that is to be published: its year, its rows of parcels, pieces and classes, the blocks
--- of its certificate, and its rows of lineage
+-- a release that is to be published: its year, its parcels, the blocks of its certificate, and its
+-- rows of lineage
 pub record Candidate : Type 0 where
   pub year : ℕ
-  pub release : Contents
+  pub parcels : List Parcel
   pub blocks : List ExactBlock
   pub rows : List Row
 
-abbrev pub candidate : ℕ → Contents → List ExactBlock → List Row → Candidate
-candidate year release blocks rows =
-    record { year = year; release = release; blocks = blocks; rows = rows }
+abbrev pub candidate : ℕ → List Parcel → List ExactBlock → List Row → Candidate
+candidate year parcels blocks rows =
+    record { year = year; parcels = parcels; blocks = blocks; rows = rows }
 
 -- the identifiers of its parcels
 abbrev pub candidate_ids : Candidate → List (List ℕ)
-candidate_ids c = parcel_ids c.release.parcels
+candidate_ids c = parcel_ids c.parcels

@@ -24,7 +24,7 @@ pub record FollowsHistory (c : Candidate) (before : List Entry) (after : Holding
   pub adds : Adds before after.history c.year (candidate_ids c) c.rows
   pub lawful : IsLawful after.history
   pub fits : RowsFit after.history
-  pub keeps : AreShapesOf c.release.parcels after.shapes
+  pub keeps : AreShapesOf c.parcels after.shapes
 
 -- a crash leaves tables that say such a history and keep its shapes
 abbrev pub LeavesRelease : Candidate → List Entry → Trees → Type 0

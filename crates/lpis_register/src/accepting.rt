@@ -1,23 +1,22 @@
 //! A release that may follow, with all that writing it needs. Nothing is changed here.
 
-ghost use Rattle.std.specs.Prelude.{◌≡◌, ◌≢◌, ◌<◌, [], ℕ, List, IfOk, IfErr, OnOk};
+ghost use Rattle.std.specs.Prelude.{◌≡◌, ◌≢◌, ◌<◌, ℕ, List, IfOk, IfErr, OnOk};
 ghost use Rattle.std.specs.List.{IsDistinct};
 ghost use Rattle.lpis_cert.specs.declared.part.ExactBlock.{ExactBlock};
 ghost use Rattle.lpis_tables.specs.Ids.{same_id};
-ghost use Rattle.lpis_lineage_exact.specs.Asking.{IsShown};
-ghost use Rattle.lpis_lineage.specs.Changes.{IsChange};
-ghost use Rattle.lpis_lineage.specs.Faults.{faults};
-ghost use Rattle.lpis_lineage.specs.Lineage.{last_live, last_year};
+ghost use Rattle.lpis_lineage_exact.specs.Asking.{IsChangeTo, IsShown};
+ghost use Rattle.lpis_lineage.specs.Lineage.{last_year};
 ghost use Rattle.lpis_lineage.specs.Order.{IsAscending};
 ghost use Rattle.lpis_lineage.specs.Steps.{IsStep};
 ghost use Rattle.lpis_lineage.specs.declared.row.Entry.{Entry};
 ghost use Rattle.lpis_lineage.specs.declared.row.Row.{Row};
-ghost use Rattle.lpis_release.specs.Release.{Contents, parcel_ids};
+ghost use Rattle.lpis_release.specs.declared.parcel.Parcel.{Parcel};
+ghost use Rattle.lpis_release.specs.Release.{parcel_ids};
 ghost use Rattle.lpis_register_rows.specs.Shapes.{AreShapesOf, Shape, shape_ids};
 ghost use Rattle.lpis_register.specs.Accepting.{AreKept};
+ghost use Rattle.lpis_register.specs.Answering.{AnswersRelease, AreOfSoundMap};
 ghost use Rattle.lpis_register.specs.Faults.{IsRefused};
 ghost use Rattle.lpis_register.specs.Holdings.{candidate, holdings};
-ghost use Rattle.lpis_register.specs.private.Answering.{AnswersRelease, AreOfSoundMap};
 ghost use Rattle.lpis_register.specs.declared.fault.PublishFault.TheVariants.{Store, StoreMemory};
 
 use crate::fault::PublishFault;
@@ -53,6 +52,13 @@ pub struct Accepted {
 }
 
 impl Accepted {
+    /// The year of the release.
+    pub fn year(&self) -> u16
+        ensures { result ≡ self.now.writing.year }
+    {
+        self.writing.year
+    }
+
     /// What the release changes.
     pub fn change(&self) -> &Change
         ensures { result.now ≡ self.now.writing.change }
@@ -80,9 +86,9 @@ fn step_of(
     parcels: &[Parcel],
     rows: &[Row],
 ) -> Result<Step, PublishFault>
-    ensures refused { (r : Contents) (kept : List Shape) (year : ℕ) (blocks : List ExactBlock)
-        → r.parcels ≡ parcels.now → last_year history.now < year → IfErr result
-        (IsRefused (candidate year r blocks rows.now) (holdings history.now kept)) }
+    ensures refused { (kept : List Shape) (year : ℕ) (blocks : List ExactBlock)
+        → last_year history.now < year → IfErr result
+        (IsRefused (candidate year parcels.now blocks rows.now) (holdings history.now kept)) }
     ensures step { IfOk result (λ s. IsStep history.now (parcel_ids parcels.now) rows.now s.live
         s.change s.fresh.items) }
     ensures no_store { IfErr result (λ fault. (fault ≢ Store) × (fault ≢ StoreMemory)) }
@@ -117,17 +123,13 @@ fn check_groups(
 ) -> Result<(), PublishFault>
     requires ascending { IsAscending (shape_ids kept.now) }
     requires new_ascending { IsAscending (shape_ids new.now) }
-    ensures shown { OnOk result ((r : Contents) (h : List Entry) (rows : List Row)
-        → AreShapesOf r.parcels new.now
-        → faults h (parcel_ids r.parcels) rows ≡ []
-        → IsChange (last_live h) (parcel_ids r.parcels) rows change.now
-        → IsShown h kept.now r cert.now.exact rows) }
-    ensures refused { (r : Contents) (h : List Entry) (year : ℕ) (rows : List Row)
-        → AreShapesOf r.parcels new.now → last_year h < year
-        → faults h (parcel_ids r.parcels) rows ≡ []
-        → IsChange (last_live h) (parcel_ids r.parcels) rows change.now
+    ensures shown { OnOk result ((h : List Entry) (parcels : List Parcel) (rows : List Row)
+        → IsChangeTo h parcels rows change.now → AreShapesOf parcels new.now
+        → IsShown h kept.now parcels cert.now.exact rows) }
+    ensures refused { (h : List Entry) (parcels : List Parcel) (rows : List Row) (year : ℕ)
+        → IsChangeTo h parcels rows change.now → AreShapesOf parcels new.now → last_year h < year
         → IfErr result
-        (IsRefused (candidate year r cert.now.exact rows) (holdings h kept.now)) }
+        (IsRefused (candidate year parcels cert.now.exact rows) (holdings h kept.now)) }
     ensures no_store { IfErr result (λ fault. (fault ≢ Store) × (fault ≢ StoreMemory)) }
 {
     let parts = wanted_parts(alloc, change, kept, new)?;
@@ -147,11 +149,9 @@ fn accept_later(
     cert: &Cert,
 ) -> Result<Accepted, PublishFault>
     requires ascending { IsAscending (shape_ids kept.now) }
-    requires distinct { IsDistinct same_id (parcel_ids parcels.now) }
     requires sound { AreOfSoundMap parcels.now }
     requires later { last_year history.now < year }
-    ensures { (r : Contents) → r.parcels ≡ parcels.now
-        → AnswersRelease (candidate year r cert.now.exact rows.now)
+    ensures { AnswersRelease (candidate year parcels.now cert.now.exact rows.now)
         (holdings history.now kept.now) result }
 {
     sound_maps_have_such_shapes();
@@ -184,10 +184,8 @@ pub(crate) fn accept_parcels(
     cert: &Cert,
 ) -> Result<Accepted, PublishFault>
     requires ascending { IsAscending (shape_ids kept.now) }
-    requires distinct { IsDistinct same_id (parcel_ids parcels.now) }
     requires sound { AreOfSoundMap parcels.now }
-    ensures { (r : Contents) → r.parcels ≡ parcels.now
-        → AnswersRelease (candidate year r cert.now.exact rows.now)
+    ensures { AnswersRelease (candidate year parcels.now cert.now.exact rows.now)
         (holdings history.now kept.now) result }
 {
     let last = history.last_year();

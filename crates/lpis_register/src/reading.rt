@@ -3,7 +3,7 @@
 ghost use Rattle.std.specs.Prelude.{◌≡◌, false, IfErr, IfOk};
 ghost use Rattle.sqlite.specs.Held.{state};
 ghost use Rattle.lpis_register.specs.Failing.{HasReadCause};
-ghost use Rattle.lpis_register.specs.Histories.{ReadsHistory};
+ghost use Rattle.lpis_register.specs.HistoryAnswers.{ReadsHistory};
 ghost use Rattle.lpis_register.specs.declared.fault.PublishFault.TheVariants.{Store};
 
 use crate::fault::PublishFault;

@@ -1,29 +1,28 @@
 //! The register.
 
-ghost use Rattle.std.specs.Prelude.{◌≡◌, ◌≢◌, ◌⊎◌, false, IfOk, IfErr};
+ghost use Rattle.std.specs.Prelude.{◌≡◌, ◌⊎◌, false, IfOk, IfErr};
 ghost use Rattle.sqlite.specs.Held.{state};
 ghost use Rattle.lpis_lineage.specs.Order.{IsAscending};
-ghost use Rattle.lpis_release.specs.Release.{Contents};
 ghost use Rattle.lpis_register_rows.specs.Shapes.{shape_ids};
 ghost use Rattle.lpis_register.specs.Accepting.{IsAccepted, WasMadeFor};
 ghost use Rattle.lpis_register.specs.Failing.{FailsToStore, HasReadCause, HasStoreCause};
-ghost use Rattle.lpis_register.specs.Faults.{IsStoreFault, PublishRefuses};
-ghost use Rattle.lpis_register.specs.Histories.{IsTrace, IsUnknown, ReadsHistory};
+ghost use Rattle.lpis_register.specs.Answering.{AnswersRelease};
+ghost use Rattle.lpis_register.specs.Faults.{IsStoreFault};
+ghost use Rattle.lpis_register.specs.HistoryAnswers.{IsTrace, IsUnknown, ReadsHistory};
 ghost use Rattle.lpis_register.specs.Holdings.{Candidate, candidate, holdings};
 ghost use Rattle.lpis_register.specs.Publishing.{Publishes, Stores};
 ghost use Rattle.lpis_register.specs.Running.{RunsAccepted, RunsRelease};
 ghost use Rattle.lpis_register.specs.declared.fault.PublishFault.TheVariants.{Memory, Store};
-ghost use Rattle.lpis_register.specs.declared.fault.PublishFault.TheVariants.{StoreMemory, Unknown};
+ghost use Rattle.lpis_register.specs.declared.fault.PublishFault.TheVariants.{Unknown};
 
 use crate::accepting::{Accepted, Writing, accept_parcels};
 use crate::committing::commit_release;
 use crate::fault::PublishFault;
 use crate::opening::Loaded;
 use crate::reading::{copied_shapes, read_history};
+use crate::sound::SoundParcels;
 use crate::tracing::trace;
 use lpis_cert::Cert;
-use lpis_checker::Yes;
-use lpis_country_seam::Joined;
 use lpis_lineage::{Change, History, Row};
 use lpis_register_rows::KeptShape;
 use lpis_tables::Id;
@@ -111,46 +110,23 @@ impl<S: Alter> Register<S> {
         }
     }
 
-    /// Refuses a release that may not follow the history: where its year is not above the last
-    /// one's; else where its lineage is refused; else where an exact split or merge needs a shape
-    /// of the last release that is not kept; else where the certificate's blocks don't show its
-    /// exact splits and merges. With Ok all that writing it needs is made, and nothing is changed
-    /// yet.
-    pub fn accept(
+    /// Refuses a release that the check said yes to, or a country whose regions joined, that may
+    /// not follow the history: where its year is not above the last one's; else where its lineage
+    /// is refused; else where an exact split or merge needs a shape of the last release that is not
+    /// kept; else where the certificate's blocks don't show its exact splits and merges. With Ok
+    /// all that writing it needs is made, and nothing is changed yet.
+    pub fn accept<M: SoundParcels>(
         &self,
         year: u16,
-        yes: &Yes<'_>,
+        map: &M,
         rows: &[Row],
         cert: &Cert,
     ) -> Result<Accepted, PublishFault>
-        ensures tells { PublishRefuses (candidate year yes.now cert.now.exact rows.now)
+        ensures { AnswersRelease (candidate year (M.parcels map.now) cert.now.exact rows.now)
             self.now.held result }
-        ensures made { IfOk result (IsAccepted (candidate year yes.now cert.now.exact rows.now)
-            self.now.held) }
-        ensures no_store { IfErr result (λ fault. (fault ≢ Store) × (fault ≢ StoreMemory)) }
     {
         let kept = self.shapes.as_slice();
-        let parcels = yes.release().parcels();
-        accept_parcels(self.alloc, &self.history, kept, year, parcels, rows, cert)
-    }
-
-    /// The same of a country whose regions joined: of the union of its regions, refused as a
-    /// release of its parcels is.
-    pub fn accept_country(
-        &self,
-        year: u16,
-        country: &Joined,
-        rows: &[Row],
-        cert: &Cert,
-    ) -> Result<Accepted, PublishFault>
-        ensures tells { (r : Contents) → r.parcels ≡ country.now
-            → PublishRefuses (candidate year r cert.now.exact rows.now) self.now.held result }
-        ensures made { (r : Contents) → r.parcels ≡ country.now
-            → IfOk result (IsAccepted (candidate year r cert.now.exact rows.now) self.now.held) }
-        ensures no_store { IfErr result (λ fault. (fault ≢ Store) × (fault ≢ StoreMemory)) }
-    {
-        let kept = self.shapes.as_slice();
-        let parcels = country.parcels();
+        let parcels = map.sound_parcels();
         accept_parcels(self.alloc, &self.history, kept, year, parcels, rows, cert)
     }
 
@@ -191,37 +167,39 @@ impl<S: Alter> Register<S> {
         }
     }
 
-    /// Publishes a release that the check said yes to: its parcels' identifiers become live, the
-    /// history has it at its end, and its parcels' shapes are kept in place of the last release's.
-    /// Its exact splits and merges are such at every rational point. It is refused as `accept`
-    /// refuses it; a refusal leaves the history and the shapes as they were.
+    /// Publishes a release that the check said yes to, or a country whose regions joined: its
+    /// parcels' identifiers become live, the history has it at its end, and its parcels' shapes are
+    /// kept in place of the last release's. Its exact splits and merges are such at every rational
+    /// point. It is refused as `accept` refuses it; a refusal leaves the history and the shapes as
+    /// they were.
     ///
     /// The whole release is one transaction, in which the tables are read back before it is
     /// committed. That takes memory; where it is refused, the transaction is undone. After a crash
     /// the tables have the release whole or not at all, and always where the answer was Ok.
-    pub fn publish(
+    pub fn publish<M: SoundParcels>(
         &mut self,
         year: u16,
-        yes: &Yes<'_>,
+        map: &M,
         rows: &[Row],
         cert: &Cert,
     ) -> Result<Change, PublishFault>
-        ensures publishes { Publishes (candidate year yes.now cert.now.exact rows.now)
+        ensures publishes { Publishes (candidate year (M.parcels map.now) cert.now.exact rows.now)
             self.old.held self.new.held result }
-        ensures stores { Stores S.Store (candidate year yes.now cert.now.exact rows.now)
-            self.old self.new result }
+        ensures stores { Stores S.Store (candidate year (M.parcels map.now) cert.now.exact
+            rows.now) self.old self.new result }
         // The engine ran the statements of the release, and no others, and committed that.
-        ensures runs { RunsAccepted S.Store (candidate year yes.now cert.now.exact rows.now)
-            self.old self.new result }
+        ensures runs { RunsAccepted S.Store (candidate year (M.parcels map.now) cert.now.exact
+            rows.now) self.old self.new result }
         ensures untouched { IfErr result (λ fault. IsStoreFault fault
             ⊎ (self.new.conn ≡ self.old.conn)) }
         // Such a fault comes where the release was accepted; `Store` where the database was shut,
         // its disk failed, the engine refuses one of the release's statements, or its tables then
         // are not read, or say something else.
         ensures cause { IfErr result (λ fault. IsStoreFault fault → FailsToStore S.Store
-            (candidate year yes.now cert.now.exact rows.now) self.old self.new (fault ≡ Store)) }
+            (candidate year (M.parcels map.now) cert.now.exact rows.now) self.old self.new
+            (fault ≡ Store)) }
     {
-        match self.accept(year, yes, rows, cert) {
+        match self.accept(year, map, rows, cert) {
             Ok(accepted) => self.commit(accepted),
             Err(fault) => Err(fault),
         }

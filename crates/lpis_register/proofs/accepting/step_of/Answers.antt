@@ -1,16 +1,15 @@
-use Rattle.std.proofs.Common.{◌∙◌, ap, subst, sym}
+use Rattle.std.proofs.Common.{◌∙◌, subst}
 use Rattle.std.proofs.lemmas.Result.{err_from_is_err_and}
 use Rattle.lpis_lineage.specs.Steps.{IsStep}
-use Rattle.lpis_release.specs.Release.{parcel_ids}
 use Rattle.lpis_register.proofs.AcceptingLemmas.{no_store_lineage, refused_lineage}
 use Rattle.lpis_register.specs.Holdings.{candidate, holdings}
 use Rattle.lpis_register.proofs.accepting.step_of.Goals as goal
 
 pub returns-in_err-step-clause-refused : goal.returns-in_err-step-clause-refused
-returns-in_err-step-clause-refused c r kept year blocks are later =
+returns-in_err-step-clause-refused c kept year blocks later =
     let p = err_from_is_err_and c.from_residual-in_err-step.result c.from_residual-in_err-step.ensures.1 in
-    let same = c.as_slice.ensures.value ∙ c.in_ok-live.ensures ∙ ap parcel_ids (sym are) in
-    rw (p.1, p.2) (refused_lineage (candidate year r blocks c.args.rows.now) (holdings c.args.history.now kept) later c.as_slice.result.now _ same c.in_err-step.ensures.tells)
+    let same = c.as_slice.ensures.value ∙ c.in_ok-live.ensures in
+    rw (p.1, p.2) (refused_lineage (candidate year c.args.parcels.now blocks c.args.rows.now) (holdings c.args.history.now kept) later c.as_slice.result.now _ same c.in_err-step.ensures.tells)
 
 pub returns-in_err-step-clause-no_store : goal.returns-in_err-step-clause-no_store
 returns-in_err-step-clause-no_store c =
