@@ -1,7 +1,8 @@
 -- What a run that writes a certificate has decided, and what its two writers got of it.
-use Rattle.std.specs.Prelude.{◌≡◌, ◌⊎◌, ℕ, List, Option, MatchOption}
+use Rattle.std.specs.Prelude.{◌≡◌, ◌⊎◌, ℕ, List, None, Option, MatchOption}
 use Rattle.std.specs.Option.{option_map}
 use Rattle.std.specs.Io.KnownBytes.{Appends, Keeps}
+use Rattle.lpis_run.specs.declared.answer.Answer.{Answer as Printed}
 use Rattle.lpis_run.specs.declared.failure.Failure.{Failure}
 use Rattle.lpis_run.specs.declared.failure.Failure.TheVariants.{Write}
 use Rattle.lpis_run.specs.declared.failure.Name.TheVariants.{Cert, Out}
@@ -14,12 +15,20 @@ pub record Outputs : Type 0 where
   pub line : List ℕ
   pub status : ℕ
 
-abbrev pub outputs_of : Outcome → Outputs
-outputs_of o = record {
-  cert = option_map (λ v. v.items) o.cert;
-  line = o.printed.text.items;
-  status = o.printed.status;
+-- those of a certificate's text, if there is one, and of what is printed
+abbrev pub outputs_with : Option (List ℕ) → Printed → Outputs
+outputs_with cert printed = record {
+  cert = cert;
+  line = printed.text.items;
+  status = printed.status;
 }
+
+-- no certificate, and a line with this status
+abbrev pub line_alone : List ℕ → ℕ → Outputs
+line_alone line status = record { cert = None; line = line; status = status }
+
+abbrev pub outputs_of : Outcome → Outputs
+outputs_of o = outputs_with (option_map (λ v. v.items) o.cert) o.printed
 
 -- a writer got a text where there is one, else nothing
 abbrev pub Gets : Known → Known → Option (List ℕ) → Type 0

@@ -3,6 +3,7 @@
 ghost use Rattle.std.specs.Prelude.{◌≡◌, IfErr, IfOk, None, OnOk, Some};
 ghost use Rattle.lpis_cert.specs.Contents.{cert_text};
 ghost use Rattle.lpis_run.specs.Outputs.{BreaksOff, Gets, GetsPart, Writes, held, outputs_of};
+ghost use Rattle.lpis_run.specs.Outputs.{outputs_with};
 ghost use Rattle.lpis_run.specs.declared.failure.Failure.{Failure};
 ghost use Rattle.lpis_run.specs.declared.failure.Name.{Name};
 
@@ -35,11 +36,7 @@ fn cert_text_of(alloc: Global, cert: &Cert) -> Result<Vec<u8>, AllocError>
 impl Outcome {
     /// What is printed, and no certificate.
     pub fn without_cert(printed: Answer) -> Outcome
-        ensures { outputs_of result ≡ record {
-          cert = None;
-          line = printed.text.items;
-          status = printed.status;
-        } }
+        ensures { outputs_of result ≡ outputs_with None printed }
     {
         Outcome {
             cert: None,
@@ -49,11 +46,8 @@ impl Outcome {
 
     /// A certificate, and what is printed.
     pub fn with_cert(alloc: Global, cert: &Cert, printed: Answer) -> Result<Outcome, AllocError>
-        ensures { IfOk result (λ o. outputs_of o ≡ record {
-          cert = Some (cert_text cert.now);
-          line = printed.text.items;
-          status = printed.status;
-        }) }
+        ensures { IfOk result (λ o. outputs_of o
+            ≡ outputs_with (Some (cert_text cert.now)) printed) }
     {
         let text = cert_text_of(alloc, cert)?;
         Ok(Outcome {

@@ -10,6 +10,7 @@ use Rattle.lpis_tables.specs.Table.{field_of}
 use Rattle.lpis_run.specs.Area.{area_line}
 use Rattle.lpis_run.specs.CheckAnswer.{Answer}
 use Rattle.lpis_run.specs.Refusals.{refusal_text}
+use Rattle.lpis_run.specs.Run.{OfRead}
 use Rattle.lpis_run.specs.Status.{done, unreadable}
 use Rattle.lpis_run.specs.Streams.{IsRead, Known}
 
@@ -36,9 +37,7 @@ answer_from (Err fault) = (refusal_text fault, unreadable)
 abbrev pub area_answer : List ℕ → List ℕ × ℕ
 area_answer bytes = answer_from (rows_of area_table bytes)
 
--- a run that measures the polygons of a table: these bytes are what its reader reported, as far as
--- it is known, and this is the answer to them
-pub record Measures (told : Known) (a : Answer) : Type 0 where
-  pub bytes : List ℕ
-  pub read : IsRead bytes told
-  pub answer : a ≡ area_answer bytes
+-- a run that measures the polygons of a table: this is the answer to the bytes that its reader
+-- reported, as far as they are known
+abbrev pub Measures : Known → Answer → Type 0
+Measures told a = OfRead IsRead told (λ bytes. a ≡ area_answer bytes)

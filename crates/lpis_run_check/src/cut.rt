@@ -1,11 +1,10 @@
 //! The run of `cut`, over any readers and writers.
 
-ghost use Rattle.std.specs.Prelude.{◌≡◌, IfErr, IfOk, Ok, Some};
-ghost use Rattle.lpis_cert.specs.Contents.{cert_text};
+ghost use Rattle.std.specs.Prelude.{◌≡◌, IfErr, IfOk, Ok};
 ghost use Rattle.lpis_cert.specs.declared.cert.Cert.{Cert};
 ghost use Rattle.lpis_cutter.specs.Refusals.{RefusesRightly};
 ghost use Rattle.lpis_run.specs.CheckAnswer.{release_in};
-ghost use Rattle.lpis_run_check.specs.CutAnswer.{Cuts, IsCutAnswer, counts_text};
+ghost use Rattle.lpis_run_check.specs.CutAnswer.{Cuts, IsCutAnswer, counts_text, cut_outputs};
 ghost use Rattle.lpis_run_check.specs.CutRefusals.{cut_refusal_text};
 ghost use Rattle.lpis_run.specs.Failures.{AreUnread, AreUntouched};
 ghost use Rattle.lpis_run.specs.Folders.{tables_by, tables_named};
@@ -43,11 +42,7 @@ fn count_cert(alloc: Global, cert: &Cert) -> Result<Answer, AllocError>
 
 /// The outcome of a certificate that was cut.
 fn outcome_of(alloc: Global, cert: &Cert) -> Result<Outcome, AllocError>
-    ensures { IfOk result (λ o. (c : Cert) × (outputs_of o ≡ record {
-      cert = Some (cert_text c);
-      line = counts_text c;
-      status = done;
-    })) }
+    ensures { IfOk result (λ o. (c : Cert) × (outputs_of o ≡ cut_outputs c)) }
 {
     let printed = count_cert(alloc, cert)?;
     Outcome::with_cert(alloc, cert, printed)
@@ -55,11 +50,7 @@ fn outcome_of(alloc: Global, cert: &Cert) -> Result<Outcome, AllocError>
 
 /// The outcome of what a release was cut into.
 fn outcome_of_cut(alloc: Global, cut: ReleaseCut) -> Result<Outcome, AllocError>
-    ensures { IfOk result (λ o. (c : Cert) × (outputs_of o ≡ record {
-      cert = Some (cert_text c);
-      line = counts_text c;
-      status = done;
-    })) }
+    ensures { IfOk result (λ o. (c : Cert) × (outputs_of o ≡ cut_outputs c)) }
 {
     let cert = cut.into_cert()?;
     outcome_of(alloc, &cert)

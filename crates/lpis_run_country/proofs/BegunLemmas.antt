@@ -1,7 +1,9 @@
 -- The run over the regions of a plan, as that over a country.
-use Rattle.std.proofs.Common.{◌≡◌, ◌≤◌, ◌∙◌, [], refl, sym, ap, subst, arith, inl, inr, IfErr, IfOk, OnOk, ℕ, List, Option, Result, Err, length, map}
+use Rattle.std.proofs.Common.{◌≡◌, ◌≤◌, ◌∙◌, sym, ap, ap₂, subst, arith, inl, inr, IfErr, IfOk, OnOk, ℕ, List, Option, Result, Err, String, length, map}
 use Rattle.std.proofs.lemmas.List.{length-map}
 use Rattle.std.specs.String.{string_bytes}
+use Rattle.std.specs.declared.alloc.Global.{Global}
+use Rattle.lpis_points.specs.declared.boxes.Box4.{Box4}
 use Rattle.lpis_tables.specs.Classes.{classes_table}
 use Rattle.lpis_tables.specs.Faults.{rows_of}
 use Rattle.lpis_tables.specs.declared.class.Class.{Class}
@@ -18,24 +20,18 @@ use Rattle.lpis_run.specs.declared.failure.Name.TheVariants.{Out}
 use Rattle.std.specs.Io.KnownBytes.{Appends}
 use Rattle.lpis_run.specs.declared.detail.Detail.{Detail}
 use Rattle.lpis_run.specs.Status.{done}
-use Rattle.lpis_country.specs.Tiling.{frame, rectangles}
+use Rattle.lpis_country.specs.Plans.{IsPlan, PlanParts}
 use Rattle.lpis_country.specs.Tree.{folders}
-use Rattle.lpis_country_seam.specs.Laws.{JoinedCountryIsSound, JoinedCountryIsUnion}
-use Rattle.lpis_country_seam.specs.Open.{IsSeamOf}
-use Rattle.lpis_run_country.specs.declared.beginning.Begun.{Begun}
 use Rattle.lpis_run.specs.declared.failure.Failure.{Failure}
-use Rattle.lpis_run_country.specs.declared.progress.Progress.{Progress}
-use Rattle.lpis_run_country.specs.CountryAnswer.{AnswersCountry, IsCountryAnswer, IsRegionsAnswer, Setting, setting_of}
+use Rattle.lpis_run_country.specs.CountryAnswer.{AnswersCountry, IsCountryAnswer, IsRegionsAnswer, setting_of}
 use Rattle.lpis_run_country.specs.CountryFailures.{StopsCountry, StopsRegions}
 use Rattle.lpis_run_country.specs.CountryRun.{RunsCountry}
 use Rattle.lpis_run.specs.Run.{OfRead}
 use Rattle.lpis_run_country.specs.Regions.{AreCountryRead, CountryInputs, IsCountry, Texts}
-use Rattle.lpis_run_country.specs.Beginning.{IsBegun, IsUnbegun}
-use Rattle.lpis_run_country.specs.RegionsOutcome.{IsSettingOf}
+use Rattle.lpis_run_country.specs.Beginning.{BegunParts, IsBegun, IsPlanned, IsUnbegun, setting_in}
+use Rattle.lpis_run_country.specs.RegionsOutcome.{JoinsAll}
 use Rattle.lpis_run_country.specs.private.Progressing.{AnswersRegions, RunsBegun, RunsRegions}
-use Rattle.lpis_run_country.specs.private.Progressing.{HasGathered, HaveAllPassed, IsStart}
-use Rattle.lpis_run_country.specs.private.Totals.{AreTotalsOf}
-use Rattle.lpis_run_country.proofs.PassedLemmas.{passed_length, passed_regions, passed_sound}
+use Rattle.lpis_run_country.proofs.PassedLemmas.{passed_regions}
 
 -- the status of an input that is not read is none of a yes
 pub two_is_not_done : (n : ℕ) → n ≡ 2 → n ≡ 0 → ⊥
@@ -57,72 +53,43 @@ unbegun_no x a (inl (line, fault, is)) e = two_is_not_done a.1 (ap (λ (b : Answ
 unbegun_no x a (inr (plan, planned, refused)) e =
     two_is_not_done a.1 (table-status (λ (classes : List Class) (b : Answer). ⊥) (rows_of classes_table x.classes) a (λ classes no. absurd no) refused) e
 
--- the setting of what was begun
-pub begun_setting : (List ℕ → Texts) → Detail → (x : CountryInputs) (b : Begun) → IsBegun x b → Setting
-begun_setting texts detail x b begun = setting_of texts detail begun.plan b.classes.items
-
--- it is that of a run over its regions
-pub setting_begun : (texts : List ℕ → Texts) (detail : Detail) (x : CountryInputs) (b : Begun) (begun : IsBegun x b)
-    → IsSettingOf (setting_of texts detail begun.plan b.classes.items) texts detail b
-setting_begun texts detail x b begun = record {
-  texts_are = refl;
-  detail_is = refl;
-  names_are = begun.names_are;
-  tiles_are = begun.tiles_are;
-  classes_are = refl;
-  tiling = begun.plan;
-  tiles_of = refl;
-  as_many = begun.as_many;
-  few = begun.few;
+-- ---- what was begun
+-- the names and the tiles of a plan
+pub planned : (p : PlanParts) (names : List (String Global)) (tiles : List Box4) → IsPlan p → map string_bytes names ≡ p.names → tiles ≡ p.tiles → length names ≡ length tiles
+    → IsPlanned (map string_bytes names) tiles
+planned p names tiles (t, is) named tiled same = record {
+  tiling = t;
+  tiles_of = tiled ∙ is.tiles;
+  as_many = length-map names string_bytes ∙ same;
+  few = subst (λ (ks : List (List ℕ)). length ks ≤ 10000) (sym (named ∙ is.names)) is.fits.few;
 }
 
--- a run over the regions of what was begun can start
-pub starts_of : (s : Setting) (texts : List ℕ → Texts) (detail : Detail) (b : Begun) (p : Progress) → IsSettingOf s texts detail b → IsSeamOf b.tiles.items b.classes.items [] p.seam
-    → ((r : Contents) → AreTotalsOf r [] p.totals) → HasGathered [] p.gathered → IsStart s texts (map string_bytes b.names.items) detail p
-starts_of s texts detail b p set seam totals gathered = record {
-  at = record {
-    seam = subst (λ tiles. IsSeamOf tiles s.classes [] p.seam) set.tiles_are (subst (λ classes. IsSeamOf b.tiles.items classes [] p.seam) set.classes_are seam);
-    totals = totals (record { parcels = []; pieces = []; classes = s.classes });
-    few = let none = (totals (record { parcels = []; pieces = []; classes = s.classes })).parcels in omega (arith, none);
-    gathered = gathered;
-  };
-  run = record { texts_are = set.texts_are; others = record { names_are = sym set.names_are; detail_is = set.detail_is } };
-  as_many = length-map b.names.items string_bytes ∙ set.as_many ∙ ap length set.tiles_are;
-  few = subst (λ (n : ℕ). n ≤ 10000) (sym (ap length set.names_are)) set.few;
-}
+-- the setting of what was begun is that of its plan
+pub setting_begun : (texts : List ℕ → Texts) (detail : Detail) (x : CountryInputs) (b : BegunParts) (begun : IsBegun x b) → setting_in texts detail b ≡ setting_of texts detail begun.plan b.classes
+setting_begun texts detail x b begun =
+    ap₂ (λ (names : List (List ℕ)) (tiles : List Box4). setting_in texts detail (record { names = names; tiles = tiles; classes = b.classes })) begun.names_are begun.tiles_are
 
--- so it can over those of a country's inputs
-pub starts : (texts : List ℕ → Texts) (detail : Detail) (x : CountryInputs) (b : Begun) (p : Progress) (begun : IsBegun x b) → IsSeamOf b.tiles.items b.classes.items [] p.seam
-    → ((r : Contents) → AreTotalsOf r [] p.totals) → HasGathered [] p.gathered → IsStart (begun_setting texts detail x b begun) texts (map string_bytes b.names.items) detail p
-unfolding begun_setting
-starts texts detail x b p begun = starts_of (setting_of texts detail begun.plan b.classes.items) texts detail b p (setting_begun texts detail x b begun)
-
+-- ---- the country
 -- the regions of all folders make up a country
-all-country : (texts : List ℕ → Texts) (detail : Detail) (x : CountryInputs) (b : Begun) (begun : IsBegun x b) (all : List Contents) → JoinedCountryIsSound → JoinedCountryIsUnion
-    → HaveAllPassed (begun_setting texts detail x b begun) all → IsCountry texts x
-unfolding begun_setting
-all-country texts detail x b begun all law unites ((text, passed), joined) =
-    let s = setting_of texts detail begun.plan b.classes.items in
-    let tiling = begun.plan in
-    let long = sym (passed_length s (folders begun.plan) all text passed) ∙ ap length (sym begun.names_are) ∙ length-map b.names.items string_bytes ∙ begun.as_many ∙ ap length begun.tiles_are in
-    record {
-      plan = begun.plan;
-      text = begun.text;
-      classes = b.classes.items;
-      table = begun.table;
-      regions = all;
-      united = record {
-        of_folders = passed_regions s (folders begun.plan) all text passed;
-        same = joined.classes_are;
-        union = unites (rectangles tiling frame) b.classes.items all joined;
-        sound = law tiling b.classes.items all joined (passed_sound s (folders begun.plan) all text passed) long;
-      };
-    }
+all-country : (texts : List ℕ → Texts) (detail : Detail) (x : CountryInputs) (b : BegunParts) (begun : IsBegun x b) (all : List Contents) (lines : List ℕ)
+    → JoinsAll (setting_of texts detail begun.plan b.classes) all lines → IsCountry texts x
+all-country texts detail x b begun all lines join = record {
+  plan = begun.plan;
+  text = begun.text;
+  classes = b.classes;
+  table = begun.table;
+  regions = all;
+  united = record {
+    of_folders = passed_regions (setting_of texts detail begun.plan b.classes) (folders begun.plan) all lines join.have_passed;
+    same = join.joined.classes_are;
+    union = join.union;
+    sound = join.sound;
+  };
+}
 
 -- the answer to the regions is that to the country
-whole-answer : (texts : List ℕ → Texts) (detail : Detail) (x : CountryInputs) (b : Begun) (begun : IsBegun x b) (a : Answer) → IsRegionsAnswer (begun_setting texts detail x b begun) a
+whole-answer : (texts : List ℕ → Texts) (detail : Detail) (x : CountryInputs) (b : BegunParts) (begun : IsBegun x b) (a : Answer) → IsRegionsAnswer (setting_of texts detail begun.plan b.classes) a
     → IsCountryAnswer texts detail x a
-unfolding begun_setting
 whole-answer texts detail x b begun a h = inr (
   begun.plan,
   begun.text,
@@ -130,25 +97,26 @@ whole-answer texts detail x b begun a h = inr (
 )
 
 -- what stops a run over the regions of what was begun stops the run over the country
-country-stops : (texts : List ℕ → Texts) (detail : Detail) (x : CountryInputs) (b : Begun) (begun : IsBegun x b) (lines : List ℕ) (f : Failure)
-    → StopsRegions (begun_setting texts detail x b begun) lines f → StopsCountry texts detail x lines f
-unfolding begun_setting
-country-stops texts detail x b begun lines f stopped = (begun.plan, b.classes.items, begun.text, begun.table, stopped)
+country-stops : (texts : List ℕ → Texts) (detail : Detail) (x : CountryInputs) (b : BegunParts) (begun : IsBegun x b) (lines : List ℕ) (f : Failure)
+    → StopsRegions (setting_of texts detail begun.plan b.classes) lines f → StopsCountry texts detail x lines f
+country-stops texts detail x b begun lines f stopped = (begun.plan, b.classes, begun.text, begun.table, stopped)
 
 -- the answer to the regions, with a yes only where all passed, is that to the country
-answers-country : (texts : List ℕ → Texts) (detail : Detail) (x : CountryInputs) (b : Begun) (begun : IsBegun x b) → JoinedCountryIsSound → JoinedCountryIsUnion → (a : Answer)
-    → AnswersRegions (begun_setting texts detail x b begun) a → AnswersCountry texts detail x a
-answers-country texts detail x b begun law unites a h = record {
+answers-country : (texts : List ℕ → Texts) (detail : Detail) (x : CountryInputs) (b : BegunParts) (begun : IsBegun x b) (a : Answer)
+    → AnswersRegions (setting_of texts detail begun.plan b.classes) a → AnswersCountry texts detail x a
+answers-country texts detail x b begun a h = record {
   answer = whole-answer texts detail x b begun a h.answer;
-  proved = λ e. let p = h.all e in all-country texts detail x b begun p.0 law unites p.1;
+  proved = λ e. let (all, lines, join) = h.all e in all-country texts detail x b begun all lines join;
 }
 
 -- a run over the regions of what was begun is that over the country
-pub begun_run : (texts : List ℕ → Texts) (detail : Detail) (x : CountryInputs) (b : Begun) (begun : IsBegun x b) (old new : Option (List ℕ)) (r : Result ℕ Failure) → JoinedCountryIsSound
-    → JoinedCountryIsUnion → RunsRegions (begun_setting texts detail x b begun) old new r → RunsBegun texts detail x old new r
-begun_run texts detail x b begun old new r law unites =
-    runs_on_more (λ f. ⊥) (λ f. ⊥) (StopsRegions (begun_setting texts detail x b begun)) (StopsCountry texts detail x) (AnswersRegions (begun_setting texts detail x b begun))
-    (AnswersCountry texts detail x) old new r (λ f no. no) (country-stops texts detail x b begun) (answers-country texts detail x b begun law unites)
+pub begun_run : (texts : List ℕ → Texts) (detail : Detail) (x : CountryInputs) (b : BegunParts) (begun : IsBegun x b) (old new : Option (List ℕ)) (r : Result ℕ Failure)
+    → RunsRegions (setting_in texts detail b) old new r → RunsBegun texts detail x old new r
+begun_run texts detail x b begun old new r run =
+    let s = setting_of texts detail begun.plan b.classes in
+    runs_on_more (λ f. ⊥) (λ f. ⊥) (StopsRegions s) (StopsCountry texts detail x) (AnswersRegions s)
+    (AnswersCountry texts detail x) old new r (λ f no. no) (country-stops texts detail x b begun) (answers-country texts detail x b begun)
+    (subst (λ t. RunsRegions t old new r) (setting_begun texts detail x b begun) run)
 
 -- a fault before the first region is answered
 pub unbegun_run : (texts : List ℕ → Texts) (detail : Detail) (x : CountryInputs) (a : Answer) (old new : Option (List ℕ)) (r : Result ℕ Failure) → IsUnbegun x a → IfOk r (λ status. status ≡ a.1)

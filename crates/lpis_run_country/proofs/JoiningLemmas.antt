@@ -1,82 +1,69 @@
 -- The end of a run whose regions all passed, and what is handed over of their country.
-use Rattle.std.proofs.Common.{◌≡◌, ◌≤◌, ◌∙◌, [], sym, ap, subst, inl, ℕ, List, Option, length, map, true}
+use Rattle.std.proofs.Common.{◌≡◌, ◌∙◌, [], sym, ap, subst, inl, ℕ, List, Option, Err, Ok, String, Vec, length, map, true}
 use Rattle.std.proofs.lemmas.List.{length-map}
 use Rattle.std.specs.String.{string_bytes}
+use Rattle.std.specs.declared.alloc.Global.{Global}
 use Rattle.lpis_release.specs.declared.parcel.Parcel.{Parcel}
-use Rattle.lpis_release.specs.Release.{Contents}
-use Rattle.lpis_run.specs.declared.detail.Detail.{Detail}
+use Rattle.lpis_run.specs.declared.failure.Failure.{Failure}
 use Rattle.lpis_run.specs.declared.failure.Failure.TheVariants.{Memory}
 use Rattle.lpis_country.specs.Country.{country_of}
 use Rattle.lpis_country_seam.specs.Joined.{HasEnded}
 use Rattle.lpis_country_seam.specs.Laws.{JoinedCountryIsSound, JoinedCountryIsUnion}
-use Rattle.lpis_country_seam.specs.Open.{AreJoined, IsSeamOf}
-use Rattle.lpis_run_country.specs.declared.beginning.Begun.{Begun}
-use Rattle.lpis_run.specs.declared.failure.Failure.{Failure}
+use Rattle.lpis_country_seam.specs.Open.{IsSeamOf}
+use Rattle.lpis_run_country.specs.declared.gathering.Gathered.{Gathered}
+use Rattle.lpis_run_country.specs.declared.gathering.Gathered.TheVariants.{Nothing, Parcels}
 use Rattle.lpis_run_country.specs.declared.joining.JoinedCountry.{JoinedCountry}
 use Rattle.lpis_run_country.specs.declared.joining.Joining.TheVariants.{Joined}
 use Rattle.lpis_run_country.specs.declared.progress.Progress.{Progress}
+use Rattle.lpis_run_country.specs.Beginning.{IsPlanned}
 use Rattle.lpis_run_country.specs.CountryAnswer.{Setting}
-use Rattle.lpis_run_country.specs.CountryLines.{country_lines}
-use Rattle.lpis_run_country.specs.Regions.{Texts}
-use Rattle.lpis_run_country.specs.RegionsOutcome.{IsCountryJoined, IsSettingOf, RegionsStop, RegionsJoin}
-use Rattle.lpis_run_country.specs.private.Progressing.{HasPassedAll, IsEnded, gathers}
+use Rattle.lpis_run_country.specs.RegionsOutcome.{IsCountryJoined, JoinsRegions, RegionsStop}
+use Rattle.lpis_run_country.specs.private.Progressing.{HasGathered, HasPassedAll, gathered_in, gathers}
 use Rattle.lpis_run_country.specs.private.Totals.{last_lines}
-use Rattle.lpis_run_country.proofs.PassedLemmas.{passed_length, passed_sound}
-use Rattle.lpis_run_country.proofs.RunLemmas.{all_left, last_are}
+use Rattle.lpis_run_country.proofs.PassedLemmas.{passed_sound}
+use Rattle.lpis_run_country.proofs.RunLemmas.{all_join, all_left, all_number, last_are}
 
 -- ---- the country
+-- where parcels are wanted, those that were gathered are these
+gathered-are : (ks : List Parcel) (g : Gathered) → gathers g ≡ true → HasGathered ks g → gathered_in g ≡ ks
+gathered-are ks Nothing wanted h = cc
+gathered-are ks (Parcels gathered) wanted h = h
+
 -- the seam has ended
-pub ended_seam : (s : Setting) (regions : List Contents) (names : List (List ℕ)) (p : Progress) (parcels : List Parcel) → IsEnded s regions names p
-    → parcels ≡ (country_of s.classes regions).parcels → HasEnded p.seam parcels
-ended_seam s regions names p parcels h are = record {
-  tiling = h.tiling;
+pub ended : (s : Setting) (p : Progress) (old now : Option (List ℕ)) → IsPlanned s.names s.tiles → HasPassedAll s p old now → gathers p.gathered ≡ true → HasEnded p.seam (gathered_in p.gathered)
+ended s p old now planned h wanted = record {
+  tiling = planned.tiling;
   classes = s.classes;
-  regions = regions;
-  seam = subst (λ tiles. IsSeamOf tiles s.classes regions p.seam) h.tiles_of h.at.seam;
-  all = sym h.as_many ∙ h.all ∙ ap length h.tiles_of;
-  sound = h.sound;
-  are = are;
+  regions = h.regions;
+  seam = subst (λ tiles. IsSeamOf tiles s.classes h.regions p.seam) planned.tiles_of h.at.seam;
+  all = sym (all_number s p old now h) ∙ planned.as_many ∙ ap length planned.tiles_of;
+  sound = passed_sound s s.names h.regions h.lines h.have_passed;
+  are = gathered-are (country_of s.classes h.regions).parcels p.gathered wanted h.at.gathered;
 }
 
--- the text is that of the country
-pub ended_text : (s : Setting) (regions : List Contents) (names : List (List ℕ)) (p : Progress) (n : ℕ) → IsEnded s regions names p → n ≡ length names
-    → last_lines n p.totals ≡ country_lines (length regions) (country_of s.classes regions)
-ended_text s regions names p n h is = last_are s regions p n h.at (is ∙ h.as_many)
+-- what is handed over is the country of all regions
+country-joined : (s : Setting) (p : Progress) (old now : Option (List ℕ)) (names : Vec (String Global) Global) (j : JoinedCountry) (h : HasPassedAll s p old now) → gathers p.gathered ≡ true
+    → map string_bytes names.items ≡ s.names → j.names ≡ names → j.parcels ≡ gathered_in p.gathered → j.text.items ≡ last_lines (length names.items) p.totals → IsCountryJoined s h.regions j
+country-joined s p old now names j h wanted are same parcels text = record {
+  names_are = ap (λ (v : Vec (String Global) Global). map string_bytes v.items) same ∙ are;
+  parcels_are = parcels ∙ gathered-are (country_of s.classes h.regions).parcels p.gathered wanted h.at.gathered;
+  text_is = text ∙ last_are s h.regions p (length names.items) h.at (sym (length-map names.items string_bytes) ∙ ap length are ∙ all_number s p old now h);
+}
 
 -- ---- the run
--- after all regions passed
-pub ended : (s : Setting) (texts : List ℕ → Texts) (detail : Detail) (b : Begun) (names : List (List ℕ)) (p : Progress) (old now : Option (List ℕ)) → IsSettingOf s texts detail b
-    → (h : HasPassedAll s p old now) → names ≡ map string_bytes b.names.items → gathers p.gathered ≡ true → IsEnded s h.regions names p
-ended s texts detail b names p old now set h same wanted =
-    let are = same ∙ set.names_are in
-    record {
-      at = h.at;
-      sound = passed_sound s s.names h.regions h.lines h.have_passed;
-      names_are = are;
-      few = subst (λ (n : ℕ). n ≤ 10000) (sym (ap length are)) set.few;
-      as_many = ap length are ∙ passed_length s s.names h.regions h.lines h.have_passed;
-      all = ap length same ∙ length-map b.names.items string_bytes ∙ set.as_many ∙ ap length set.tiles_are;
-      tiling = set.tiling;
-      tiles_of = set.tiles_of;
-      wanted = wanted;
-    }
-
--- the regions join
-pub joins_all : (s : Setting) (names : List (List ℕ)) (p : Progress) (old now : Option (List ℕ)) (j : JoinedCountry) → JoinedCountryIsSound → JoinedCountryIsUnion
-    → (h : HasPassedAll s p old now) → IsEnded s h.regions names p → IsCountryJoined s h.regions j → RegionsJoin s old now (Joined j)
-joins_all s names p old now j law unites h e are = (
-  h.regions,
-  h.lines,
-  record {
-    have_passed = h.have_passed;
-    joined = h.at.seam.joined;
-    union = unites s.tiles s.classes h.regions h.at.seam.joined;
-    sound = law e.tiling s.classes h.regions (subst (λ tiles. AreJoined tiles s.classes h.regions) e.tiles_of h.at.seam.joined) e.sound (sym e.as_many ∙ e.all ∙ ap length e.tiles_of);
-  },
-  h.written,
-  are,
-)
+-- all regions join
+pub joins_all : (s : Setting) (p : Progress) (old now : Option (List ℕ)) (names : Vec (String Global) Global) (j : JoinedCountry) → JoinedCountryIsSound → JoinedCountryIsUnion
+    → IsPlanned s.names s.tiles → HasPassedAll s p old now → gathers p.gathered ≡ true → map string_bytes names.items ≡ s.names → j.names ≡ names → j.parcels ≡ gathered_in p.gathered
+    → j.text.items ≡ last_lines (length names.items) p.totals → JoinsRegions s old now (Ok (Joined j))
+joins_all s p old now names j law unites planned h wanted are same parcels text = record {
+  joins = (h.regions, h.lines, all_join s p old now law unites planned h, h.written, country-joined s p old now names j h wanted are same parcels text);
+  failure = tt;
+}
 
 -- out of memory then the run breaks off
-pub joins_not : (s : Setting) (p : Progress) (old now : Option (List ℕ)) (f : Failure) → HasPassedAll s p old now → (f ≡ Memory) → RegionsStop s old now f
-joins_not s p old now f h none = inl (h.lines, (h.regions, [], all_left s h.regions h.lines h.have_passed, none), h.written)
+pub joins_not : (s : Setting) (p : Progress) (old now : Option (List ℕ)) (f : Failure) → HasPassedAll s p old now → f ≡ Memory → JoinsRegions s old now (Err f)
+joins_not s p old now f h none = record { joins = tt; failure = inl (h.lines, (h.regions, [], all_left s h.regions h.lines h.have_passed, none), h.written) }
+
+-- so it does before
+pub joins_broken : (s : Setting) (old now : Option (List ℕ)) (f : Failure) → RegionsStop s old now f → JoinsRegions s old now (Err f)
+joins_broken s old now f h = record { joins = tt; failure = h }

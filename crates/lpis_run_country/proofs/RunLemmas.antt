@@ -1,11 +1,14 @@
 -- How a run over regions goes on, and ends.
-use Rattle.std.proofs.Common.{◌≡◌, ◌≢◌, ◌<◌, ◌≤◌, ◌⊎◌, ◌∙◌, ◌++◌, ◌∷◌, ◌+◌, ◌*◌, [], refl, sym, ap, subst, arith, inl, inr, IfErr, IfOk, IsErrAnd}
-use Rattle.std.proofs.Common.{OnOk, ℕ, List, All, Option, None, Some, Result, Ok, Err, Vec, drop, get_or, length, map, take}
+use Rattle.std.proofs.Common.{◌≡◌, ◌≢◌, ◌<◌, ◌≤◌, ◌⊎◌, ◌∙◌, ◌++◌, ◌∷◌, ◌+◌, ◌*◌, [], refl, sym, ap, ap₂, subst, arith, inl, inr, IfErr, IfOk, IsErrAnd}
+use Rattle.std.proofs.Common.{OnOk, ℕ, List, All, Option, None, Some, Result, Ok, Err, String, Vec, drop, get_or, length, map, take}
 use Rattle.std.proofs.Math.Seq.{take-append-add}
-use Rattle.std.proofs.lemmas.List.{append-nil, drop_more, length-append, length-map}
+use Rattle.std.proofs.lemmas.List.{append-nil, drop_more, length-append}
 use Rattle.std.proofs.lemmas.List.Elements.{All-head, All-tail}
 use Rattle.std.specs.Io.KnownBytes.{Appends, Keeps}
+use Rattle.std.specs.String.{string_bytes}
 use Rattle.std.specs.declared.alloc.Global.{Global}
+use Rattle.lpis_points.specs.declared.boxes.Box4.{Box4}
+use Rattle.lpis_tables.specs.declared.class.Class.{Class}
 use Rattle.lpis_run.proofs.Shared.{appends-more, breaks_off_more, refused-more, some_unread, stopped-in-region}
 use Rattle.lpis_release.specs.Release.{Contents}
 use Rattle.lpis_run.specs.declared.failure.Failure.{Failure}
@@ -26,22 +29,24 @@ use Rattle.lpis_country.specs.Country.{country_of, new_parcels}
 use Rattle.lpis_country.proofs.Shared.{country_is_region, country_snoc}
 use Rattle.lpis_run.specs.declared.detail.Detail.{Detail}
 use Rattle.lpis_country_seam.specs.Faults.{IsFirstSeamFault}
-use Rattle.lpis_country_seam.specs.Open.{IsSeamOf}
+use Rattle.lpis_country_seam.specs.Laws.{JoinedCountryIsSound, JoinedCountryIsUnion}
+use Rattle.lpis_country_seam.specs.Open.{AreJoined, IsSeamOf}
 use Rattle.lpis_country_seam.specs.declared.fault.SeamFault.{SeamFault}
 use Rattle.lpis_country_seam.specs.declared.fault.SeamFault.TheVariants.{Memory as NoMemory}
 use Rattle.lpis_run_country.specs.declared.progress.Progress.{Progress}
 use Rattle.lpis_run_country.specs.declared.totals.Totals.{Totals}
+use Rattle.lpis_run_country.specs.Beginning.{BegunParts, IsPlanned, setting_in}
 use Rattle.lpis_run_country.specs.CountryAnswer.{HavePassed, IsMisfit, None as NonePassed, IsReachedBy, IsRefusedRegion, Setting}
 use Rattle.lpis_run_country.specs.CountryFailures.{IsStoppedBefore, IsUnreadFolder}
 use Rattle.lpis_run_country.specs.CountryLines.{country_lines, region_report}
 use Rattle.lpis_run_country.specs.Regions.{Texts}
-use Rattle.lpis_run_country.specs.RegionsOutcome.{IsRegionsRefusal, RegionsEnd, RegionsStop}
+use Rattle.lpis_run_country.specs.RegionsOutcome.{IsRegionsRefusal, JoinsAll, RegionsEnd, RegionsStop}
 use Rattle.lpis_run_country.specs.CountryFailures.{StopsRegions}
 use Rattle.lpis_run_country.specs.private.Progressing.{AnswersRegions, RunsRegions}
-use Rattle.lpis_run_country.specs.private.Progressing.{AreOfRun, FollowsAs, HasGathered, HasPassedAll, IsAt, IsFailureOf, IsFinished, IsHere, IsReady, IsStart, IsUnfinished}
-use Rattle.lpis_run_country.specs.private.Progressing.{IsUnwritten, IsVerdict, IsVerdictText, IsWritten, RegionsPass}
+use Rattle.lpis_run_country.specs.private.Progressing.{FollowsAs, HasGathered, HasPassedAll, IsAt, IsBrokenOff, IsFailureOf, IsFinished, IsHere, IsReady, IsStart, IsUnfinished}
+use Rattle.lpis_run_country.specs.private.Progressing.{IsVerdict, IsVerdictText, IsWritten, RegionsPass, setting_at}
 use Rattle.lpis_run_country.specs.private.Totals.{AreTotalsOf, IsPrintable, last_lines}
-use Rattle.lpis_run_country.proofs.PassedLemmas.{passed_length, passed_more, reached_by, refused_next}
+use Rattle.lpis_run_country.proofs.PassedLemmas.{passed_length, passed_more, passed_sound, reached_by, refused_next}
 use Rattle.lpis_run_country.proofs.TotalsLemmas.{bounded_of, few_new, last_lines_are, printable, totals_grow}
 
 -- ---- writers
@@ -66,15 +71,13 @@ next-there : (next before n tiles names items : ℕ) → next ≡ before → bef
 next-there next before n tiles names items a b c d lt = omega arith
 
 -- the next region can be read
-pub ready : (s : Setting) (texts : List ℕ → Texts) (names : List (List ℕ)) (detail : Detail) (p q : Progress) (n : ℕ) (old new : Option (List ℕ)) → IsStart s texts names detail p
-    → IsHere s q n old new
-    → n < length names → IsReady q
-ready s texts names detail p q n old new start here lt = record {
-  next = next-there _ _ _ _ _ _ here.at.seam.number here.number (ap length here.at.seam.tiles_are) start.as_many lt;
+pub ready : (s : Setting) (p q : Progress) (n : ℕ) (old new : Option (List ℕ)) → IsStart s p → IsHere s q n old new → n < length s.names → IsReady q
+ready s p q n old new start here lt = record {
+  next = next-there _ _ _ _ _ _ here.at.seam.number here.number (ap length here.at.seam.tiles_are) start.planned.as_many lt;
   setting = s;
   before = here.before;
   at = here.at;
-  room = room n (length names) q.totals.parcels (subst (λ (k : ℕ). q.totals.parcels ≤ 200000 * k) here.number here.at.few) lt start.few;
+  room = room n (length s.names) q.totals.parcels (subst (λ (k : ℕ). q.totals.parcels ≤ 200000 * k) here.number here.at.few) lt start.planned.few;
 }
 
 -- before the first region
@@ -83,8 +86,37 @@ appends-nothing None = tt
 appends-nothing (Some xs) = sym (append-nil xs)
 
 -- at the start no region has passed, and nothing has been written
-pub begun_here : (s : Setting) (texts : List ℕ → Texts) (names : List (List ℕ)) (detail : Detail) (p : Progress) (old : Option (List ℕ)) → IsStart s texts names detail p → IsHere s p 0 old old
-begun_here s texts names detail p old start = record { before = []; text = []; have_passed = NonePassed; written = appends-nothing old; at = start.at; number = refl }
+pub begun_here : (s : Setting) (p : Progress) (old : Option (List ℕ)) → IsStart s p → IsHere s p 0 old old
+begun_here s p old start = record { before = []; text = []; have_passed = NonePassed; written = appends-nothing old; at = start.at; number = refl }
+
+-- a run over the regions of what was begun can start
+pub starts : (texts : List ℕ → Texts) (detail : Detail) (b : BegunParts) (names : List (String Global)) (tiles : List Box4) (classes : List Class) (p : Progress) → map string_bytes names ≡ b.names
+    → tiles ≡ b.tiles → IsPlanned b.names b.tiles → IsSeamOf tiles classes [] p.seam → ((r : Contents) → AreTotalsOf r [] p.totals) → HasGathered [] p.gathered
+    → IsStart (setting_at texts detail names p) p
+starts texts detail b names tiles classes p names_are tiles_are planned seam totals gathered = record {
+  at = record {
+    seam = subst (λ ts. IsSeamOf ts p.seam.classes.items [] p.seam) (sym seam.tiles_are) (subst (λ ks. IsSeamOf tiles ks [] p.seam) (sym seam.classes_are) seam);
+    totals = totals (record { parcels = []; pieces = []; classes = p.seam.classes.items });
+    few = let none = (totals (record { parcels = []; pieces = []; classes = p.seam.classes.items })).parcels in omega (arith, none);
+    gathered = gathered;
+  };
+  planned = subst (λ ks. IsPlanned ks p.seam.tiles.items) (sym names_are) (subst (IsPlanned b.names) (sym (seam.tiles_are ∙ tiles_are)) planned);
+}
+
+-- ---- the setting
+-- it stays the same as regions pass
+pub setting_stays : (texts : List ℕ → Texts) (detail : Detail) (xs ys : List (String Global)) (p q : Progress) (before : List Contents) → xs ≡ ys → IsAt (setting_at texts detail ys p) before q
+    → setting_at texts detail xs q ≡ setting_at texts detail ys p
+setting_stays texts detail xs ys p q before same at =
+    ap (λ ks. setting_at texts detail ks q) same
+    ∙ ap₂ (λ (ts : List Box4) (ks : List Class). setting_in texts detail (record { names = map string_bytes ys; tiles = ts; classes = ks })) at.seam.tiles_are at.seam.classes_are
+
+-- it begins as that of what was begun
+pub setting_begins : (texts : List ℕ → Texts) (detail : Detail) (b : BegunParts) (names : List (String Global)) (tiles : List Box4) (classes : List Class) (p : Progress)
+    → map string_bytes names ≡ b.names → tiles ≡ b.tiles → classes ≡ b.classes → IsSeamOf tiles classes [] p.seam → setting_at texts detail names p ≡ setting_in texts detail b
+setting_begins texts detail b names tiles classes p names_are tiles_are classes_are seam =
+    ap (λ (ns : List (List ℕ)). setting_in texts detail (record { names = ns; tiles = p.seam.tiles.items; classes = p.seam.classes.items })) names_are
+    ∙ ap₂ (λ (ts : List Box4) (ks : List Class). setting_in texts detail (record { names = b.names; tiles = ts; classes = ks })) (seam.tiles_are ∙ tiles_are) (seam.classes_are ∙ classes_are)
 
 -- ---- the verdict
 -- on a region that is a sound map
@@ -118,17 +150,18 @@ refused_written s before name p v stop a status old new is refused same written 
 
 -- ---- going on
 -- a region more
-pub goes_on : (s : Setting) (names : List (List ℕ)) (p q : Progress) (n : ℕ) (old now new : Option (List ℕ)) (name : List ℕ) (here : IsHere s p n old now) → s.names ≡ names → n < length names
-    → name ≡ get_or names n [] → IsWritten s here.before name q now new None → IsHere s q (n + 1) old new
-goes_on s names p q n old now new name here are lt is (r, passes, written, at) = record {
-  before = here.before ++ r ∷ [];
-  text = here.text ++ region_report s.detail (country_of s.classes here.before) name r;
-  have_passed = passed_more s n here.before here.text name r (subst (λ (ks : List (List ℕ)). n < length ks) (sym are) lt)
-      (is ∙ ap (λ (ks : List (List ℕ)). get_or ks n []) (sym are)) here.have_passed passes;
-  written = appends-more old now new here.text (region_report s.detail (country_of s.classes here.before) name r) here.written written;
-  at = at;
-  number = length-append here.before (r ∷ []) ∙ ap (λ (k : ℕ). k + 1) here.number;
-}
+pub goes_on : (s : Setting) (p q : Progress) (n : ℕ) (old now new : Option (List ℕ)) (here : IsHere s p n old now) → n < length s.names
+    → IsWritten s here.before (get_or s.names n []) q now new None → IsHere s q (n + 1) old new
+goes_on s p q n old now new here lt (r, passes, written, at) =
+    let name = get_or s.names n [] in
+    record {
+      before = here.before ++ r ∷ [];
+      text = here.text ++ region_report s.detail (country_of s.classes here.before) name r;
+      have_passed = passed_more s n here.before here.text name r lt refl here.have_passed passes;
+      written = appends-more old now new here.text (region_report s.detail (country_of s.classes here.before) name r) here.written written;
+      at = at;
+      number = length-append here.before (r ∷ []) ∙ ap (λ (k : ℕ). k + 1) here.number;
+    }
 
 -- a region that is refused is no yes
 refused-no : (s : Setting) (before : List Contents) (name text : List ℕ) (status : ℕ) → IsRefusedRegion s before name (text, status) → status ≢ done
@@ -139,17 +172,15 @@ refused-no s before name text status (x, told, inr (r, said, (fault, first, is))
     one-is-not-done n one zero = omega arith
 
 -- the next region is refused
-pub is_refused : (s : Setting) (names : List (List ℕ)) (p q : Progress) (n status : ℕ) (old now new : Option (List ℕ)) (name : List ℕ) (here : IsHere s p n old now) → s.names ≡ names
-    → n < length names
-    → name ≡ get_or names n [] → IsWritten s here.before name q now new (Some status) → RegionsPass s q old new (Some status)
-is_refused s names p q n status old now new name here are lt is (text, refusal, written) = (
+pub is_refused : (s : Setting) (p q : Progress) (n status : ℕ) (old now new : Option (List ℕ)) (here : IsHere s p n old now) → n < length s.names
+    → IsWritten s here.before (get_or s.names n []) q now new (Some status) → RegionsPass s q old new (Some status)
+is_refused s p q n status old now new here lt (text, refusal, written) = (
   (
     here.text ++ text,
-    refused_next s n here.before here.text name text status (subst (λ (ks : List (List ℕ)). n < length ks) (sym are) lt)
-        (is ∙ ap (λ (ks : List (List ℕ)). get_or ks n []) (sym are)) here.have_passed refusal,
+    refused_next s n here.before here.text (get_or s.names n []) text status lt refl here.have_passed refusal,
     appends-more old now new here.text text here.written written,
   ),
-  refused-no s here.before name text status refusal,
+  refused-no s here.before (get_or s.names n []) text status refusal,
 )
 
 -- ---- one region more
@@ -177,17 +208,6 @@ goes_at s before r p q t at seam few news plus gathered =
           (few_new u r 200000 few) (length-append before (r ∷ []));
       gathered = subst (λ (c : Contents). HasGathered c.parcels q.gathered) (sym (country_snoc s.classes before r)) gathered;
     }
-
--- ---- the next region
--- over a list that stayed as it was the run is the same, and the next index and its name are in it
-pub next_region : {A : Type 0} (s : Setting) (texts : List ℕ → Texts) (bytes : A → List ℕ) (xs ys : List A) (detail : Detail) (p : Progress) (n : ℕ) → xs ≡ ys → n < length ys
-    → IsStart s texts (map bytes ys) detail p → AreOfRun s texts (map bytes xs) detail × (n < length (map bytes ys)) × (get_or (map bytes xs) n [] ≡ get_or (map bytes ys) n [])
-next_region s texts bytes xs ys detail p n same lt start =
-    let names = ap (map bytes) same in (
-      subst (λ ks. AreOfRun s texts ks detail) (sym names) start.run,
-      omega (arith, length-map ys bytes, lt),
-      ap (λ ks. get_or ks n []) names,
-    )
 
 -- ---- breaking off
 -- where a folder is not read, memory ran out, or a file was not read
@@ -231,27 +251,25 @@ begun-verdict s n before lines name text lt is h (inr (status, refusal)) =
     inr (status, (refused_next s n before lines name text status lt is h refusal, refused-no s before name text status refusal))
 
 -- where the next folder is not read, or the output fails within the verdict on it, the run breaks off
-pub breaks_off : (s : Setting) (names : List (List ℕ)) (p : Progress) (n : ℕ) (old now new : Option (List ℕ)) (name : List ℕ) (failure : Failure) (f : Failure) (here : IsHere s p n old now)
-    → s.names ≡ names → n < length names → name ≡ get_or names n [] → IsUnwritten s here.before name now new failure → IsFailureOf failure name f → RegionsStop s old new f
-breaks_off s names p n old now new name failure f here are lt is (inl (unread, keeps)) of =
-    let there = subst (λ (ks : List (List ℕ)). n < length ks) (sym are) lt in
-    let named = is ∙ ap (λ (ks : List (List ℕ)). get_or ks n []) (sym are) in
+pub breaks_off : (s : Setting) (p : Progress) (n : ℕ) (old now new : Option (List ℕ)) (f : Failure) (here : IsHere s p n old now) → n < length s.names
+    → IsBrokenOff s here.before (get_or s.names n []) now new f → RegionsStop s old new f
+breaks_off s p n old now new f here lt (failure, inl (unread, keeps), of) =
+    let name = get_or s.names n [] in
     inl (
       here.text,
       (
         here.before,
         name ∷ drop (n + 1) s.names,
-        subst (IsReachedBy s here.before here.text) (drop_more s.names n [] there ∙ ap (λ (x : List ℕ). x ∷ drop (n + 1) s.names) (sym named)) (reached_by s n here.before here.text here.have_passed),
+        subst (IsReachedBy s here.before here.text) (drop_more s.names n [] lt) (reached_by s n here.before here.text here.have_passed),
         is_stopped s.texts failure name (drop (n + 1) s.names) f unread of,
       ),
       appends-kept old now new here.text here.written keeps,
     )
-breaks_off s names p n old now new name failure f here are lt is (inr (write, (text, verdict, begins))) of =
-    let there = subst (λ (ks : List (List ℕ)). n < length ks) (sym are) lt in
-    let named = is ∙ ap (λ (ks : List (List ℕ)). get_or ks n []) (sym are) in
+breaks_off s p n old now new f here lt (failure, inr (write, (text, verdict, begins)), of) =
+    let name = get_or s.names n [] in
     inr (
       subst (λ (x : Failure). IsFailureOf x name f) write of,
-      (here.text ++ text, begun-verdict s n here.before here.text name text there named here.have_passed verdict, begins-more old now new here.text text here.written begins),
+      (here.text ++ text, begun-verdict s n here.before here.text name text lt refl here.have_passed verdict, begins-more old now new here.text text here.written begins),
     )
 
 -- a refusal is an answer that is no yes
@@ -276,25 +294,24 @@ pub last_are : (s : Setting) (regions : List Contents) (p : Progress) (n : ℕ) 
 last_are s regions p n at e =
     last_lines_are n (length regions) (country_of s.classes regions) p.totals (country_is_region s.classes regions at.seam.joined.regions_are) at.totals e
 
--- where the country's lines were written and the status is that of a yes, the run is finished
-pub finishes : (s : Setting) (regions : List Contents) (r : Result ℕ Failure) (old new : Option (List ℕ)) (text : List ℕ) (status : ℕ)
-    → text ≡ country_lines (length regions) (country_of s.classes regions) → status ≡ done → IfOk r (λ (n : ℕ). n ≡ status) → OnOk r (Appends old new text) → IfOk r (IsFinished s regions old new)
-finishes s regions (Ok n) old new text status is ends same written = record { done_is = same ∙ ends; written = subst (Appends old new) is written }
-finishes s regions (Err f) old new text status is ends same written = tt
+-- where lines were written and the status is that of a yes, the run is finished
+pub finishes : (lines : List ℕ) (r : Result ℕ Failure) (old new : Option (List ℕ)) (text : List ℕ) (status : ℕ) → text ≡ lines → status ≡ done → IfOk r (λ (n : ℕ). n ≡ status)
+    → OnOk r (Appends old new text) → IfOk r (IsFinished lines old new)
+finishes lines (Ok n) old new text status is ends same written = record { done_is = same ∙ ends; written = subst (Appends old new) is written }
+finishes lines (Err f) old new text status is ends same written = tt
 
--- where the output failed within the country's lines, the run is not finished
-pub finishes_not : (s : Setting) (regions : List Contents) (r : Result ℕ Failure) (old new : Option (List ℕ)) (text : List ℕ) → text ≡ country_lines (length regions) (country_of s.classes regions)
-    → IfErr r (λ (f : Failure). (f ≡ Write Out) × Begins old new text) → IfErr r (IsUnfinished s regions old new)
-finishes_not s regions (Ok n) old new text is h = tt
-finishes_not s regions (Err f) old new text is h = inr (h.0, subst (Begins old new) is h.1)
+-- where the output failed within them, the run is not finished
+pub finishes_not : (lines : List ℕ) (r : Result ℕ Failure) (old new : Option (List ℕ)) (text : List ℕ) → text ≡ lines → IfErr r (λ (f : Failure). (f ≡ Write Out) × Begins old new text)
+    → IfErr r (IsUnfinished lines old new)
+finishes_not lines (Ok n) old new text is h = tt
+finishes_not lines (Err f) old new text is h = inr (h.0, subst (Begins old new) is h.1)
 
 -- where as many regions passed as there are folders, those of all folders passed
-pub has_passed_all : (s : Setting) (names : List (List ℕ)) (p : Progress) (n : ℕ) (old now : Option (List ℕ)) (here : IsHere s p n old now) → s.names ≡ names → n ≡ length names
-    → HasPassedAll s p old now
-has_passed_all s names p n old now here are e = record {
+pub has_passed_all : (s : Setting) (p : Progress) (n : ℕ) (old now : Option (List ℕ)) → IsHere s p n old now → n ≡ length s.names → HasPassedAll s p old now
+has_passed_all s p n old now here e = record {
   regions = here.before;
   lines = here.text;
-  have_passed = subst (λ (ks : List (List ℕ)). HavePassed s ks here.before here.text) (ap (λ (k : ℕ). take k s.names) (e ∙ sym (ap length are)) ∙ take-all s.names) here.have_passed;
+  have_passed = subst (λ (ks : List (List ℕ)). HavePassed s ks here.before here.text) (ap (λ (k : ℕ). take k s.names) e ∙ take-all s.names) here.have_passed;
   at = here.at;
   written = here.written;
 }
@@ -308,8 +325,19 @@ pub all_left : (s : Setting) (regions : List Contents) (lines : List ℕ) → Ha
 all_left s regions lines h = record { passed = s.names; all = sym (append-nil s.names); have_passed = h }
 
 -- there are as many as folders
-pub all_number : (s : Setting) (names : List (List ℕ)) (p : Progress) (old now : Option (List ℕ)) (h : HasPassedAll s p old now) → s.names ≡ names → length names ≡ length h.regions
-all_number s names p old now h are = sym (ap length are) ∙ passed_length s s.names h.regions h.lines h.have_passed
+pub all_number : (s : Setting) (p : Progress) (old now : Option (List ℕ)) (h : HasPassedAll s p old now) → length s.names ≡ length h.regions
+all_number s p old now h = passed_length s s.names h.regions h.lines h.have_passed
+
+-- their country is their union, and a sound map
+pub all_join : (s : Setting) (p : Progress) (old now : Option (List ℕ)) → JoinedCountryIsSound → JoinedCountryIsUnion → IsPlanned s.names s.tiles → (h : HasPassedAll s p old now)
+    → JoinsAll s h.regions h.lines
+all_join s p old now law unites planned h = record {
+  have_passed = h.have_passed;
+  joined = h.at.seam.joined;
+  union = unites s.tiles s.classes h.regions h.at.seam.joined;
+  sound = law planned.tiling s.classes h.regions (subst (λ tiles. AreJoined tiles s.classes h.regions) planned.tiles_of h.at.seam.joined)
+      (passed_sound s s.names h.regions h.lines h.have_passed) (sym (all_number s p old now h) ∙ planned.as_many ∙ ap length planned.tiles_of);
+}
 
 -- what their country has can be printed
 pub all_printable : (s : Setting) (regions : List Contents) (p : Progress) (n : ℕ) → IsAt s regions p → n ≡ length regions → n ≤ 10000 → IsPrintable p.totals
@@ -321,36 +349,44 @@ all_printable s regions p n at e few =
     few-parcels k i m a b c = omega arith
 
 -- the answer to them
-whole-answer : (s : Setting) (p : Progress) (old now : Option (List ℕ)) (h : HasPassedAll s p old now)
+whole-answer : (s : Setting) (p : Progress) (old now : Option (List ℕ)) (h : HasPassedAll s p old now) → JoinsAll s h.regions h.lines
     → AnswersRegions s (h.lines ++ country_lines (length h.regions) (country_of s.classes h.regions), done)
-whole-answer s p old now h = record {
+whole-answer s p old now h join = record {
   answer = record {
     text = h.lines;
     end = (country_lines (length h.regions) (country_of s.classes h.regions), done);
     behind = record { regions = h.regions; left = []; reached = all_left s h.regions h.lines h.have_passed; follows = refl };
     is = refl;
   };
-  all = λ e. (h.regions, ((h.lines, h.have_passed), h.at.seam.joined));
+  all = λ e. (h.regions, h.lines, join);
 }
 
 -- after them the run ends with a yes, or breaks off
-pub whole_run : (s : Setting) (p : Progress) (old now new : Option (List ℕ)) (r : Result ℕ Failure) (h : HasPassedAll s p old now) → IfOk r (IsFinished s h.regions now new)
-    → IfErr r (IsUnfinished s h.regions now new) → RunsRegions s old new r
-whole_run s p old now new (Ok status) h fin unfinished = record {
-  answer = (
-    h.lines ++ country_lines (length h.regions) (country_of s.classes h.regions),
-    subst (λ (k : ℕ). AnswersRegions s (h.lines ++ country_lines (length h.regions) (country_of s.classes h.regions), k)) (sym fin.done_is) (whole-answer s p old now h),
-    appends-more old now new h.lines (country_lines (length h.regions) (country_of s.classes h.regions)) h.written fin.written,
-  );
-  failure = tt;
-}
-whole_run s p old now new (Err f) h fin (inl (memory, keeps)) = record {
+pub whole_run : (s : Setting) (p : Progress) (old now new : Option (List ℕ)) (r : Result ℕ Failure) (end : List ℕ) (h : HasPassedAll s p old now) → JoinsAll s h.regions h.lines
+    → end ≡ country_lines (length h.regions) (country_of s.classes h.regions) → IfOk r (IsFinished end now new) → IfErr r (IsUnfinished end now new) → RunsRegions s old new r
+whole_run s p old now new (Ok status) end h join is fin unfinished =
+    let lines = country_lines (length h.regions) (country_of s.classes h.regions) in
+    record {
+      answer = (
+        h.lines ++ lines,
+        subst (λ (k : ℕ). AnswersRegions s (h.lines ++ lines, k)) (sym fin.done_is) (whole-answer s p old now h join),
+        appends-more old now new h.lines lines h.written (subst (Appends now new) is fin.written),
+      );
+      failure = tt;
+    }
+whole_run s p old now new (Err f) end h join is fin (inl (memory, keeps)) = record {
   answer = tt;
   failure = inr (inl (h.lines, (h.regions, [], all_left s h.regions h.lines h.have_passed, memory), appends-kept old now new h.lines h.written keeps));
 }
-whole_run s p old now new (Err f) h fin (inr (write, begins)) =
+whole_run s p old now new (Err f) end h join is fin (inr (write, begins)) =
     let lines = country_lines (length h.regions) (country_of s.classes h.regions) in
-    record { answer = tt; failure = inr (inr (write, (h.lines ++ lines, inr (done, whole-answer s p old now h), begins-more old now new h.lines lines h.written begins))) }
+    record {
+      answer = tt;
+      failure = inr (inr (
+        write,
+        (h.lines ++ lines, inr (done, whole-answer s p old now h join), begins-more old now new h.lines lines h.written (subst (Begins now new) is begins)),
+      ));
+    }
 
 -- an error that is known
 pub err_is : {A E : Type 0} (r : Result A E) (P Q : E → Type 0) → IsErrAnd r P → ((e : E) → P e → Q e) → IfErr r Q

@@ -1,20 +1,15 @@
 -- What a run over the regions of what was begun came to.
-use Rattle.std.specs.Prelude.{◌≡◌, ◌≢◌, ◌≤◌, ℕ, List, Option, length, map}
+use Rattle.std.specs.Prelude.{◌≡◌, ◌≢◌, ℕ, List, Option, IfErr, IfOk, Result, length, map}
 use Rattle.std.specs.Io.KnownBytes.{Appends}
 use Rattle.std.specs.String.{string_bytes}
 use Rattle.lpis_release.specs.Release.{Contents}
 use Rattle.lpis_checker.specs.SoundMap.{IsSoundMap}
-use Rattle.lpis_run.specs.declared.detail.Detail.{Detail}
 use Rattle.lpis_run.specs.Status.{done}
 use Rattle.lpis_run.specs.Run.{BreaksOffIn}
 use Rattle.lpis_run.specs.CheckAnswer.{Answer}
 use Rattle.lpis_country.specs.Country.{country_of}
-use Rattle.lpis_country.specs.Tiling.{frame, rectangles}
-use Rattle.lpis_country.specs.Tree.{Tree}
 use Rattle.lpis_country.specs.Union.{IsUnion}
-use Rattle.lpis_country.specs.Limits.{most_regions}
 use Rattle.lpis_country_seam.specs.Open.{AreJoined}
-use Rattle.lpis_run_country.specs.declared.beginning.Begun.{Begun}
 use Rattle.lpis_run.specs.declared.failure.Failure.{Failure}
 use Rattle.lpis_run_country.specs.declared.joining.JoinedCountry.{JoinedCountry}
 use Rattle.lpis_run_country.specs.declared.joining.Joining.{Joining}
@@ -22,21 +17,6 @@ use Rattle.lpis_run_country.specs.declared.joining.Joining.TheVariants.{Joined, 
 use Rattle.lpis_run_country.specs.CountryAnswer.{HavePassed, IsRegionsAnswer, Setting}
 use Rattle.lpis_run_country.specs.CountryFailures.{StopsRegions}
 use Rattle.lpis_run_country.specs.CountryLines.{country_lines}
-use Rattle.lpis_run_country.specs.Regions.{Texts}
-
--- ---- what was begun
--- the setting is that of a run over the regions of what was begun
-pub record IsSettingOf (s : Setting) (texts : List ℕ → Texts) (detail : Detail) (b : Begun)
-    : Type 0 where
-  pub texts_are : s.texts ≡ texts
-  pub detail_is : s.detail ≡ detail
-  pub names_are : map string_bytes b.names.items ≡ s.names
-  pub tiles_are : b.tiles.items ≡ s.tiles
-  pub classes_are : b.classes.items ≡ s.classes
-  pub tiling : Tree
-  pub tiles_of : s.tiles ≡ rectangles tiling frame
-  pub as_many : length b.names.items ≡ length b.tiles.items
-  pub few : length s.names ≤ most_regions
 
 -- ---- an end
 -- a run over regions answered with this status
@@ -75,3 +55,10 @@ IsRegionsRefusal s a = IsRegionsAnswer s a × (a.1 ≢ done)
 -- a run up to the last region broke off
 abbrev pub RegionsStop : Setting → Option (List ℕ) → Option (List ℕ) → Failure → Type 0
 RegionsStop s = BreaksOffIn (StopsRegions s) (IsRegionsRefusal s)
+
+-- ---- the whole
+-- how a run over regions ends that writes their lines and hands their country over
+pub record JoinsRegions (s : Setting) (old new : Option (List ℕ)) (result : Result Joining Failure)
+    : Type 0 where
+  pub joins : IfOk result (RegionsJoin s old new)
+  pub failure : IfErr result (RegionsStop s old new)

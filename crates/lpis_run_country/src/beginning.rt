@@ -1,13 +1,14 @@
 //! What is read before the first region: the plan of the country, and its table of classes.
 
-ghost use Rattle.std.specs.Prelude.{◌≡◌, IfErr, IfOk, Ok};
+ghost use Rattle.std.specs.Prelude.{◌≡◌, IfErr, IfOk, Ok, map};
+ghost use Rattle.std.specs.String.{string_bytes};
 ghost use Rattle.lpis_run.specs.Stops.{IsRefusedAs};
 ghost use Rattle.lpis_tables.specs.Classes.{classes_table};
 ghost use Rattle.lpis_tables.specs.Faults.{rows_of};
 ghost use Rattle.lpis_run.specs.Failures.{AreUnread};
 ghost use Rattle.lpis_run.specs.Folders.{top_by, top_named};
 ghost use Rattle.lpis_run.specs.Inputs.{top_of};
-ghost use Rattle.lpis_run_country.specs.Beginning.{IsBegun, IsUnbegun};
+ghost use Rattle.lpis_run_country.specs.Beginning.{IsBegun, IsPlanned, IsUnbegun};
 ghost use Rattle.lpis_run_country.specs.Regions.{AreCountryRead};
 ghost use Rattle.lpis_run_country.specs.private.Beginning.{IsClassesRefusal, IsPlanIn};
 ghost use Rattle.lpis_run_country.specs.private.Beginning.{IsPlanRefusal};
@@ -19,16 +20,57 @@ use lpis_run::{Answer, Failure, Name, Stop, Top, read_named};
 use lpis_tables::{Class, Classes, TableFault, read_classes};
 use std::alloc::Global;
 use std::io::Read;
+use std::marker::Model;
 
-/// The names of the folders, their tiles, and the classes of all regions.
+/// Names of folders, the tile of each, and the classes of all regions. Contracts see the three
+/// lists.
 #[derive(Drop)]
 pub struct Begun {
-    /// The names, in the order of the plan.
-    pub names: Vec<String>,
-    /// The tile of each.
-    pub tiles: Vec<Box4>,
-    /// The classes.
-    pub classes: Vec<Class>,
+    names: Vec<String>,
+    tiles: Vec<Box4>,
+    classes: Vec<Class>,
+}
+
+impl Model for Begun {
+    ghost use Rattle.std.specs.Prelude.{map};
+    ghost use Rattle.std.specs.String.{string_bytes};
+    ghost use Rattle.lpis_run_country.specs.Beginning.{BegunParts, IsPlanned};
+
+    ghost Value = { BegunParts };
+
+    ghost view = { λ b. record {
+      names = map string_bytes b.names.items;
+      tiles = b.tiles.items;
+      classes = b.classes.items;
+    } };
+
+    ghost invariant = { λ b. IsPlanned (map string_bytes b.names.items) b.tiles.items };
+}
+
+impl Begun {
+    /// What these lists say, with a tile of a tiling for each name.
+    pub fn new(names: Vec<String>, tiles: Vec<Box4>, classes: Vec<Class>) -> Begun
+        requires { IsPlanned (map string_bytes names.items) tiles.items }
+        ensures names { result.names ≡ map string_bytes names.items }
+        ensures tiles { result.tiles ≡ tiles.items }
+        ensures classes { result.classes ≡ classes.items }
+    {
+        Begun {
+            names,
+            tiles,
+            classes,
+        }
+    }
+
+    /// The three lists.
+    pub fn into_parts(self) -> (Vec<String>, Vec<Box4>, Vec<Class>)
+        ensures names { map string_bytes result.0.items ≡ self.names }
+        ensures tiles { result.1.items ≡ self.tiles }
+        ensures classes { result.2.items ≡ self.classes }
+        ensures planned { IsPlanned self.names self.tiles }
+    {
+        (self.names, self.tiles, self.classes)
+    }
 }
 
 /// All bytes of the two files, which are read in this order.
@@ -75,9 +117,5 @@ pub fn begin(alloc: Global, top: Top<Vec<u8>>) -> Result<Begun, Stop>
     let plan = plan_in(alloc, plan)?;
     let classes = classes_in(alloc, classes)?;
     let (names, tiles) = plan.into_parts();
-    Ok(Begun {
-        names,
-        tiles,
-        classes: classes.into_rows(),
-    })
+    Ok(Begun::new(names, tiles, classes.into_rows()))
 }

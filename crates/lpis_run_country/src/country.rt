@@ -1,73 +1,39 @@
 //! The run over the regions of a country.
 
-ghost use Rattle.std.specs.Prelude.{◌≡◌, IfErr, IfOk, List, length, map, ℕ};
-ghost use Rattle.std.specs.String.{string_bytes};
-ghost use Rattle.lpis_release.specs.Release.{Contents};
+ghost use Rattle.std.specs.Prelude.{IfErr, IfOk, List, ℕ};
 ghost use Rattle.lpis_run.specs.Folders.{top_by};
 ghost use Rattle.lpis_run.specs.declared.detail.Detail.{Detail};
-ghost use Rattle.lpis_run_country.specs.CountryAnswer.{Setting};
 ghost use Rattle.lpis_run_country.specs.CountryRun.{RunsCountry};
 ghost use Rattle.lpis_run_country.specs.Regions.{CountryInputs, Texts};
-ghost use Rattle.lpis_run_country.specs.private.Progressing.{RunsBegun, RunsRegions};
-ghost use Rattle.lpis_run_country.specs.Beginning.{IsBegun, IsUnbegun};
-ghost use Rattle.lpis_run_country.specs.private.Progressing.{IsAt, IsFinished};
-ghost use Rattle.lpis_run_country.specs.private.Progressing.{IsStart, IsUnfinished};
-ghost use Rattle.lpis_run_country.specs.private.Totals.{IsPrintable};
+ghost use Rattle.lpis_run_country.specs.Beginning.{IsUnbegun, setting_in};
+ghost use Rattle.lpis_run_country.specs.private.Progressing.{IsFinished, IsUnfinished, RunsBegun};
+ghost use Rattle.lpis_run_country.specs.private.Progressing.{RunsRegions};
+ghost use Rattle.lpis_run_country.specs.private.Totals.{IsPrintable, last_lines};
 
 use crate::beginning::{Begun, begin, read_top};
 use crate::folder::Regions;
 use crate::gathering::Gathered;
 use crate::lines::report_country;
-use crate::passing::pass_regions;
-use crate::progress::Progress;
+use crate::passing::pass_begun;
 use crate::totals::Totals;
-use lpis_country_seam::OpenSeam;
 use lpis_country_seam::laws::a_country_of_joined_regions_is_sound;
 use lpis_run::{Answer, Detail, Failure, Top};
 use std::alloc::Global;
 use std::io::{Read, Write};
 
 /// Writes the line of the country of so many regions, and the yes.
-fn finish<W: Write>(
-    alloc: Global,
-    count: usize,
-    progress: &Progress,
-    out: &mut W,
-) -> Result<u8, Failure>
-    requires { IsPrintable progress.now.totals }
-    ensures finished { (s : Setting) (regions : List Contents) → IsAt s regions progress.now
-        → count ≡ length regions → IfOk result (IsFinished s regions (W.contents out.old)
+fn finish<W: Write>(alloc: Global, count: usize, totals: Totals, out: &mut W) -> Result<u8, Failure>
+    requires { IsPrintable totals }
+    ensures finished { IfOk result (IsFinished (last_lines count totals) (W.contents out.old)
         (W.contents out.new)) }
-    ensures failure { (s : Setting) (regions : List Contents) → IsAt s regions progress.now
-        → count ≡ length regions → IfErr result (IsUnfinished s regions (W.contents out.old)
+    ensures failure { IfErr result (IsUnfinished (last_lines count totals) (W.contents out.old)
         (W.contents out.new)) }
 {
-    let answer = report_country(alloc, count, progress.totals)?;
+    let answer = report_country(alloc, count, totals)?;
     answer.write_to(out)
 }
 
-/// Reads and judges the regions of these names, one after the other.
-fn run_regions<G: Regions, W: Write>(
-    alloc: Global,
-    regions: &G,
-    names: &mut Vec<String>,
-    progress: &mut Progress,
-    detail: Detail,
-    out: &mut W,
-) -> Result<u8, Failure>
-    requires { (s : Setting) × IsStart s (G.texts regions.now) (map string_bytes names.old.items)
-        detail progress.old }
-    ensures { (s : Setting) → IsStart s (G.texts regions.now)
-        (map string_bytes names.old.items) detail progress.old
-        → RunsRegions s (W.contents out.old) (W.contents out.new) result }
-{
-    match pass_regions(alloc, regions, names, progress, detail, out)? {
-        Some(status) => Ok(status),
-        None => finish(alloc, names.len(), progress, out),
-    }
-}
-
-/// The run over the regions of a plan.
+/// Reads and judges the regions of a plan, one after the other.
 fn run_begun<G: Regions, W: Write>(
     alloc: Global,
     regions: &G,
@@ -75,23 +41,16 @@ fn run_begun<G: Regions, W: Write>(
     detail: Detail,
     out: &mut W,
 ) -> Result<u8, Failure>
-    requires { (x : CountryInputs) × IsBegun x begun }
-    ensures { (x : CountryInputs) → IsBegun x begun → RunsBegun (G.texts regions.now) detail x
-        (W.contents out.old) (W.contents out.new) result }
+    ensures { RunsRegions (setting_in (G.texts regions.now) detail begun) (W.contents out.old)
+        (W.contents out.new) result }
 {
-    let Begun {
-        mut names,
-        tiles,
-        classes,
-    } = begun;
-    let mut progress = Progress {
-        seam: OpenSeam::new(alloc, tiles, classes),
-        totals: Totals::none(),
-        gathered: Gathered::Nothing,
-    };
     // What all have passed is a sound map.
     a_country_of_joined_regions_is_sound();
-    run_regions(alloc, regions, &mut names, &mut progress, detail, out)
+    let passing = pass_begun(alloc, regions, begun, Gathered::Nothing, detail, out)?;
+    match passing.refused {
+        Some(status) => Ok(status),
+        None => finish(alloc, passing.names.len(), passing.progress.totals, out),
+    }
 }
 
 /// Writes the answer that refuses a country before its first region.

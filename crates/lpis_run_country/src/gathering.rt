@@ -2,7 +2,7 @@
 
 ghost use Rattle.std.specs.Prelude.{◌≡◌, ◌<◌, ◌++◌, true, List, OnOk, Some, length, slice_get};
 ghost use Rattle.lpis_release.specs.declared.parcel.Parcel.{Parcel};
-ghost use Rattle.lpis_run_country.specs.private.Progressing.{HasGathered, gathers};
+ghost use Rattle.lpis_run_country.specs.private.Progressing.{HasGathered, gathered_in, gathers};
 ghost use Rattle.lpis_run_country.specs.private.Totals.{AreAt, ArePlaces};
 
 use lpis_release::{Parcel, Release, copy_parcel};
@@ -65,7 +65,7 @@ impl Gathered {
     /// The parcels, which are wanted.
     pub(crate) fn into_parcels(self) -> Vec<Parcel>
         requires { gathers self ≡ true }
-        ensures { (ks : List Parcel) → HasGathered ks self → result.items ≡ ks }
+        ensures { result.items ≡ gathered_in self }
     {
         match self {
             Gathered::Parcels(parcels) => parcels,

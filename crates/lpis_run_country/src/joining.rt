@@ -1,22 +1,20 @@
 //! The run over the regions of a country that is to be used in one piece.
 
-ghost use Rattle.std.specs.Prelude.{◌≡◌, IfErr, IfOk, List, length, map, ℕ};
-ghost use Rattle.std.specs.String.{string_bytes};
-ghost use Rattle.lpis_release.specs.Release.{Contents};
-ghost use Rattle.lpis_run_country.specs.CountryAnswer.{Setting};
-ghost use Rattle.lpis_run_country.specs.RegionsOutcome.{IsCountryJoined, IsSettingOf, RegionsJoin};
-ghost use Rattle.lpis_run_country.specs.RegionsOutcome.{RegionsStop};
-ghost use Rattle.lpis_run_country.specs.private.Progressing.{IsEnded};
+ghost use Rattle.std.specs.Prelude.{◌≡◌, true, IfOk, length};
+ghost use Rattle.lpis_country_seam.specs.Joined.{HasEnded};
+ghost use Rattle.lpis_run_country.specs.Beginning.{setting_in};
+ghost use Rattle.lpis_run_country.specs.RegionsOutcome.{JoinsRegions};
+ghost use Rattle.lpis_run_country.specs.private.Progressing.{gathered_in, gathers};
+ghost use Rattle.lpis_run_country.specs.private.Totals.{IsPrintable, last_lines};
 
 use crate::beginning::Begun;
 use crate::folder::Regions;
 use crate::gathering::Gathered;
 use crate::lines::report_country;
-use crate::passing::pass_regions;
+use crate::passing::{Passing, pass_begun};
 use crate::progress::Progress;
-use crate::totals::Totals;
+use lpis_country_seam::Joined;
 use lpis_country_seam::laws::a_country_of_joined_regions_is_sound;
-use lpis_country_seam::{Joined, OpenSeam};
 use lpis_run::{Detail, Failure};
 use std::alloc::{AllocError, Global};
 use std::io::Write;
@@ -42,13 +40,20 @@ pub enum Joining {
 }
 
 /// The country of all regions, which passed.
-fn end(alloc: Global, names: Vec<String>, progress: Progress) -> Result<JoinedCountry, AllocError>
-    requires { (s : Setting) × (regions : List Contents)
-        × IsEnded s regions (map string_bytes names.items) progress }
-    ensures { (s : Setting) (regions : List Contents)
-        → IsEnded s regions (map string_bytes names.items) progress
-        → IfOk result (IsCountryJoined s regions) }
+fn end(alloc: Global, passing: Passing) -> Result<JoinedCountry, AllocError>
+    requires printable { IsPrintable passing.progress.totals }
+    requires wanted { gathers passing.progress.gathered ≡ true }
+    requires ended { HasEnded passing.progress.seam (gathered_in passing.progress.gathered) }
+    ensures names { IfOk result (λ j. j.names ≡ passing.names) }
+    ensures parcels { IfOk result (λ j. j.parcels ≡ gathered_in passing.progress.gathered) }
+    ensures text { IfOk result (λ j. j.text.items
+        ≡ last_lines (length passing.names.items) passing.progress.totals) }
 {
+    let Passing {
+        names,
+        progress,
+        ..
+    } = passing;
     let Progress {
         seam,
         totals,
@@ -74,26 +79,15 @@ pub fn join_regions<G: Regions, W: Write>(
     detail: Detail,
     out: &mut W,
 ) -> Result<Joining, Failure>
-    requires { (s : Setting) × IsSettingOf s (G.texts regions.now) detail begun }
-    ensures joins { (s : Setting) → IsSettingOf s (G.texts regions.now) detail begun
-        → IfOk result (RegionsJoin s (W.contents out.old) (W.contents out.new)) }
-    ensures failure { (s : Setting) → IsSettingOf s (G.texts regions.now) detail begun
-        → IfErr result (RegionsStop s (W.contents out.old) (W.contents out.new)) }
+    ensures { JoinsRegions (setting_in (G.texts regions.now) detail begun) (W.contents out.old)
+        (W.contents out.new) result }
 {
-    let Begun {
-        mut names,
-        tiles,
-        classes,
-    } = begun;
-    let mut progress = Progress {
-        seam: OpenSeam::new(alloc, tiles, classes),
-        totals: Totals::none(),
-        gathered: Gathered::Parcels(Vec::new(alloc)),
-    };
     // The country of what all have passed is their union, and a sound map.
     a_country_of_joined_regions_is_sound();
-    match pass_regions(alloc, regions, &mut names, &mut progress, detail, out)? {
+    let wanted = Gathered::Parcels(Vec::new(alloc));
+    let passing = pass_begun(alloc, regions, begun, wanted, detail, out)?;
+    match passing.refused {
         Some(status) => Ok(Joining::Refused(status)),
-        None => Ok(Joining::Joined(end(alloc, names, progress)?)),
+        None => Ok(Joining::Joined(end(alloc, passing)?)),
     }
 }

@@ -1,15 +1,15 @@
 //! What the next region comes to.
 
-ghost use Rattle.std.specs.Prelude.{◌≡◌, IfErr, IfOk, List, map, ℕ};
-ghost use Rattle.std.specs.String.{string_bytes};
+ghost use Rattle.std.specs.Prelude.{◌≡◌, IfErr, IfOk, List, ℕ};
 ghost use Rattle.lpis_release.specs.Release.{Contents};
 ghost use Rattle.lpis_run.specs.CheckAnswer.{AreRead};
 ghost use Rattle.lpis_run.specs.Inputs.{inputs_of};
 ghost use Rattle.lpis_run_country.specs.CountryAnswer.{Setting};
 ghost use Rattle.lpis_run_country.specs.declared.progress.Progress.{Progress};
-ghost use Rattle.lpis_run_country.specs.private.Progressing.{AreOfRun, AreOfSetting, IsAt, IsReady};
-ghost use Rattle.lpis_run_country.specs.private.Progressing.{IsUnwritten, IsVerdict, IsWritten};
-ghost use Rattle.lpis_run_country.specs.private.Progressing.{gathers};
+ghost use Rattle.lpis_run_country.specs.Regions.{Texts};
+ghost use Rattle.lpis_run_country.specs.private.Progressing.{AfterAny, IsReady, IsUnwritten};
+ghost use Rattle.lpis_run_country.specs.private.Progressing.{IsVerdict, IsWritten, gathers};
+ghost use Rattle.lpis_run_country.specs.private.Progressing.{setting_at};
 
 use crate::folder::{Regions, read_region_files};
 use crate::progress::{Progress, follow};
@@ -28,10 +28,9 @@ fn judge_inputs(
     inputs: Folder<Vec<u8>>,
 ) -> Result<Vec<u8>, Stop>
     requires { IsReady progress.old }
-    ensures verdict { (s : Setting) (before : List Contents) → IsAt s before progress.old
-        → AreOfSetting s (map string_bytes names.now) detail
-        → AreRead (inputs_of inputs) (s.texts name.now).given
-        → IsVerdict s before name.now progress.new result }
+    ensures verdict { (texts : List ℕ → Texts) → AreRead (inputs_of inputs) (texts name.now).given
+        → AfterAny (setting_at texts detail names.now progress.old) progress.old
+        (λ s before. IsVerdict s before name.now progress.new result) }
     ensures wanted { gathers progress.new.gathered ≡ gathers progress.old.gathered }
 {
     match checked_release(alloc, inputs) {
@@ -74,15 +73,13 @@ pub(crate) fn pass<G: Regions, W: Write>(
     out: &mut W,
 ) -> Result<Option<u8>, Failure>
     requires { IsReady progress.old }
-    ensures written { (s : Setting) (before : List Contents) → IsAt s before progress.old
-        → AreOfRun s (G.texts regions.now) (map string_bytes names.now) detail
-        → IfOk result (IsWritten s before name.now progress.new (W.contents out.old)
-        (W.contents out.new)) }
+    ensures written { AfterAny (setting_at (G.texts regions.now) detail names.now progress.old)
+        progress.old (λ s before. IfOk result (IsWritten s before name.now progress.new
+        (W.contents out.old) (W.contents out.new))) }
     ensures wanted { gathers progress.new.gathered ≡ gathers progress.old.gathered }
-    ensures failure { (s : Setting) (before : List Contents) → IsAt s before progress.old
-        → AreOfRun s (G.texts regions.now) (map string_bytes names.now) detail
-        → IfErr result (IsUnwritten s before name.now (W.contents out.old)
-        (W.contents out.new)) }
+    ensures failure { AfterAny (setting_at (G.texts regions.now) detail names.now progress.old)
+        progress.old (λ s before. IfErr result (IsUnwritten s before name.now
+        (W.contents out.old) (W.contents out.new))) }
 {
     let inputs = read_region_files(alloc, regions, name)?;
     let verdict = judge_inputs(alloc, names, name, detail, progress, inputs);

@@ -1,12 +1,10 @@
 //! How far a run over regions has come.
 
-ghost use Rattle.std.specs.Prelude.{◌≡◌, [], ◌∷◌, ◌++◌, List, map};
-ghost use Rattle.std.specs.String.{string_bytes};
+ghost use Rattle.std.specs.Prelude.{◌≡◌, List, ℕ};
 ghost use Rattle.lpis_checker.specs.SoundMap.{AreasAdd};
-ghost use Rattle.lpis_release.specs.Release.{Contents};
-ghost use Rattle.lpis_run_country.specs.CountryAnswer.{Setting};
-ghost use Rattle.lpis_run_country.specs.private.Progressing.{AreOfSetting, FollowsAs, IsAt};
-ghost use Rattle.lpis_run_country.specs.private.Progressing.{IsReady, gathers};
+ghost use Rattle.lpis_run_country.specs.Regions.{Texts};
+ghost use Rattle.lpis_run_country.specs.private.Progressing.{AfterAny, FollowsAs, IsReady};
+ghost use Rattle.lpis_run_country.specs.private.Progressing.{gathers, setting_at};
 
 use crate::gathering::Gathered;
 use crate::lines::report_region;
@@ -39,9 +37,9 @@ pub(crate) fn follow(
 ) -> Result<Vec<u8>, Stop>
     requires ready { IsReady progress.old }
     requires areas { AreasAdd release.now }
-    ensures follows { (s : Setting) (before : List Contents) → IsAt s before progress.old
-        → AreOfSetting s (map string_bytes names.now) detail
-        → FollowsAs s before name.now release.now progress.new result }
+    ensures follows { (texts : List ℕ → Texts)
+        → AfterAny (setting_at texts detail names.now progress.old) progress.old
+        (λ s before. FollowsAs s before name.now release.now progress.new result) }
     ensures wanted { gathers progress.new.gathered ≡ gathers progress.old.gathered }
 {
     is_region(release);

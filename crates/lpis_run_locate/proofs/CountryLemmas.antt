@@ -1,8 +1,10 @@
 -- The search through the regions of a plan, as that in a country.
-use Rattle.std.proofs.Common.{◌≡◌, ◌⊎◌, ◌∙◌, ◌∷◌, [], refl, sym, ap, subst, arith, inl, inr, IfErr, IfOk, OnOk, ℕ, List, None, Some, Result, Err, length, map}
-use Rattle.std.proofs.lemmas.List.{append-nil, length-map}
+use Rattle.std.proofs.Common.{◌≡◌, ◌⊎◌, ◌∙◌, ◌∷◌, [], sym, ap, subst, arith, inl, inr, IfErr, IfOk, OnOk, ℕ, List, None, Some, String, Result, Err, length, map}
+use Rattle.std.proofs.lemmas.List.{append-nil}
 use Rattle.std.specs.Io.KnownBytes.{Appends}
 use Rattle.std.specs.String.{string_bytes}
+use Rattle.std.specs.declared.alloc.Global.{Global}
+use Rattle.lpis_points.specs.declared.boxes.Box4.{Box4}
 use Rattle.lpis_tables.specs.Classes.{classes_table}
 use Rattle.lpis_tables.specs.Faults.{rows_of}
 use Rattle.lpis_tables.specs.declared.class.Class.{Class}
@@ -28,13 +30,12 @@ use Rattle.lpis_country.specs.Union.{IsUnion}
 use Rattle.lpis_country.specs.Tree.{folders}
 use Rattle.lpis_country_seam.specs.Laws.{JoinedCountryIsSound, JoinedCountryIsUnion}
 use Rattle.lpis_country_seam.specs.Open.{IsSeamOf}
-use Rattle.lpis_run_country.specs.Beginning.{IsBegun, IsUnbegun}
-use Rattle.lpis_run_country.specs.declared.beginning.Begun.{Begun}
+use Rattle.lpis_run_country.specs.Beginning.{BegunParts, IsBegun, IsPlanned, IsUnbegun}
 use Rattle.lpis_run.specs.declared.failure.Failure.{Failure}
 use Rattle.lpis_run_country.specs.CountryAnswer.{BehindRegions, IsRefusedRegion, Setting, setting_of}
 use Rattle.lpis_run_country.specs.CountryFailures.{StopsCountry}
 use Rattle.lpis_run_country.specs.Regions.{AreCountryRead, AreUnited, Texts}
-use Rattle.lpis_run_country.proofs.Shared.{passed_length, passed_regions, passed_sound, unbegun_no}
+use Rattle.lpis_run_country.proofs.Shared.{passed_length, passed_regions, passed_sound, setting_begun, unbegun_no}
 use Rattle.lpis_places.specs.Points.{points_of}
 use Rattle.lpis_run_locate.specs.LocateAnswer.{ArePointsRead, IsPointsAnswer, points_named}
 use Rattle.lpis_run_locate.specs.declared.points_in.PointsIn.{PointsIn}
@@ -43,28 +44,34 @@ use Rattle.lpis_run_locate.specs.LocateCountryAnswer.{AnswersLocateCountry, IsLo
 use Rattle.lpis_run_locate.specs.private.LocateRuns.{LocateCountryInputs}
 use Rattle.lpis_run.specs.Run.{OfRead}
 use Rattle.lpis_run_locate.specs.private.Found.{IsSearched}
-use Rattle.lpis_run_locate.specs.private.Searching.{IsOutcome, IsStart, IsStopped, IsUnanswered}
+use Rattle.lpis_run_locate.specs.private.Searching.{IsOutcome, IsStart, IsStopped, IsUnanswered, setting_at}
+use Rattle.lpis_run_locate.proofs.PassingLemmas.{setting_begins}
 
--- the setting of what was begun
-pub begun_setting : (List ℕ → Texts) → (x : LocateCountryInputs) (b : Begun) → IsBegun x.files b → Setting
-begun_setting texts x b begun = setting_of texts Regions begun.plan b.classes.items
+-- the setting of the plan and the classes of what was begun
+abbrev pub plan_setting : (List ℕ → Texts) → (x : LocateCountryInputs) (b : BegunParts) → IsBegun x.files b → Setting
+plan_setting texts x b begun = setting_of texts Regions begun.plan b.classes
 
 -- a search through its regions can start
-pub starts : (texts : List ℕ → Texts) (x : LocateCountryInputs) (b : Begun) (p : Progress) (begun : IsBegun x.files b) → IsSeamOf b.tiles.items b.classes.items [] p.seam
-    → IsSearched x.points [] p.sought → IsStart (begun_setting texts x b begun) texts x.points (map string_bytes b.names.items) p
-unfolding begun_setting
-starts texts x b p begun seam search = record {
-  at = record { seam = subst (λ tiles. IsSeamOf tiles b.classes.items [] p.seam) begun.tiles_are seam; sought = search };
-  texts_are = refl;
-  names_are = sym begun.names_are;
-  as_many = length-map b.names.items string_bytes ∙ begun.as_many ∙ ap length begun.tiles_are;
+pub starts : (texts : List ℕ → Texts) (table : List ℕ) (b : BegunParts) (names : List (String Global)) (tiles : List Box4) (classes : List Class) (p : Progress) → map string_bytes names ≡ b.names
+    → tiles ≡ b.tiles → IsPlanned b.names b.tiles → IsSeamOf tiles classes [] p.seam → IsSearched table [] p.sought → IsStart (setting_at texts names p) table p
+starts texts table b names tiles classes p names_are tiles_are planned seam searched = record {
+  at = record {
+    seam = subst (λ ts. IsSeamOf ts p.seam.classes.items [] p.seam) (sym seam.tiles_are) (subst (λ ks. IsSeamOf tiles ks [] p.seam) (sym seam.classes_are) seam);
+    sought = searched;
+  };
+  as_many = ap length names_are ∙ planned.as_many ∙ sym (ap length (seam.tiles_are ∙ tiles_are));
 }
+
+-- its setting is that of the plan
+pub begins : (texts : List ℕ → Texts) (x : LocateCountryInputs) (b : BegunParts) (begun : IsBegun x.files b) (names : List (String Global)) (tiles : List Box4) (classes : List Class) (p : Progress)
+    → map string_bytes names ≡ b.names → tiles ≡ b.tiles → classes ≡ b.classes → IsSeamOf tiles classes [] p.seam → setting_at texts names p ≡ plan_setting texts x b begun
+begins texts x b begun names tiles classes p names_are tiles_are classes_are seam =
+    setting_begins texts b names tiles classes p names_are tiles_are classes_are seam ∙ setting_begun texts Regions x.files b begun
 
 -- ---- the answer
 -- the answer to the regions is that to the country
-whole-answer : (texts : List ℕ → Texts) (x : LocateCountryInputs) (b : Begun) (begun : IsBegun x.files b) (lines : List ℕ) (a : TextStatus)
-    → BehindRegions (begun_setting texts x b begun) (λ regions. IsPointsAnswer (country_of b.classes.items regions) (points_of x.points)) lines a → IsLocateCountryAnswer texts x a
-unfolding begun_setting
+whole-answer : (texts : List ℕ → Texts) (x : LocateCountryInputs) (b : BegunParts) (begun : IsBegun x.files b) (lines : List ℕ) (a : TextStatus)
+    → BehindRegions (plan_setting texts x b begun) (λ regions. IsPointsAnswer (country_of b.classes regions) (points_of x.points)) lines a → IsLocateCountryAnswer texts x a
 whole-answer texts x b begun lines a h = inr (
   begun.plan,
   begun.text,
@@ -81,38 +88,35 @@ refused-no s before name text status (x, told, inr (r, said, (fault, first, is))
     one-is-not-done n one zero = omega arith
 
 -- the answer to a region that is refused is that to the country
-pub refused_answer : (texts : List ℕ → Texts) (x : LocateCountryInputs) (b : Begun) (begun : IsBegun x.files b) (p : Progress) (a : Answer)
-    → IsOutcome (begun_setting texts x b begun) x.points p (Some a) → AnswersLocateCountry texts x (a.text.items, a.status)
+pub refused_answer : (texts : List ℕ → Texts) (x : LocateCountryInputs) (b : BegunParts) (begun : IsBegun x.files b) (p : Progress) (a : Answer)
+    → IsOutcome (plan_setting texts x b begun) x.points p (Some a) → AnswersLocateCountry texts x (a.text.items, a.status)
 refused_answer texts x b begun p a (regions, lines, name, left, reached, refusal) = record {
   answer = whole-answer texts x b begun lines (a.text.items, a.status) (record { regions = regions; left = name ∷ left; reached = reached; follows = refusal });
-  located = λ e. absurd (refused-no (begun_setting texts x b begun) regions name a.text.items a.status refusal e);
+  located = λ e. absurd (refused-no (plan_setting texts x b begun) regions name a.text.items a.status refusal e);
 }
 
 -- all regions make up their union
-pub all_unite : (texts : List ℕ → Texts) (x : LocateCountryInputs) (b : Begun) (begun : IsBegun x.files b) (p : Progress) → JoinedCountryIsUnion
-    → (out : IsOutcome (begun_setting texts x b begun) x.points p None) → IsUnion out.0 (country_of b.classes.items out.0)
-unfolding begun_setting
-all_unite texts x b begun p unites (all, passed, at) = unites (rectangles begun.plan frame) b.classes.items all at.seam.joined
+pub all_unite : (texts : List ℕ → Texts) (x : LocateCountryInputs) (b : BegunParts) (begun : IsBegun x.files b) (p : Progress) → JoinedCountryIsUnion
+    → (out : IsOutcome (plan_setting texts x b begun) x.points p None) → IsUnion out.0 (country_of b.classes out.0)
+all_unite texts x b begun p unites (all, passed, at) = unites (rectangles begun.plan frame) b.classes all at.seam.joined
 
 -- and a country that is a sound map
-all-country : (texts : List ℕ → Texts) (x : LocateCountryInputs) (b : Begun) (begun : IsBegun x.files b) (p : Progress) → JoinedCountryIsSound → JoinedCountryIsUnion
-    → (out : IsOutcome (begun_setting texts x b begun) x.points p None) → AreUnited texts begun.plan b.classes.items out.0
-unfolding begun_setting
-all-country texts x b begun p law unites (all, (lines, passed), at) =
-    let s = setting_of texts Regions begun.plan b.classes.items in
+all-country : (texts : List ℕ → Texts) (x : LocateCountryInputs) (b : BegunParts) (begun : IsBegun x.files b) (p : Progress) → JoinedCountryIsSound → JoinedCountryIsUnion → IsPlanned b.names b.tiles
+    → (out : IsOutcome (plan_setting texts x b begun) x.points p None) → AreUnited texts begun.plan b.classes out.0
+all-country texts x b begun p law unites planned (all, (lines, passed), at) =
+    let s = setting_of texts Regions begun.plan b.classes in
     let tiling = begun.plan in
-    let long = sym (passed_length s (folders begun.plan) all lines passed) ∙ ap length (sym begun.names_are) ∙ length-map b.names.items string_bytes ∙ begun.as_many ∙ ap length begun.tiles_are in
+    let long = sym (passed_length s (folders begun.plan) all lines passed) ∙ ap length (sym begun.names_are) ∙ planned.as_many ∙ ap length begun.tiles_are in
     record {
       of_folders = passed_regions s (folders begun.plan) all lines passed;
       same = at.seam.joined.classes_are;
-      union = unites (rectangles tiling frame) b.classes.items all at.seam.joined;
-      sound = law tiling b.classes.items all at.seam.joined (passed_sound s (folders begun.plan) all lines passed) long;
+      union = unites (rectangles tiling frame) b.classes all at.seam.joined;
+      sound = law tiling b.classes all at.seam.joined (passed_sound s (folders begun.plan) all lines passed) long;
     }
 
 -- the answer to the points in their union is that to the country
-points-answer : (texts : List ℕ → Texts) (x : LocateCountryInputs) (b : Begun) (begun : IsBegun x.files b) (p : Progress) (a : TextStatus)
-    → (out : IsOutcome (begun_setting texts x b begun) x.points p None) → IsPointsAnswer (country_of b.classes.items out.0) (points_of x.points) a → IsLocateCountryAnswer texts x a
-unfolding begun_setting
+points-answer : (texts : List ℕ → Texts) (x : LocateCountryInputs) (b : BegunParts) (begun : IsBegun x.files b) (p : Progress) (a : TextStatus)
+    → (out : IsOutcome (plan_setting texts x b begun) x.points p None) → IsPointsAnswer (country_of b.classes out.0) (points_of x.points) a → IsLocateCountryAnswer texts x a
 points-answer texts x b begun p a (all, (lines, passed), at) said =
     whole-answer texts x b begun lines a (record {
       regions = all;
@@ -122,21 +126,20 @@ points-answer texts x b begun p a (all, (lines, passed), at) said =
     })
 
 -- where it is a yes, each point has the line of its own place in that country
-pub located : (texts : List ℕ → Texts) (x : LocateCountryInputs) (b : Begun) (begun : IsBegun x.files b) (p : Progress) (a : TextStatus) → JoinedCountryIsSound → JoinedCountryIsUnion
-    → (out : IsOutcome (begun_setting texts x b begun) x.points p None) → IsPointsAnswer (country_of b.classes.items out.0) (points_of x.points) a → AnswersLocateCountry texts x a
-located texts x b begun p a law unites out said = record {
+pub located : (texts : List ℕ → Texts) (x : LocateCountryInputs) (b : BegunParts) (begun : IsBegun x.files b) (p : Progress) (a : TextStatus) → JoinedCountryIsSound → JoinedCountryIsUnion
+    → IsPlanned b.names b.tiles → (out : IsOutcome (plan_setting texts x b begun) x.points p None) → IsPointsAnswer (country_of b.classes out.0) (points_of x.points) a → AnswersLocateCountry texts x a
+located texts x b begun p a law unites planned out said = record {
   answer = points-answer texts x b begun p a out said;
   located = λ e. (
-    record { plan = begun.plan; text = begun.text; classes = b.classes.items; table = begun.table; regions = out.0; united = all-country texts x b begun p law unites out },
+    record { plan = begun.plan; text = begun.text; classes = b.classes; table = begun.table; regions = out.0; united = all-country texts x b begun p law unites planned out },
     said,
   );
 }
 
 -- ---- no answer
 -- a search that is stopped gives no answer to the country
-pub stopped : (texts : List ℕ → Texts) (x : LocateCountryInputs) (b : Begun) (begun : IsBegun x.files b) (f : Failure) → IsStopped (begun_setting texts x b begun) f → IsUnanswered texts x f
-unfolding begun_setting
-stopped texts x b begun f (regions, lines, left, reached, stop) = inr (lines, (begun.plan, b.classes.items, begun.text, begun.table, (regions, left, reached, stop)))
+pub stopped : (texts : List ℕ → Texts) (x : LocateCountryInputs) (b : BegunParts) (begun : IsBegun x.files b) (f : Failure) → IsStopped (plan_setting texts x b begun) f → IsUnanswered texts x f
+stopped texts x b begun f (regions, lines, left, reached, stop) = inr (lines, (begun.plan, b.classes, begun.text, begun.table, (regions, left, reached, stop)))
 
 -- ---- before the first region
 -- an answer to inputs that have a fault before the first region is one to the country

@@ -1,6 +1,10 @@
 -- How a search through regions goes on.
-use Rattle.std.proofs.Common.{◌≡◌, ◌<◌, ◌≤◌, ◌∙◌, ◌++◌, ◌∷◌, ◌+◌, [], refl, sym, ap, subst, arith, inr, ℕ, List, None, Some, drop, get_or, length, map}
-use Rattle.std.proofs.lemmas.List.{drop_more, length-append, length-map, take_all}
+use Rattle.std.proofs.Common.{◌≡◌, ◌<◌, ◌≤◌, ◌∙◌, ◌++◌, ◌∷◌, ◌+◌, [], refl, ap, ap₂, subst, arith, inr, ℕ, List, None, Some, String, drop, get_or, length, map}
+use Rattle.std.proofs.lemmas.List.{drop_more, length-append, take_all}
+use Rattle.std.specs.String.{string_bytes}
+use Rattle.std.specs.declared.alloc.Global.{Global}
+use Rattle.lpis_points.specs.declared.boxes.Box4.{Box4}
+use Rattle.lpis_tables.specs.declared.class.Class.{Class}
 use Rattle.lpis_release.specs.Release.{Contents}
 use Rattle.lpis_run.proofs.Shared.{refused-more}
 use Rattle.lpis_run.specs.CheckAnswer.{AreRead, Inputs, IsProvedOf}
@@ -9,6 +13,9 @@ use Rattle.lpis_run.specs.declared.answer.Answer.{Answer as Printed}
 use Rattle.lpis_run.specs.declared.stop.Stop.{Stop}
 use Rattle.lpis_run.specs.declared.stop.Stop.TheVariants.{Refused}
 use Rattle.lpis_run.specs.declared.failure.Failure.{Failure}
+use Rattle.lpis_run.specs.declared.detail.Detail.TheVariants.{Regions}
+use Rattle.lpis_country_seam.specs.Open.{IsSeamOf}
+use Rattle.lpis_run_country.specs.Beginning.{BegunParts, setting_in}
 use Rattle.lpis_run_country.specs.CountryAnswer.{HavePassed, IsMisfit, None as NonePassed, IsReachedBy, IsRefusedRegion, Setting}
 use Rattle.lpis_run_country.specs.CountryFailures.{IsStoppedBefore}
 use Rattle.lpis_run_country.specs.CountryLines.{region_report}
@@ -16,7 +23,8 @@ use Rattle.lpis_run_country.specs.Regions.{Texts}
 use Rattle.lpis_run_country.proofs.Shared.{passed_more, reached_by}
 use Rattle.lpis_country.specs.Country.{country_of}
 use Rattle.lpis_run_locate.specs.declared.progress.Progress.{Progress}
-use Rattle.lpis_run_locate.specs.private.Searching.{Follows, HasPassed, IsHere, IsOutcome, IsReady, IsStart, IsStopped, IsVerdict}
+use Rattle.lpis_run_locate.specs.private.Found.{IsSearched}
+use Rattle.lpis_run_locate.specs.private.Searching.{Follows, HasPassed, IsAt, IsHere, IsOutcome, IsReady, IsStart, IsStopped, IsVerdict, setting_at}
 
 -- ---- the verdict
 -- on a region that is a sound map and fits those before it
@@ -41,12 +49,16 @@ next-there : (next before n tiles names items : ℕ) → next ≡ before → bef
 next-there next before n tiles names items a b c d lt = omega arith
 
 -- at the start no region has passed
-pub begun_here : (s : Setting) (texts : List ℕ → Texts) (table : List ℕ) (names : List (List ℕ)) (p : Progress) → IsStart s texts table names p → IsHere s table p 0
-begun_here s texts table names p start = record { before = []; lines = []; have_passed = NonePassed; at = start.at; number = refl }
+pub begun_here : (s : Setting) (table : List ℕ) (p : Progress) → IsStart s table p → IsHere s table p 0
+begun_here s table p start = record { before = []; lines = []; have_passed = NonePassed; at = start.at; number = refl }
+
+-- so it is with another table of points
+pub started : (s : Setting) (table other : List ℕ) (p : Progress) → IsStart s table p → IsSearched other [] p.sought → IsStart s other p
+started s table other p start searched = record { at = record { seam = start.at.seam; sought = searched }; as_many = start.as_many }
 
 -- the next region can be read
-pub ready : (s : Setting) (texts : List ℕ → Texts) (table : List ℕ) (names : List (List ℕ)) (p q : Progress) (n : ℕ) → IsStart s texts table names p → IsHere s table q n → n < length names → IsReady q
-ready s texts table names p q n start here lt = record {
+pub ready : (s : Setting) (table : List ℕ) (p q : Progress) (n : ℕ) → IsStart s table p → IsHere s table q n → n < length s.names → IsReady q
+ready s table p q n start here lt = record {
   setting = s;
   table = table;
   before = here.before;
@@ -54,45 +66,48 @@ ready s texts table names p q n start here lt = record {
   next = next-there _ _ _ _ _ _ here.at.seam.number here.number (ap length here.at.seam.tiles_are) start.as_many lt;
 }
 
--- ---- going on
--- over a list that stayed as it was the next index and its name are those of the setting
-pub next_region : {A : Type 0} (s : Setting) (bytes : A → List ℕ) (xs ys : List A) (n : ℕ) → xs ≡ ys → n < length ys → s.names ≡ map bytes ys
-    → (s.names ≡ map bytes xs) × (n < length s.names) × (get_or (map bytes xs) n [] ≡ get_or s.names n [])
-next_region s bytes xs ys n same lt are =
-    let names = are ∙ sym (ap (map bytes) same) in (names, omega (arith, ap length are, length-map ys bytes, lt), ap (λ ks. get_or ks n []) (sym names))
+-- ---- the setting
+-- it stays the same as regions pass
+pub setting_stays : (texts : List ℕ → Texts) (table : List ℕ) (xs ys : List (String Global)) (p q : Progress) (before : List Contents) → xs ≡ ys → IsAt (setting_at texts ys p) table before q
+    → setting_at texts xs q ≡ setting_at texts ys p
+setting_stays texts table xs ys p q before same at =
+    ap (λ ks. setting_at texts ks q) same
+    ∙ ap₂ (λ (ts : List Box4) (ks : List Class). setting_in texts Regions (record { names = map string_bytes ys; tiles = ts; classes = ks })) at.seam.tiles_are at.seam.classes_are
 
+-- it begins as that of what was begun
+pub setting_begins : (texts : List ℕ → Texts) (b : BegunParts) (names : List (String Global)) (tiles : List Box4) (classes : List Class) (p : Progress) → map string_bytes names ≡ b.names
+    → tiles ≡ b.tiles → classes ≡ b.classes → IsSeamOf tiles classes [] p.seam → setting_at texts names p ≡ setting_in texts Regions b
+setting_begins texts b names tiles classes p names_are tiles_are classes_are seam =
+    ap (λ (ns : List (List ℕ)). setting_in texts Regions (record { names = ns; tiles = p.seam.tiles.items; classes = p.seam.classes.items })) names_are
+    ∙ ap₂ (λ (ts : List Box4) (ks : List Class). setting_in texts Regions (record { names = b.names; tiles = ts; classes = ks })) (seam.tiles_are ∙ tiles_are) (seam.classes_are ∙ classes_are)
+
+-- ---- going on
 -- a region more
-pub goes_on : (s : Setting) (table : List ℕ) (p q : Progress) (n : ℕ) (name : List ℕ) (here : IsHere s table p n) → n < length s.names → name ≡ get_or s.names n []
-    → IsVerdict s table here.before name q None → IsHere s table q (n + 1)
-goes_on s table p q n name here lt is (r, passes, at) = record {
+pub goes_on : (s : Setting) (table : List ℕ) (p q : Progress) (n : ℕ) (here : IsHere s table p n) → n < length s.names → IsVerdict s table here.before (get_or s.names n []) q None
+    → IsHere s table q (n + 1)
+goes_on s table p q n here lt (r, passes, at) = record {
   before = here.before ++ r ∷ [];
-  lines = here.lines ++ region_report s.detail (country_of s.classes here.before) name r;
-  have_passed = passed_more s n here.before here.lines name r lt is here.have_passed passes;
+  lines = here.lines ++ region_report s.detail (country_of s.classes here.before) (get_or s.names n []) r;
+  have_passed = passed_more s n here.before here.lines (get_or s.names n []) r lt refl here.have_passed passes;
   at = at;
   number = length-append here.before (r ∷ []) ∙ ap (λ (k : ℕ). k + 1) here.number;
 }
 
 -- what is left behind the regions that passed
-left-of : (s : Setting) (table : List ℕ) (p : Progress) (n : ℕ) (name : List ℕ) (here : IsHere s table p n) → n < length s.names → name ≡ get_or s.names n []
-    → IsReachedBy s here.before here.lines (name ∷ drop (n + 1) s.names)
-left-of s table p n name here lt is =
-    subst (IsReachedBy s here.before here.lines) (drop_more s.names n [] lt ∙ ap (λ (x : List ℕ). x ∷ drop (n + 1) s.names) (sym is)) (reached_by s n here.before here.lines here.have_passed)
+left-of : (s : Setting) (table : List ℕ) (p : Progress) (n : ℕ) (here : IsHere s table p n) → n < length s.names
+    → IsReachedBy s here.before here.lines (get_or s.names n [] ∷ drop (n + 1) s.names)
+left-of s table p n here lt = subst (IsReachedBy s here.before here.lines) (drop_more s.names n [] lt) (reached_by s n here.before here.lines here.have_passed)
 
 -- the next region is refused
-pub is_refused : (s : Setting) (table : List ℕ) (p q : Progress) (n : ℕ) (name : List ℕ) (a : Printed) (here : IsHere s table p n) → n < length s.names → name ≡ get_or s.names n []
-    → IsVerdict s table here.before name q (Some a) → IsOutcome s table q (Some a)
-is_refused s table p q n name a here lt is refusal = (here.before, here.lines, name, drop (n + 1) s.names, left-of s table p n name here lt is, refusal)
+pub is_refused : (s : Setting) (table : List ℕ) (p q : Progress) (n : ℕ) (a : Printed) (here : IsHere s table p n) → n < length s.names
+    → IsVerdict s table here.before (get_or s.names n []) q (Some a) → IsOutcome s table q (Some a)
+is_refused s table p q n a here lt refusal = (here.before, here.lines, get_or s.names n [], drop (n + 1) s.names, left-of s table p n here lt, refusal)
 
 -- the next region is not read
-pub is_stopped_at : (s : Setting) (texts : List ℕ → Texts) (table : List ℕ) (p : Progress) (n : ℕ) (name : List ℕ) (f : Failure) (here : IsHere s table p n) → s.texts ≡ texts
-    → n < length s.names → name ≡ get_or s.names n [] → ((left : List (List ℕ)) → IsStoppedBefore texts (name ∷ left) f) → IsStopped s f
-is_stopped_at s texts table p n name f here same lt is stopped = (
-  here.before,
-  here.lines,
-  name ∷ drop (n + 1) s.names,
-  left-of s table p n name here lt is,
-  subst (λ (ts : List ℕ → Texts). IsStoppedBefore ts (name ∷ drop (n + 1) s.names) f) (sym same) (stopped (drop (n + 1) s.names)),
-)
+pub is_stopped_at : (s : Setting) (table : List ℕ) (p : Progress) (n : ℕ) (f : Failure) → IsHere s table p n → n < length s.names
+    → ((left : List (List ℕ)) → IsStoppedBefore s.texts (get_or s.names n [] ∷ left) f) → IsStopped s f
+is_stopped_at s table p n f here lt stopped =
+    (here.before, here.lines, get_or s.names n [] ∷ drop (n + 1) s.names, left-of s table p n here lt, stopped (drop (n + 1) s.names))
 
 -- where as many regions passed as there are folders, those of all folders passed
 pub all_passed : (s : Setting) (table : List ℕ) (p : Progress) (n : ℕ) → IsHere s table p n → length s.names ≤ n → IsOutcome s table p None
@@ -101,9 +116,3 @@ all_passed s table p n here past = (
   (here.lines, subst (λ (ks : List (List ℕ)). HavePassed s ks here.before here.lines) (take_all n s.names past) here.have_passed),
   here.at,
 )
-
--- what was read of a folder is that of the folder of an equal name, by equal texts
-pub same_folder : (x : Inputs) (s : Setting) (texts : List ℕ → Texts) (name other : List ℕ) → s.texts ≡ texts → other ≡ name → AreRead x (texts name).given
-    → AreRead x (s.texts other).given
-same_folder x s texts name other same is told =
-    subst (λ (ts : List ℕ → Texts). AreRead x (ts other).given) (sym same) (subst (λ (n : List ℕ). AreRead x (texts n).given) (sym is) told)

@@ -1,14 +1,14 @@
 //! How far a search through regions has come.
 
-ghost use Rattle.std.specs.Prelude.{◌≡◌, IfErr, IfOk, List, map, ℕ};
-ghost use Rattle.std.specs.String.{string_bytes};
+ghost use Rattle.std.specs.Prelude.{IfErr, IfOk, List, ℕ};
 ghost use Rattle.lpis_checker.specs.SoundMap.{IsSoundMap};
 ghost use Rattle.lpis_run.specs.CheckAnswer.{AreRead};
 ghost use Rattle.lpis_run.specs.Inputs.{inputs_of};
 ghost use Rattle.lpis_run.specs.Stops.{IsRefusedAs};
-ghost use Rattle.lpis_run_country.specs.CountryAnswer.{IsMisfit, IsRefusedRegion, Setting};
-ghost use Rattle.lpis_release.specs.Release.{Contents};
-ghost use Rattle.lpis_run_locate.specs.private.Searching.{Follows, HasPassed, IsAt, IsReady};
+ghost use Rattle.lpis_run_country.specs.CountryAnswer.{IsMisfit, IsRefusedRegion};
+ghost use Rattle.lpis_run_country.specs.Regions.{Texts};
+ghost use Rattle.lpis_run_locate.specs.private.Searching.{AfterAny, Follows, HasPassed, IsReady};
+ghost use Rattle.lpis_run_locate.specs.private.Searching.{setting_at};
 
 use crate::search::{Sought, search_in};
 use lpis_country_seam::OpenSeam;
@@ -35,12 +35,12 @@ fn follow(
 ) -> Result<(), Stop>
     requires ready { IsReady progress.old }
     requires sound { IsSoundMap release.now }
-    ensures follows { (s : Setting) (table : List ℕ) (before : List Contents)
-        → IsAt s table before progress.old
-        → IfOk result (λ _. Follows s table before release.now progress.new) }
-    ensures refused { (s : Setting) (table : List ℕ) (before : List Contents)
-        → IsAt s table before progress.old → s.names ≡ map string_bytes names.now
-        → IfErr result (IsRefusedAs (IsMisfit s before name.now release.now)) }
+    ensures follows { (texts : List ℕ → Texts)
+        → AfterAny (setting_at texts names.now progress.old) progress.old (λ s table before.
+        IfOk result (λ _. Follows s table before release.now progress.new)) }
+    ensures refused { (texts : List ℕ → Texts)
+        → AfterAny (setting_at texts names.now progress.old) progress.old (λ s table before.
+        IfErr result (IsRefusedAs (IsMisfit s before name.now release.now))) }
 {
     match progress.seam.step(alloc, release) {
         Ok(_places) => {
@@ -61,13 +61,12 @@ pub(crate) fn judge_inputs(
     inputs: Folder<Vec<u8>>,
 ) -> Result<(), Stop>
     requires { IsReady progress.old }
-    ensures passed { (s : Setting) (table : List ℕ) (before : List Contents)
-        → IsAt s table before progress.old → AreRead (inputs_of inputs) (s.texts name.now).given
-        → IfOk result (λ _. HasPassed s table before name.now progress.new) }
-    ensures refused { (s : Setting) (table : List ℕ) (before : List Contents)
-        → IsAt s table before progress.old → s.names ≡ map string_bytes names.now
-        → AreRead (inputs_of inputs) (s.texts name.now).given
-        → IfErr result (IsRefusedAs (IsRefusedRegion s before name.now)) }
+    ensures passed { (texts : List ℕ → Texts) → AreRead (inputs_of inputs) (texts name.now).given
+        → AfterAny (setting_at texts names.now progress.old) progress.old (λ s table before.
+        IfOk result (λ _. HasPassed s table before name.now progress.new)) }
+    ensures refused { (texts : List ℕ → Texts) → AreRead (inputs_of inputs) (texts name.now).given
+        → AfterAny (setting_at texts names.now progress.old) progress.old (λ s table before.
+        IfErr result (IsRefusedAs (IsRefusedRegion s before name.now))) }
 {
     match checked_release(alloc, inputs) {
         Ok(release) => follow(alloc, names, name, progress, &release),

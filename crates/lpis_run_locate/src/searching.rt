@@ -4,14 +4,13 @@ ghost use Rattle.std.specs.Prelude.{◌≡◌, ◌<◌, ◌∷◌, [], IfErr, If
 ghost use Rattle.std.specs.Prelude.{map, ℕ};
 ghost use Rattle.std.specs.String.{string_bytes};
 ghost use Rattle.lpis_run_country.specs.Beginning.{IsBegun};
-ghost use Rattle.lpis_run_country.specs.CountryAnswer.{Setting};
 ghost use Rattle.lpis_run_country.specs.CountryFailures.{IsStoppedBefore};
-ghost use Rattle.lpis_release.specs.Release.{Contents};
 ghost use Rattle.lpis_run_locate.specs.LocateCountryAnswer.{AnswersLocateCountry};
 ghost use Rattle.lpis_run_locate.specs.private.LocateRuns.{LocateCountryInputs};
 ghost use Rattle.lpis_run_locate.specs.private.Found.{IsSearched};
-ghost use Rattle.lpis_run_locate.specs.private.Searching.{IsAt, IsOutcome, IsReady, IsStart};
+ghost use Rattle.lpis_run_locate.specs.private.Searching.{AfterAny, IsOutcome, IsReady, IsStart};
 ghost use Rattle.lpis_run_locate.specs.private.Searching.{IsStopped, IsUnanswered, IsVerdict};
+ghost use Rattle.lpis_run_locate.specs.private.Searching.{setting_at};
 
 use crate::progress::{Progress, judge_inputs};
 use crate::search::{Sought, report_search};
@@ -33,10 +32,9 @@ fn judge_at<G: Regions>(
     requires inside { index < length names.old.items }
     requires ready { IsReady progress.old }
     ensures names { OnOk result (names.new.items ≡ names.old.items) }
-    ensures verdict { (s : Setting) (table : List ℕ) (before : List Contents)
-        → IsAt s table before progress.old → s.texts ≡ G.texts regions.now
-        → s.names ≡ map string_bytes names.old.items → IfOk result (IsVerdict s table before
-        (get_or (map string_bytes names.old.items) index []) progress.new) }
+    ensures verdict { AfterAny (setting_at (G.texts regions.now) names.old.items progress.old)
+        progress.old (λ s table before. IfOk result
+        (IsVerdict s table before (get_or s.names index []) progress.new)) }
     ensures failure { (left : List (List ℕ)) → IfErr result (IsStoppedBefore (G.texts regions.now)
         (get_or (map string_bytes names.old.items) index [] ∷ left)) }
 {
@@ -62,13 +60,13 @@ fn judge_regions<G: Regions>(
     names: &mut Vec<String>,
     progress: &mut Progress,
 ) -> Result<Option<Answer>, Failure>
-    requires { (s : Setting) × (table : List ℕ) × IsStart s (G.texts regions.now) table
-        (map string_bytes names.old.items) progress.old }
-    ensures outcome { (s : Setting) (table : List ℕ) → IsStart s (G.texts regions.now) table
-        (map string_bytes names.old.items) progress.old
-        → IfOk result (IsOutcome s table progress.new) }
-    ensures failure { (s : Setting) (table : List ℕ) → IsStart s (G.texts regions.now) table
-        (map string_bytes names.old.items) progress.old → IfErr result (IsStopped s) }
+    requires { (table : List ℕ) × IsStart
+        (setting_at (G.texts regions.now) names.old.items progress.old) table progress.old }
+    ensures outcome { (table : List ℕ) → IsSearched table [] progress.old.sought → IfOk result
+        (IsOutcome (setting_at (G.texts regions.now) names.old.items progress.old) table
+        progress.new) }
+    ensures failure { IfErr result (IsStopped
+        (setting_at (G.texts regions.now) names.old.items progress.old)) }
 {
     for index in 0..names.len() {
         match judge_at(alloc, regions, names, index, progress)? {
@@ -86,7 +84,7 @@ pub(crate) fn search_regions<G: Regions>(
     begun: Begun,
     sought: Sought,
 ) -> Result<Answer, Failure>
-    requires { (x : LocateCountryInputs) × IsBegun x.files begun × IsSearched x.points [] sought }
+    requires { (table : List ℕ) × IsSearched table [] sought }
     ensures answer { (x : LocateCountryInputs) → IsBegun x.files begun
         → IsSearched x.points [] sought → IfOk result (λ a.
         AnswersLocateCountry (G.texts regions.now) x (a.text.items, a.status)) }
@@ -94,11 +92,7 @@ pub(crate) fn search_regions<G: Regions>(
         → IsSearched x.points [] sought
         → IfErr result (IsUnanswered (G.texts regions.now) x) }
 {
-    let Begun {
-        mut names,
-        tiles,
-        classes,
-    } = begun;
+    let (mut names, tiles, classes) = begun.into_parts();
     let mut progress = Progress {
         seam: OpenSeam::new(alloc, tiles, classes),
         sought,

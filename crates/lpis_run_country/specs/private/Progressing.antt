@@ -1,12 +1,13 @@
 -- How far a run over regions has come, and what the next region came to.
-use Rattle.std.specs.Prelude.{◌≡◌, ◌≢◌, ◌≤◌, ◌+◌, ◌*◌, ◌⊎◌, ◌++◌, ◌∷◌, [], ℕ, All, Bool, List}
-use Rattle.std.specs.Prelude.{Option, Some, None, Result, Ok, Err, Vec, true, false, length, take}
+use Rattle.std.specs.Prelude.{◌≡◌, ◌≢◌, ◌≤◌, ◌+◌, ◌*◌, ◌⊎◌, ◌++◌, ◌∷◌, [], ℕ, Bool, List, map}
+use Rattle.std.specs.Prelude.{Option, Some, None, Result, Ok, Err, String, Vec, true, false, length}
+use Rattle.std.specs.Prelude.{take}
+use Rattle.std.specs.String.{string_bytes}
 use Rattle.std.specs.Io.KnownBytes.{Appends, Keeps}
 use Rattle.std.specs.declared.alloc.Global.{Global}
 use Rattle.lpis_tables.specs.Table.{most_rows}
 use Rattle.lpis_release.specs.Release.{Contents}
 use Rattle.lpis_release.specs.declared.parcel.Parcel.{Parcel}
-use Rattle.lpis_checker.specs.SoundMap.{IsSoundMap}
 use Rattle.lpis_run.specs.CheckAnswer.{Answer}
 use Rattle.lpis_run.specs.Run.{RunsOn}
 use Rattle.lpis_run.specs.declared.detail.Detail.{Detail}
@@ -18,34 +19,21 @@ use Rattle.lpis_run.specs.Stops.{IsRefusedAs}
 use Rattle.lpis_run.specs.Streams.{Begins}
 use Rattle.lpis_run.specs.declared.stop.Stop.{Stop}
 use Rattle.lpis_country.specs.Country.{country_of}
-use Rattle.lpis_country.specs.Tiling.{frame, rectangles}
-use Rattle.lpis_country.specs.Tree.{Tree}
-use Rattle.lpis_country.specs.Limits.{most_regions}
 use Rattle.lpis_country_seam.specs.Faults.{seam_faults}
-use Rattle.lpis_country_seam.specs.Open.{AreJoined, HasNext, IsSeamOf}
+use Rattle.lpis_country_seam.specs.Open.{HasNext, IsSeamOf}
 use Rattle.lpis_run_country.specs.declared.gathering.Gathered.{Gathered}
 use Rattle.lpis_run_country.specs.declared.gathering.Gathered.TheVariants.{Nothing, Parcels}
 use Rattle.lpis_run_country.specs.declared.progress.Progress.{Progress}
+use Rattle.lpis_run_country.specs.Beginning.{IsPlanned}
 use Rattle.lpis_run_country.specs.CountryAnswer.{AnswersCountry, HavePassed, IsMisfit}
 use Rattle.lpis_run_country.specs.CountryAnswer.{IsRefusedRegion, IsRegionsAnswer}
 use Rattle.lpis_run_country.specs.CountryAnswer.{Passes, Setting}
 use Rattle.lpis_run_country.specs.CountryFailures.{IsReadOf, IsUnreadFolder, StopsCountry}
 use Rattle.lpis_run_country.specs.CountryFailures.{StopsRegions}
-use Rattle.lpis_run_country.specs.CountryLines.{country_lines, region_report}
+use Rattle.lpis_run_country.specs.CountryLines.{region_report}
 use Rattle.lpis_run_country.specs.Regions.{CountryInputs, Texts}
-use Rattle.lpis_run_country.specs.RegionsOutcome.{RegionsEnd}
+use Rattle.lpis_run_country.specs.RegionsOutcome.{JoinsAll, RegionsEnd}
 use Rattle.lpis_run_country.specs.private.Totals.{AreTotalsOf, most_parcels}
-
--- the names and the detail are those of the setting
-pub record AreOfSetting (s : Setting) (names : List (List ℕ)) (detail : Detail) : Type 0 where
-  pub names_are : s.names ≡ names
-  pub detail_is : s.detail ≡ detail
-
--- and so are the texts
-pub record AreOfRun (s : Setting) (texts : List ℕ → Texts) (names : List (List ℕ))
-    (detail : Detail) : Type 0 where
-  pub texts_are : s.texts ≡ texts
-  pub others : AreOfSetting s names detail
 
 -- parcels are wanted
 abbrev pub gathers : Gathered → Bool
@@ -57,6 +45,21 @@ abbrev pub HasGathered : List Parcel → Gathered → Type 0
 HasGathered ks Nothing = Unit {0}
 HasGathered ks (Parcels gathered) = gathered.items ≡ ks
 
+-- the parcels that were gathered
+abbrev pub gathered_in : Gathered → List Parcel
+gathered_in Nothing = []
+gathered_in (Parcels gathered) = gathered.items
+
+-- the setting of a run over the regions of these names that has come so far
+abbrev pub setting_at : (List ℕ → Texts) → Detail → List (String Global) → Progress → Setting
+setting_at texts detail names p = record {
+  texts = texts;
+  detail = detail;
+  names = map string_bytes names;
+  tiles = p.seam.tiles.items;
+  classes = p.seam.classes.items;
+}
+
 -- these regions passed
 pub record IsAt (s : Setting) (before : List Contents) (p : Progress) : Type 0 where
   pub seam : IsSeamOf s.tiles s.classes before p.seam
@@ -64,6 +67,10 @@ pub record IsAt (s : Setting) (before : List Contents) (p : Progress) : Type 0 w
       p.totals
   pub few : p.totals.parcels ≤ most_rows * length before
   pub gathered : HasGathered (country_of s.classes before).parcels p.gathered
+
+-- this holds whatever regions passed
+abbrev pub AfterAny : Setting → Progress → (Setting → List Contents → Type 0) → Type 0
+AfterAny s p Holds = (before : List Contents) → IsAt s before p → Holds s before
 
 -- some regions passed, there is a tile for the next one, and its parcels can be counted
 pub record IsReady (p : Progress) : Type 0 where
@@ -116,20 +123,15 @@ IsUnwritten s before name old new failure =
     ⊎ ((failure ≡ Write Out) × ((text : List ℕ) × IsVerdictText s before name text
     × Begins old new text))
 
--- the lines of the country and the yes were written
-pub record IsFinished (s : Setting) (regions : List Contents) (old new : Option (List ℕ))
-    (status : ℕ) : Type 0 where
+-- this text was written, with a yes
+pub record IsFinished (text : List ℕ) (old new : Option (List ℕ)) (status : ℕ) : Type 0 where
   pub done_is : status ≡ done
-  pub written : Appends old new
-      (country_lines (length regions) (country_of s.classes regions))
+  pub written : Appends old new text
 
--- they were not, or not all of them
-abbrev pub IsUnfinished : Setting → List Contents → Option (List ℕ) → Option (List ℕ) → Failure
-    → Type 0
-IsUnfinished s regions old new failure =
-    ((failure ≡ Memory) × Keeps old new)
-    ⊎ ((failure ≡ Write Out)
-    × Begins old new (country_lines (length regions) (country_of s.classes regions)))
+-- it was not, or not all of it
+abbrev pub IsUnfinished : List ℕ → Option (List ℕ) → Option (List ℕ) → Failure → Type 0
+IsUnfinished text old new failure =
+    ((failure ≡ Memory) × Keeps old new) ⊎ ((failure ≡ Write Out) × Begins old new text)
 
 -- a failure, and the folder of this name where its file was not read
 abbrev pub IsFailureOf : Failure → List ℕ → Failure → Type 0
@@ -143,12 +145,9 @@ IsBrokenOff s before name old new f =
     (failure : Failure) × IsUnwritten s before name old new failure × IsFailureOf failure name f
 
 -- what a run over all regions begins with
-pub record IsStart (s : Setting) (texts : List ℕ → Texts) (names : List (List ℕ)) (detail : Detail)
-    (p : Progress) : Type 0 where
+pub record IsStart (s : Setting) (p : Progress) : Type 0 where
   pub at : IsAt s [] p
-  pub run : AreOfRun s texts names detail
-  pub as_many : length names ≡ length s.tiles
-  pub few : length names ≤ most_regions
+  pub planned : IsPlanned s.names s.tiles
 
 -- the regions before these folders passed, and this is what they left
 pub record IsHere (s : Setting) (p : Progress) (n : ℕ) (old new : Option (List ℕ)) : Type 0 where
@@ -172,28 +171,10 @@ abbrev pub RegionsPass : Setting → Progress → Option (List ℕ) → Option (
 RegionsPass s p old new None = HasPassedAll s p old new
 RegionsPass s p old new (Some status) = RegionsEnd s old new status × (status ≢ done)
 
--- the regions of all folders passed
-abbrev pub HaveAllPassed : Setting → List Contents → Type 0
-HaveAllPassed s regions = ((text : List ℕ) × HavePassed s s.names regions text)
-    × AreJoined s.tiles s.classes regions
-
--- the regions of these names passed, one for each tile of a tiling, and their parcels are wanted
-pub record IsEnded (s : Setting) (regions : List Contents) (names : List (List ℕ)) (p : Progress)
-    : Type 0 where
-  pub at : IsAt s regions p
-  pub sound : All IsSoundMap regions
-  pub names_are : names ≡ s.names
-  pub few : length names ≤ most_regions
-  pub as_many : length names ≡ length regions
-  pub all : length names ≡ length s.tiles
-  pub tiling : Tree
-  pub tiles_of : s.tiles ≡ rectangles tiling frame
-  pub wanted : gathers p.gathered ≡ true
-
 -- the answer to the regions, with a yes only where all passed
 pub record AnswersRegions (s : Setting) (a : Answer) : Type 0 where
   pub answer : IsRegionsAnswer s a
-  pub all : a.1 ≡ done → (regions : List Contents) × HaveAllPassed s regions
+  pub all : a.1 ≡ done → (regions : List Contents) × (lines : List ℕ) × JoinsAll s regions lines
 
 -- a run over regions
 abbrev pub RunsRegions : Setting → Option (List ℕ) → Option (List ℕ) → Result ℕ Failure → Type 0

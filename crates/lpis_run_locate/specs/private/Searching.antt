@@ -1,5 +1,8 @@
 -- How far a search through regions has come, and what the next region came to.
-use Rattle.std.specs.Prelude.{◌≡◌, ◌⊎◌, ◌++◌, ◌∷◌, [], ℕ, List, Option, Some, None, length, take}
+use Rattle.std.specs.Prelude.{◌≡◌, ◌⊎◌, ◌++◌, ◌∷◌, [], ℕ, List, Option, Some, String, None}
+use Rattle.std.specs.Prelude.{length, map, take}
+use Rattle.std.specs.String.{string_bytes}
+use Rattle.std.specs.declared.alloc.Global.{Global}
 use Rattle.lpis_release.specs.Release.{Contents}
 use Rattle.lpis_run.specs.declared.answer.Answer.{Answer as Printed}
 use Rattle.lpis_run.specs.declared.failure.Failure.TheVariants.{Memory}
@@ -20,6 +23,21 @@ pub record IsAt (s : Setting) (table : List ℕ) (before : List Contents) (p : P
   where
     pub seam : IsSeamOf s.tiles s.classes before p.seam
     pub sought : IsSearched table before p.sought
+
+-- the setting of a search in the regions of these names that has come so far
+abbrev pub setting_at : (List ℕ → Texts) → List (String Global) → Progress → Setting
+setting_at texts names p = record {
+  texts = texts;
+  detail = Regions;
+  names = map string_bytes names;
+  tiles = p.seam.tiles.items;
+  classes = p.seam.classes.items;
+}
+
+-- this holds whatever regions passed, and whatever points were looked for
+abbrev pub AfterAny : Setting → Progress → (Setting → List ℕ → List Contents → Type 0) → Type 0
+AfterAny s p Holds =
+    (table : List ℕ) (before : List Contents) → IsAt s table before p → Holds s table before
 
 -- so it is of some regions, and there is a tile for the next one
 pub record IsReady (p : Progress) : Type 0 where
@@ -47,12 +65,9 @@ IsVerdict s table before name p (Some a) =
     IsRefusedRegion s before name (a.text.items, a.status)
 
 -- what a search through all regions begins with
-pub record IsStart (s : Setting) (texts : List ℕ → Texts) (table : List ℕ)
-    (names : List (List ℕ)) (p : Progress) : Type 0 where
+pub record IsStart (s : Setting) (table : List ℕ) (p : Progress) : Type 0 where
   pub at : IsAt s table [] p
-  pub texts_are : s.texts ≡ texts
-  pub names_are : s.names ≡ names
-  pub as_many : length names ≡ length s.tiles
+  pub as_many : length s.names ≡ length s.tiles
 
 -- the regions before these folders passed
 pub record IsHere (s : Setting) (table : List ℕ) (p : Progress) (n : ℕ) : Type 0 where

@@ -4,7 +4,7 @@ use Rattle.lpis_run.specs.Folders.{top_by}
 use Rattle.lpis_run.specs.Inputs.{top_of}
 use Rattle.lpis_run.specs.Stops.{IsRefusedAs}
 use Rattle.lpis_run_country.specs.Beginning.{IsUnbegun}
-use Rattle.lpis_run_country.proofs.BegunLemmas.{read_run, stopped_before}
+use Rattle.lpis_run_country.proofs.BegunLemmas.{begun_run, read_run, stopped_before}
 use Rattle.lpis_run_country.proofs.country.run_country.Goals as goal
 
 pub returns-in_err-top : goal.returns-in_err-top
@@ -15,8 +15,9 @@ returns-in_err-top g c =
 pub returns-in-Ok : goal.returns-in-Ok
 returns-in-Ok g c =
     let x = top_of c.in_ok-top.top in
-    read_run (g.G.Regions.texts c.args.regions.now) c.args.detail (top_by g.R.Read.remaining c.args.top) x _ _ c.run_begun.result c.in_ok-top.ensures.bytes
-    (c.run_begun.ensures x c.in-Ok.ensures.begun)
+    let texts = g.G.Regions.texts c.args.regions.now in
+    read_run texts c.args.detail (top_by g.R.Read.remaining c.args.top) x _ _ c.run_begun.result c.in_ok-top.ensures.bytes
+    (begun_run texts c.args.detail x c.in-Ok.begun c.in-Ok.ensures.begun _ _ c.run_begun.result c.run_begun.ensures)
 
 pub returns-in_err-answer-in-Err : goal.returns-in_err-answer-in-Err
 returns-in_err-answer-in-Err g c =

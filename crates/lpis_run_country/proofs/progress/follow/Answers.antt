@@ -1,8 +1,7 @@
-use Rattle.std.proofs.Common.{◌∙◌, ap, ap₂, sym, List, ℕ}
-use Rattle.lpis_run.specs.declared.detail.Detail.{Detail}
+use Rattle.std.proofs.Common.{ap₂, List, ℕ}
 use Rattle.lpis_country.specs.Country.{country_of, new_parcels}
 use Rattle.lpis_country_seam.specs.Faults.{seam_faults}
-use Rattle.lpis_run_country.specs.CountryLines.{region_report, seam_refusal_text}
+use Rattle.lpis_run_country.specs.private.Progressing.{setting_at}
 use Rattle.lpis_run_country.proofs.PlaceLemmas.{same_places}
 use Rattle.lpis_run_country.proofs.RunLemmas.{first_of, goes_at}
 use Rattle.lpis_run_country.proofs.TotalsLemmas.{addable, few_places}
@@ -44,14 +43,14 @@ plus-progress-requires c =
     (c.in-Ok.ensures.new ready.setting.tiles ready.setting.classes ready.before ready.at.seam))) c.parcels.ensures.few ready.room
 
 pub returns-in_ok-gather-in-Ok-clause-follows : goal.returns-in_ok-gather-in-Ok-clause-follows
-returns-in_ok-gather-in-Ok-clause-follows c = λ s before at of.
+returns-in_ok-gather-in-Ok-clause-follows c = λ texts before at.
+    let s = setting_at texts c.args.detail c.args.names.now c.args.progress.now in
     let r = c.args.release.now in
     let country = country_of s.classes before in
     let news = new_parcels country r in
     let places = c.in-Ok.ensures.new s.tiles s.classes before at.seam in (
       c.in-Ok.ensures.reports s.tiles s.classes before at.seam,
-      c.in_ok-text-in-Ok.ensures country (same_places r c.as_slice.result.now c.in-Ok.places.items news c.as_slice.ensures.value places)
-          ∙ ap (λ (d : Detail). region_report d country c.args.name.now r) (sym of.detail_is),
+      c.in_ok-text-in-Ok.ensures country (same_places r c.as_slice.result.now c.in-Ok.places.items news c.as_slice.ensures.value places),
       goes_at s before r c.args.progress.now (record { seam = c.step.new.self; totals = c.plus-progress.result; gathered = c.gather.new.self }) c.totals_at-totals.result at
           (c.in-Ok.ensures.goes_on s.tiles s.classes before at.seam)
           c.parcels.ensures.few (c.totals_at-totals.ensures news (same_places r c.as_slice-in-Ok.result.now c.in-Ok.places.items news c.as_slice-in-Ok.ensures.value places)) c.plus-progress.ensures
@@ -60,10 +59,9 @@ returns-in_ok-gather-in-Ok-clause-follows c = λ s before at of.
     )
 
 pub returns-in_ok-refuse_seam-in-Err-clause-follows : goal.returns-in_ok-refuse_seam-in-Err-clause-follows
-returns-in_ok-refuse_seam-in-Err-clause-follows c = λ s before at of. (
-  c.in-Err.fault,
-  first_of (seam_faults s.tiles s.classes before c.args.release.now) c.in-Err.fault (c.in-Err.ensures.reports s.tiles s.classes before at.seam) c.in_ok-refuse_seam-in-Err.ensures.refusal,
-  ap₂ (λ (t : List ℕ) (n : ℕ). (t, n))
-      (c.in_ok-refuse_seam-in-Err.ensures.line.0 ∙ ap (λ (names : List (List ℕ)). seam_refusal_text names c.args.name.now c.in-Err.fault) (sym of.names_are))
-      c.in_ok-refuse_seam-in-Err.ensures.line.1,
-)
+returns-in_ok-refuse_seam-in-Err-clause-follows c = λ texts before at.
+    let s = setting_at texts c.args.detail c.args.names.now c.args.progress.now in (
+      c.in-Err.fault,
+      first_of (seam_faults s.tiles s.classes before c.args.release.now) c.in-Err.fault (c.in-Err.ensures.reports s.tiles s.classes before at.seam) c.in_ok-refuse_seam-in-Err.ensures.refusal,
+      ap₂ (λ (t : List ℕ) (n : ℕ). (t, n)) c.in_ok-refuse_seam-in-Err.ensures.line.0 c.in_ok-refuse_seam-in-Err.ensures.line.1,
+    )
