@@ -1,5 +1,4 @@
 -- The names that most proofs of this crate cite, passed on from one place. Declares nothing.
-pub use Rattle.lpis_cert.specs.declared.cert.Cert.{Cert}
 pub use Rattle.lpis_run.specs.CheckAnswer.{Answer}
 pub use Rattle.lpis_run_publish.specs.LineageLines.{lineage_line}
 pub use Rattle.lpis_lineage.specs.Changes.{kind_at}

@@ -1,7 +1,8 @@
 -- What a run that asks for blocks has decided.
 use Rattle.std.proofs.Common.{◌≡◌, ◌∙◌, ◌∷◌, [], inl, inr, refl, sym, ap, ap₂, suc, true, Bool, ℕ, List, Option, None, length, map}
 use Rattle.std.specs.List.{AllZip}
-use Rattle.lpis_run_publish.proofs.Common.{Answer, Cert}
+use Rattle.lpis_cert.specs.declared.cert.Cert.{Cert}
+use Rattle.lpis_run_publish.proofs.Common.{Answer}
 use Rattle.lpis_tables.specs.Ids.{has_id}
 use Rattle.lpis_checker.specs.declared.exact.ExactPart.{ExactPart}
 use Rattle.lpis_checker.specs.ExactBlocks.{block_name, part_name}
@@ -9,14 +10,15 @@ use Rattle.lpis_lineage_exact.specs.Asking.{AsksFor, IsWanted}
 use Rattle.lpis_lineage_exact.specs.Shapes.{shape_named, shapes_in}
 use Rattle.lpis_lineage.specs.declared.exact.Group.{Group}
 use Rattle.lpis_lineage.specs.ExactGroups.{group_name}
+use Rattle.lpis_lineage.specs.declared.row.Row.{Row}
+use Rattle.lpis_release.specs.declared.parcel.Parcel.{Parcel}
 use Rattle.lpis_rings.specs.declared.polygon.Member.{Member}
-use Rattle.lpis_run.specs.Outputs.{Outputs}
-use Rattle.lpis_run.specs.Status.{done}
-use Rattle.lpis_run_publish.specs.ExactAnswer.{HasParts, IsBlocksAnswer, IsBlocksOutcome, IsExactAnswer, blocks_line, unfilled_line}
-use Rattle.lpis_run_publish.specs.LineageLines.{publish_refusal_text}
+use Rattle.lpis_run.specs.Outputs.{Outputs, line_alone}
+use Rattle.lpis_run.specs.Status.{done, refused}
+use Rattle.lpis_run_publish.specs.ExactAnswer.{AnswersSubmitted, FillsGroups, HasParts, HasTextOnlyIfDone, IsExactAnswer, blocks_line, unfilled_line}
 use Rattle.lpis_register.specs.Holdings.{Holdings}
 use Rattle.lpis_run_publish.specs.Submission.{IsSubmitted, SubmissionInputs, Submitted}
-use Rattle.lpis_run_publish.specs.private.ExactRuns.{filled_with, refused_with}
+use Rattle.lpis_run_publish.specs.private.ExactRuns.{filled_with}
 use Rattle.lpis_run_publish.specs.private.Submitting.{IsFaultAnswer}
 use Rattle.lpis_run_publish.proofs.SubmissionLemmas.{submission-more, submission-said}
 
@@ -41,13 +43,13 @@ ids-of gs xs e = sym (parts xs) ∙ ap (map (λ (n : Bool × List ℕ). n.1)) e 
     groups (g ∷ hs) = ap (λ (l : List (List ℕ)). g.id ∷ l) (groups hs)
 
 -- ---- outcomes
-pub outcome-unfilled : (before : Holdings) (said : Submitted) (gs : List Group) (xs : List ExactPart) (id : List ℕ) (o : Outputs)
-    → AsksFor before.history before.shapes said.release said.rows gs xs → has_id (map (λ (x : ExactPart). x.id) xs) id ≡ true → o ≡ refused_with (unfilled_line id)
-    → IsBlocksOutcome said before o
-outcome-unfilled before said gs xs id o asks one e =
-    let names = names-of (shape_named before.shapes) (shape_named (shapes_in said.release)) gs xs asks.parts in
+pub outcome-unfilled : (before : Holdings) (parcels : List Parcel) (rows : List Row) (cert : Cert) (gs : List Group) (xs : List ExactPart) (id : List ℕ) (o : Outputs)
+    → AsksFor before.history before.shapes parcels rows gs xs → has_id (map (λ (x : ExactPart). x.id) xs) id ≡ true → o ≡ line_alone (unfilled_line id) refused
+    → FillsGroups parcels rows cert before o
+outcome-unfilled before parcels rows cert gs xs id o asks one e =
+    let names = names-of (shape_named before.shapes) (shape_named (shapes_in parcels)) gs xs asks.parts in
     let is_one : has_id (map (λ (g : Group). g.id) gs) id ≡ true = rw (sym (ids-of gs xs names)) one in
-    rw e (record { answer = inr (inr (record { gs = gs; xs = xs; asks = asks; answer = inl (id, is_one, refl) })); no_text = λ _. refl })
+    rw e (record { answer = inr (record { gs = gs; xs = xs; asks = asks; answer = inl (id, is_one, refl) }); no_text = λ _. refl })
 
 filled-line : (n m : ℕ) → n ≡ m → ◌≡◌ {A = Answer} (blocks_line n, done) (blocks_line m, done)
 filled-line n m e = ap (λ (k : ℕ). (blocks_line k, done)) e
@@ -57,28 +59,28 @@ length-map f [] = refl
 length-map f (x ∷ xs) = ap suc (length-map f xs)
 
 -- the certificate with blocks of the parts asked for in place of its own is an outcome of the run for blocks
-pub outcome-filled : (before : Holdings) (said : Submitted) (made : Cert) (gs : List Group) (xs : List ExactPart) (o : Outputs)
-    → AsksFor before.history before.shapes said.release said.rows gs xs → HasParts said.cert made × (map block_name made.exact ≡ map part_name xs)
-    → o ≡ filled_with made → IsBlocksOutcome said before o
-outcome-filled before said made gs xs o asks has e =
-    let names = names-of (shape_named before.shapes) (shape_named (shapes_in said.release)) gs xs asks.parts in
+pub outcome-filled : (before : Holdings) (parcels : List Parcel) (rows : List Row) (cert made : Cert) (gs : List Group) (xs : List ExactPart) (o : Outputs)
+    → AsksFor before.history before.shapes parcels rows gs xs → HasParts cert made × (map block_name made.exact ≡ map part_name xs)
+    → o ≡ filled_with made → FillsGroups parcels rows cert before o
+outcome-filled before parcels rows cert made gs xs o asks has e =
+    let names = names-of (shape_named before.shapes) (shape_named (shapes_in parcels)) gs xs asks.parts in
     let blocks : map block_name made.exact ≡ map group_name gs = has.1 ∙ names in
     let many : length made.exact ≡ length gs = sym (length-map block_name made.exact) ∙ ap (λ (ns : List (Bool × List ℕ)). length ns) blocks ∙ length-map group_name gs in
     rw e (record {
-      answer = inr (inr (record { gs = gs; xs = xs; asks = asks; answer = inr (made, has.0, blocks, refl, filled-line (length made.exact) (length gs) many) }));
+      answer = inr (record { gs = gs; xs = xs; asks = asks; answer = inr (made, has.0, blocks, refl, filled-line (length made.exact) (length gs) many) });
       no_text = λ no. absurd (no refl);
     })
 
 -- ---- answers
-pub answered-said : (x : SubmissionInputs) (said : Submitted) (before : Holdings) (o : Outputs) → IsSubmitted x said → IsBlocksOutcome said before o → IsExactAnswer x before o
+pub answered-said : (x : SubmissionInputs) (said : Submitted) (before : Holdings) (o : Outputs) → IsSubmitted x said → HasTextOnlyIfDone (AnswersSubmitted before said) o → IsExactAnswer x before o
 answered-said x said before o submitted is = record {
-  answer = submission-said (λ s. IsBlocksAnswer publish_refusal_text s.release s.rows (HasParts s.cert) before o.cert) x said (o.line, o.status) submitted is.answer;
+  answer = submission-said (λ s. AnswersSubmitted before s o.cert) x said (o.line, o.status) submitted is.answer;
   no_text = is.no_text;
 }
 
 -- the line of the first fault, without a certificate, answers a submission that asks for blocks
 pub answered-refused : (x : SubmissionInputs) (before : Holdings) (o : Outputs) → IsFaultAnswer x (o.line, o.status) → o.cert ≡ None → IsExactAnswer x before o
 answered-refused x before o is none = record {
-  answer = submission-more (λ s. IsBlocksAnswer publish_refusal_text s.release s.rows (HasParts s.cert) before o.cert) x (o.line, o.status) is;
+  answer = submission-more (λ s. AnswersSubmitted before s o.cert) x (o.line, o.status) is;
   no_text = λ _. none;
 }

@@ -1,5 +1,6 @@
 -- What a call that publishes a release leaves of a register and its database.
 use Rattle.std.proofs.Common.{◌≡◌, inl, inr, refl, arith, Result, Ok, Err, IfErr}
+use Rattle.std.proofs.lemmas.Result.{IfErr-weaker}
 use Rattle.sqlite.specs.Held.{state}
 use Rattle.sqlite.specs.State.{HasCleanDisk, State, Survives}
 use Rattle.sqlite.specs.Tree.{Trees}
@@ -7,6 +8,7 @@ use Rattle.sqlite.proofs.StateLemmas.{survives_weaker}
 use Rattle.sqlite_trees.specs.declared.store.Store.{Ghosts}
 use Rattle.lpis_lineage.specs.Changes.{Changes}
 use Rattle.lpis_register.specs.Accepting.{IsAccepted}
+use Rattle.lpis_register.specs.Failing.{FailsToStore, HasStoreCause}
 use Rattle.lpis_register.specs.Holdings.{Candidate, RegisterState}
 use Rattle.lpis_register.specs.Publishing.{FollowsHistory, IsLeftAlone, LeavesRelease, Stores}
 use Rattle.lpis_register.specs.Running.{RanReleaseTo, RunsRelease}
@@ -14,6 +16,7 @@ use Rattle.lpis_register.specs.declared.accepting.Accepted.{Accepted}
 use Rattle.lpis_register.specs.declared.fault.PublishFault.{PublishFault}
 use Rattle.lpis_run.specs.declared.answer.Answer.{Answer as Answered}
 use Rattle.lpis_run.specs.declared.failure.Failure.{Failure}
+use Rattle.lpis_run.specs.declared.failure.Failure.TheVariants.{Memory, Store}
 use Rattle.lpis_run.specs.Status.{done}
 use Rattle.lpis_run_publish.specs.Publication.{IsMemoryOrStore, PublishLeaves}
 use Rattle.lpis_run_publish.specs.Stored.{IsReleaseLeft, IsReleaseStored, IsStoreFailure, SaysOrStays, Stays}
@@ -38,21 +41,27 @@ both_left a b P Q R f one two = record {
 }
 
 -- ---- a register that was not reached
--- it is as it was, however the call ended
-pub stays_untouched : {S A : Type 0} (g : Ghosts S) (Is : Candidate → Type 0) (old : RegisterState S) (r : Result A Failure) → Stays g Is old old r
-stays_untouched g Is old r = record {
+-- the database did not fail where memory ran out
+memory-no-store : (failure : Failure) → failure ≡ Memory → IsStoreFailure failure → ⊥
+memory-no-store failure why (inl is) = cc (why, is)
+memory-no-store failure why (inr is) = cc (why, is)
+
+-- it is as it was, however the call ended, but for a failure of the database
+pub stays_untouched : {S A : Type 0} (g : Ghosts S) (Is : Candidate → Type 0) (old : RegisterState S) (r : Result A Failure) → IfErr r (λ failure. IsStoreFailure failure → ⊥) → Stays g Is old old r
+stays_untouched g Is old r other = record {
   holds = λ clean up. inr (refl, λ was. (was, refl));
   served = λ other clean. inr (refl, λ was. (was, refl));
   crash = nothing_left (IsReleaseLeft g Is old) (state g old.conn);
+  cause = IfErr-weaker r _ _ (λ failure none is. absurd (none is)) other;
 }
 
 -- so it is where there is an answer
 pub leaves_untouched : {S : Type 0} (g : Ghosts S) (Is : Candidate → Type 0) (old : RegisterState S) (a : Answered) → PublishLeaves g Is old old (Ok a)
-leaves_untouched g Is old a = record { same = λ other. refl; failure = tt; stored = stays_untouched g Is old (Ok a) }
+leaves_untouched g Is old a = record { same = λ other. refl; failure = tt; stored = stays_untouched g Is old (Ok a) tt }
 
 -- or memory ran out
-pub leaves_unreached : {S : Type 0} (g : Ghosts S) (Is : Candidate → Type 0) (old : RegisterState S) (failure : Failure) → IsMemoryOrStore failure → PublishLeaves g Is old old (Err failure)
-leaves_unreached g Is old failure why = record { same = tt; failure = (why, refl); stored = stays_untouched g Is old (Err failure) }
+pub leaves_unreached : {S : Type 0} (g : Ghosts S) (Is : Candidate → Type 0) (old : RegisterState S) (failure : Failure) → failure ≡ Memory → PublishLeaves g Is old old (Err failure)
+leaves_unreached g Is old failure why = record { same = tt; failure = (inl why, refl); stored = stays_untouched g Is old (Err failure) (memory-no-store failure why) }
 
 -- ---- what is known of a request is known of a wider one
 module _ {S : Type 0} (g : Ghosts S) (P Q : Candidate → Type 0) (wider : (c : Candidate) → P c → Q c) (old new : RegisterState S) where
@@ -66,12 +75,19 @@ module _ {S : Type 0} (g : Ghosts S) (P Q : Candidate → Type 0) (wider : (c : 
   left_as = survives_weaker (state g old.conn) (state g new.conn) _ _
       (λ clean db s. record { candidate = s.candidate; asked = wider s.candidate s.asked; accepted = s.accepted; made = s.made; ran = s.ran; leaves = s.leaves })
 
+  -- after an end of which no less is known where the database did not fail, and no more where it did
   pub stays_as : {A B : Type 0} (r : Result A Failure) (q : Result B Failure) → (IfErr q (λ failure. IsStoreFailure failure → ⊥) → IfErr r (λ failure. IsStoreFailure failure → ⊥))
-      → Stays g P old new r → Stays g Q old new q
-  stays_as r q served s = record { holds = λ clean up. says_as (s.holds clean up); served = λ other clean. says_as (s.served (served other) clean); crash = left_as s.crash }
+      → ((X : Failure → Type 0) → IfErr r (λ failure. IsStoreFailure failure → X failure) → IfErr q (λ failure. IsStoreFailure failure → X failure)) → Stays g P old new r → Stays g Q old new q
+  stays_as r q served failed s = record {
+    holds = λ clean up. says_as (s.holds clean up);
+    served = λ other clean. says_as (s.served (served other) clean);
+    crash = left_as s.crash;
+    cause = IfErr-weaker q _ _ (λ failure told is. let (c, asked, fails) = told is in (c, wider c asked, fails))
+        (failed (λ failure. (c : Candidate) × P c × FailsToStore g c old new (failure ≡ Store)) s.cause);
+  }
 
   pub leaves_as : (r : Result Answered Failure) → PublishLeaves g P old new r → PublishLeaves g Q old new r
-  leaves_as r leaves = record { same = leaves.same; failure = leaves.failure; stored = stays_as r r (λ other. other) leaves.stored }
+  leaves_as r leaves = record { same = leaves.same; failure = leaves.failure; stored = stays_as r r (λ other. other) (λ X told. told) leaves.stored }
 
 -- ---- a release that was accepted
 module _ {S : Type 0} (g : Ghosts S) (Is : Candidate → Type 0) (old new : RegisterState S) (c : Candidate) (asked : Is c) (d : Accepted) (made : IsAccepted c old.held d) where
@@ -86,7 +102,7 @@ module _ {S : Type 0} (g : Ghosts S) (Is : Candidate → Type 0) (old new : Regi
   leaves_committed a change is follows stores runs = record {
     same = λ other. absurd (other is);
     failure = tt;
-    stored = record { holds = λ clean up. inl (stored clean); served = λ other clean. inl (stored clean); crash = crashed stores.crash runs.left };
+    stored = record { holds = λ clean up. inl (stored clean); served = λ other clean. inl (stored clean); crash = crashed stores.crash runs.left; cause = tt };
   }
     where
       stored : HasCleanDisk (state g new.conn) → IsReleaseStored g Is old new
@@ -94,11 +110,17 @@ module _ {S : Type 0} (g : Ghosts S) (Is : Candidate → Type 0) (old new : Regi
 
   -- or what it held
   pub leaves_kept : (fault : PublishFault) (failure : Failure) → IsMemoryOrStore failure → new.held ≡ old.held → Stores g c old new (Err fault)
-      → RunsRelease g {X = Changes} d old new (Err fault) → ((IsStoreFailure failure → ⊥) → IsLeftAlone g old new) → PublishLeaves g Is old new (Err failure)
-  leaves_kept fault failure stopped kept stores runs served = record {
+      → RunsRelease g {X = Changes} d old new (Err fault) → ((IsStoreFailure failure → ⊥) → IsLeftAlone g old new) → HasStoreCause g d old new (failure ≡ Store)
+      → PublishLeaves g Is old new (Err failure)
+  leaves_kept fault failure stopped kept stores runs served cause = record {
     same = tt;
     failure = (stopped, kept);
-    stored = record { holds = λ clean up. inr (kept, stores.err clean up); served = λ other clean. inr (kept, served other); crash = crashed stores.crash runs.left };
+    stored = record {
+      holds = λ clean up. inr (kept, stores.err clean up);
+      served = λ other clean. inr (kept, served other);
+      crash = crashed stores.crash runs.left;
+      cause = λ is. (c, asked, (d, made, cause));
+    };
   }
 
 -- a database that was not reached is as it was

@@ -1,7 +1,6 @@
 -- What a history answers to a release, and what is known of a release that was added to it.
-use Rattle.std.proofs.Common.{◌≡◌, ◌∙◌, ◌++◌, ◌∷◌, [], append_assoc, inl, inr, refl, sym, ap, ap₂, subst, ℕ, List, Bool, Option, Result, Ok, Err, IfErr, IfOk, flat_map, true}
-use Rattle.lpis_run_publish.proofs.Common.{Answer, Cert, kind_at, lineage_line}
-use Rattle.sqlite_trees.specs.declared.store.Store.{Ghosts}
+use Rattle.std.proofs.Common.{◌≡◌, ◌∙◌, ◌++◌, ◌∷◌, [], append_assoc, ◌⊎◌, inl, inr, refl, sym, ap, ap₂, subst, ℕ, List, Bool, Option, Result, Ok, Err, IfOk, flat_map, true}
+use Rattle.lpis_run_publish.proofs.Common.{Answer, kind_at, lineage_line}
 use Rattle.std.specs.List.{list_any}
 use Rattle.std.proofs.lemmas.Bool.{and_parts}
 use Rattle.std.proofs.lemmas.List.Concat.{flat_map-cons}
@@ -19,21 +18,15 @@ use Rattle.lpis_lineage.specs.Lawful.{IsAnswered}
 use Rattle.lpis_lineage.specs.Lineage.{is_row_of, last_live, names_successor}
 use Rattle.lpis_lineage.specs.Order.{IsAscending}
 use Rattle.lpis_lineage.proofs.Shared.{follows-from-clean, mono, counted-ended}
-use Rattle.lpis_checker.specs.GoodCertificate.{IsGood}
-use Rattle.lpis_checker.specs.SoundMap.{IsSoundMap}
 use Rattle.lpis_run_publish.specs.LineageLines.{is_left_exactly, dropped_lines, published_line}
 use Rattle.lpis_run.specs.declared.failure.Failure.{Failure}
-use Rattle.lpis_run.specs.declared.failure.Failure.TheVariants.{Store, StoreMemory}
+use Rattle.lpis_run.specs.declared.failure.Failure.TheVariants.{Memory, Store, StoreMemory}
 use Rattle.lpis_run_publish.specs.Publication.{IsContinued, IsPublicationAnswer, IsReleasePublished}
-use Rattle.lpis_run_publish.specs.PublishAnswer.{IsSoundSubmission, candidate_of}
-use Rattle.lpis_run_publish.specs.Stored.{IsStoreFailure}
-use Rattle.lpis_run_publish.specs.Submission.{IsSubmitted, SubmissionInputs, Submitted}
 use Rattle.lpis_run.specs.Status.{done}
 use Rattle.lpis_run_publish.specs.private.Marked.{is_marked}
 use Rattle.lpis_run_publish.proofs.MarkedLemmas.{left-exactly}
 use Rattle.lpis_register.specs.Accepting.{IsAccepted}
-use Rattle.lpis_register.specs.Failing.{FailsToStore, HasStoreCause}
-use Rattle.lpis_register.specs.Holdings.{Candidate, Holdings, RegisterState, candidate_ids}
+use Rattle.lpis_register.specs.Holdings.{Candidate, Holdings, candidate_ids}
 use Rattle.lpis_register.specs.Publishing.{FollowsHistory}
 use Rattle.lpis_register.specs.declared.accepting.Accepted.{Accepted}
 
@@ -72,7 +65,7 @@ answer-parts : {t u : List ℕ} {n m : ℕ} → t ≡ u → n ≡ m → ◌≡�
 answer-parts a b = cc (a, b)
 
 -- what is printed, behind a text, of the change of a release that was accepted is the answer
-pub publication-accepted : (head : List ℕ) (c : Candidate) (before : Holdings) (a : Accepted) (change : Changes) (year : ℕ) (text : List ℕ) (status : ℕ) → c.year ≡ year
+pub publication-accepted : (head : List ℕ) (c : Candidate) (before : Holdings) (a : Accepted) (change : Changes) (year : ℕ) (text : List ℕ) (status : ℕ) → year ≡ a.writing.year
     → IsAccepted c before a → change ≡ a.writing.change
     → text ≡ head ++ flat_map (lineage_line (kind_at change) (is_marked change.rows)) change.dropped_ids ++ published_line year → status ≡ done
     → IsPublicationAnswer head c before (text, status)
@@ -80,7 +73,7 @@ publication-accepted head c before a change year text status of_year made is lin
     let live = candidate_ids c in
     let step = made.prepared.step_is in
     let lines = change-lines before.history live c.rows change step.faultless (subst (IsChange (last_live before.history) live c.rows) (sym is) step.change_is) in
-    let said = line ∙ ap₂ (λ (t : List ℕ) (n : ℕ). head ++ t ++ published_line n) lines (sym of_year) in
+    let said = line ∙ ap₂ (λ (t : List ℕ) (n : ℕ). head ++ t ++ published_line n) lines (of_year ∙ made.prepared.year_is) in
     record { later = made.prepared.later; shown = made.shown; told = answer-parts said is_done }
 
 -- ---- answers of calls
@@ -112,29 +105,7 @@ published-accepted c before after a change made is ascend follows once =
     }
 
 -- ---- why the database failed
--- that the database ran out of memory is not that it failed
-pub memory-no-store : {X : Type 0} → ◌≡◌ {A = Failure} StoreMemory Store → X
-memory-no-store is = absurd cc
-
--- a release that was accepted could not be stored
-pub fails-accepted : {S A : Type 0} (g : Ghosts S) (c : Candidate) (a : Accepted) (old new : RegisterState S) (answer : Result A Failure) → IsAccepted c old.held a
-    → IfErr answer (λ failure. HasStoreCause g a old new (failure ≡ Store))
-    → IfErr answer (λ failure. IsStoreFailure failure → FailsToStore g c old new (failure ≡ Store))
-fails-accepted g c a old new (Ok x) made fails = tt
-fails-accepted g c a old new (Err e) made fails = λ is. (a, made, fails)
-
--- it is a sound map with a good certificate, which was handed in
-pub fails-said : {S A : Type 0} (g : Ghosts S) (c d : Candidate) (cert : Cert) (old new : RegisterState S) (answer : Result A Failure) → c ≡ d → IsSoundMap d.release → IsGood d.release cert
-    → IfErr answer (λ failure. IsStoreFailure failure → FailsToStore g c old new (failure ≡ Store))
-    → IfErr answer (λ failure. IsStoreFailure failure → IsSoundMap d.release × IsGood d.release cert × FailsToStore g d old new (failure ≡ Store))
-fails-said g c d cert old new (Ok x) same sound good fails = tt
-fails-said g c d cert old new (Err e) same sound good fails = λ is. (sound, good, subst (λ c. FailsToStore g c old new (e ≡ Store)) same (fails is))
-
--- and what was submitted
-pub fails-submitted : {S A : Type 0} (g : Ghosts S) (x : SubmissionInputs) (year : ℕ) (said : Submitted) (old new : RegisterState S) (answer : Result A Failure) → IsSubmitted x said
-    → IfErr answer (λ failure. IsStoreFailure failure → IsSoundMap said.release × IsGood said.release said.cert × FailsToStore g (candidate_of year said) old new (failure ≡ Store))
-    → IfErr answer (λ failure. IsStoreFailure failure → (s : Submitted) × IsSoundSubmission x s × FailsToStore g (candidate_of year s) old new (failure ≡ Store))
-fails-submitted g x year said old new (Ok a) is fails = tt
-fails-submitted g x year said old new (Err e) is fails = λ of.
-    let failed = fails of in
-    (said, record { submitted = is; sound = failed.0; good = failed.1 }, failed.2)
+-- it did not fail where memory ran out
+pub memory-no-store : {X : Type 0} (failure : Failure) → (failure ≡ Memory) ⊎ (failure ≡ StoreMemory) → failure ≡ Store → X
+memory-no-store failure (inl why) is = absurd (cc (why, is))
+memory-no-store failure (inr why) is = absurd (cc (why, is))

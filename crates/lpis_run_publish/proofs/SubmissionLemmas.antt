@@ -1,6 +1,7 @@
 -- The answer to a submission, by what it says or by its first fault.
 use Rattle.std.proofs.Common.{◌≡◌, ◌≢◌, ◌∙◌, ap, inl, inr, sym}
-use Rattle.lpis_run_publish.proofs.Common.{Answer, Cert}
+use Rattle.lpis_cert.specs.declared.cert.Cert.{Cert}
+use Rattle.lpis_run_publish.proofs.Common.{Answer}
 use Rattle.lpis_release.specs.Release.{Contents}
 use Rattle.lpis_tables.specs.Faults.{rows_of}
 use Rattle.lpis_lineage.specs.LineageTable.{lineage_table}

@@ -1,10 +1,11 @@
 -- The answer to what is asked for the blocks of marked rows: the certificate with them, or the line
 -- that says why there is none; and the status.
 use Rattle.std.specs.Prelude.{◌≡◌, ◌≢◌, ◌⊎◌, ◌++◌, true, ℕ, List, codes, length, map, Option}
-use Rattle.std.specs.Prelude.{None, Some}
+use Rattle.std.specs.Prelude.{None, Result, Some}
 use Rattle.std.specs.Fmt.{decimal}
 use Rattle.lpis_tables.specs.Ids.{has_id}
-use Rattle.lpis_release.specs.Release.{Contents, parcel_ids}
+use Rattle.lpis_release.specs.declared.parcel.Parcel.{Parcel}
+use Rattle.lpis_release.specs.Release.{parcel_ids}
 use Rattle.lpis_cert.specs.declared.cert.Cert.{Cert}
 use Rattle.lpis_cert.specs.Contents.{cert_text}
 use Rattle.lpis_checker.specs.declared.exact.ExactPart.{ExactPart}
@@ -19,9 +20,13 @@ use Rattle.lpis_register.specs.Holdings.{Holdings}
 use Rattle.lpis_register.specs.declared.fault.PublishFault.{PublishFault}
 use Rattle.lpis_register.specs.declared.fault.PublishFault.TheVariants.{Lineage, NotKept}
 use Rattle.lpis_run.specs.CheckAnswer.{Answer}
-use Rattle.lpis_run.specs.Outputs.{Outputs}
+use Rattle.lpis_run.specs.Failures.{AreUnread}
+use Rattle.lpis_run.specs.Folders.{submission_named}
+use Rattle.lpis_run.specs.Outputs.{Held, Outputs}
+use Rattle.lpis_run.specs.Run.{OfRead, RunsBoth}
 use Rattle.lpis_run.specs.Status.{done, refused}
 use Rattle.lpis_run.specs.Streams.{Known}
+use Rattle.lpis_run.specs.declared.failure.Failure.{Failure}
 use Rattle.lpis_run.specs.declared.folder.Submission.{Submission}
 use Rattle.lpis_run_publish.specs.LineageLines.{publish_refusal_text}
 use Rattle.lpis_run_publish.specs.Submission.{AreAllRead, IsSubmissionAnswer}
@@ -42,49 +47,56 @@ pub record HasParts (c made : Cert) : Type 0 where
   pub parcels : made.parcels ≡ c.parcels
   pub pairs : made.pairs ≡ c.pairs
 
--- of a release with these rows, where a register holds this: the line of a refusal, and what a
--- certificate has beside its blocks
-module _ (refusal_of : PublishFault → List ℕ) (r : Contents) (rows : List Row)
-    (HasRest : Cert → Type 0) (before : Holdings) where
-  -- the marks ask for groups. Some of them gets no block; or each gets one, and the text is that of
-  -- a certificate with blocks of their names, in their order, and the rest
-  pub record AreAsked (text : Option (List ℕ)) (a : Answer) : Type 0 where
+-- of parcels with these rows, where a register holds this: what a certificate has beside its blocks
+module _ (parcels : List Parcel) (rows : List Row) (Has : Cert → Type 0) (before : Holdings) where
+  -- the marks ask for groups. Some group gets no block; or each gets one, and the text is that of a
+  -- certificate with blocks of their names, in their order, and the rest
+  pub record AnswersGroups (text : Option (List ℕ)) (a : Answer) : Type 0 where
     pub gs : List Group
     pub xs : List ExactPart
-    pub asks : AsksFor before.history before.shapes r rows gs xs
+    pub asks : AsksFor before.history before.shapes parcels rows gs xs
     pub answer : ((id : List ℕ) × (has_id (map (λ (g : Group). g.id) gs) id ≡ true)
         × (a ≡ (unfilled_line id, refused)))
-        ⊎ ((made : Cert) × HasRest made × (map block_name made.exact ≡ map group_name gs)
+        ⊎ ((made : Cert) × Has made × (map block_name made.exact ≡ map group_name gs)
         × (text ≡ Some (cert_text made)) × (a ≡ (blocks_line (length gs), done)))
 
-  -- the line of the lineage's first fault, or of the first old shape that is not kept, or this
-  abbrev pub IsBlocksAnswer : Option (List ℕ) → Answer → Type 0
-  IsBlocksAnswer text a =
-      ((fault : LineageFault)
-      × (first (faults before.history (parcel_ids r.parcels) rows) ≡ Some fault)
-      × (a ≡ (refusal_of (Lineage fault), refused)))
-      ⊎ ((id : List ℕ) × IsUnkept before.history before.shapes r rows id
-      × (a ≡ (refusal_of (NotKept id), refused)))
-      ⊎ AreAsked text a
+  -- the line of the first old shape that is not kept, or this
+  abbrev pub AnswersMarks : Option (List ℕ) → Answer → Type 0
+  AnswersMarks text a =
+      ((id : List ℕ) × IsUnkept before.history before.shapes parcels rows id
+      × (a ≡ (publish_refusal_text (NotKept id), refused))) ⊎ AnswersGroups text a
 
--- the answer with its text
-pub record IsBlocksOutcome (said : Submitted) (before : Holdings) (a : Outputs) : Type 0 where
-  pub answer : IsBlocksAnswer publish_refusal_text said.release said.rows (HasParts said.cert)
-      before a.cert (a.line, a.status)
-  -- with every other status there is no text
+  -- the line of the lineage's first fault, as refusals are told here, or this
+  abbrev pub IsBlocksAnswer : (PublishFault → List ℕ) → Option (List ℕ) → Answer → Type 0
+  IsBlocksAnswer refusal_of text a =
+      ((fault : LineageFault)
+      × (first (faults before.history (parcel_ids parcels) rows) ≡ Some fault)
+      × (a ≡ (refusal_of (Lineage fault), refused))) ⊎ AnswersMarks text a
+
+-- an answer of this kind with its text; with every status but `done` there is none
+pub record HasTextOnlyIfDone (Is : Option (List ℕ) → Answer → Type 0) (a : Outputs) : Type 0 where
+  pub answer : Is a.cert (a.line, a.status)
   pub no_text : a.status ≢ done → a.cert ≡ None
+
+-- the answer to the marks of parcels that may follow, of which this certificate has the rest
+abbrev pub FillsGroups : List Parcel → List Row → Cert → Holdings → Outputs → Type 0
+FillsGroups parcels rows cert before =
+    HasTextOnlyIfDone (AnswersMarks parcels rows (HasParts cert) before)
+
+-- the answer to what says this, of which its certificate has the rest
+abbrev pub AnswersSubmitted : Holdings → Submitted → Option (List ℕ) → Answer → Type 0
+AnswersSubmitted before said = IsBlocksAnswer said.release.parcels said.rows (HasParts said.cert)
+    before publish_refusal_text
 
 -- the answer to what is handed in, where a register holds this: faults of the tables and texts come
 -- first. There is no year, and the certificate is not checked
-pub record IsExactAnswer (x : SubmissionInputs) (before : Holdings) (a : Outputs) : Type 0 where
-  pub answer : IsSubmissionAnswer (λ said. IsBlocksAnswer publish_refusal_text said.release
-      said.rows (HasParts said.cert) before a.cert) x (a.line, a.status)
-  -- with every other status there is no text
-  pub no_text : a.status ≢ done → a.cert ≡ None
+abbrev pub IsExactAnswer : SubmissionInputs → Holdings → Outputs → Type 0
+IsExactAnswer x before =
+    HasTextOnlyIfDone (λ text. IsSubmissionAnswer (λ said. AnswersSubmitted before said text) x)
 
--- a run that fills in blocks: this submission is what five readers gave, as far as it is known, and
--- this is an answer to it
-pub record Fills (given : Submission Known) (before : Holdings) (a : Outputs) : Type 0 where
-  pub submission : SubmissionInputs
-  pub read : AreAllRead given submission
-  pub answer : IsExactAnswer submission before a
+-- how a run ends that fills in blocks, over what its two writers hold before and after: an input
+-- was not read, or memory ran out; or this is an answer to what five readers gave, as far as it is
+-- known, and it was written, or an output failed
+abbrev pub RunsExact : Submission Known → Holdings → Held → Held → Result ℕ Failure → Type 0
+RunsExact given before = RunsBoth (AreUnread (submission_named given))
+    (λ a. OfRead AreAllRead given (λ x. IsExactAnswer x before a))

@@ -35,7 +35,7 @@ publication_text head c before =
 pub record IsPublicationAnswer (head : List ℕ) (c : Candidate) (before : Holdings) (a : Answer)
     : Type 0 where
   pub later : last_year before.history < c.year
-  pub shown : IsShown before.history before.shapes c.release c.blocks c.rows
+  pub shown : IsShown before.history before.shapes c.parcels c.blocks c.rows
   pub told : a ≡ (publication_text head c before, done)
 
 -- ---- the register after
@@ -71,9 +71,17 @@ abbrev pub IsMemoryOrStore : Failure → Type 0
 IsMemoryOrStore failure = (failure ≡ Memory) ⊎ IsStoreFailure failure
 
 -- what a run that ended so, and was asked to publish one of these releases, leaves of a register:
--- what it holds became another only where one was published, and its database holds that
+-- what it holds became another only where one was published, and its database holds that, or it is
+-- known why not
 pub record PublishLeaves {S : Type 0} (store : Ghosts S) (IsAsked : Candidate → Type 0)
     (old new : RegisterState S) (result : Result Printed Failure) : Type 0 where
   pub same : IfOk result (λ a. a.status ≢ done → new.held ≡ old.held)
   pub failure : IfErr result (λ failure. IsMemoryOrStore failure × (new.held ≡ old.held))
   pub stored : Stays store IsAsked old new result
+
+-- what publishing a release comes to that was accepted, with this text before it
+pub record PublishesAccepted {S : Type 0} (store : Ghosts S) (head : List ℕ) (c : Candidate)
+    (old new : RegisterState S) (result : Result Printed Failure) : Type 0 where
+  pub answer : IfOk result (λ it. IsPublicationAnswer head c old.held (it.text.items, it.status))
+  pub published : IfOk result (λ _. IsReleasePublished c old.held new.held)
+  pub leaves : PublishLeaves store (λ asked. asked ≡ c) old new result

@@ -1,21 +1,19 @@
 -- The answer to a release that is to be published: text and status, of the year, the bytes of the
 -- five inputs, and what the register holds before; and what it holds after.
-use Rattle.std.specs.Prelude.{◌≡◌, ◌≢◌, ◌⊎◌, ℕ, IfErr, List, Result}
+use Rattle.std.specs.Prelude.{◌≡◌, ◌≢◌, ◌⊎◌, ℕ, List, Result}
 use Rattle.sqlite_trees.specs.declared.store.Store.{Ghosts}
 use Rattle.lpis_checker.specs.GoodCertificate.{IsGood}
 use Rattle.lpis_checker.specs.SoundMap.{IsSoundMap}
-use Rattle.lpis_register.specs.Failing.{FailsToStore}
 use Rattle.lpis_register.specs.Faults.{IsRefused, IsSetAside}
 use Rattle.lpis_register.specs.Holdings.{Candidate, Holdings, RegisterState, candidate}
 use Rattle.lpis_register.specs.declared.fault.PublishFault.{PublishFault}
 use Rattle.lpis_run.specs.CheckAnswer.{Answer, IsCheckAnswer}
 use Rattle.lpis_run.specs.declared.failure.Failure.{Failure}
-use Rattle.lpis_run.specs.declared.failure.Failure.TheVariants.{Store}
 use Rattle.lpis_run.specs.declared.folder.Submission.{Submission}
 use Rattle.lpis_run.specs.Failures.{AreUnread}
 use Rattle.lpis_run.specs.Folders.{submission_named}
 use Rattle.lpis_run.specs.Report.{report_text}
-use Rattle.lpis_run.specs.Run.{Runs}
+use Rattle.lpis_run.specs.Run.{OfRead, Runs}
 use Rattle.lpis_run.specs.Status.{done, refused}
 use Rattle.lpis_run.specs.Streams.{Known}
 use Rattle.lpis_run_publish.specs.LineageLines.{publish_refusal_text}
@@ -36,7 +34,7 @@ IsHistoryAnswer refusal_of head c before a =
 
 -- what is to be published in a year, of what was handed in
 abbrev pub candidate_of : ℕ → Submitted → Candidate
-candidate_of year said = candidate year said.release said.cert.exact said.rows
+candidate_of year said = candidate year said.release.parcels said.cert.exact said.rows
 
 -- the answer to what is to be published in a year: faults of the tables and texts come first, then
 -- those of the certificate
@@ -59,14 +57,12 @@ IsSoundCandidate year x c =
 
 -- which five readers gave, as far as it is known
 abbrev pub IsHandedIn : ℕ → Submission Known → Candidate → Type 0
-IsHandedIn year given c =
-    (x : SubmissionInputs) × AreAllRead given x × IsSoundCandidate year x c
+IsHandedIn year given c = OfRead AreAllRead given (λ x. IsSoundCandidate year x c)
 
 -- it was published in a year
-pub record IsPublished (year : ℕ) (x : SubmissionInputs) (before after : Holdings) : Type 0 where
-  pub said : Submitted
-  pub proved : IsSoundSubmission x said
-  pub published : IsReleasePublished (candidate_of year said) before after
+abbrev pub IsPublished : ℕ → SubmissionInputs → Holdings → Holdings → Type 0
+IsPublished year x before after = (said : Submitted) × IsSoundSubmission x said
+    × IsReleasePublished (candidate_of year said) before after
 
 -- with the status `done` the release was published, with every other one the register holds what it
 -- held before
@@ -77,37 +73,21 @@ MovesRegister year x before after status = (status ≡ done → IsPublished year
 -- ---- the run
 -- in a year, of what five readers will give, over what a register holds before and after
 module _ (year : ℕ) (given : Submission Known) (before after : Holdings) where
-  -- a run that publishes: this submission is what five readers gave, as far as it is known, and
-  -- this is an answer to it, which is decided, and the register written, before it is printed
-  pub record Publishes (a : Answer) : Type 0 where
-    pub submission : SubmissionInputs
-    pub read : AreAllRead given submission
-    pub answer : IsPublishAnswer year submission before a
-    pub moves : MovesRegister year submission before after a.1
+  -- an answer to what five readers gave, as far as it is known, which is decided, and the register
+  -- written, before it is printed
+  abbrev pub Publishes : Answer → Type 0
+  Publishes a = OfRead AreAllRead given
+      (λ x. IsPublishAnswer year x before a × MovesRegister year x before after a.1)
 
   -- an input was not read, or memory ran out, or the database failed, and the register holds what
   -- it held
-  pub record PublishStops (failure : Failure) : Type 0 where
-    pub stopped : AreUnread (submission_named given) failure ⊎ IsStoreFailure failure
-    pub same : after ≡ before
+  abbrev pub PublishStops : Failure → Type 0
+  PublishStops failure =
+      (AreUnread (submission_named given) failure ⊎ IsStoreFailure failure) × (after ≡ before)
 
-module _ {S : Type 0} (store : Ghosts S) (year : ℕ) (given : Submission Known) where
-  -- what was handed in is a sound map with a good certificate, which was accepted, and the
-  -- database failed to store it
-  pub record FailsToPublish (old new : RegisterState S) (Failed : Type 0) : Type 0 where
-    pub submission : SubmissionInputs
-    pub read : AreAllRead given submission
-    pub said : Submitted
-    pub proved : IsSoundSubmission submission said
-    pub fails : FailsToStore store (candidate_of year said) old new Failed
-
-  -- what a run ends with, and what it leaves in the database. Where the database failed there was
-  -- a release to be stored, and where it did not itself run out of memory, and its disk kept what
-  -- was written, there is a cause
-  pub record RunsPublish (old new : RegisterState S) (before after : Known)
-      (result : Result ℕ Failure) : Type 0 where
-    pub runs : Runs (PublishStops year given old.held new.held)
-        (Publishes year given old.held new.held) before after result
-    pub stored : Stays store (IsHandedIn year given) old new result
-    pub cause : IfErr result (λ failure. IsStoreFailure failure
-        → FailsToPublish old new (failure ≡ Store))
+-- what a run ends with, what it leaves in the database, and why the database failed
+pub record RunsPublish {S : Type 0} (store : Ghosts S) (year : ℕ) (given : Submission Known)
+    (old new : RegisterState S) (before after : Known) (result : Result ℕ Failure) : Type 0 where
+  pub runs : Runs (PublishStops year given old.held new.held)
+      (Publishes year given old.held new.held) before after result
+  pub stored : Stays store (IsHandedIn year given) old new result

@@ -1,10 +1,12 @@
--- What the database of a register holds after a call, and what a crash on the way leaves.
+-- What the database of a register holds after a call, what a crash on the way leaves, and why the
+-- database failed.
 use Rattle.std.specs.Prelude.{◌≡◌, ◌⊎◌, IfErr, IsTrue, Result}
 use Rattle.sqlite.specs.Held.{state}
 use Rattle.sqlite.specs.State.{HasCleanDisk, Survives}
 use Rattle.sqlite.specs.Tree.{Trees}
 use Rattle.sqlite_trees.specs.declared.store.Store.{Ghosts}
 use Rattle.lpis_register.specs.Accepting.{IsAccepted}
+use Rattle.lpis_register.specs.Failing.{FailsToStore}
 use Rattle.lpis_register.specs.Holdings.{Candidate, RegisterState}
 use Rattle.lpis_register.specs.Publishing.{FollowsHistory, IsLeftAlone, LeavesRelease, TablesSay}
 use Rattle.lpis_register.specs.Running.{RanRelease, RanReleaseTo}
@@ -45,10 +47,14 @@ module _ {S : Type 0} (store : Ghosts S) (Is : Candidate → Type 0) (old : Regi
 
   -- so it is after a call that ended so, whatever tables the database has, if the disk kept what
   -- was written: as long as the database is open, and, unless it is the database that failed,
-  -- open or not. A crash on the way leaves what it left before, or the release whole
+  -- open or not. A crash on the way leaves what it left before, or the release whole. With a
+  -- failure of the database one of these releases was accepted, and was not stored; with `Store`,
+  -- if the disk kept what was written, for one of the causes that are named
   pub record Stays {A : Type 0} (new : RegisterState S) (result : Result A Failure) : Type 0 where
     pub holds : HasCleanDisk (state store new.conn) → IsTrue (state store new.conn).is_open
         → SaysOrStays new
     pub served : IfErr result (λ failure. IsStoreFailure failure → ⊥)
         → HasCleanDisk (state store new.conn) → SaysOrStays new
     pub crash : Survives (state store old.conn) (state store new.conn) IsReleaseLeft
+    pub cause : IfErr result (λ failure. IsStoreFailure failure
+        → (c : Candidate) × Is c × FailsToStore store c old new (failure ≡ Store))

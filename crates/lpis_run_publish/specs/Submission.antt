@@ -17,7 +17,7 @@ abbrev pub SubmissionInputs : Type 0
 SubmissionInputs = Submission (List ℕ)
 
 -- the submission has these bytes
-pub record AreAllRead (given : Submission Known) (x : SubmissionInputs) : Type 0 where
+pub record AreAllRead (x : SubmissionInputs) (given : Submission Known) : Type 0 where
   pub of_checked : AreRead x.folder given.folder
   pub of_lineage : IsRead x.lineage given.lineage
 

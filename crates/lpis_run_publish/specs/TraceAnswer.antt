@@ -3,7 +3,7 @@ use Rattle.std.specs.Prelude.{◌≡◌, ◌⊎◌, ◌++◌, ◌∷◌, ◌==�
 use Rattle.std.specs.List.{flat_map}
 use Rattle.lpis_tables.specs.Ids.{is_id}
 use Rattle.lpis_lineage.specs.declared.row.Entry.{Entry}
-use Rattle.lpis_register.specs.Histories.{IsTrace, IsUnknown}
+use Rattle.lpis_register.specs.HistoryAnswers.{IsTrace, IsUnknown}
 use Rattle.lpis_register.specs.declared.fault.PublishFault.TheVariants as publish
 use Rattle.lpis_run.specs.CheckAnswer.{Answer}
 use Rattle.lpis_run_publish.specs.LineageLines.{publish_refusal_text}

@@ -1,30 +1,29 @@
 //! The run of `exact`, over any register, readers and writers.
 
-ghost use Rattle.std.specs.Prelude.{◌≡◌, [], IfErr, IfOk, List, OnOk, length};
+ghost use Rattle.std.specs.Prelude.{◌≡◌, IfErr, IfOk, List, OnOk, length};
 ghost use Rattle.std.specs.Io.KnownBytes.{Appends};
 ghost use Rattle.std.specs.List.{IsDistinct};
 ghost use Rattle.lpis_tables.specs.Ids.{same_id};
-ghost use Rattle.lpis_release.specs.Release.{Contents, parcel_ids};
+ghost use Rattle.lpis_release.specs.declared.parcel.Parcel.{Parcel};
+ghost use Rattle.lpis_release.specs.Release.{parcel_ids};
 ghost use Rattle.lpis_lineage.specs.declared.exact.Group.{Group};
 ghost use Rattle.lpis_lineage.specs.declared.row.Entry.{Entry};
 ghost use Rattle.lpis_lineage.specs.declared.row.Row.{Row};
-ghost use Rattle.lpis_lineage.specs.Changes.{IsChange};
 ghost use Rattle.lpis_lineage.specs.Faults.{ReportsFirstOf, faults};
-ghost use Rattle.lpis_lineage.specs.Lineage.{last_live};
 ghost use Rattle.lpis_lineage.specs.Order.{IsAscending};
 ghost use Rattle.lpis_register_rows.specs.Shapes.{AreShapesOf, shape_ids};
-ghost use Rattle.lpis_lineage_exact.specs.Asking.{AsksFor};
+ghost use Rattle.lpis_lineage_exact.specs.Asking.{AsksFor, IsChangeTo};
 ghost use Rattle.lpis_register.specs.Holdings.{Holdings, holdings};
-ghost use Rattle.lpis_run.specs.Failures.{AreUnread, AreUntouched};
+ghost use Rattle.lpis_run.specs.Failures.{AreUntouched};
 ghost use Rattle.lpis_run.specs.Folders.{submission_by, submission_named};
-ghost use Rattle.lpis_run.specs.Outputs.{held, outputs_of};
-ghost use Rattle.lpis_run.specs.Run.{RunsBoth};
+ghost use Rattle.lpis_run.specs.Outputs.{held, line_alone, outputs_of};
 ghost use Rattle.lpis_run.specs.Status.{done, refused};
-ghost use Rattle.lpis_run_publish.specs.ExactAnswer.{Fills, IsBlocksOutcome, IsExactAnswer};
+ghost use Rattle.lpis_run_publish.specs.ExactAnswer.{AnswersSubmitted, FillsGroups, HasTextOnlyIfDone};
+ghost use Rattle.lpis_run_publish.specs.ExactAnswer.{IsExactAnswer, RunsExact};
 ghost use Rattle.lpis_run_publish.specs.ExactAnswer.{blocks_line, unfilled_line};
 ghost use Rattle.lpis_run_publish.specs.LineageLines.{publish_refusal_text};
 ghost use Rattle.lpis_run_publish.specs.Submission.{submitted};
-ghost use Rattle.lpis_run_publish.specs.private.ExactRuns.{filled_with, refused_with};
+ghost use Rattle.lpis_run_publish.specs.private.ExactRuns.{filled_with};
 ghost use Rattle.lpis_run_publish.specs.private.Submitting.{submission_of, submitted_of};
 
 use crate::blocks::{BlockFault, with_blocks};
@@ -91,23 +90,24 @@ fn write_blocks(alloc: Global, cert: &Cert) -> Result<Outcome, AllocError>
 
 /// The outcome of a refusal of the register.
 fn refuse_blocks(alloc: Global, fault: &PublishFault) -> Result<Outcome, AllocError>
-    ensures { IfOk result (λ o. outputs_of o ≡ refused_with (publish_refusal_text fault.now)) }
+    ensures { IfOk result
+        (λ o. outputs_of o ≡ line_alone (publish_refusal_text fault.now) refused) }
 {
     Ok(Outcome::without_cert(refuse(alloc, fault, REFUSED)?))
 }
 
 /// The outcome of a group that gets no block.
 fn refuse_part(alloc: Global, id: &Id) -> Result<Outcome, AllocError>
-    ensures { IfOk result (λ o. outputs_of o ≡ refused_with (unfilled_line id.now)) }
+    ensures { IfOk result (λ o. outputs_of o ≡ line_alone (unfilled_line id.now) refused) }
 {
     Ok(Outcome::without_cert(refuse_group(alloc, id)?))
 }
 
 /// The answer to a certificate and the parts that are asked for.
 fn answer_to_parts(alloc: Global, cert: Cert, parts: &[ExactPart]) -> Result<Outcome, AllocError>
-    ensures { (before : Holdings) (r : Contents) (rows : List Row) (gs : List Group)
-        → AsksFor before.history before.shapes r rows gs parts.now
-        → IfOk result (λ o. IsBlocksOutcome (submitted r cert rows) before (outputs_of o)) }
+    ensures { (before : Holdings) (parcels : List Parcel) (rows : List Row) (gs : List Group)
+        → AsksFor before.history before.shapes parcels rows gs parts.now
+        → IfOk result (λ o. FillsGroups parcels rows cert before (outputs_of o)) }
 {
     match with_blocks(alloc, cert, parts) {
         Ok(made) => write_blocks(alloc, &made),
@@ -126,11 +126,9 @@ fn answer_to_change(
 ) -> Result<Outcome, AllocError>
     requires ascending { IsAscending (shape_ids kept.now) }
     requires new_ascending { IsAscending (shape_ids new.now) }
-    ensures { (r : Contents) (h : List Entry) (rows : List Row) → AreShapesOf r.parcels new.now
-        → faults h (parcel_ids r.parcels) rows ≡ []
-        → IsChange (last_live h) (parcel_ids r.parcels) rows change.now
-        → IfOk result (λ o. IsBlocksOutcome (submitted r cert rows)
-        (holdings h kept.now) (outputs_of o)) }
+    ensures { (h : List Entry) (parcels : List Parcel) (rows : List Row)
+        → IsChangeTo h parcels rows change.now → AreShapesOf parcels new.now
+        → IfOk result (λ o. FillsGroups parcels rows cert (holdings h kept.now) (outputs_of o)) }
 {
     match wanted_parts(alloc, change, kept, new) {
         Ok(parts) => answer_to_parts(alloc, cert, parts.as_slice()),
@@ -141,15 +139,14 @@ fn answer_to_change(
 
 /// What parcels with these rows of lineage change, where they may follow the history, or the first
 /// fault of their lineage.
-pub fn change_of(
+fn change_of(
     alloc: Global,
     history: &History,
     parcels: &[Parcel],
     rows: &[Row],
 ) -> Result<Change, LineageFault>
     ensures tells { ReportsFirstOf (faults history.now (parcel_ids parcels.now) rows.now) result }
-    ensures change { IfOk result
-        (IsChange (last_live history.now) (parcel_ids parcels.now) rows.now) }
+    ensures change { IfOk result (IsChangeTo history.now parcels.now rows.now) }
 {
     let live = ids_of(alloc, parcels)?;
     match accept(alloc, history, live.as_slice(), rows) {
@@ -158,11 +155,8 @@ pub fn change_of(
     }
 }
 
-/// Gives a certificate the blocks that the marked rows of a change ask for, in place of its own,
-/// where these are the parcels that may follow; or says for which old parcel's shape that is not
-/// kept it gets none, or for which group: no flats are found for it, or more than a certificate may
-/// have.
-pub fn fill_change(
+/// The answer to parcels that may follow with this change, and a certificate.
+fn fill_change(
     alloc: Global,
     kept: &[KeptShape],
     change: &Change,
@@ -171,54 +165,69 @@ pub fn fill_change(
 ) -> Result<Outcome, AllocError>
     requires ascending { IsAscending (shape_ids kept.now) }
     requires distinct { IsDistinct same_id (parcel_ids parcels.now) }
-    ensures { (r : Contents) (h : List Entry) (rows : List Row) → r.parcels ≡ parcels.now
-        → faults h (parcel_ids r.parcels) rows ≡ []
-        → IsChange (last_live h) (parcel_ids r.parcels) rows change.now
-        → IfOk result (λ o. IsBlocksOutcome (submitted r cert rows)
-        (holdings h kept.now) (outputs_of o)) }
+    ensures { (h : List Entry) (rows : List Row) → IsChangeTo h parcels.now rows change.now
+        → IfOk result (λ o. FillsGroups parcels.now rows cert (holdings h kept.now)
+        (outputs_of o)) }
 {
     let new = shapes_in(alloc, parcels, kept)?;
     answer_to_change(alloc, kept, change, new.as_slice(), cert)
 }
 
-/// The answer to a release, rows of lineage and a certificate.
-fn answer_to_rows(
+/// Gives a certificate the blocks that the marked rows ask for, in place of its own, where these
+/// parcels may follow by these rows; or says for which old parcel's shape that is not kept it gets
+/// none, or for which group: no flats are found for it, or more than a certificate may have. The
+/// first fault of the lineage is handed over.
+pub fn fill_blocks<S: Alter>(
     alloc: Global,
-    history: &History,
-    kept: &[KeptShape],
+    register: &Register<S>,
+    parcels: &[Parcel],
+    rows: &[Row],
+    cert: Cert,
+) -> Result<Outcome, LineageFault>
+    requires distinct { IsDistinct same_id (parcel_ids parcels.now) }
+    ensures filled { IfOk result (λ o. FillsGroups parcels.now rows.now cert register.now.held
+        (outputs_of o)) }
+    ensures refused { ReportsFirstOf (faults register.now.held.history (parcel_ids parcels.now)
+        rows.now) result }
+{
+    let change = change_of(alloc, register.current(), parcels, rows)?;
+    let outcome = fill_change(alloc, register.current_shapes(), &change, parcels, cert)?;
+    Ok(outcome)
+}
+
+/// The answer to a release, rows of lineage and a certificate.
+fn answer_to_rows<S: Alter>(
+    alloc: Global,
+    register: &Register<S>,
     release: &Release,
     rows: &[Row],
     cert: Cert,
 ) -> Result<Outcome, AllocError>
-    requires ascending { IsAscending (shape_ids kept.now) }
-    ensures { IfOk result (λ o. IsBlocksOutcome (submitted release.now cert rows.now)
-        (holdings history.now kept.now) (outputs_of o)) }
+    ensures { IfOk result (λ o. HasTextOnlyIfDone (AnswersSubmitted register.now.held
+        (submitted release.now cert rows.now)) (outputs_of o)) }
 {
-    let parcels = release.parcels();
-    match change_of(alloc, history, parcels, rows) {
-        Ok(change) => fill_change(alloc, kept, &change, parcels, cert),
+    match fill_blocks(alloc, register, release.parcels(), rows, cert) {
+        Ok(outcome) => Ok(outcome),
         Err(LineageFault::Memory) => Err(AllocError),
         Err(fault) => refuse_blocks(alloc, &PublishFault::Lineage(fault)),
     }
 }
 
 /// The answer to a release, a certificate and rows of lineage.
-fn answer_to_submission(
+fn answer_to_submission<S: Alter>(
     alloc: Global,
-    history: &History,
-    kept: &[KeptShape],
+    register: &Register<S>,
     said: ReadSubmission,
 ) -> Result<Outcome, AllocError>
-    requires ascending { IsAscending (shape_ids kept.now) }
-    ensures { IfOk result (λ o. IsBlocksOutcome (submitted_of said)
-        (holdings history.now kept.now) (outputs_of o)) }
+    ensures { IfOk result (λ o. HasTextOnlyIfDone (AnswersSubmitted register.now.held
+        (submitted_of said)) (outputs_of o)) }
 {
     let ReadSubmission {
         release,
         cert,
         rows,
     } = said;
-    answer_to_rows(alloc, history, kept, &release, rows.as_slice(), cert)
+    answer_to_rows(alloc, register, &release, rows.as_slice(), cert)
 }
 
 /// The answer to what is handed in.
@@ -231,12 +240,7 @@ fn answer_to<S: Alter>(
         (outputs_of o)) }
 {
     match submission_in(alloc, submission) {
-        Ok(said) => answer_to_submission(
-            alloc,
-            register.current(),
-            register.current_shapes(),
-            said,
-        ),
+        Ok(said) => answer_to_submission(alloc, register, said),
         Err(stop) => Ok(Outcome::without_cert(stop.into_answer()?)),
     }
 }
@@ -260,9 +264,7 @@ pub fn run_exact<S: Alter, R: Read + Drop, V: Write, W: Write>(
     cert_out: &mut V,
     out: &mut W,
 ) -> Result<u8, Failure>
-    ensures runs { RunsBoth
-        (AreUnread (submission_named (submission_by R.remaining submission.old)))
-        (Fills (submission_by R.remaining submission.old) register.now.held)
+    ensures runs { RunsExact (submission_by R.remaining submission.old) register.now.held
         (held (V.contents cert_out.old) (W.contents out.old))
         (held (V.contents cert_out.new) (W.contents out.new)) result }
     ensures untouched { IfErr result

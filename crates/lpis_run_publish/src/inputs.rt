@@ -16,8 +16,8 @@ pub(crate) fn read_submission<R: Read + Drop>(
     alloc: Global,
     submission: &mut Submission<R>,
 ) -> Result<Submission<Vec<u8>>, Failure>
-    ensures read { IfOk result (λ b. AreAllRead (submission_by R.remaining submission.old)
-        (submission_of b)) }
+    ensures read { IfOk result (λ b. AreAllRead (submission_of b)
+        (submission_by R.remaining submission.old)) }
     ensures failure { IfErr result
         (AreUnread (submission_named (submission_by R.remaining submission.old))) }
     ensures untouched { IfErr result

@@ -15,7 +15,7 @@ mod submission;
 mod trace;
 mod unopened;
 
-pub use exact::{change_of, fill_change, run_exact};
+pub use exact::{fill_blocks, run_exact};
 pub use lineage_lines::refuse;
 pub use publish::{publish_accepted, run_publish};
 pub use submission::rows_in;

@@ -9,23 +9,21 @@ ghost use Rattle.lpis_checker.specs.SoundMap.{IsSoundMap};
 ghost use Rattle.lpis_lineage.specs.Changes.{kind_at};
 ghost use Rattle.lpis_lineage.specs.Order.{IsAscending};
 ghost use Rattle.lpis_register.specs.Accepting.{IsAccepted, WasMadeFor};
-ghost use Rattle.lpis_register.specs.Failing.{FailsToStore, HasStoreCause};
+ghost use Rattle.lpis_register.specs.Failing.{HasStoreCause};
 ghost use Rattle.lpis_register.specs.Holdings.{Candidate};
-ghost use Rattle.lpis_run.specs.declared.failure.Failure.TheVariants.{Store};
 ghost use Rattle.lpis_run.specs.CheckAnswer.{IsCheckAnswer};
 ghost use Rattle.lpis_run.specs.Failures.{AreUntouched};
 ghost use Rattle.lpis_run.specs.Folders.{submission_by, submission_named};
 ghost use Rattle.lpis_run.specs.Report.{report_text};
 ghost use Rattle.lpis_run.specs.Status.{done};
+ghost use Rattle.lpis_run.specs.declared.failure.Failure.TheVariants.{Store};
 ghost use Rattle.lpis_run_publish.specs.LineageLines.{lineage_line, published_line};
-ghost use Rattle.lpis_run_publish.specs.Publication.{IsPublicationAnswer, IsReleasePublished};
-ghost use Rattle.lpis_run_publish.specs.Publication.{PublishLeaves};
+ghost use Rattle.lpis_run_publish.specs.Publication.{IsReleasePublished, PublishLeaves};
+ghost use Rattle.lpis_run_publish.specs.Publication.{PublishesAccepted};
 ghost use Rattle.lpis_run_publish.specs.PublishAnswer.{IsPublishAnswer};
-ghost use Rattle.lpis_run_publish.specs.PublishAnswer.{IsSoundCandidate, IsSoundSubmission};
-ghost use Rattle.lpis_run_publish.specs.PublishAnswer.{MovesRegister};
+ghost use Rattle.lpis_run_publish.specs.PublishAnswer.{IsSoundCandidate, MovesRegister};
 ghost use Rattle.lpis_run_publish.specs.PublishAnswer.{RunsPublish, candidate_of};
-ghost use Rattle.lpis_run_publish.specs.Stored.{IsStoreFailure};
-ghost use Rattle.lpis_run_publish.specs.Submission.{Submitted, submitted};
+ghost use Rattle.lpis_run_publish.specs.Submission.{submitted};
 ghost use Rattle.lpis_run_publish.specs.private.Marked.{is_marked};
 ghost use Rattle.lpis_run_publish.specs.private.Submitting.{IsGoodAnswer, submission_of};
 ghost use Rattle.lpis_run_publish.specs.private.Submitting.{submitted_of};
@@ -87,22 +85,16 @@ fn tell_change(
 pub fn publish_accepted<S: Alter>(
     alloc: Global,
     register: &mut Register<S>,
-    year: u16,
     head: Vec<u8>,
     accepted: Accepted,
 ) -> Result<Answer, Failure>
     requires made { WasMadeFor register.old.held accepted }
-    ensures answer { (c : Candidate) → c.year ≡ year → IsAccepted c register.old.held accepted
-        → IfOk result (λ a. IsPublicationAnswer head.items c register.old.held
-        (a.text.items, a.status)) }
-    ensures published { (c : Candidate) → IsAccepted c register.old.held accepted
-        → IfOk result (λ _. IsReleasePublished c register.old.held register.new.held) }
-    ensures leaves { (c : Candidate) → IsAccepted c register.old.held accepted
-        → PublishLeaves S.Store (λ asked. asked ≡ c) register.old register.new result }
+    ensures publishes { (c : Candidate) → IsAccepted c register.old.held accepted
+        → PublishesAccepted S.Store head.items c register.old register.new result }
     ensures cause { IfErr result (λ failure. HasStoreCause S.Store accepted register.old
         register.new (failure ≡ Store)) }
 {
-    let answer = tell_change(alloc, head, year, accepted.change())?;
+    let answer = tell_change(alloc, head, accepted.year(), accepted.change())?;
     match register.commit(accepted) {
         Ok(_) => Ok(answer),
         Err(PublishFault::Memory) => Err(Failure::Memory),
@@ -116,23 +108,15 @@ pub fn publish_accepted<S: Alter>(
 fn publish_reported<S: Alter>(
     alloc: Global,
     register: &mut Register<S>,
-    year: u16,
     yes: &Yes<'_>,
     accepted: Accepted,
 ) -> Result<Answer, Failure>
     requires made { WasMadeFor register.old.held accepted }
-    ensures answer { (c : Candidate) → c.year ≡ year → IsAccepted c register.old.held accepted
-        → IfOk result (λ a. IsPublicationAnswer (report_text yes.now) c register.old.held
-        (a.text.items, a.status)) }
-    ensures published { (c : Candidate) → IsAccepted c register.old.held accepted
-        → IfOk result (λ _. IsReleasePublished c register.old.held register.new.held) }
-    ensures leaves { (c : Candidate) → IsAccepted c register.old.held accepted
-        → PublishLeaves S.Store (λ asked. asked ≡ c) register.old register.new result }
-    ensures cause { IfErr result (λ failure. HasStoreCause S.Store accepted register.old
-        register.new (failure ≡ Store)) }
+    ensures { (c : Candidate) → IsAccepted c register.old.held accepted → PublishesAccepted
+        S.Store (report_text yes.now) c register.old register.new result }
 {
     let head = report_of(alloc, yes.release())?;
-    publish_accepted(alloc, register, year, head, accepted)
+    publish_accepted(alloc, register, head, accepted)
 }
 
 /// Publishes a checked release where the history lets it follow, and its certificate shows what its
@@ -151,12 +135,9 @@ fn publish_checked<S: Alter>(
         (submitted yes.now cert.now rows.now)) register.old.held register.new.held) }
     ensures leaves { PublishLeaves S.Store (λ c. c ≡ candidate_of year
         (submitted yes.now cert.now rows.now)) register.old register.new result }
-    ensures cause { IfErr result (λ failure. IsStoreFailure failure → FailsToStore S.Store
-        (candidate_of year (submitted yes.now cert.now rows.now)) register.old register.new
-        (failure ≡ Store)) }
 {
     match register.accept(year, yes, rows, cert) {
-        Ok(accepted) => publish_reported(alloc, register, year, yes, accepted),
+        Ok(accepted) => publish_reported(alloc, register, yes, accepted),
         Err(PublishFault::Memory) => Err(Failure::Memory),
         Err(fault) => Ok(refuse(alloc, &fault, REFUSED)?),
     }
@@ -178,10 +159,6 @@ fn answer_to_submission<S: Alter>(
     ensures leaves { PublishLeaves S.Store (λ c. IsSoundMap said.now.release
         × IsGood said.now.release said.now.cert × (c ≡ candidate_of year (submitted_of said.now)))
         register.old register.new result }
-    ensures cause { IfErr result (λ failure. IsStoreFailure failure → IsSoundMap said.now.release
-        × IsGood said.now.release said.now.cert × FailsToStore S.Store
-        (candidate_of year (submitted_of said.now)) register.old register.new
-        (failure ≡ Store)) }
 {
     match say_yes(alloc, &said.release, &said.cert) {
         Ok(yes) => publish_checked(
@@ -209,9 +186,6 @@ fn answer_to<S: Alter>(
         register.old.held register.new.held a.status) }
     ensures leaves { PublishLeaves S.Store (IsSoundCandidate year (submission_of submission))
         register.old register.new result }
-    ensures cause { IfErr result (λ failure. IsStoreFailure failure → (said : Submitted)
-        × IsSoundSubmission (submission_of submission) said × FailsToStore S.Store
-        (candidate_of year said) register.old register.new (failure ≡ Store)) }
 {
     match submission_in(alloc, submission) {
         Ok(said) => answer_to_submission(alloc, register, year, &said),

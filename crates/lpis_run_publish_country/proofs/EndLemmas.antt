@@ -8,7 +8,6 @@ use Rattle.sqlite_trees.specs.declared.store.Store.{Ghosts}
 use Rattle.lpis_release.specs.Release.{Contents}
 use Rattle.lpis_country.specs.Country.{country_of}
 use Rattle.lpis_country.specs.Tree.{folders}
-use Rattle.lpis_register.specs.Failing.{FailsToStore}
 use Rattle.lpis_register.specs.Holdings.{Candidate, RegisterState}
 use Rattle.lpis_run.proofs.Shared.{breaks_off_more, runs_stopped, runs_written}
 use Rattle.lpis_run.specs.CheckAnswer.{Answer}
@@ -17,21 +16,22 @@ use Rattle.lpis_run.specs.Status.{done}
 use Rattle.lpis_run.specs.Streams.{Begins}
 use Rattle.lpis_run.specs.declared.answer.Answer.{Answer as Printed}
 use Rattle.lpis_run.specs.declared.failure.Failure.{Failure}
-use Rattle.lpis_run.specs.declared.failure.Failure.TheVariants.{Memory, Read, Store, Write}
+use Rattle.lpis_run.specs.declared.failure.Failure.TheVariants.{Memory, Read, Write}
 use Rattle.lpis_run.specs.declared.failure.Name.{Name}
 use Rattle.lpis_run.specs.declared.failure.Name.TheVariants.{Out}
 use Rattle.lpis_run_country.specs.CountryAnswer.{HavePassed, IsBehind, IsReachedBy, IsRegionsAnswer, Setting}
 use Rattle.lpis_run_country.specs.CountryLines.{country_lines}
 use Rattle.lpis_run_country.specs.CountryFailures.{IsReadOf, IsStoppedBefore, StopsRegions}
 use Rattle.lpis_run_country.specs.Regions.{Texts}
-use Rattle.lpis_run_country.specs.RegionsOutcome.{IsRegionsRefusal, RegionsEnd, RegionsStop}
+use Rattle.lpis_run_country.specs.RegionsOutcome.{IsRegionsRefusal, JoinsRegions, RegionsEnd, RegionsStop}
+use Rattle.lpis_run_country.specs.declared.joining.Joining.{Joining}
 use Rattle.lpis_run_country.proofs.Shared.{all_left}
 use Rattle.lpis_run_publish.proofs.Shared.{stays_as}
 use Rattle.lpis_run_publish.specs.Publication.{IsMemoryOrStore, PublishLeaves}
 use Rattle.lpis_run_publish.specs.Stored.{IsStoreFailure, Stays}
 use Rattle.lpis_run_publish_country.specs.PublishCountryAnswer.{AreSaid, CountryRequest, CountrySaid, IsPublishCountryAnswer, IsUnionAnswer, PublishCountryInputs}
 use Rattle.lpis_run_publish_country.specs.PublishCountryAnswer.{setting_said, union_of}
-use Rattle.lpis_run_publish_country.specs.PublishCountryRuns.{FailsToPublishCountry, IsUnion, StopsBehind}
+use Rattle.lpis_run_publish_country.specs.PublishCountryRuns.{IsUnion, StopsBehind}
 use Rattle.lpis_run_publish_country.specs.private.Deciding.{DecidesUnion, EndsUnion, PublishesCountry, RunsPrepared, StopsUnion}
 
 -- ---- writers
@@ -65,6 +65,11 @@ pub stop_no_store : (s : Setting) (old new : Option (List ℕ)) (f : Failure) �
 stop_no_store s old new f (inl (lines, (regions, left, reached, stopped), written)) = stopped-no-store s.texts left f stopped
 stop_no_store s old new f (inr (write, begun)) = none_of_store f (inr (inr write))
 
+-- ---- the regions
+-- a run over regions ends in a setting as in one that is equal
+pub joins_as : (s t : Setting) (old new : Option (List ℕ)) (r : Result Joining Failure) → s ≡ t → JoinsRegions s old new r → JoinsRegions t old new r
+joins_as s t old new r is = subst (λ (k : Setting). JoinsRegions k old new r) is
+
 -- ---- the union
 module _ {S : Type 0} (store : Ghosts S) (asked : CountryRequest) (said : CountrySaid) (regions : List Contents) (old new : RegisterState S) where
   abbrev It : Candidate → Type 0
@@ -72,11 +77,10 @@ module _ {S : Type 0} (store : Ghosts S) (asked : CountryRequest) (said : Countr
 
   -- memory runs out, or the database fails
   pub union_stopped : (out : Option (List ℕ)) (failure : Failure) → IsMemoryOrStore failure × (new.held ≡ old.held) → Stays store It old {A = Printed} new (Err failure)
-      → (IsStoreFailure failure → FailsToStore store (union_of asked.year said regions) old new (failure ≡ Store)) → EndsUnion store asked said regions old new out out (Err failure)
-  union_stopped out failure why stays cause = record {
+      → EndsUnion store asked said regions old new out out (Err failure)
+  union_stopped out failure why stays = record {
     runs = runs_stopped _ _ out failure why;
-    stored = stays_as store It It (λ c is. is) old new (Err failure) (Err failure) (λ other. other) stays;
-    cause = cause;
+    stored = stays_as store It It (λ c is. is) old new (Err failure) (Err failure) (λ other. other) (λ X told. told) stays;
   }
 
   -- the answer is written, or a beginning of it
@@ -85,8 +89,8 @@ module _ {S : Type 0} (store : Ghosts S) (asked : CountryRequest) (said : Countr
       → IfErr r (λ failure. (failure ≡ Write Out) × Begins before after a.text.items) → EndsUnion store asked said regions old new before after r
   union_written before after a r answer leaves is written begun = record {
     runs = runs_written _ _ a.text.items a.status before after r (answer, leaves.same) is written begun;
-    stored = stays_as store It It (λ c is. is) old new (Ok a) r (λ other. tt) leaves.stored;
-    cause = IfErr-weaker r _ _ (λ failure part of. absurd (none_of_store failure (inr (inr part.0)) of)) begun;
+    stored = stays_as store It It (λ c is. is) old new (Ok a) r (λ other. tt)
+        (λ X told. IfErr-weaker r _ _ (λ failure part of. absurd (none_of_store failure (inr (inr part.0)) of)) begun) leaves.stored;
   }
 
 -- ---- the run
@@ -150,12 +154,8 @@ module _ {S : Type 0} (store : Ghosts S) (asked : CountryRequest) (x : PublishCo
     union-breaks-off f (inr (write, a, is, begins)) =
         inr (write, (lines ++ a.0, inr (a.1, publishes-union a is), begins_behind before now after lines a.0 printed begins))
 
-    cause-union : (f : Failure) → (IsStoreFailure f → FailsToStore store (union_of asked.year said regions) old new (f ≡ Store))
-        → IsStoreFailure f → FailsToPublishCountry store asked x old new (f ≡ Store)
-    cause-union f told is = record { said = said; are_said = are_said; regions = regions; lines = lines; have_passed = passed; fails = told is }
-
     stays_union : (r : Result ℕ Failure) → Stays store (λ c. c ≡ union_of asked.year said regions) old new r → Stays store (IsUnion asked x) old new r
-    stays_union r = stays_as store (λ c. c ≡ union_of asked.year said regions) (IsUnion asked x) (λ c is. (said, are_said, regions, lines, passed, is)) old new r r (λ other. other)
+    stays_union r = stays_as store (λ c. c ≡ union_of asked.year said regions) (IsUnion asked x) (λ c is. (said, are_said, regions, lines, passed, is)) old new r r (λ other. other) (λ X told. told)
 
     -- all of it
     pub runs_union : (r : Result ℕ Failure) → EndsUnion store asked said regions old new now after r
@@ -165,12 +165,10 @@ module _ {S : Type 0} (store : Ghosts S) (asked : CountryRequest) (x : PublishCo
         record {
           runs = record { answer = (lines ++ text, publishes-union (text, status) answer, Appends-trans before now after lines text printed written); failure = tt };
           stored = stays_union (Ok status) e.stored;
-          cause = tt;
         }
     runs_union (Err f) e = record {
       runs = record { answer = tt; failure = inr (union-breaks-off f e.runs.failure) };
       stored = stays_union (Err f) e.stored;
-      cause = cause-union f e.cause;
     }
 
   -- where a region is refused the register is as it was
@@ -179,7 +177,6 @@ module _ {S : Type 0} (store : Ghosts S) (asked : CountryRequest) (x : PublishCo
   runs_refused status same stays ((text, answer, written), not_done) = record {
     runs = record { answer = (text, publishes-none same (text, status) (answer, not_done), written); failure = tt };
     stored = stays;
-    cause = tt;
   }
 
   -- where the run stops before its last region it is too
@@ -191,5 +188,4 @@ module _ {S : Type 0} (store : Ghosts S) (asked : CountryRequest) (x : PublishCo
       failure = inr (breaks_off_more (StopsRegions here) _ (IsRegionsRefusal here) _ before after f (stops-in-regions same) (publishes-none same) stop);
     };
     stored = stays;
-    cause = λ of. absurd (stop_no_store here before after f stop of);
   }

@@ -5,44 +5,33 @@ use Rattle.std.proofs.KnownBytes.{Keeps-refl}
 use Rattle.std.proofs.Math.Seq.{take-append-add}
 use Rattle.std.proofs.lemmas.Bool.{cases_lt}
 use Rattle.std.proofs.lemmas.List.{append-nil, append_assoc, take-append-le}
-use Rattle.std.proofs.lemmas.Result.{IfOk-weaker}
 use Rattle.std.specs.Io.KnownBytes.{Appends, Keeps, append_known}
 use Rattle.lpis_release.specs.declared.parcel.Parcel.{Parcel}
-use Rattle.lpis_release.specs.Release.{Contents, parcel_ids}
+use Rattle.lpis_release.specs.Release.{Contents}
 use Rattle.lpis_cert.specs.declared.cert.Cert.{Cert}
 use Rattle.lpis_country.specs.Country.{country_of}
-use Rattle.lpis_lineage.specs.declared.fault.LineageFault.{LineageFault}
-use Rattle.lpis_lineage.specs.declared.fault.LineageFault.TheVariants.{Memory as NoMemory}
-use Rattle.lpis_lineage.specs.declared.row.Entry.{Entry}
 use Rattle.lpis_lineage.specs.declared.row.Row.{Row}
-use Rattle.lpis_lineage.specs.Changes.{Changes, IsChange}
-use Rattle.lpis_lineage.specs.Faults.{faults, first}
-use Rattle.lpis_lineage.specs.Lineage.{last_live}
-use Rattle.lpis_register.specs.Holdings.{Holdings, holdings}
-use Rattle.lpis_register.specs.declared.fault.PublishFault.TheVariants.{Lineage}
+use Rattle.lpis_register.specs.Holdings.{Holdings}
 use Rattle.lpis_run.proofs.Shared.{breaks_off_more}
 use Rattle.lpis_run.specs.CheckAnswer.{Answer}
-use Rattle.lpis_run.specs.Outputs.{BreaksOff, Held, Outputs, Writes, held, outputs_of}
+use Rattle.lpis_run.specs.Outputs.{BreaksOff, Held, Outputs, Writes, held}
 use Rattle.lpis_run.specs.Failures.{AreUnread}
 use Rattle.lpis_run.specs.Run.{BreaksOffIn, RunsOnBoth}
-use Rattle.lpis_run.specs.Status.{done, refused}
+use Rattle.lpis_run.specs.Status.{done}
 use Rattle.lpis_run.specs.Streams.{Begins, Known}
-use Rattle.lpis_run.specs.declared.folder.Top.{Top}
 use Rattle.lpis_run.specs.declared.answer.Answer.{Answer as Printed}
 use Rattle.lpis_run.specs.declared.detail.Detail.TheVariants.{Regions}
 use Rattle.lpis_run.specs.declared.failure.Failure.{Failure}
 use Rattle.lpis_run.specs.declared.failure.Failure.TheVariants.{Memory, Write}
 use Rattle.lpis_run.specs.declared.failure.Name.TheVariants.{Out}
-use Rattle.lpis_run.specs.declared.outcome.Outcome.{Outcome}
 use Rattle.lpis_run_country.proofs.Shared.{setting_begun}
+use Rattle.lpis_run_country.specs.Beginning.{setting_in}
 use Rattle.lpis_run_country.specs.CountryAnswer.{IsBehind, IsReachedBy, IsRegionsAnswer, Setting}
 use Rattle.lpis_run_country.specs.CountryFailures.{IsStoppedBefore, StopsRegions}
 use Rattle.lpis_run_country.specs.CountryLines.{country_lines}
 use Rattle.lpis_run_country.specs.Regions.{Texts}
-use Rattle.lpis_run_country.specs.RegionsOutcome.{IsSettingOf, JoinsAll, RegionsEnd, RegionsStop}
-use Rattle.lpis_run_publish.specs.ExactAnswer.{AreAsked, HasParts, IsBlocksAnswer, IsBlocksOutcome}
-use Rattle.lpis_run_publish.specs.LineageLines.{publish_refusal_text}
-use Rattle.lpis_run_publish.specs.Submission.{submitted}
+use Rattle.lpis_run_country.specs.RegionsOutcome.{JoinsAll, RegionsEnd, RegionsStop}
+use Rattle.lpis_run_publish.specs.ExactAnswer.{AnswersMarks, FillsGroups, HasParts, HasTextOnlyIfDone, IsBlocksAnswer}
 use Rattle.lpis_run_publish_country.specs.CountryLineage.{country_refusal_text, rows_in}
 use Rattle.lpis_run_publish_country.specs.ExactCountryAnswer.{HasNoParts, RunsExactCountry}
 use Rattle.lpis_run_publish_country.specs.PublishCountryAnswer.{AreTopRead, CountryFiles, CountrySaid, IsRefusedBefore, PublishCountryInputs, setting_said}
@@ -52,23 +41,16 @@ use Rattle.lpis_run_publish_country.specs.private.Filling.{FillsPrepared, FillsW
 use Rattle.lpis_run_publish_country.specs.private.Preparing.{IsPrepared, said_of}
 
 -- ---- the union
--- without faults there is no first one
-no-first : (fs : List LineageFault) (fault : LineageFault) → fs ≡ [] → first fs ≡ Some fault → ⊥
-no-first fs fault none is = nothing (sym (ap first none) ∙ is)
-  where
-    nothing : None ≡ Some fault → ⊥
-    nothing e = cc
-
 module _ (g : Setting) (tables : List (List Row)) (regions : List Contents) (before : Holdings) where
   -- a certificate with the parts of one that has none
   no-parts : (c made : Cert) → IsEmpty c → HasParts c made → HasNoParts made
   no-parts c made none has = record { pieces = has.pieces ∙ none.rest.pieces; parcels = has.parcels ∙ none.rest.parcels; pairs = has.pairs ∙ none.rest.pairs }
 
   -- the blocks that were found
-  fill-asked : (c : Cert) (text : Option (List ℕ)) (a : Answer) → IsEmpty c
-      → AreAsked publish_refusal_text (country_of g.classes regions) (rows_in tables) (HasParts c) before text a
-      → AreAsked (country_refusal_text g.names tables) (country_of g.classes regions) (rows_in tables) HasNoParts before text a
-  fill-asked c text a none asked = record {
+  fill-asked : (c : Cert) (parcels : List Parcel) (rows : List Row) (text : Option (List ℕ)) (a : Answer) → IsEmpty c
+      → AnswersMarks parcels rows (HasParts c) before text a → AnswersMarks parcels rows HasNoParts before text a
+  fill-asked c parcels rows text a none (inl unkept) = inl unkept
+  fill-asked c parcels rows text a none (inr asked) = inr (record {
     gs = asked.gs;
     xs = asked.xs;
     asks = asked.asks;
@@ -76,45 +58,15 @@ module _ (g : Setting) (tables : List (List Row)) (regions : List Contents) (bef
       | inl unfilled ↦ inl unfilled
       | inr filled ↦ inr (filled.0, no-parts c filled.0 none filled.1, filled.2, filled.3, filled.4)
     ];
-  }
+  })
 
-  -- the answer to a union that may follow
-  fill-answer : (c : Cert) (text : Option (List ℕ)) (a : Answer) → IsEmpty c → faults before.history (parcel_ids (country_of g.classes regions).parcels) (rows_in tables) ≡ []
-      → IsBlocksAnswer publish_refusal_text (country_of g.classes regions) (rows_in tables) (HasParts c) before text a
-      → IsBlocksAnswer (country_refusal_text g.names tables) (country_of g.classes regions) (rows_in tables) HasNoParts before text a
-  fill-answer c text a none clean (inl (fault, is, told)) = absurd (no-first _ fault clean is)
-  fill-answer c text a none clean (inr (inl unkept)) = inr (inl unkept)
-  fill-answer c text a none clean (inr (inr asked)) = inr (inr (fill-asked c text a none asked))
-
-  -- with what was found of a change
-  pub fill_change_ends : {E : Type 0} (c : Cert) (rows : List Row) (parcels : List Parcel) (change : Changes) (r : Result Outcome E)
-      → parcels ≡ (country_of g.classes regions).parcels → rows ≡ rows_in tables
-      → IsEmpty c → faults before.history (parcel_ids parcels) rows ≡ [] → IsChange (last_live before.history) (parcel_ids parcels) rows change
-      → ((u : Contents) (h : List Entry) (ls : List Row) → u.parcels ≡ parcels → faults h (parcel_ids u.parcels) ls ≡ [] → IsChange (last_live h) (parcel_ids u.parcels) ls change
-      → IfOk r (λ o. IsBlocksOutcome (submitted u c ls) (holdings h before.shapes) (outputs_of o)))
-      → IfOk r (λ o. IsFillOutcome g tables regions before (outputs_of o))
-  fill_change_ends c rows parcels change r are of_rows none clean changed fills =
-      let h = before.history in
-      let is_clean = subst (λ (xs : List Parcel). faults h (parcel_ids xs) (rows_in tables) ≡ []) are (subst (λ (ls : List Row). faults h (parcel_ids parcels) ls ≡ []) of_rows clean) in
-      let is_change = subst (λ (xs : List Parcel). IsChange (last_live h) (parcel_ids xs) (rows_in tables) change) are
-      (subst (λ (ls : List Row). IsChange (last_live h) (parcel_ids parcels) ls change) of_rows changed) in
-      IfOk-weaker r _ _ (λ o out. record { answer = fill-answer c _ _ none is_clean out.answer; no_text = out.no_text })
-      (fills (country_of g.classes regions) h (rows_in tables) (sym are) is_clean is_change)
-
-  -- the line of the first fault of its lineage
-  pub fill_refused : (rows : List Row) (parcels : List Parcel) (fault : LineageFault) (names : List (List ℕ)) (o : Outputs) (a : Printed) → parcels ≡ (country_of g.classes regions).parcels
-      → rows ≡ rows_in tables → names ≡ g.names → (fault ≡ NoMemory) ⊎ (first (faults before.history (parcel_ids parcels) rows) ≡ Some fault) → (fault ≡ NoMemory → ⊥)
-      → o ≡ record { cert = None; line = a.text.items; status = a.status } → a.text.items ≡ country_refusal_text names tables (Lineage fault) → a.status ≡ refused
-      → IsFillOutcome g tables regions before o
-  fill_refused rows parcels fault names o a are of_rows of_names (inl memory) other is line status = absurd (other memory)
-  fill_refused rows parcels fault names o a are of_rows of_names (inr is_first) other is line status =
-      let of_union = subst (λ (xs : List Parcel). first (faults before.history (parcel_ids xs) (rows_in tables)) ≡ Some fault) are
-      (subst (λ (ls : List Row). first (faults before.history (parcel_ids parcels) ls) ≡ Some fault) of_rows is_first) in
-      let text = line ∙ ap (λ (ks : List (List ℕ)). country_refusal_text ks tables (Lineage fault)) of_names in
-      subst (IsFillOutcome g tables regions before) (sym is) (record {
-        answer = inl (fault, of_union, ap₂ (λ (t : List ℕ) (n : ℕ). (t, n)) text status);
-        no_text = λ _. refl;
-      })
+  -- what was found of a union that may follow is its answer
+  pub fill_ends : (c : Cert) (rows : List Row) (parcels : List Parcel) (o : Outputs) → parcels ≡ (country_of g.classes regions).parcels → rows ≡ rows_in tables → IsEmpty c
+      → FillsGroups parcels rows c before o → IsFillOutcome g tables regions before o
+  fill_ends c rows parcels o are of_rows none out =
+      subst (λ (xs : List Parcel). HasTextOnlyIfDone (IsBlocksAnswer xs (rows_in tables) HasNoParts before (country_refusal_text g.names tables)) o) are
+      (subst (λ (ls : List Row). HasTextOnlyIfDone (IsBlocksAnswer parcels ls HasNoParts before (country_refusal_text g.names tables)) o) of_rows
+      (record { answer = inr (fill-asked c parcels rows o.cert (o.line, o.status) none out.answer); no_text = out.no_text }))
 
 -- ---- what was begun
 -- what the files before the regions say
@@ -125,11 +77,10 @@ fill-said given x p h = said_of h.begun.plan p h.tables
 abbrev pub fill_setting : (given : CountryFiles) (x : PublishCountryInputs) (p : Prepared) → IsPrepared given x p → Setting
 fill_setting given x p h = setting_said given Regions (fill-said given x p h)
 
--- it is that of a run over the regions
+-- it is that of what was begun
 pub is_fill_setting : (given : CountryFiles) (x : PublishCountryInputs) (p : Prepared) (h : IsPrepared given x p) (texts : List ℕ → Texts) → given.texts ≡ texts
-    → IsSettingOf (fill_setting given x p h) texts Regions p.begun
-is_fill_setting given x p h texts told =
-    subst (λ (t : List ℕ → Texts). IsSettingOf (fill_setting given x p h) t Regions p.begun) told (setting_begun given.texts Regions x.country p.begun h.begun)
+    → setting_in texts Regions p.begun ≡ fill_setting given x p h
+is_fill_setting given x p h texts told = ap (λ (t : List ℕ → Texts). setting_in t Regions p.begun) (sym told) ∙ setting_begun given.texts Regions x.country p.begun h.begun
 
 -- ---- the regions
 -- all of them
@@ -173,7 +124,7 @@ module _ (given : CountryFiles) (x : PublishCountryInputs) (p : Prepared) (h : I
   -- its line ends the run
   refused-end : (g : Setting) (regions : List Contents) (left : List (List ℕ)) (end : Answer)
       → IsBehind g (λ rs a. a ≡ (country_lines (length rs) (country_of g.classes rs), done)) regions left end → end.1 ≢ done
-      → IsBehind g (λ rs. IsBlocksAnswer (country_refusal_text g.names h.tables) (country_of g.classes rs) (rows_in h.tables) HasNoParts before None) regions left (end.0, end.1)
+      → IsBehind g (λ rs. IsBlocksAnswer (country_of g.classes rs).parcels (rows_in h.tables) HasNoParts before (country_refusal_text g.names h.tables) None) regions left (end.0, end.1)
   refused-end g regions [] end is other = absurd (other (ap (λ (a : Answer). a.1) is))
   refused-end g regions (name ∷ left) end is other = is
 
@@ -288,10 +239,6 @@ both-more P Q S T A B old new (Err f) before behind answers runs = record { answ
     more (inr (inr (lines, end, answer, mid, wrote, rest))) = inr (inr (lines, end, answers lines end answer, mid, wrote, rest))
 
 -- ---- the run
--- the files of a run that names no certificate
-abbrev pub files_without : Top Known → (List ℕ → Texts) → (List ℕ → Known) → CountryFiles
-files_without top texts lineages = record { top = top; exact = None; texts = texts; lineages = lineages }
-
 module _ (given : CountryFiles) (before : Holdings) (file out : Option (List ℕ)) where
   -- a file was not read
   pub runs_unread : (f : Failure) → AreUnread (files_named given) f → RunsExactCountry given before (held file out) (held file out) (Err f)

@@ -7,14 +7,13 @@ use Rattle.lpis_lineage.specs.declared.row.Row.{Row}
 use Rattle.lpis_lineage.specs.LineageTable.{lineage_table}
 use Rattle.lpis_tables.specs.declared.fault.TableFault.{TableFault}
 use Rattle.lpis_tables.specs.Faults.{rows_of}
-use Rattle.lpis_run.proofs.Shared.{refused-as, refused-more}
+use Rattle.lpis_run.proofs.Shared.{refused-more}
 use Rattle.lpis_run.specs.CheckAnswer.{Answer, IsTableAnswer}
 use Rattle.lpis_run.specs.Refusals.{line_in_region}
-use Rattle.lpis_run.specs.Stops.{IsRefusedAs}
+use Rattle.lpis_run.specs.Stops.{IsInRegion, IsRefusedAs}
 use Rattle.lpis_run.specs.Streams.{IsRead}
-use Rattle.lpis_run.specs.declared.answer.Answer.{Answer as Printed}
 use Rattle.lpis_run.specs.declared.stop.Stop.{Stop}
-use Rattle.lpis_run.specs.declared.stop.Stop.TheVariants.{Refused}
+use Rattle.lpis_run.specs.declared.stop.Stop.TheVariants.{Memory, Refused}
 use Rattle.lpis_run.specs.declared.failure.Failure.{Failure}
 use Rattle.lpis_run_publish_country.specs.CountryLineage.{IsTableOf, IsTableRefused, IsUnreadTable, rows_in}
 use Rattle.lpis_run_publish_country.specs.declared.lineage.CountryLineage.{CountryLineage}
@@ -67,12 +66,12 @@ faulty-table name table (Ok rows) a said never = absurd never
 faulty-table name table (Err fault) a said is = (fault, said, ap (λ (b : Answer). (line_in_region b.0 name, b.1)) is)
 
 -- the line of a table's fault, with the region behind it, refuses the table
-pub refused_with : (name table : List ℕ) (stop : Stop) (a b : Printed) → stop ≡ Refused a → IsRefusedAs (IsTableAnswer (λ rows c. ⊥) (rows_of lineage_table table)) stop
-    → b.text.items ≡ line_in_region a.text.items name → b.status ≡ a.status → IsTableRefusal name table (b.text.items, b.status)
-refused_with name table stop a b is may text status =
-    subst (IsTableRefusal name table) (sym (ap₂ (λ (t : List ℕ) (k : ℕ). (t, k)) text status))
-    (faulty-table name table (rows_of lineage_table table) (a.text.items, a.status) refl
-    (refused-as {A = ℕ} (IsTableAnswer (λ rows c. ⊥) (rows_of lineage_table table)) stop (Ok a) may is))
+pub refused_with : (name table : List ℕ) (stop told : Stop) → IsRefusedAs (IsTableAnswer (λ rows c. ⊥) (rows_of lineage_table table)) stop → IsInRegion stop name told
+    → IsRefusedAs (IsTableRefusal name table) told
+refused_with name table stop Memory may is = tt
+refused_with name table Memory (Refused b) may is = absurd is
+refused_with name table (Refused a) (Refused b) may is =
+    subst (IsTableRefusal name table) (sym (ap₂ (λ (t : List ℕ) (k : ℕ). (t, k)) is.0 is.1)) (faulty-table name table (rows_of lineage_table table) (a.text.items, a.status) refl may)
 
 -- what its bytes say refuses the table of a folder
 refused-in : (told : List ℕ → Option (List ℕ)) (name table : List ℕ) → IsRead table (told name) → (a : Answer) → IsTableRefusal name table a → IsTableRefused told name a

@@ -1,8 +1,8 @@
 -- What the files before the regions say, or the answer to the first of them that has a fault.
-use Rattle.std.proofs.Common.{◌≡◌, ◌∙◌, refl, sym, ap, subst, inl, inr, IfErr, IfOk, ℕ, List, Option, None, Some, Result, Ok, Err, Vec, length, map}
+use Rattle.std.proofs.Common.{◌≡◌, ◌∙◌, refl, sym, ap, ap₂, subst, inl, inr, IfErr, IfOk, ℕ, List, Option, None, Some, Result, Ok, Err, Vec}
 use Rattle.std.specs.Option.{option_map}
 use Rattle.std.specs.declared.alloc.Global.{Global}
-use Rattle.std.specs.String.{string_bytes}
+use Rattle.lpis_points.specs.declared.boxes.Box4.{Box4}
 use Rattle.lpis_tables.specs.Classes.{classes_table}
 use Rattle.lpis_tables.specs.Faults.{rows_of}
 use Rattle.lpis_tables.specs.declared.class.Class.{Class}
@@ -16,8 +16,7 @@ use Rattle.lpis_run.specs.Stops.{IsRefusedAs}
 use Rattle.lpis_run.specs.declared.stop.Stop.{Stop}
 use Rattle.lpis_run.proofs.Shared.{answer-of-text, cert-more, refused-more, table-more}
 use Rattle.lpis_country.specs.Tree.{folders}
-use Rattle.lpis_run_country.specs.Beginning.{IsBegun, IsUnbegun}
-use Rattle.lpis_run_country.specs.declared.beginning.Begun.{Begun}
+use Rattle.lpis_run_country.specs.Beginning.{BegunParts, IsBegun, IsUnbegun}
 use Rattle.lpis_run.specs.declared.failure.Failure.{Failure}
 use Rattle.lpis_run_publish_country.specs.CountryLineage.{AreTablesOf}
 use Rattle.lpis_run_publish_country.specs.PublishCountryAnswer.{AreBlocksOf, CountryFiles, IsExactTextAnswer, IsRefusedBefore, PublishCountryInputs}
@@ -68,7 +67,7 @@ pub unbegun_stop : (given : CountryFiles) (x : PublishCountryInputs) (stop : Sto
 unbegun_stop given x stop is = refused-more (IsUnbegun x.country) (IsRefusedBefore given x) stop (unbegun-refused given x) is
 
 -- they have none, and what follows them is refused
-begun-refused : (given : CountryFiles) (x : PublishCountryInputs) (b : Begun) (begun : IsBegun x.country b) (a : Answer)
+begun-refused : (given : CountryFiles) (x : PublishCountryInputs) (b : BegunParts) (begun : IsBegun x.country b) (a : Answer)
     → IsExactTextAnswer (λ blocks. AreTablesRefused given.lineages (folders begun.plan)) x.exact a → IsRefusedBefore given x a
 begun-refused given x b begun a h = inr (
   begun.plan,
@@ -77,67 +76,65 @@ begun-refused given x b begun a h = inr (
 )
 
 -- the certificate has one
-pub cert_stop : (given : CountryFiles) (x : PublishCountryInputs) (b : Begun) (stop : Stop) → IsBegun x.country b → IsRefusedAs (IsExactTextAnswer (λ blocks a. ⊥) x.exact) stop
+pub cert_stop : (given : CountryFiles) (x : PublishCountryInputs) (b : BegunParts) (stop : Stop) → IsBegun x.country b → IsRefusedAs (IsExactTextAnswer (λ blocks a. ⊥) x.exact) stop
     → IsRefusedAs (IsRefusedBefore given x) stop
 cert_stop given x b stop begun is = refused-more (IsExactTextAnswer (λ blocks a. ⊥) x.exact) (IsRefusedBefore given x) stop
     (λ a h. begun-refused given x b begun a (blocks-refused (λ blocks. AreTablesRefused given.lineages (folders begun.plan)) x.exact a h)) is
 
 -- a lineage table has one
-tables-refused : (given : CountryFiles) (x : PublishCountryInputs) (told : List ℕ → Option (List ℕ)) (b : Begun) (blocks : List ExactBlock) (a : Answer)
-    → given.lineages ≡ told → IsBegun x.country b → AreBlocksOf x.exact blocks → AreTablesRefused told (map string_bytes b.names.items) a → IsRefusedBefore given x a
+tables-refused : (given : CountryFiles) (x : PublishCountryInputs) (told : List ℕ → Option (List ℕ)) (b : BegunParts) (blocks : List ExactBlock) (a : Answer)
+    → given.lineages ≡ told → IsBegun x.country b → AreBlocksOf x.exact blocks → AreTablesRefused told (b.names) a → IsRefusedBefore given x a
 tables-refused given x told b blocks a same begun of h = begun-refused given x b begun a
     (blocks_passed (λ blocks. AreTablesRefused given.lineages (folders begun.plan)) x.exact blocks a of
     (subst (λ (l : List (List ℕ)). AreTablesRefused given.lineages l a) begun.names_are
-    (subst (λ (t : List ℕ → Option (List ℕ)). AreTablesRefused t (map string_bytes b.names.items) a) (sym same) h)))
+    (subst (λ (t : List ℕ → Option (List ℕ)). AreTablesRefused t (b.names) a) (sym same) h)))
 
 -- or was not read
-tables-unread : (given : CountryFiles) (x : PublishCountryInputs) (told : List ℕ → Option (List ℕ)) (b : Begun) (blocks : List ExactBlock) (f : Failure)
-    → given.lineages ≡ told → IsBegun x.country b → AreBlocksOf x.exact blocks → AreTablesUnread told (map string_bytes b.names.items) f → StopsAtLineage given x f
+tables-unread : (given : CountryFiles) (x : PublishCountryInputs) (told : List ℕ → Option (List ℕ)) (b : BegunParts) (blocks : List ExactBlock) (f : Failure)
+    → given.lineages ≡ told → IsBegun x.country b → AreBlocksOf x.exact blocks → AreTablesUnread told (b.names) f → StopsAtLineage given x f
 tables-unread given x told b blocks f same begun of h = inr (
   begun.plan,
-  b.classes.items,
+  b.classes,
   begun.text,
   begun.table,
   (
     blocks,
     of,
     subst (λ (l : List (List ℕ)). AreTablesUnread given.lineages l f) begun.names_are
-        (subst (λ (t : List ℕ → Option (List ℕ)). AreTablesUnread t (map string_bytes b.names.items) f) (sym same) h),
+        (subst (λ (t : List ℕ → Option (List ℕ)). AreTablesUnread t (b.names) f) (sym same) h),
   ),
 )
 
 -- so it is of tables that give no rows
-pub tables_unprepared : (given : CountryFiles) (x : PublishCountryInputs) (told : List ℕ → Option (List ℕ)) (b : Begun) (blocks : List ExactBlock) (e : Unprepared)
+pub tables_unprepared : (given : CountryFiles) (x : PublishCountryInputs) (told : List ℕ → Option (List ℕ)) (b : BegunParts) (blocks : List ExactBlock) (e : Unprepared)
     → given.lineages ≡ told → IsBegun x.country b → AreBlocksOf x.exact blocks
-    → IsUnprepared (AreTablesUnread told (map string_bytes b.names.items)) (AreTablesRefused told (map string_bytes b.names.items)) e
+    → IsUnprepared (AreTablesUnread told (b.names)) (AreTablesRefused told (b.names)) e
     → IsUnprepared (StopsAtLineage given x) (IsRefusedBefore given x) e
 tables_unprepared given x told b blocks (Failed f) same begun of h = tables-unread given x told b blocks f same begun of h
 tables_unprepared given x told b blocks (Refused a) same begun of h = tables-refused given x told b blocks (a.text.items, a.status) same begun of h
 
 -- ---- no fault
+abbrev parts-of : List (List ℕ) → List Box4 → List Class → BegunParts
+parts-of names tiles classes = record { names = names; tiles = tiles; classes = classes }
+
+-- three lists that are those of before are what was begun
+pub handed_back : (a b : BegunParts) → a.names ≡ b.names → a.tiles ≡ b.tiles → a.classes ≡ b.classes → a ≡ b
+handed_back a b names tiles classes = ap₂ (λ (n : List (List ℕ)) (t : List Box4). parts-of n t a.classes) names tiles ∙ ap (parts-of b.names b.tiles) classes
+
 -- all of them were read, and have no fault
-pub prepared : (given : CountryFiles) (x : PublishCountryInputs) (told : List ℕ → Option (List ℕ)) (b : Begun) (p : Prepared) → given.lineages ≡ told → IsBegun x.country b
-    → AreBlocksOf x.exact p.cert.exact → AreRowsOf told (map string_bytes b.names.items) p.lineage → p.begun.names.items ≡ b.names.items → p.begun.tiles.items ≡ b.tiles.items
-    → p.begun.classes.items ≡ b.classes.items → IsPrepared given x p
-prepared given x told b p same begun of (tables, are, has) names tiles classes =
-    let still : IsBegun x.country p.begun = record {
-      plan = begun.plan;
-      text = begun.text;
-      names_are = ap (map string_bytes) names ∙ begun.names_are;
-      tiles_are = tiles ∙ begun.tiles_are;
-      table = subst (λ (k : List Class). rows_of classes_table x.country.classes ≡ Ok k) (sym classes) begun.table;
-      as_many = ap length names ∙ begun.as_many ∙ ap length (sym tiles);
-      few = begun.few;
-    } in
+pub prepared : (given : CountryFiles) (x : PublishCountryInputs) (told : List ℕ → Option (List ℕ)) (b : BegunParts) (p : Prepared) → given.lineages ≡ told → IsBegun x.country b
+    → AreBlocksOf x.exact p.cert.exact → AreRowsOf told b.names p.lineage → p.begun ≡ b → IsPrepared given x p
+prepared given x told b p same begun of (tables, are, has) is =
+    let still : IsBegun x.country p.begun = subst (IsBegun x.country) (sym is) begun in
     record {
       begun = still;
       tables = tables;
       said = record {
-        planned = begun.text;
+        planned = still.text;
         table = still.table;
         of_exact = of;
-        of_lineages = subst (λ (l : List (List ℕ)). AreTablesOf given.lineages l tables) begun.names_are
-            (subst (λ (t : List ℕ → Option (List ℕ)). AreTablesOf t (map string_bytes b.names.items) tables) (sym same) are);
+        of_lineages = subst (λ (l : List (List ℕ)). AreTablesOf given.lineages l tables) (ap (λ (k : BegunParts). k.names) (sym is) ∙ still.names_are)
+            (subst (λ (t : List ℕ → Option (List ℕ)). AreTablesOf t b.names tables) (sym same) are);
       };
       has = has;
     }

@@ -9,12 +9,11 @@ use Rattle.lpis_register.specs.declared.fault.PublishFault.TheVariants.{Year}
 use Rattle.lpis_run.proofs.Shared.{runs_on_more, runs_on_stopped, runs_on_written, some_unread}
 use Rattle.lpis_run.specs.CheckAnswer.{Answer}
 use Rattle.lpis_run.specs.Failures.{AreUnread}
-use Rattle.lpis_run.specs.Run.{OfRead}
 use Rattle.lpis_run.specs.Status.{refused}
 use Rattle.lpis_run.specs.Streams.{Begins}
 use Rattle.lpis_run.specs.declared.answer.Answer.{Answer as Printed}
 use Rattle.lpis_run.specs.declared.failure.Failure.{Failure}
-use Rattle.lpis_run.specs.declared.failure.Failure.TheVariants.{Memory, Read, Store, Write}
+use Rattle.lpis_run.specs.declared.failure.Failure.TheVariants.{Memory, Read, Write}
 use Rattle.lpis_run.specs.declared.failure.Name.{Name}
 use Rattle.lpis_run.specs.declared.failure.Name.TheVariants.{Lineage, Out}
 use Rattle.lpis_run_publish.proofs.Shared.{stays_as, stays_untouched}
@@ -22,7 +21,7 @@ use Rattle.lpis_run_publish.specs.LineageLines.{publish_refusal_text}
 use Rattle.lpis_run_publish.specs.Stored.{IsStoreFailure}
 use Rattle.lpis_run_publish_country.specs.CountryLineage.{IsUnreadTable}
 use Rattle.lpis_run_publish_country.specs.PublishCountryAnswer.{AreTopRead, CountryFiles, CountryRequest, IsRefusedBefore, PublishCountryInputs}
-use Rattle.lpis_run_publish_country.specs.PublishCountryRuns.{FailsToPublishCountry, IsUnion, IsUnionRead, RunsPublishCountry, StopsAtLineage, files_named}
+use Rattle.lpis_run_publish_country.specs.PublishCountryRuns.{IsUnion, IsUnionRead, RunsPublishCountry, StopsAtLineage, files_named}
 use Rattle.lpis_run_publish_country.specs.private.Deciding.{RunsEarly, RunsPrepared}
 use Rattle.lpis_run_publish_country.proofs.EndLemmas.{none_of_store, read_no_store}
 
@@ -51,8 +50,7 @@ module _ {S : Type 0} (store : Ghosts S) (asked : CountryRequest) where
     pub runs_unprepared : (out : Option (List ℕ)) (f : Failure) → StopsAtLineage asked.given x f → RunsPrepared store asked x old old out out (Err f)
     runs_unprepared out f stopped = record {
       runs = runs_on_stopped _ _ _ out f (refl, stopped);
-      stored = stays_untouched store (IsUnion asked x) old (Err f);
-      cause = λ of. absurd (lineage-no-store asked.given x f stopped of);
+      stored = stays_untouched store (IsUnion asked x) old (Err f) (lineage-no-store asked.given x f stopped);
     }
 
     -- a file has a fault, whose line is written, or a beginning of it
@@ -61,8 +59,7 @@ module _ {S : Type 0} (store : Ghosts S) (asked : CountryRequest) where
         → RunsPrepared store asked x old old before after r
     runs_faulty before after a r refusal is written begun = record {
       runs = runs_on_written _ _ _ a.text.items a.status before after r (inl refusal, λ other. refl) is written begun;
-      stored = stays_untouched store (IsUnion asked x) old r;
-      cause = IfErr-weaker r _ _ (λ failure part of. absurd (none_of_store failure (inr (inr part.0)) of)) begun;
+      stored = stays_untouched store (IsUnion asked x) old r (IfErr-weaker r _ _ (λ failure part. none_of_store failure (inr (inr part.0))) begun);
     }
 
   -- ---- the whole run
@@ -78,16 +75,14 @@ module _ {S : Type 0} (store : Ghosts S) (asked : CountryRequest) where
     early-no-store f (inl (memory, keeps)) = none_of_store f (inl memory)
     early-no-store f (inr (write, a, told, begins)) = none_of_store f (inr (inr write))
 
-    early-cause : (r : Result ℕ Failure) → RunsEarly last before after r
-        → IfErr r (λ f. IsStoreFailure f → OfRead AreTopRead asked.given (λ x. FailsToPublishCountry store asked x old old (f ≡ Store)))
-    early-cause (Ok status) ran = tt
-    early-cause (Err f) ran = λ of. absurd (early-no-store f ran.failure of)
+    early-none : (r : Result ℕ Failure) → RunsEarly last before after r → IfErr r (λ f. IsStoreFailure f → ⊥)
+    early-none (Ok status) ran = tt
+    early-none (Err f) ran = early-no-store f ran.failure
 
     pub runs_early : (r : Result ℕ Failure) → RunsEarly last before after r → RunsPublishCountry store asked old old before after r
     runs_early r ran = record {
       runs = inl (not-above, refl, subst (λ (n : ℕ). RunsEarly n before after r) is_last ran);
-      stored = stays_untouched store (IsUnionRead asked) old r;
-      cause = early-cause r ran;
+      stored = stays_untouched store (IsUnionRead asked) old r (early-none r ran);
     }
 
   -- where a file that is no region's is not read
@@ -95,8 +90,7 @@ module _ {S : Type 0} (store : Ghosts S) (asked : CountryRequest) where
       → RunsPublishCountry store asked old old out out (Err f)
   runs_unread old out f later unread = record {
     runs = inr (later, runs_on_stopped _ _ _ out f (refl, inl unread));
-    stored = stays_untouched store (IsUnionRead asked) old (Err f);
-    cause = λ of. absurd (input-no-store asked.given f unread of);
+    stored = stays_untouched store (IsUnionRead asked) old (Err f) (input-no-store asked.given f unread);
   }
 
   -- what was read is that of the whole run
@@ -107,6 +101,5 @@ module _ {S : Type 0} (store : Ghosts S) (asked : CountryRequest) where
       later,
       runs_on_more _ _ _ _ _ _ before after r (λ f why. (why.0, inr (x, read, why.1))) (λ lines f why. (x, read, why)) (λ a is. ((x, read, is.0), is.1)) ran.runs,
     );
-    stored = stays_as store (IsUnion asked x) (IsUnionRead asked) (λ c is. (x, read, is)) old new r r (λ other. other) ran.stored;
-    cause = IfErr-weaker r _ _ (λ f told of. (x, read, told of)) ran.cause;
+    stored = stays_as store (IsUnion asked x) (IsUnionRead asked) (λ c is. (x, read, is)) old new r r (λ other. other) (λ X told. told) ran.stored;
   }

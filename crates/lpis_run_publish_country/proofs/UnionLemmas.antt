@@ -1,29 +1,24 @@
 -- What the register answers to the union of regions that all passed.
-use Rattle.std.proofs.Common.{◌≡◌, ◌≢◌, inl, inr, refl, sym, subst, arith, ℕ, List, IfErr, IfOk, Result, Ok, Err, length}
-use Rattle.sqlite_trees.specs.declared.store.Store.{Ghosts}
+use Rattle.std.proofs.Common.{◌≡◌, ◌≢◌, inl, inr, refl, sym, subst, arith, ℕ, List, IfOk, Result, Ok, Err, length}
+use Rattle.lpis_release.specs.declared.parcel.Parcel.{Parcel}
 use Rattle.lpis_release.specs.Release.{Contents}
 use Rattle.lpis_cert.specs.declared.part.ExactBlock.{ExactBlock}
 use Rattle.lpis_country.specs.Country.{country_of}
 use Rattle.lpis_country.specs.Tree.{folders}
 use Rattle.lpis_lineage.specs.declared.row.Row.{Row}
-use Rattle.lpis_register.specs.Accepting.{IsAccepted}
-use Rattle.lpis_register.specs.Failing.{FailsToStore, HasStoreCause}
 use Rattle.lpis_register.specs.Faults.{IsRefused, IsSetAside}
-use Rattle.lpis_register.specs.Holdings.{Candidate, Holdings, RegisterState, candidate}
-use Rattle.lpis_register.specs.declared.accepting.Accepted.{Accepted}
+use Rattle.lpis_register.specs.Holdings.{Holdings, candidate}
 use Rattle.lpis_register.specs.declared.fault.PublishFault.{PublishFault}
 use Rattle.lpis_register.specs.declared.fault.PublishFault.TheVariants as publish
 use Rattle.lpis_run.specs.CheckAnswer.{Answer}
 use Rattle.lpis_run.specs.declared.answer.Answer.{Answer as Printed}
 use Rattle.lpis_run.specs.Status.{refused}
 use Rattle.lpis_run.specs.declared.failure.Failure.{Failure}
-use Rattle.lpis_run.specs.declared.failure.Failure.TheVariants.{Store}
 use Rattle.lpis_run_country.specs.CountryLines.{country_lines}
 use Rattle.lpis_run_country.specs.RegionsOutcome.{JoinsAll}
 use Rattle.lpis_run_country.proofs.Shared.{passed_regions}
 use Rattle.lpis_run_publish.specs.Publication.{IsPublicationAnswer, IsReleasePublished}
-use Rattle.lpis_run_publish.specs.Stored.{IsStoreFailure}
-use Rattle.lpis_run_publish_country.specs.CountryLineage.{country_refusal_text}
+use Rattle.lpis_run_publish_country.specs.CountryLineage.{country_refusal_text, rows_in}
 use Rattle.lpis_run_publish_country.specs.PublishCountryAnswer.{CountryRequest, CountrySaid, IsUnionAnswer, union_of}
 use Rattle.lpis_run_publish_country.specs.private.Deciding.{setting_asked}
 
@@ -62,19 +57,10 @@ module _ (asked : CountryRequest) (said : CountrySaid) (regions : List Contents)
   union_answered lines head (Ok a) all is told published = union_published lines head (a.text.items, a.status) all is told published
   union_answered lines head (Err failure) all is told published = tt
 
--- a candidate that was accepted, by its parts
-pub accepted_by : (u : Contents) (before : Holdings) (a : Accepted) (year y : ℕ) (blocks bs : List ExactBlock) (rows ls : List Row) → year ≡ y → blocks ≡ bs → ls ≡ rows
-    → IsAccepted (candidate y u bs ls) before a → IsAccepted (candidate year u blocks rows) before a
-accepted_by u before a year y blocks bs rows ls of_year of_blocks of_rows made =
-    subst (λ (n : ℕ). IsAccepted (candidate n u blocks rows) before a) (sym of_year)
-    (subst (λ (ks : List ExactBlock). IsAccepted (candidate y u ks rows) before a) (sym of_blocks) (subst (λ (xs : List Row). IsAccepted (candidate y u bs xs) before a) of_rows made))
-
--- and one that is refused
-pub refused_by : (u : Contents) (before : Holdings) (fault : PublishFault) (year y : ℕ) (blocks bs : List ExactBlock) (rows ls : List Row) → year ≡ y → blocks ≡ bs → ls ≡ rows
-    → IsRefused (candidate y u bs ls) before fault → IsRefused (candidate year u blocks rows) before fault
-refused_by u before fault year y blocks bs rows ls of_year of_blocks of_rows why =
-    subst (λ (n : ℕ). IsRefused (candidate n u blocks rows) before fault) (sym of_year)
-    (subst (λ (ks : List ExactBlock). IsRefused (candidate y u ks rows) before fault) (sym of_blocks) (subst (λ (xs : List Row). IsRefused (candidate y u bs xs) before fault) of_rows why))
+-- what is to be published as was asked is the union
+pub union_is : (asked : CountryRequest) (said : CountrySaid) (regions : List Contents) (year : ℕ) (ps : List Parcel) (bs : List ExactBlock) (ls : List Row) → asked.year ≡ year
+    → ps ≡ (country_of said.classes regions).parcels → said.blocks ≡ bs → ls ≡ rows_in said.tables → candidate year ps bs ls ≡ union_of asked.year said regions
+union_is asked said regions year ps bs ls of_year are of_blocks of_rows = cc (of_year, are, of_blocks, of_rows)
 
 -- what the register sets aside is no refusal
 pub not_set_aside : (fault : PublishFault) → (fault ≡ publish.Memory → ⊥) → (fault ≢ publish.Store) × (fault ≢ publish.StoreMemory) → IsSetAside fault → ⊥
@@ -87,10 +73,3 @@ not_set_aside publish.Store memory store = λ aside. store.0 refl
 not_set_aside publish.StoreMemory memory store = λ aside. store.1 refl
 not_set_aside publish.Unknown memory store = λ aside. aside
 not_set_aside publish.Unlawful memory store = λ aside. aside
-
--- where the database failed, it failed to store the union
-pub fails_accepted : {S : Type 0} (store : Ghosts S) (c : Candidate) (a : Accepted) (old new : RegisterState S) (result : Result Printed Failure) → IsAccepted c old.held a
-    → IfErr result (λ failure. HasStoreCause store a old new (failure ≡ Store))
-    → IfErr result (λ failure. IsStoreFailure failure → FailsToStore store c old new (failure ≡ Store))
-fails_accepted store c a old new (Ok p) made cause = tt
-fails_accepted store c a old new (Err failure) made cause = λ of. (a, made, cause)

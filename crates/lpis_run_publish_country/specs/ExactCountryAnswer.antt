@@ -33,8 +33,9 @@ pub record FillsRegions (given : CountryFiles) (x : PublishCountryInputs) (befor
   pub said : CountrySaid
   pub are_said : AreSaid given x said
   pub behind : BehindRegions (setting_said given Regions said)
-      (λ regions. IsBlocksAnswer (country_refusal_text (folders said.plan) said.tables)
-      (country_of said.classes regions) (rows_in said.tables) HasNoParts before end.cert)
+      (λ regions. IsBlocksAnswer (country_of said.classes regions).parcels
+      (rows_in said.tables) HasNoParts before
+      (country_refusal_text (folders said.plan) said.tables) end.cert)
       lines (end.line, end.status)
 
 -- how the run ends, where a register holds this: it is stopped before its regions, or behind lines

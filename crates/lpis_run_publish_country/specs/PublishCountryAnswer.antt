@@ -37,6 +37,12 @@ pub record CountryFiles : Type 0 where
   pub texts : List ℕ → Texts
   pub lineages : List ℕ → Known
 
+-- those of a run with these readers
+abbrev pub country_files : Top Known → Option Known → (List ℕ → Texts) → (List ℕ → Known)
+    → CountryFiles
+country_files top exact texts lineages =
+    record { top = top; exact = exact; texts = texts; lineages = lineages }
+
 -- the bytes of the files that are no region's
 pub record PublishCountryInputs : Type 0 where
   pub country : CountryInputs
@@ -97,13 +103,19 @@ setting_said given detail said = setting_of given.texts detail said.plan said.cl
 -- tables
 abbrev pub union_of : ℕ → CountrySaid → List Contents → Candidate
 union_of year said regions =
-    candidate year (country_of said.classes regions) said.blocks (rows_in said.tables)
+    candidate year (country_of said.classes regions).parcels said.blocks (rows_in said.tables)
 
 -- what is asked for: a year, the files of a country, and what is to be printed of its regions
 pub record CountryRequest : Type 0 where
   pub year : ℕ
   pub given : CountryFiles
   pub detail : Detail
+
+-- what a run with these readers asks for
+abbrev pub country_request : ℕ → Detail → Top Known → Option Known → (List ℕ → Texts)
+    → (List ℕ → Known) → CountryRequest
+country_request year detail top exact texts lineages =
+    record { year = year; given = country_files top exact texts lineages; detail = detail }
 
 -- of the regions of all folders: the line of what the register refuses, in its order; or what is
 -- printed of their union, behind the line of the country and the yes. Then they are united, and it

@@ -1,12 +1,11 @@
 -- The run of `publish-country`: what it ends with, and what it leaves of the register.
 use Rattle.std.specs.Prelude.{◌≡◌, ◌≢◌, ◌<◌, ◌≤◌, ◌⊎◌, ◌++◌, ◌∷◌, [], ℕ, List, Option, None}
-use Rattle.std.specs.Prelude.{Some, IfErr, Result}
+use Rattle.std.specs.Prelude.{Some, Result}
 use Rattle.sqlite_trees.specs.declared.store.Store.{Ghosts}
 use Rattle.lpis_release.specs.Release.{Contents}
 use Rattle.lpis_cert.specs.declared.part.ExactBlock.{ExactBlock}
 use Rattle.lpis_country.specs.Tree.{folders}
 use Rattle.lpis_lineage.specs.Lineage.{last_year}
-use Rattle.lpis_register.specs.Failing.{FailsToStore}
 use Rattle.lpis_register.specs.Holdings.{Candidate, Holdings, RegisterState}
 use Rattle.lpis_register.specs.declared.fault.PublishFault.TheVariants.{Year}
 use Rattle.lpis_run.specs.Run.{OfRead, Runs, RunsOn}
@@ -15,7 +14,7 @@ use Rattle.lpis_run.specs.Failures.{AreUnread}
 use Rattle.lpis_run.specs.Folders.{top_named}
 use Rattle.lpis_run.specs.Streams.{Known}
 use Rattle.lpis_run.specs.declared.failure.Failure.{Failure}
-use Rattle.lpis_run.specs.declared.failure.Failure.TheVariants.{Memory, Store}
+use Rattle.lpis_run.specs.declared.failure.Failure.TheVariants.{Memory}
 use Rattle.lpis_run.specs.declared.failure.Name.{Name}
 use Rattle.lpis_run.specs.declared.failure.Name.TheVariants.{Cert}
 use Rattle.lpis_run_country.specs.CountryAnswer.{HavePassed}
@@ -86,24 +85,8 @@ IsUnion asked x c = (said : CountrySaid) × AreSaid asked.given x said
 abbrev pub IsUnionRead : CountryRequest → Candidate → Type 0
 IsUnionRead asked c = OfRead AreTopRead asked.given (λ x. IsUnion asked x c)
 
-module _ {S : Type 0} (store : Ghosts S) (asked : CountryRequest) where
-  -- the union of the regions, which all passed, was accepted, and the database failed to store it
-  pub record FailsToPublishCountry (x : PublishCountryInputs) (old new : RegisterState S)
-      (Failed : Type 0) : Type 0 where
-    pub said : CountrySaid
-    pub are_said : AreSaid asked.given x said
-    pub regions : List Contents
-    pub lines : List ℕ
-    pub have_passed : HavePassed (setting_said asked.given asked.detail said) (folders said.plan)
-        regions lines
-    pub fails : FailsToStore store (union_of asked.year said regions) old new Failed
-
-  -- what a run ends with, and what it leaves in the database. Where the database failed there was a
-  -- country to be stored, and a cause, unless memory ran out in the transaction or its disk lost
-  -- what was written
-  pub record RunsPublishCountry (old new : RegisterState S) (before after : Known)
-      (result : Result ℕ Failure) : Type 0 where
-    pub runs : EndsPublishCountry asked old.held new.held before after result
-    pub stored : Stays store (IsUnionRead asked) old new result
-    pub cause : IfErr result (λ f. IsStoreFailure f → OfRead AreTopRead asked.given
-        (λ x. FailsToPublishCountry x old new (f ≡ Store)))
+-- what a run ends with, and what it leaves in the database
+pub record RunsPublishCountry {S : Type 0} (store : Ghosts S) (asked : CountryRequest)
+    (old new : RegisterState S) (before after : Known) (result : Result ℕ Failure) : Type 0 where
+  pub runs : EndsPublishCountry asked old.held new.held before after result
+  pub stored : Stays store (IsUnionRead asked) old new result

@@ -8,20 +8,21 @@ ghost use Rattle.lpis_release.specs.Release.{Contents};
 ghost use Rattle.lpis_run.specs.Folders.{top_by};
 ghost use Rattle.lpis_run.specs.Outputs.{held, outputs_of};
 ghost use Rattle.lpis_run_publish_country.specs.ExactCountryAnswer.{RunsExactCountry};
-ghost use Rattle.lpis_run_publish_country.specs.PublishCountryAnswer.{CountryFiles};
+ghost use Rattle.lpis_run_publish_country.specs.PublishCountryAnswer.{CountryFiles, country_files};
 ghost use Rattle.lpis_run_publish_country.specs.PublishCountryAnswer.{PublishCountryInputs};
 ghost use Rattle.lpis_run_publish_country.specs.private.Filling.{FillsPrepared, IsFillOutcome};
 ghost use Rattle.lpis_run_publish_country.specs.private.Preparing.{HasTables, IsPrepared};
 
-use crate::inputs::{Prepared, PublishCountryBytes, no_parts, prepare, read_country};
+use crate::inputs::{Prepared, PublishCountryBytes, prepare, read_country};
 use crate::lineage::{CountryLineage, Lineages};
 use crate::refusals::refuse_country;
 use crate::unprepared::Unprepared;
+use lpis_cert::Cert;
 use lpis_lineage::LineageFault;
 use lpis_register::{PublishFault, Register};
 use lpis_run::{Answer, Detail, Failure, Outcome, Top};
 use lpis_run_country::{JoinedCountry, Joining, Regions, join_regions};
-use lpis_run_publish::{change_of, fill_change};
+use lpis_run_publish::fill_blocks;
 use sqlite::Alter;
 use std::alloc::{AllocError, Global};
 use std::io::{Read, Write};
@@ -41,11 +42,8 @@ fn fill_union<S: Alter>(
 {
     let parcels = country.parcels.parcels();
     let rows = lineage.rows.as_slice();
-    match change_of(alloc, register.current(), parcels, rows) {
-        Ok(change) => {
-            let kept = register.current_shapes();
-            fill_change(alloc, kept, &change, parcels, no_parts(alloc))
-        }
+    match fill_blocks(alloc, register, parcels, rows, Cert::empty(alloc)) {
+        Ok(outcome) => Ok(outcome),
         Err(LineageFault::Memory) => Err(AllocError),
         Err(fault) => {
             let fault = PublishFault::Lineage(fault);
@@ -65,7 +63,6 @@ fn fill_prepared<S: Alter, G: Regions, V: Write, W: Write>(
     file: &mut V,
     out: &mut W,
 ) -> Result<u8, Failure>
-    requires { (given : CountryFiles) × (x : PublishCountryInputs) × IsPrepared given x prepared }
     ensures { (given : CountryFiles) (x : PublishCountryInputs)
         → given.texts ≡ G.texts regions.now → IsPrepared given x prepared
         → FillsPrepared given x register.now.held
@@ -101,13 +98,9 @@ pub fn run_exact_country<S: Alter, R: Read + Drop, G: Regions, L: Lineages, V: W
     file: &mut V,
     out: &mut W,
 ) -> Result<u8, Failure>
-    ensures { RunsExactCountry (record {
-      top = top_by R.remaining top;
-      exact = None;
-      texts = G.texts regions.now;
-      lineages = L.lineages lineages.now;
-    }) register.now.held (held (V.contents file.old) (W.contents out.old))
-        (held (V.contents file.new) (W.contents out.new)) result }
+    ensures { RunsExactCountry (country_files (top_by R.remaining top) None (G.texts regions.now)
+        (L.lineages lineages.now)) register.now.held (held (V.contents file.old)
+        (W.contents out.old)) (held (V.contents file.new) (W.contents out.new)) result }
 {
     let inputs = read_country(alloc, top)?;
     match prepare(alloc, lineages, inputs) {

@@ -12,14 +12,14 @@ ghost use Rattle.lpis_run_publish_country.specs.PublishCountryAnswer.{IsExactTex
 ghost use Rattle.lpis_run_publish_country.specs.PublishCountryAnswer.{IsExactRead, IsRefusedBefore};
 ghost use Rattle.lpis_run_publish_country.specs.PublishCountryRuns.{StopsAtLineage, exact_named};
 ghost use Rattle.lpis_run_publish_country.specs.PublishCountryRuns.{files_named};
-ghost use Rattle.lpis_run_publish_country.specs.private.Filling.{IsEmpty};
-ghost use Rattle.lpis_run_publish_country.specs.private.Preparing.{IsPrepared, inputs_of};
+ghost use Rattle.lpis_run_publish_country.specs.private.Preparing.{AreRowsOf, AreTablesRefused};
+ghost use Rattle.lpis_run_publish_country.specs.private.Preparing.{AreTablesUnread, IsPrepared};
+ghost use Rattle.lpis_run_publish_country.specs.private.Preparing.{inputs_of};
 ghost use Rattle.lpis_run_publish_country.specs.private.Unprepared.{IsUnprepared};
 
 use crate::lineage::{CountryLineage, Lineages, read_lineage};
 use crate::unprepared::Unprepared;
 use lpis_cert::Cert;
-use lpis_memory::Sequence;
 use lpis_run::{Failure, Name, Stop, Top, certificate_in, read_named};
 use lpis_run_country::{Begun, begin, read_top};
 use std::alloc::Global;
@@ -91,18 +91,6 @@ pub(crate) fn read_country<R: Read + Drop>(
     })
 }
 
-/// A certificate without parts.
-pub(crate) fn no_parts(alloc: Global) -> Cert
-    ensures { IsEmpty result }
-{
-    Cert {
-        pieces: Sequence::new(Vec::new(alloc)),
-        parcels: Sequence::new(Vec::new(alloc)),
-        exact: Sequence::new(Vec::new(alloc)),
-        pairs: Sequence::new(Vec::new(alloc)),
-    }
-}
-
 /// The certificate of a text, whose bytes are let go, or the line of the text's first fault. Where
 /// there is no text, a certificate without blocks.
 fn blocks_in(alloc: Global, exact: Option<Vec<u8>>) -> Result<Cert, Stop>
@@ -112,7 +100,7 @@ fn blocks_in(alloc: Global, exact: Option<Vec<u8>>) -> Result<Cert, Stop>
 {
     match exact {
         Some(text) => certificate_in(alloc, text),
-        None => Ok(no_parts(alloc)),
+        None => Ok(Cert::empty(alloc)),
     }
 }
 
@@ -130,6 +118,24 @@ fn understand(alloc: Global, inputs: PublishCountryBytes) -> Result<(Begun, Cert
     Ok((begun, cert))
 }
 
+/// The rows of the lineage tables in the folders of what was begun, which is handed back; or the
+/// answer to the first table that has a fault.
+fn read_tables<L: Lineages>(
+    alloc: Global,
+    lineages: &L,
+    begun: Begun,
+) -> Result<(Begun, CountryLineage), Unprepared>
+    ensures begun { IfOk result (λ p. p.0 ≡ begun) }
+    ensures rows { IfOk result (λ p. AreRowsOf (L.lineages lineages.now) begun.names p.1) }
+    ensures unprepared { IfErr result (IsUnprepared
+        (AreTablesUnread (L.lineages lineages.now) begun.names)
+        (AreTablesRefused (L.lineages lineages.now) begun.names)) }
+{
+    let (mut names, tiles, classes) = begun.into_parts();
+    let lineage = read_lineage(alloc, lineages, &mut names)?;
+    Ok((Begun::new(names, tiles, classes), lineage))
+}
+
 /// What the files before the regions say, or the line of the first fault: of the plan, of the
 /// classes, of the certificate, of the lineage tables in the order of the plan.
 pub(crate) fn prepare<L: Lineages>(
@@ -143,8 +149,8 @@ pub(crate) fn prepare<L: Lineages>(
         → IfErr result (IsUnprepared (StopsAtLineage given (inputs_of inputs))
         (IsRefusedBefore given (inputs_of inputs))) }
 {
-    let (mut begun, cert) = understand(alloc, inputs)?;
-    let lineage = read_lineage(alloc, lineages, &mut begun.names)?;
+    let (start, cert) = understand(alloc, inputs)?;
+    let (begun, lineage) = read_tables(alloc, lineages, start)?;
     Ok(Prepared {
         begun,
         cert,

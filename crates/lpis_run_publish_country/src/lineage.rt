@@ -116,11 +116,7 @@ fn rows_of_region(alloc: Global, table: Vec<u8>, name: &str) -> Result<Vec<Row>,
 {
     match rows_in(alloc, table) {
         Ok(rows) => Ok(rows),
-        Err(stop) => {
-            let refusal = stop.into_answer()?;
-            let answer = refusal.in_region(name)?;
-            Err(Stop::Refused(answer))
-        }
+        Err(stop) => Err(stop.in_region(name)),
     }
 }
 

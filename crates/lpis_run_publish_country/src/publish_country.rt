@@ -1,23 +1,18 @@
 //! The run of `publish-country`, over any register, readers, folders and writer.
 
-ghost use Rattle.std.specs.Prelude.{◌≡◌, ℕ, IfErr, IfOk, List};
+ghost use Rattle.std.specs.Prelude.{◌≡◌, List};
 ghost use Rattle.std.specs.Option.{option_map};
-ghost use Rattle.lpis_run_country.specs.RegionsOutcome.{IsCountryJoined, JoinsAll};
 ghost use Rattle.lpis_release.specs.Release.{Contents};
-ghost use Rattle.lpis_register.specs.Failing.{FailsToStore};
 ghost use Rattle.lpis_run.specs.Folders.{top_by};
-ghost use Rattle.lpis_run.specs.declared.failure.Failure.TheVariants.{Store};
-ghost use Rattle.lpis_run_publish.specs.Publication.{PublishLeaves};
-ghost use Rattle.lpis_run_publish.specs.Stored.{IsStoreFailure};
 ghost use Rattle.lpis_run_publish_country.specs.PublishCountryAnswer.{CountryFiles, CountryRequest};
-ghost use Rattle.lpis_run_publish_country.specs.PublishCountryAnswer.{CountrySaid, IsUnionAnswer};
+ghost use Rattle.lpis_run_publish_country.specs.PublishCountryAnswer.{CountrySaid};
 ghost use Rattle.lpis_run_publish_country.specs.PublishCountryAnswer.{PublishCountryInputs};
-ghost use Rattle.lpis_run_publish_country.specs.PublishCountryAnswer.{union_of};
+ghost use Rattle.lpis_run_publish_country.specs.PublishCountryAnswer.{country_request};
 ghost use Rattle.lpis_run_publish_country.specs.PublishCountryRuns.{RunsPublishCountry};
 ghost use Rattle.lpis_run_publish_country.specs.private.Deciding.{EndsUnion, IsToPublish};
-ghost use Rattle.lpis_run_publish_country.specs.private.Deciding.{RunsEarly, RunsPrepared};
-ghost use Rattle.lpis_run_publish_country.specs.private.Deciding.{setting_asked};
-ghost use Rattle.lpis_run_publish_country.specs.private.Preparing.{HasTables, IsPrepared};
+ghost use Rattle.lpis_run_publish_country.specs.private.Deciding.{PublishesUnion, RunsEarly};
+ghost use Rattle.lpis_run_publish_country.specs.private.Deciding.{RunsPrepared};
+ghost use Rattle.lpis_run_publish_country.specs.private.Preparing.{IsPrepared};
 ghost use Rattle.lpis_run_publish_country.specs.private.Preparing.{inputs_of};
 
 use crate::inputs::{Prepared, PublishCountryBytes, prepare, read_inputs};
@@ -44,34 +39,20 @@ fn publish_union<S: Alter>(
     cert: &Cert,
     lineage: &CountryLineage,
 ) -> Result<Answer, Failure>
-    ensures answer { (asked : CountryRequest) (said : CountrySaid) (regions : List Contents)
-        (lines : List ℕ) → IsToPublish asked said year cert.now
-        → JoinsAll (setting_asked asked said) regions lines
-        → IsCountryJoined (setting_asked asked said) regions country
-        → HasTables lineage.now said.tables → IfOk result (λ a. IsUnionAnswer asked said regions
-        register.old.held register.new.held (a.text.items, a.status)) }
-    ensures leaves { (asked : CountryRequest) (said : CountrySaid) (regions : List Contents)
-        → IsToPublish asked said year cert.now
-        → IsCountryJoined (setting_asked asked said) regions country
-        → HasTables lineage.now said.tables → PublishLeaves S.Store
-        (λ c. c ≡ union_of asked.year said regions) register.old register.new result }
-    ensures cause { (asked : CountryRequest) (said : CountrySaid) (regions : List Contents)
-        → IsToPublish asked said year cert.now
-        → IsCountryJoined (setting_asked asked said) regions country
-        → HasTables lineage.now said.tables → IfErr result (λ failure. IsStoreFailure failure
-        → FailsToStore S.Store (union_of asked.year said regions) register.old register.new
-        (failure ≡ Store)) }
+    ensures { (asked : CountryRequest) (said : CountrySaid) (regions : List Contents)
+        → IsToPublish asked said regions year country cert.now lineage.now
+        → PublishesUnion S.Store asked said regions register.old register.new result }
 {
     let JoinedCountry {
         names,
         parcels,
         text,
     } = country;
-    match register.accept_country(year, &parcels, lineage.rows.as_slice(), cert) {
+    match register.accept(year, &parcels, lineage.rows.as_slice(), cert) {
         Ok(accepted) => {
             // What is accepted has copies of their shapes.
             drop(parcels);
-            publish_accepted(alloc, register, year, text, accepted)
+            publish_accepted(alloc, register, text, accepted)
         }
         Err(PublishFault::Memory) => Err(Failure::Memory),
         Err(fault) => {
@@ -93,11 +74,9 @@ fn end_union<S: Alter, W: Write>(
     out: &mut W,
 ) -> Result<u8, Failure>
     ensures { (asked : CountryRequest) (said : CountrySaid) (regions : List Contents)
-        (lines : List ℕ) → IsToPublish asked said year cert.now
-        → JoinsAll (setting_asked asked said) regions lines
-        → IsCountryJoined (setting_asked asked said) regions country
-        → HasTables lineage.now said.tables → EndsUnion S.Store asked said regions register.old
-        register.new (W.contents out.old) (W.contents out.new) result }
+        → IsToPublish asked said regions year country cert.now lineage.now
+        → EndsUnion S.Store asked said regions register.old register.new
+        (W.contents out.old) (W.contents out.new) result }
 {
     let answer = publish_union(alloc, register, year, country, cert, lineage)?;
     answer.write_to(out)
@@ -113,7 +92,6 @@ fn publish_prepared<S: Alter, G: Regions, W: Write>(
     detail: Detail,
     out: &mut W,
 ) -> Result<u8, Failure>
-    requires { (given : CountryFiles) × (x : PublishCountryInputs) × IsPrepared given x prepared }
     ensures { (given : CountryFiles) (x : PublishCountryInputs)
         → given.texts ≡ G.texts regions.now → IsPrepared given x prepared
         → RunsPrepared S.Store (record { year = year; given = given; detail = detail }) x
@@ -191,16 +169,9 @@ pub fn run_publish_country<S: Alter, R: Read + Drop, G: Regions, L: Lineages, W:
     detail: Detail,
     out: &mut W,
 ) -> Result<u8, Failure>
-    ensures { RunsPublishCountry S.Store (record {
-      year = year;
-      given = record {
-        top = top_by R.remaining top;
-        exact = option_map R.remaining exact;
-        texts = G.texts regions.now;
-        lineages = L.lineages lineages.now;
-      };
-      detail = detail;
-    }) register.old register.new (W.contents out.old) (W.contents out.new) result }
+    ensures { RunsPublishCountry S.Store (country_request year detail (top_by R.remaining top)
+        (option_map R.remaining exact) (G.texts regions.now) (L.lineages lineages.now)) register.old
+        register.new (W.contents out.old) (W.contents out.new) result }
 {
     let last = register.current().last_year();
     if year <= last {

@@ -12,7 +12,7 @@ use Rattle.lpis_run.specs.declared.failure.Failure.{Failure}
 use Rattle.lpis_run.specs.Run.{RunsOnBoth}
 use Rattle.lpis_run_country.specs.CountryAnswer.{Setting}
 use Rattle.lpis_run_country.specs.CountryFailures.{StopsRegions}
-use Rattle.lpis_run_publish.specs.ExactAnswer.{IsBlocksAnswer}
+use Rattle.lpis_run_publish.specs.ExactAnswer.{HasTextOnlyIfDone, IsBlocksAnswer}
 use Rattle.lpis_run_publish_country.specs.CountryLineage.{country_refusal_text, rows_in}
 use Rattle.lpis_run_publish_country.specs.ExactCountryAnswer.{FillsRegions, HasNoParts}
 use Rattle.lpis_run_publish_country.specs.PublishCountryAnswer.{AreSaid, CountryFiles, CountrySaid}
@@ -24,11 +24,11 @@ pub record IsEmpty (c : Cert) : Type 0 where
   pub exact : c.exact ≡ []
 
 -- the answer to the union of these regions, of which there is a text with the status `done` alone
-pub record IsFillOutcome (g : Setting) (tables : List (List Row)) (regions : List Contents)
-    (before : Holdings) (a : Outputs) : Type 0 where
-  pub answer : IsBlocksAnswer (country_refusal_text g.names tables) (country_of g.classes regions)
-      (rows_in tables) HasNoParts before a.cert (a.line, a.status)
-  pub no_text : a.status ≢ done → a.cert ≡ None
+abbrev pub IsFillOutcome : Setting → List (List Row) → List Contents → Holdings → Outputs
+    → Type 0
+IsFillOutcome g tables regions before = HasTextOnlyIfDone (IsBlocksAnswer
+    (country_of g.classes regions).parcels (rows_in tables) HasNoParts before
+    (country_refusal_text g.names tables))
 
 -- behind the lines of the regions that passed a file was not read, or memory ran out
 abbrev pub StopsFillBehind : CountryFiles → PublishCountryInputs → List ℕ → Failure → Type 0

@@ -66,7 +66,7 @@ inputs_of b = record {
 abbrev pub said_of : Tree → Prepared → List (List Row) → CountrySaid
 said_of plan p tables = record {
   plan = plan;
-  classes = p.begun.classes.items;
+  classes = p.begun.classes;
   blocks = p.cert.exact;
   tables = tables;
 }

@@ -8,9 +8,8 @@ use Rattle.lpis_run_publish.proofs.exact.answer_to.Goals as goal
 
 pub returns-in-Ok : goal.returns-in-Ok
 returns-in-Ok g c =
-    let told = rw (c.current.ensures, c.current_shapes.ensures.kept) at c.answer_to_submission.ensures in
     IfOk-weaker c.answer_to_submission.result _ _
-    (λ o done. answered-said (submission_of c.args.submission) (submitted_of c.in-Ok.said) c.args.register.now.held (outputs_of o) c.in-Ok.ensures.said done) told
+    (λ o done. answered-said (submission_of c.args.submission) (submitted_of c.in-Ok.said) c.args.register.now.held (outputs_of o) c.in-Ok.ensures.said done) c.answer_to_submission.ensures
 
 pub returns-in_ok-into_answer-in-Err : goal.returns-in_ok-into_answer-in-Err
 returns-in_ok-into_answer-in-Err g c =

@@ -2,7 +2,6 @@ use Rattle.std.proofs.Common.{inl, refl}
 use Rattle.std.proofs.lemmas.Result.{err_from_is_err_and}
 use Rattle.lpis_run.proofs.Shared.{both_stopped, both_written}
 use Rattle.lpis_run.specs.Outputs.{held, outputs_of}
-use Rattle.lpis_run_publish.specs.ExactAnswer.{Fills}
 use Rattle.lpis_run_publish.specs.private.Submitting.{submission_of}
 use Rattle.lpis_run_publish.proofs.exact.run_exact.Goals as goal
 
@@ -19,6 +18,4 @@ returns-in_err-outcome-clause-runs g c =
 pub returns-clause-runs : goal.returns-clause-runs
 returns-clause-runs g c =
     let a = outputs_of c.in_ok-outcome.outcome in
-    let fills : Fills _ c.args.register.now.held a =
-    record { submission = submission_of c.in_ok-bytes.bytes; read = c.in_ok-bytes.ensures.read; answer = c.in_ok-outcome.ensures } in
-    both_written _ _ a _ _ c.write_to.result fills c.write_to.ensures.answer c.write_to.ensures.failure
+    both_written _ _ a _ _ c.write_to.result (submission_of c.in_ok-bytes.bytes, c.in_ok-bytes.ensures.read, c.in_ok-outcome.ensures) c.write_to.ensures.answer c.write_to.ensures.failure

@@ -1,7 +1,7 @@
 use Rattle.std.proofs.Common.{◌∙◌, ℕ, refl, subst, sym}
 use Rattle.lpis_run_publish.proofs.Common.{IfOk-weaker}
 use Rattle.lpis_run_publish.proofs.LeavingLemmas.{leaves_as, leaves_untouched}
-use Rattle.lpis_run_publish.proofs.PublishLemmas.{both-ok, fails-submitted}
+use Rattle.lpis_run_publish.proofs.PublishLemmas.{both-ok}
 use Rattle.lpis_run_publish.proofs.SubmissionLemmas.{submission-more, submission-said, submission-status}
 use Rattle.lpis_run_publish.specs.private.Submitting.{IsFaultAnswer, IsGoodAnswer, submission_of, submitted_of}
 use Rattle.lpis_run.specs.CheckAnswer.{Answer, IsCheckAnswer}
@@ -28,7 +28,7 @@ returns-in-Ok-clause-moves g c =
     (λ a known. (
       (λ is_done.
           let was = known.0 is_done in
-          record { said = submitted_of c.in-Ok.said; proved = record { submitted = submitted; sound = was.0; good = was.1 }; published = was.2 }),
+          (submitted_of c.in-Ok.said, record { submitted = submitted; sound = was.0; good = was.1 }, was.2)),
       known.1,
     ))
     (both-ok c.answer_to_submission.result _ _ c.answer_to_submission.ensures.published c.answer_to_submission.ensures.leaves.same)
@@ -44,11 +44,6 @@ returns-in_ok-into_answer-in-Err-clause-moves g c =
     let x = submission_of c.args.submission in
     let refused = submission-status x _ (subst (IsRefusedAs (IsFaultAnswer x)) c.in_ok-into_answer-in-Err.ensures c.in-Err.ensures.refused) in
     ((λ is_done. absurd (let no = sym refused ∙ is_done in cc)), λ _. refl)
-
-pub returns-in-Ok-clause-cause : goal.returns-in-Ok-clause-cause
-returns-in-Ok-clause-cause g c =
-    fails-submitted g.S.Store (submission_of c.args.submission) c.args.year (submitted_of c.in-Ok.said) c.args.register.now c.answer_to_submission.new.register
-    c.answer_to_submission.result c.in-Ok.ensures.said c.answer_to_submission.ensures.cause
 
 pub returns-in-Ok-clause-leaves : goal.returns-in-Ok-clause-leaves
 returns-in-Ok-clause-leaves g c =

@@ -5,7 +5,6 @@ use Rattle.lpis_run.specs.CheckAnswer.{IsCheckAnswer}
 use Rattle.lpis_run.specs.Stops.{IsRefusedAs}
 use Rattle.lpis_run_publish.proofs.Common.{IfOk-weaker}
 use Rattle.lpis_run_publish.proofs.LeavingLemmas.{leaves_as, leaves_untouched}
-use Rattle.lpis_run_publish.proofs.PublishLemmas.{fails-said}
 use Rattle.lpis_run_publish.proofs.SubmissionLemmas.{check-more, refused-is-not-done}
 use Rattle.lpis_run_publish.specs.PublishAnswer.{candidate_of}
 use Rattle.lpis_run_publish.specs.Submission.{submitted}
@@ -16,12 +15,6 @@ pub returns-in-Ok-clause-answer : goal.returns-in-Ok-clause-answer
 returns-in-Ok-clause-answer g c =
     let yes = c.in-Ok.ensures.yes in
     IfOk-weaker c.publish_checked.result _ _ (λ a told. inl (yes.2, rw (yes.0, c.as_slice.ensures.value) at told)) c.publish_checked.ensures.answer
-
-pub returns-in-Ok-clause-cause : goal.returns-in-Ok-clause-cause
-returns-in-Ok-clause-cause g c =
-    let yes = c.in-Ok.ensures.yes in
-    let same = ap₂ (λ (r : Contents) (rows : List Row). candidate_of c.args.year (submitted r c.args.said.now.cert rows)) yes.0 c.as_slice.ensures.value in
-    fails-said g.S.Store _ _ c.args.said.now.cert c.args.register.now c.publish_checked.new.register c.publish_checked.result same yes.1 yes.2 c.publish_checked.ensures.cause
 
 pub returns-in_ok-into_answer-in-Err-clause-answer : goal.returns-in_ok-into_answer-in-Err-clause-answer
 returns-in_ok-into_answer-in-Err-clause-answer g c =

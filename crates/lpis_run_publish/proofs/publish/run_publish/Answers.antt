@@ -13,7 +13,7 @@ returns-in_err-answer-clause-runs g c =
     let p = err_from_is_err_and c.from_residual-in_err-answer.result c.from_residual-in_err-answer.ensures.1 in
     let told = c.in_err-answer.ensures in
     rw (p.1, p.2) (runs-failed g.S.Store c.args.year _ c.args.register.now c.answer_to.new.register (g.W.Write.contents c.args.out.now)
-    (submission_of c.in_ok-bytes.bytes) _ c.in_ok-bytes.ensures.read told.leaves.failure told.leaves.stored told.cause)
+    (submission_of c.in_ok-bytes.bytes) _ c.in_ok-bytes.ensures.read told.leaves.failure told.leaves.stored)
 
 pub returns-clause-runs : goal.returns-clause-runs
 returns-clause-runs g c =

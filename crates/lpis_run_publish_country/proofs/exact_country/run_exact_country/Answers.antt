@@ -1,22 +1,22 @@
-use Rattle.std.proofs.Common.{refl}
+use Rattle.std.proofs.Common.{None, refl}
 use Rattle.std.proofs.lemmas.Result.{err_from_is_err_and}
 use Rattle.lpis_run.specs.Folders.{top_by}
 use Rattle.lpis_run_publish_country.specs.PublishCountryRuns.{StopsAtLineage}
-use Rattle.lpis_run_publish_country.specs.PublishCountryAnswer.{IsRefusedBefore}
+use Rattle.lpis_run_publish_country.specs.PublishCountryAnswer.{IsRefusedBefore, country_files}
 use Rattle.lpis_run_publish_country.specs.private.Preparing.{inputs_of}
-use Rattle.lpis_run_publish_country.proofs.FillingLemmas.{files_without, runs_earlier, runs_prepared, runs_refused, runs_unread}
+use Rattle.lpis_run_publish_country.proofs.FillingLemmas.{runs_earlier, runs_prepared, runs_refused, runs_unread}
 use Rattle.lpis_run_publish_country.proofs.UnpreparedLemmas.{has_failed, is_refused}
 use Rattle.lpis_run_publish_country.proofs.exact_country.run_exact_country.Goals as goal
 
 pub returns-in_err-inputs : goal.returns-in_err-inputs
 returns-in_err-inputs g c =
-    let given = files_without (top_by g.R.Read.remaining c.args.top) (g.G.Regions.texts c.args.regions.now) (g.L.Lineages.lineages c.args.lineages.now) in
+    let given = country_files (top_by g.R.Read.remaining c.args.top) None (g.G.Regions.texts c.args.regions.now) (g.L.Lineages.lineages c.args.lineages.now) in
     let p = err_from_is_err_and c.from_residual.result c.from_residual.ensures.1 in
     rw (p.1, p.2) (runs_unread given c.args.register.now.held (g.V.Write.contents c.args.file.now) (g.W.Write.contents c.args.out.now) _ c.in_err-inputs.ensures.failure)
 
 pub returns-in-Err-Failed : goal.returns-in-Err-Failed
 returns-in-Err-Failed g c =
-    let given = files_without (top_by g.R.Read.remaining c.args.top) (g.G.Regions.texts c.args.regions.now) (g.L.Lineages.lineages c.args.lineages.now) in
+    let given = country_files (top_by g.R.Read.remaining c.args.top) None (g.G.Regions.texts c.args.regions.now) (g.L.Lineages.lineages c.args.lineages.now) in
     let x = inputs_of c.in_ok-inputs.inputs in
     rw c.in-Err-Failed.failure-is
     (runs_earlier given c.args.register.now.held (g.V.Write.contents c.args.file.now) (g.W.Write.contents c.args.out.now) x (c.in_ok-inputs.ensures.bytes given refl refl)
@@ -24,14 +24,9 @@ returns-in-Err-Failed g c =
     (has_failed (StopsAtLineage given x) (IsRefusedBefore given x) c.in-Err-Failed.field-0 c.in-Err-Failed.failure
     c.in-Err-Failed.field-0-is (c.in-Err-Failed.ensures.unprepared given refl)))
 
-pub fill_prepared-requires : goal.fill_prepared-requires
-fill_prepared-requires g c =
-    let given = files_without (top_by g.R.Read.remaining c.args.top) (g.G.Regions.texts c.args.regions.now) (g.L.Lineages.lineages c.args.lineages.now) in
-    (given, inputs_of c.in_ok-inputs.inputs, c.in-Ok.ensures.prepared given refl)
-
 pub returns-in-Ok : goal.returns-in-Ok
 returns-in-Ok g c =
-    let given = files_without (top_by g.R.Read.remaining c.args.top) (g.G.Regions.texts c.args.regions.now) (g.L.Lineages.lineages c.args.lineages.now) in
+    let given = country_files (top_by g.R.Read.remaining c.args.top) None (g.G.Regions.texts c.args.regions.now) (g.L.Lineages.lineages c.args.lineages.now) in
     let x = inputs_of c.in_ok-inputs.inputs in
     runs_prepared given c.args.register.now.held (g.V.Write.contents c.args.file.now) (g.W.Write.contents c.args.out.now) x (c.in_ok-inputs.ensures.bytes given refl refl)
     (g.V.Write.contents c.fill_prepared.new.file) (g.W.Write.contents c.fill_prepared.new.out) c.fill_prepared.result
@@ -39,7 +34,7 @@ returns-in-Ok g c =
 
 pub returns-in-Err-Refused : goal.returns-in-Err-Refused
 returns-in-Err-Refused g c =
-    let given = files_without (top_by g.R.Read.remaining c.args.top) (g.G.Regions.texts c.args.regions.now) (g.L.Lineages.lineages c.args.lineages.now) in
+    let given = country_files (top_by g.R.Read.remaining c.args.top) None (g.G.Regions.texts c.args.regions.now) (g.L.Lineages.lineages c.args.lineages.now) in
     let x = inputs_of c.in_ok-inputs.inputs in
     runs_refused given c.args.register.now.held (g.V.Write.contents c.args.file.now) (g.W.Write.contents c.args.out.now) x (c.in_ok-inputs.ensures.bytes given refl refl)
     (g.W.Write.contents c.write_to.new.out) c.in-Err-Refused.answer c.write_to.result

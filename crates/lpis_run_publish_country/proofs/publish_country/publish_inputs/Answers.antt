@@ -1,20 +1,10 @@
-use Rattle.std.proofs.Common.{None, refl}
-use Rattle.lpis_run_publish_country.specs.PublishCountryAnswer.{CountryFiles, CountryRequest, IsRefusedBefore}
+use Rattle.std.proofs.Common.{refl}
+use Rattle.lpis_run_publish_country.specs.PublishCountryAnswer.{CountryRequest, IsRefusedBefore}
 use Rattle.lpis_run_publish_country.specs.PublishCountryRuns.{StopsAtLineage}
 use Rattle.lpis_run_publish_country.specs.private.Preparing.{inputs_of}
 use Rattle.lpis_run_publish_country.proofs.RunLemmas.{runs_faulty, runs_unprepared}
 use Rattle.lpis_run_publish_country.proofs.UnpreparedLemmas.{has_failed, is_refused}
 use Rattle.lpis_run_publish_country.proofs.publish_country.publish_inputs.Goals as goal
-
-pub publish_prepared-requires : goal.publish_prepared-requires
-publish_prepared-requires g c =
-    let given : CountryFiles = record {
-      top = record { plan = None; classes = None };
-      exact = None;
-      texts = g.G.Regions.texts c.args.regions.now;
-      lineages = g.L.Lineages.lineages c.args.lineages.now;
-    } in
-    (given, inputs_of c.args.inputs, c.in-Ok.ensures.prepared given refl)
 
 pub returns-in-Ok : goal.returns-in-Ok
 returns-in-Ok g c = λ given texts lineages. c.publish_prepared.ensures given (inputs_of c.args.inputs) texts (c.in-Ok.ensures.prepared given lineages)

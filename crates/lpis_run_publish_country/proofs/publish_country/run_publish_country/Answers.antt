@@ -3,7 +3,7 @@ use Rattle.std.proofs.lemmas.Result.{err_from_is_err_and}
 use Rattle.std.specs.Option.{option_map}
 use Rattle.lpis_lineage.specs.Lineage.{last_year}
 use Rattle.lpis_run.specs.Folders.{top_by}
-use Rattle.lpis_run_publish_country.specs.PublishCountryAnswer.{CountryRequest}
+use Rattle.lpis_run_publish_country.specs.PublishCountryAnswer.{CountryRequest, country_request}
 use Rattle.lpis_run_publish_country.specs.private.Preparing.{inputs_of}
 use Rattle.lpis_run_publish_country.proofs.RunLemmas.{runs_early, runs_later, runs_unread}
 use Rattle.lpis_run_publish_country.proofs.publish_country.run_publish_country.Goals as goal
@@ -15,16 +15,8 @@ returns-then-year-last g c =
 
 pub returns-in_err-inputs : goal.returns-in_err-inputs
 returns-in_err-inputs g c =
-    let asked : CountryRequest = record {
-      year = c.args.year;
-      given = record {
-        top = top_by g.R.Read.remaining c.args.top;
-        exact = option_map g.R.Read.remaining c.args.exact;
-        texts = g.G.Regions.texts c.args.regions.now;
-        lineages = g.L.Lineages.lineages c.args.lineages.now;
-      };
-      detail = c.args.detail;
-    } in
+    let asked : CountryRequest = country_request c.args.year c.args.detail (top_by g.R.Read.remaining c.args.top) (option_map g.R.Read.remaining c.args.exact)
+    (g.G.Regions.texts c.args.regions.now) (g.L.Lineages.lineages c.args.lineages.now) in
     let is = c.last_year-last.ensures ∙ ap last_year c.current.ensures in
     let later : last_year c.args.register.now.held.history < c.args.year = omega (arith, is, c.if-year-last.false) in
     let p = err_from_is_err_and c.from_residual.result c.from_residual.ensures.1 in
