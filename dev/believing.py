@@ -258,9 +258,17 @@ class Page:
             texts.append(text)
         return ["```rust", "\n\n".join(texts), "```"]
 
+    def lie_somewhere(self, words):
+        """Each names a crate, a file or a definition that a promise rests on."""
+        for word in words:
+            if not any(lies_in([word], node) for node in self.trust.reached):
+                raise SystemExit(f"docs/BELIEVE.md: no promise rests on {word}")
+
     def written(self, match):
         kind, *words = match.group(1).split()
         at = words.index("without") if "without" in words else len(words)
+        if kind in ("define", "files", "later"):
+            self.lie_somewhere(words[at + 1 :] if kind == "define" else [word for word in words if word != "without"])
         if kind == "define":
             has_star = re.findall(r"(?m)^## .*$", match.string[: match.start()])[-1].endswith(" *")
             without = words[at + 1 :] + (self.later if has_star else [])

@@ -40,5 +40,5 @@ def test_a_release_without_a_yes(tmp_path):
 
 
 def test_a_country_that_was_not_joined(tmp_path):
-    said = tried(tmp_path, "lpis_run_publish_country", "publish_country.rt", "accept_country(year, &parcels,", "accept_country(year, parcels.parcels(),")
-    assert "error[mismatched-types]: expected `&Joined`, found `&[Parcel]`" in said
+    said = tried(tmp_path, "lpis_run_publish_country", "publish_country.rt", ".accept(year, &parcels,", ".accept(year, &parcels.parcels(),")
+    assert "error[unsatisfied-bound]: the trait bound `&[Parcel]: SoundParcels` is not satisfied" in said
