@@ -20,8 +20,8 @@ import textwrap
 
 HERE = os.path.dirname(os.path.realpath(__file__))
 TOP = os.path.dirname(HERE)
-HELPERS = os.path.join(TOP, "tests", "helpers")  # what tests and benches share: registers, years, lands
-sys.path += [HELPERS, os.path.join(TOP, "tools")]
+sys.path[:0] = [os.path.join(TOP, "tests"), os.path.join(TOP, "tools")]  # before all that is installed: tests and benches share lpis_helpers
+from lpis_helpers.places import run_helper  # noqa: E402
 MEGABYTE = 1_000_000
 RUNS, WIDTH, MOST_FAULTS = 3, 120, 20
 IN_MEMORY = "/dev/shm" if os.access("/dev/shm", os.W_OK) else None  # a folder for files that are written and synced often
@@ -53,11 +53,6 @@ def temporary(where=None):
     return tempfile.TemporaryDirectory(prefix="lpis-bench-", dir=where)
 
 
-def make(maker, *words):
-    """Runs one of the scripts that write inputs."""
-    subprocess.run([sys.executable, os.path.join(HELPERS, maker), *map(str, words)], check=True)
-
-
 def compiled(folder, name):
     """A program in C++ of bench/, built."""
     compiler = shutil.which("g++") or sys.exit("no g++ (Debian: g++)")
@@ -68,7 +63,7 @@ def compiled(folder, name):
 
 def certified(size, folder):
     """A release of so many parcels with T-junctions and holes, and its certificate."""
-    make("make_parcels.py", size, folder, "straight")
+    run_helper("make_parcels", size, folder, "straight")
     done([lpis(), "cut", folder, os.path.join(folder, CERT)])
 
 

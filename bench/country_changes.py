@@ -4,7 +4,7 @@ import os
 import zlib
 from collections import Counter
 
-from country_example import regions_of
+from lpis_helpers.country_example import regions_of
 
 CHANGED, SPLIT, OF = 45, 5, 1_000  # so many of a thousand get another identifier, or are split into their pieces
 

@@ -7,9 +7,9 @@ import shutil
 import sqlite3
 from pathlib import Path
 
-from country_example import regions_of
-from country_years import CLASSES
-from tables import write_lines
+from lpis_helpers.country_example import regions_of
+from lpis_helpers.country_years import CLASSES
+from lpis_helpers.tables import write_lines
 
 
 class Given:

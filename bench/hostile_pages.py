@@ -9,7 +9,7 @@ import struct
 import tempfile
 
 from common import MEGABYTE
-from registers import made, register, rows
+from lpis_helpers.registers import made, register, rows
 
 NAME, PAGE, SEED = "years.db", 4096, 20_261_123
 ROW = "INSERT INTO lpis_row VALUES (2025, 5, 'north', {})"

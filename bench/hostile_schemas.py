@@ -4,7 +4,7 @@ import functools
 import shutil
 
 from hostile_pages import NAME
-from registers import SQUARE, TEXT, made
+from lpis_helpers.registers import SQUARE, TEXT, made
 
 TEXT_COLUMNS, MARK_COLUMNS = "id TEXT NOT NULL, wkt TEXT NOT NULL", "year INTEGER NOT NULL, pos INTEGER NOT NULL"
 KEYS = {"lpis_text": (TEXT_COLUMNS, "id"), "lpis_mark": (MARK_COLUMNS, "year, pos")}

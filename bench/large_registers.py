@@ -8,7 +8,7 @@ import sys
 import time
 
 from common import Run, done, lpis, run
-from registers import TABLES
+from lpis_helpers.registers import TABLES
 
 YEARS = range(2021, 2031)
 POINTS = 56  # of a text: 1,354 bytes, so that 100,000 weigh 135 MB

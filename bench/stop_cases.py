@@ -7,10 +7,10 @@ import subprocess
 import tempfile
 
 from common import CERT, HERE, compiled, done, lpis
-import country_example
-from calls import copy_of
+from lpis_helpers import country_example
+from lpis_helpers.calls import copy_of
 from country_changes import add_lineage, change
-from registers import NOTHING, VERSION_1, VERSION_2, WITHOUT_MARKS, made, register
+from lpis_helpers.registers import NOTHING, VERSION_1, VERSION_2, WITHOUT_MARKS, made, register
 from years import Years
 
 PARCELS, SECONDS = 3_000, 60

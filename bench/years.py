@@ -3,8 +3,8 @@
 import os
 import shutil
 
-from common import CERT, done, lpis, make
-from tables import write_lines
+from common import CERT, done, lpis, run_helper
+from lpis_helpers.tables import write_lines
 
 
 def read(path):
@@ -17,7 +17,7 @@ class Years:
 
     def __init__(self, folder, count):
         self.first = os.path.join(folder, "first")
-        make("make_parcels.py", count, self.first)
+        run_helper("make_parcels", count, self.first)
         self.parcels, self.covers = read(os.path.join(self.first, "parcels.csv")), read(os.path.join(self.first, "covers.csv"))
         self.names = {line.split(",", 1)[0]: line.split(",", 1)[0] for line in self.parcels[1:]}
         self.folder = folder

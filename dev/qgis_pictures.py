@@ -11,7 +11,7 @@ from pathlib import Path
 sys.dont_write_bytecode = True
 os.environ.setdefault("QT_QPA_PLATFORM", "offscreen")
 TOP = Path(__file__).resolve().parent.parent
-sys.path[:0] = ["/usr/share/qgis/python/plugins", str(TOP / "tools" / "qgis"), str(TOP / "tests" / "helpers")]
+sys.path[:0] = ["/usr/share/qgis/python/plugins", str(TOP / "tools" / "qgis"), str(TOP / "tests")]
 from qgis.core import (
     QgsApplication, QgsFeature, QgsFillSymbol, QgsGeometry, QgsMapRendererParallelJob, QgsMapSettings, QgsProject, QgsRectangle, QgsSingleSymbolRenderer, QgsVectorLayer,
 )
@@ -30,10 +30,10 @@ def run(*words):
 
 def land_of(folder):
     """Two prepared years of a small land, the first of them with one fault, and with several."""
-    import edits
+    from lpis_helpers import edits
 
     source, edited, first, second = (folder / name for name in ("source", "edited", "2025", "2026"))
-    run(sys.executable, TOP / "tests" / "helpers" / "make_coverage.py", PARCELS, 3, source)
+    run(sys.executable, TOP / "tests" / "lpis_helpers" / "make_coverage.py", PARCELS, 3, source)
     edits.make(source, edited, EDITS, 3)
     run(TOP / "tools" / "prepare", source, first)
     run(TOP / "tools" / "prepare", edited, second, "--previous", first)

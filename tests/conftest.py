@@ -6,7 +6,7 @@ import subprocess
 import sys
 
 import pytest
-import places
+from lpis_helpers import places
 
 # Modules whose tests take longest: they begin first, and short ones fill the cores at the end.
 LONGEST = ("test_transcripts", "test_lands", "test_country", "test_country_cut", "test_unusual", "test_explain")

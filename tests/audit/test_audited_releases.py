@@ -11,13 +11,13 @@ import sys
 from collections import Counter
 from pathlib import Path
 
-import calls
-import damage
+from lpis_helpers import calls
+from lpis_helpers import damage
 import idea_pictures
 import pytest
 import release as audit
-from nasty_shapes import Release
-from places import BUILT, TOP as HOUSE
+from lpis_helpers.nasty_shapes import Release
+from lpis_helpers.places import BUILT, TOP as HOUSE
 
 TOP = Path(HOUSE)
 RELEASES, LEAST = 100, (3, 2, 3, 3)  # of a series; cases of each condition, series by series

@@ -11,10 +11,10 @@ from pathlib import Path
 import lineage
 import pytest
 import register
-import registers
-from asking import dump
-from exact_lineage import spoiled, with_blocks
-from exact_years import TwoYears
+from lpis_helpers import registers
+from lpis_helpers.asking import dump
+from lpis_helpers.exact_lineage import spoiled, with_blocks
+from lpis_helpers.exact_years import TwoYears
 from test_audited_releases import audited, lpis
 
 YEARS, EDITS = 25, 4  # pairs of years; registers that are edited of each

@@ -3,7 +3,7 @@
 import subprocess
 from pathlib import Path
 
-from places import BUILT as LPIS, TOP as HOUSE
+from lpis_helpers.places import BUILT as LPIS, TOP as HOUSE
 
 TOP = Path(HOUSE)
 SECONDS = 120

@@ -4,7 +4,7 @@ import shutil
 
 import pytest
 from program import edited, lpis, short, write
-from registers import said
+from lpis_helpers.registers import said
 
 PLAN, PARTED_AT_9 = "lpis-country 1\nx 10000\nregion west\nregion east\n", "lpis-country 1\nx 9000\nregion west\nregion east\n"
 CLASSES = "class,percent\nG,100\nW,0\n"

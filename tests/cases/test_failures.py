@@ -5,10 +5,10 @@ import shutil
 import subprocess
 from pathlib import Path
 
-import country_example
+from lpis_helpers import country_example
 import pytest
 from program import CLASSES, LPIS, SECONDS, lpis, write
-from registers import said
+from lpis_helpers.registers import said
 from test_histories import MAPS, MARKED, certificate_of, hand_in, lines_of, tables_of
 
 # The inputs in the order in which they are read.

@@ -4,7 +4,7 @@ import shutil
 
 import pytest
 from program import CLASSES, edited, lpis, short, write
-from registers import said
+from lpis_helpers.registers import said
 from test_certificates import FAR, FAR_IN_MILLIMETRES, HALVES_CERT, SQUARE_CERT
 
 # Each map's parcels: the identifier, that of its one piece, and where the strip begins and ends, in metres. A strip is ten metres high.

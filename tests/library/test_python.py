@@ -17,12 +17,12 @@ from decimal import Decimal
 from fractions import Fraction
 
 import pytest
-import stopping
-from calls import ended_with
-from places import BUILT
-from python_case import BACKENDS, EXAMPLES, LIBRARY, NAMES, NO_LIBRARY, PYTHON, Feature, has, mypy, release, run, square
+from lpis_helpers import stopping
+from lpis_helpers.calls import ended_with
+from lpis_helpers.places import BUILT
+from lpis_helpers.python_case import BACKENDS, EXAMPLES, LIBRARY, NAMES, NO_LIBRARY, PYTHON, Feature, has, mypy, release, run, square
 import lpis
-import tables as generated
+from lpis_helpers import tables as generated
 from lpis.backends import choose
 from lpis_tools import shapely_there
 

@@ -10,9 +10,9 @@ import sys
 import zipfile
 
 import pytest
-from places import BUILT, TOOLS
-from spare import Kept
-from python_case import ALONE, BACKENDS, EXAMPLES, LIBRARY, PYTHON, TOP, done, has, mypy, run
+from lpis_helpers.places import BUILT, TOOLS
+from lpis_helpers.spare import Kept
+from lpis_helpers.python_case import ALONE, BACKENDS, EXAMPLES, LIBRARY, PYTHON, TOP, done, has, mypy, run
 import wheels
 
 pytestmark = pytest.mark.finds_program

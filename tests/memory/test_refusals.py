@@ -14,11 +14,11 @@ import re
 import shutil
 import tempfile
 
-import calls
-import country_example
+from lpis_helpers import calls
+from lpis_helpers import country_example
 import pytest
-from places import TOP
-from registers import VERSION_1, VERSION_2, VERSION_3, WITHOUT_MARKS, made, said
+from lpis_helpers.places import TOP
+from lpis_helpers.registers import VERSION_1, VERSION_2, VERSION_3, WITHOUT_MARKS, made, said
 
 EXAMPLES = pathlib.Path(TOP, "examples")
 SECONDS, MANY, SAMPLE, FEW, SEED = 60, 1_000, 100, 25, 20_261_123

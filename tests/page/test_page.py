@@ -13,12 +13,12 @@ import sys
 from pathlib import Path
 
 import pytest
-from spare import Spare
-from browser import Browser
-from page_case import CC, EXAMPLES, SOURCES, TESTS, TOP, WHOLE, built, native, node, read, releases_of, wanted
+from lpis_helpers.spare import Spare
+from lpis_helpers.browser import Browser
+from lpis_helpers.page_case import CC, EXAMPLES, SOURCES, TESTS, TOP, WHOLE, built, native, node, read, releases_of, wanted
 from lpis_tools import explaining, report
-import nasty_shapes
-from tables import write_squares
+from lpis_helpers import nasty_shapes
+from lpis_helpers.tables import write_squares
 
 RELEASES, MANY = (200, 60_000) if WHOLE else (20, 5_000)  # generated releases, of which a half has faults; parcels in the browser
 

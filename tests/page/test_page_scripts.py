@@ -6,10 +6,10 @@ import subprocess
 from pathlib import Path
 
 import pytest
-from page_case import CC, EXAMPLES, TESTS, dev_page, native, node, releases_of, wanted
+from lpis_helpers.page_case import CC, EXAMPLES, TESTS, dev_page, native, node, releases_of, wanted
 from lpis_tools import explaining, report
-import nasty_shapes
-from tables import write_squares
+from lpis_helpers import nasty_shapes
+from lpis_helpers.tables import write_squares
 
 FAULTS = ["refused 41 parcels west east at 50020 23980 1", "refused 43 parcel west at 7 22 3", "refused 43 parcel west at -1000001 22 7", "refused 33 parcels row 2", "refused 31 covers row 0",
           "refused 44 parcel west", "refused 42 pieces nosuch west-1", "refused 34 covers row 99", "refused 60", "refused 56 cert line 2", "refused 55 cert line 900", "refused 37 parcels row 1"]

@@ -11,8 +11,8 @@ import shutil
 import subprocess
 
 import pytest
-from calls import lpis, run
-from places import TOP as HOUSE
+from lpis_helpers.calls import lpis, run
+from lpis_helpers.places import TOP as HOUSE
 
 TOP = pathlib.Path(HOUSE)
 EXAMPLE = TOP / "examples" / "square"

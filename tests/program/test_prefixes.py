@@ -12,10 +12,10 @@ import pathlib
 import re
 import shutil
 
-import country_example
+from lpis_helpers import country_example
 import pytest
-from calls import lpis
-from places import TOP
+from lpis_helpers.calls import lpis
+from lpis_helpers.places import TOP
 
 EXAMPLES = pathlib.Path(TOP, "examples")
 

@@ -9,9 +9,9 @@ points; `publish` of it, then of a second year that renames each parcel, and `tr
 
 import os
 
-import calls
+from lpis_helpers import calls
 import pytest
-from tables import polygon_text, write_lines, write_release
+from lpis_helpers.tables import polygon_text, write_lines, write_release
 
 MOST_CORNERS = 99_000
 ROW = 300  # parcels beside one another

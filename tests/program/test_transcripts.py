@@ -20,7 +20,7 @@ import signal
 import subprocess
 
 import pytest
-from places import BUILT, TOP as HOUSE
+from lpis_helpers.places import BUILT, TOP as HOUSE
 
 HERE, TOP = pathlib.Path(__file__).resolve().parent, pathlib.Path(HOUSE)
 SECONDS = 600  # of one command

@@ -4,11 +4,11 @@ splits and merges across regions."""
 import random
 
 import pytest
-from asking import NEW, HISTORY, MARKED, SHAPES, ELSEWHERE, expect, lpis, rows, dump, texts, expect_tables, expect_published, release_of
-from asking import expect_spans, write_release
-from country_example import regions_of
-from country_years import Map, Tiling, box_of, write_country, write_region
-from registers import LEFT, RIGHT, SQUARE, TABLES, VERSION_1, VERSION_2, WITHOUT_MARKS, made, said
+from lpis_helpers.asking import NEW, HISTORY, MARKED, SHAPES, ELSEWHERE, expect, lpis, rows, dump, texts, expect_tables, expect_published, release_of
+from lpis_helpers.asking import expect_spans, write_release
+from lpis_helpers.country_example import regions_of
+from lpis_helpers.country_years import Map, Tiling, box_of, write_country, write_region
+from lpis_helpers.registers import LEFT, RIGHT, SQUARE, TABLES, VERSION_1, VERSION_2, WITHOUT_MARKS, made, said
 
 
 def cut_country(country):

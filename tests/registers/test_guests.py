@@ -2,9 +2,9 @@
 
 import sqlite3
 
-from asking import YEARS, MOVED, SHAPES, expect, lpis, rows, dump, expect_whole, names_of, expect_published, release_of
-from registers import LEFT, MARK, MARKS, RIGHT, SPANS, SQUARE, TABLES, TEXT, TEXTS, TWO_YEARS, VERSION_1, VERSION_2, VERSION_3, WITHOUT_MARKS, made
-from registers import said
+from lpis_helpers.asking import YEARS, MOVED, SHAPES, expect, lpis, rows, dump, expect_whole, names_of, expect_published, release_of
+from lpis_helpers.registers import LEFT, MARK, MARKS, RIGHT, SPANS, SQUARE, TABLES, TEXT, TEXTS, TWO_YEARS, VERSION_1, VERSION_2, VERSION_3, WITHOUT_MARKS, made
+from lpis_helpers.registers import said
 from test_country_registers import country_of
 
 # What others may put into a register's file, each with the statements that do it. No answer is another for it, and it stays as it is.

@@ -3,12 +3,12 @@ worked example goes through its years over a new register and over one of each v
 
 import sqlite3
 
-from asking import TOP, YEARS, NEW, MOVED, HISTORY, MARKED, SHAPES, ELSEWHERE, expect, lpis, rows, dump, texts, expect_whole, names_of, expect_tables
-from asking import publish, expect_published, release_of, expect_spans, write_release
+from lpis_helpers.asking import TOP, YEARS, NEW, MOVED, HISTORY, MARKED, SHAPES, ELSEWHERE, expect, lpis, rows, dump, texts, expect_whole, names_of, expect_tables
+from lpis_helpers.asking import publish, expect_published, release_of, expect_spans, write_release
 from lpis_tools import polygons, tables
-from registers import LEFT, MARK, MARKS, RIGHT, ROW, SPAN, SPANS, SQUARE, TABLES, TEXT, TEXTS, VERSION_1, VERSION_2, VERSION_3, WITHOUT_MARKS, made
-from registers import said
-from tables import polygon_text
+from lpis_helpers.registers import LEFT, MARK, MARKS, RIGHT, ROW, SPAN, SPANS, SQUARE, TABLES, TEXT, TEXTS, VERSION_1, VERSION_2, VERSION_3, WITHOUT_MARKS, made
+from lpis_helpers.registers import said
+from lpis_helpers.tables import polygon_text
 
 # Texts and marks of another history, in tables of a version that has neither: whatever they are, the move empties them.
 STALE = TEXT + MARK + "INSERT INTO lpis_text VALUES ('B', 'no polygon'), ('X', ''); INSERT INTO lpis_mark VALUES (2025, 1);"

@@ -4,10 +4,10 @@ import itertools
 import random
 
 import pytest
-from asking import YEARS, MOVED, HISTORY, MARKED, SHAPES, expect, expect_whole, lpis, rows, dump, names_of, expect_tables, release_of
+from lpis_helpers.asking import YEARS, MOVED, HISTORY, MARKED, SHAPES, expect, expect_whole, lpis, rows, dump, names_of, expect_tables, release_of
 from test_opened import third_year
-from registers import FORMAT, LEFT, LIVE, LIVES, MARK, MARKS, OLDER, RELEASE, RIGHT, ROW, SPAN, SPANS, SQUARE, TABLES, TEXT, TEXTS, TWO_YEARS, VERSION_1
-from registers import VERSION_2, VERSION_3, WITHOUT_MARKS, made, said
+from lpis_helpers.registers import FORMAT, LEFT, LIVE, LIVES, MARK, MARKS, OLDER, RELEASE, RIGHT, ROW, SPAN, SPANS, SQUARE, TABLES, TEXT, TEXTS, TWO_YEARS, VERSION_1
+from lpis_helpers.registers import VERSION_2, VERSION_3, WITHOUT_MARKS, made, said
 
 # Each a change to the tables of two years that makes them say no history.
 UNLAWFUL = {

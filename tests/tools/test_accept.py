@@ -5,10 +5,10 @@ import csv
 import os
 from pathlib import Path
 
-import dirty
-from calls import records
-from registers import made
-from preparing_case import Case
+from lpis_helpers import dirty
+from lpis_helpers.calls import records
+from lpis_helpers.registers import made
+from lpis_helpers.preparing_case import Case
 from lpis_tools import accepting
 
 KINDS = ("null", "crossing", "wide", "narrow", "twin")

@@ -12,11 +12,11 @@ import sys
 from pathlib import Path
 
 import pytest
-from registers import MARK, TABLES, TEXT, made, rows
-from calls import ended_with, records, tool
-from places import BUILT, TOOLS, TOP
-from spare import Spare
-import dirty
+from lpis_helpers.registers import MARK, TABLES, TEXT, made, rows
+from lpis_helpers.calls import ended_with, records, tool
+from lpis_helpers.places import BUILT, TOOLS, TOP
+from lpis_helpers.spare import Spare
+from lpis_helpers import dirty
 from lpis_tools import printing, shapely_there
 
 SECOND = TABLES[2] + """

@@ -10,14 +10,14 @@ import re
 import struct
 from pathlib import Path
 
-import dirty
-import lands_run
+from lpis_helpers import dirty
+from lpis_helpers import lands_run
 import pytest
-from lands_judge import Judge
-from lands_land import KEYS, Land
-from lands_shapes import Shape
-from lands_trial import Trial
-import registers
+from lpis_helpers.lands_judge import Judge
+from lpis_helpers.lands_land import KEYS, Land
+from lpis_helpers.lands_shapes import Shape
+from lpis_helpers.lands_trial import Trial
+from lpis_helpers import registers
 from lpis_tools import balance, shapely_there
 
 PARCELS = int(os.environ.get("PARCELS", "0"))

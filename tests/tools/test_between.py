@@ -8,11 +8,11 @@ import subprocess
 from pathlib import Path
 
 import pytest
-import dirty
-import places
-from calls import ended_with, records
-from lands_parts import boxed
-from preparing_case import Case
+from lpis_helpers import dirty
+from lpis_helpers import places
+from lpis_helpers.calls import ended_with, records
+from lpis_helpers.lands_parts import boxed
+from lpis_helpers.preparing_case import Case
 from lpis_tools import shapely_there
 
 if shapely_there.is_there():

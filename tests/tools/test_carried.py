@@ -9,8 +9,8 @@ import subprocess
 import sys
 
 import pytest
-from places import TOP
-from spare import Spare
+from lpis_helpers.places import TOP
+from lpis_helpers.spare import Spare
 
 pytestmark = pytest.mark.finds_program
 

@@ -7,13 +7,13 @@ from collections import Counter
 from pathlib import Path
 
 import pytest
-from registers import made
-from calls import ended_with, records, tool
-from places import TOOLS
-from spare import Spare, read, write
-import dirty
-import exact
-import stopping
+from lpis_helpers.registers import made
+from lpis_helpers.calls import ended_with, records, tool
+from lpis_helpers.places import TOOLS
+from lpis_helpers.spare import Spare, read, write
+from lpis_helpers import dirty
+from lpis_helpers import exact
+from lpis_helpers import stopping
 from lpis_tools import shapely_there
 
 COMPARE = os.path.join(TOOLS, "recipes", "compare")

@@ -9,10 +9,10 @@ import subprocess
 from pathlib import Path
 
 import pytest
-from calls import run, tool
-from country_case import BUILT, CLASSES, HEADS, Case, Land, generated, lines, read, write, write_text
-import judged_country as judged
-from places import TOP
+from lpis_helpers.calls import run, tool
+from lpis_helpers.country_case import BUILT, CLASSES, HEADS, Case, Land, generated, lines, read, write, write_text
+from lpis_helpers import judged_country as judged
+from lpis_helpers.places import TOP
 from lpis_tools import polygons
 
 

@@ -7,10 +7,10 @@ import tempfile
 from unittest import mock
 
 import pytest
-import hard
+from lpis_helpers import hard
 from lpis_tools import shapely_there
-from cells_case import ByCells, mended, read, write
-from lands_parts import boxed, closed, on
+from lpis_helpers.cells_case import ByCells, mended, read, write
+from lpis_helpers.lands_parts import boxed, closed, on
 
 if shapely_there.is_there():
     from lpis_tools import country_prepare, land as land_module, last_year, naming, parts, passes, rounding, snapping, store

@@ -5,10 +5,10 @@ import shutil
 import time
 
 import pytest
-from calls import ended_with, run
-from country_case import BUILT, Case, Land, country, lines, read, write, write_text
-from spare import write_script
-import judged_country as judged
+from lpis_helpers.calls import ended_with, run
+from lpis_helpers.country_case import BUILT, Case, Land, country, lines, read, write, write_text
+from lpis_helpers.spare import write_script
+from lpis_helpers import judged_country as judged
 
 # A stand-in for `lpis cut` and `lpis country`: it refuses a region whose parcels have a row `bad`.
 STAND_IN = """#!/usr/bin/env python3

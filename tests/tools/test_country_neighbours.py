@@ -1,23 +1,21 @@
 """Tests which parcels get another text by tools/country prepare --previous though their source is the same: those beside a new border that ends on their own
 border, by its end alone. Wants Shapely."""
 
-import os
 import random
-import sys
 
-from calls import done, ended_with, tool
-from places import HELPERS
-from cells_case import Case
-from lands_parts import on
+from lpis_helpers.calls import ended_with, tool
+from lpis_helpers.places import run_helper
+from lpis_helpers.cells_case import Case
+from lpis_helpers.lands_parts import on
 from lpis_tools import shapely_there
 
 if shapely_there.is_there():
     from shapely import wkb
 
-    import dirty
-    import edits
-    import neighbours
-    import two_years
+    from lpis_helpers import dirty
+    from lpis_helpers import edits
+    from lpis_helpers import neighbours
+    from lpis_helpers import two_years
     from lpis_tools import land as land_module, rounding, snapping
 
 PARCELS, SPLITS = 100, 25
@@ -110,7 +108,7 @@ class TestCountries(Case):
 
     def test_new_borders(self):
         """Each parcel of another text lies beside a split one, and has the ends of the new borders more, all of it by whole numbers."""
-        done(sys.executable, os.path.join(HELPERS, "make_coverage.py"), PARCELS, 3, self.path("one"))
+        run_helper("make_coverage", PARCELS, 3, self.path("one"))
         land, chance = edits.Land(self.path("one")), random.Random(3)
         names = list(land.parcels)
         chance.shuffle(names)

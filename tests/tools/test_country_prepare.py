@@ -14,11 +14,11 @@ from collections import Counter
 from pathlib import Path
 
 import pytest
-from registers import made
-from calls import ended_with, run, tool
-from places import BUILT, TOOLS
-import dirty
-from cells_case import Case, read, write
+from lpis_helpers.registers import made
+from lpis_helpers.calls import ended_with, run, tool
+from lpis_helpers.places import BUILT, TOOLS
+from lpis_helpers import dirty
+from lpis_helpers.cells_case import Case, read, write
 from lpis_tools import shapely_there
 
 if shapely_there.is_there():

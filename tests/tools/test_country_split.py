@@ -9,9 +9,9 @@ import time
 import unittest.mock
 
 import pytest
-from calls import ended_with, tool
-from country_case import CLASSES, HEADS, Case, Land, country, lines, read, wkt, write, write_text
-import judged_country as judged
+from lpis_helpers.calls import ended_with, tool
+from lpis_helpers.country_case import CLASSES, HEADS, Case, Land, country, lines, read, wkt, write, write_text
+from lpis_helpers import judged_country as judged
 from lpis_tools import countries, parting, splitting, streams, tiles
 
 

@@ -8,10 +8,10 @@ import shutil
 from unittest import mock
 
 import pytest
-from registers import made, rows
-from calls import ended_with, tool
-from places import BUILT, TOP
-from spare import Spare, read, write
+from lpis_helpers.registers import made, rows
+from lpis_helpers.calls import ended_with, tool
+from lpis_helpers.places import BUILT, TOP
+from lpis_helpers.spare import Spare, read, write
 from lpis_tools import country_report, files, ledger, parting, progress, splitting, streams
 
 YEARS = os.path.join(TOP, "examples", "country-years")

@@ -11,11 +11,11 @@ import unittest.mock
 from pathlib import Path
 
 import pytest
-from registers import made
-import dirty
-import stopping
-from calls import ended_with, records
-from preparing_case import PREPARE, Case, ring
+from lpis_helpers.registers import made
+from lpis_helpers import dirty
+from lpis_helpers import stopping
+from lpis_helpers.calls import ended_with, records
+from lpis_helpers.preparing_case import PREPARE, Case, ring
 from lpis_tools import files
 
 EAST, NORTH = dirty.EAST, dirty.NORTH

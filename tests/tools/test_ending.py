@@ -7,10 +7,10 @@ import subprocess
 from pathlib import Path
 
 import pytest
-import dirty
-import stopping
-from places import TOOLS, TOP
-from spare import Spare, write_script
+from lpis_helpers import dirty
+from lpis_helpers import stopping
+from lpis_helpers.places import TOOLS, TOP
+from lpis_helpers.spare import Spare, write_script
 from lpis_tools import ending, shapely_there
 
 # Runs a program of its own in the background, which hears no INT, and waits for it.

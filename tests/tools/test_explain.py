@@ -12,9 +12,9 @@ import xml.dom.minidom
 from pathlib import Path
 
 import pytest
-from registers import TEXT, made
-from calls import tool
-from places import BUILT, TOOLS, TOP
+from lpis_helpers.registers import TEXT, made
+from lpis_helpers.calls import tool
+from lpis_helpers.places import BUILT, TOOLS, TOP
 from lpis_tools import codes
 
 SQUARE = "POLYGON((0 0,10 0,10 10,0 10,0 0))"

@@ -9,7 +9,7 @@ import time
 from fractions import Fraction
 
 import pytest
-import places
+from lpis_helpers import places
 from lpis_tools import shapely_there
 
 if shapely_there.is_there():

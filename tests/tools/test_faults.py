@@ -4,8 +4,8 @@ import json
 import shlex
 
 import pytest
-from calls import ended_with, tool
-from places import BUILT
+from lpis_helpers.calls import ended_with, tool
+from lpis_helpers.places import BUILT
 from lpis_tools import cutting
 
 

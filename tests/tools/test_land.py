@@ -10,9 +10,9 @@ import time
 from unittest import mock
 
 import pytest
-from registers import made
-from spare import Spare
-import dirty
+from lpis_helpers.registers import made
+from lpis_helpers.spare import Spare
+from lpis_helpers import dirty
 from lpis_tools import land, sheets, systems, wkb, wkt
 
 SQUARE = [(0.0, 0.0), (10.0, 0.0), (10.0, 10.0), (0.0, 10.0), (0.0, 0.0)]

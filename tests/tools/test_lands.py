@@ -6,12 +6,12 @@ import os
 
 import pytest
 from lpis_tools import shapely_there
-import lands_run
-import lands_trial
-from lands_land import Land
-from lands_parts import boxed
-from lands_shapes import Shape
-from lands_shrink import Shrinking
+from lpis_helpers import lands_run
+from lpis_helpers import lands_trial
+from lpis_helpers.lands_land import Land
+from lpis_helpers.lands_parts import boxed
+from lpis_helpers.lands_shapes import Shape
+from lpis_helpers.lands_shrink import Shrinking
 
 LANDS, MOST, DAMAGED = 40, 200, 40
 # Damaged sources that once ended in a traceback, or never: arcs without a radius, a table without a name, a number for a shape, a view without

@@ -8,11 +8,11 @@ import tracemalloc
 from pathlib import Path
 
 import pytest
-from asking import write_release
-from calls import ended_with, tool
-from places import BUILT, TOP
-from registers import RELEASE, SPAN, TEXT, made
-from spare import Spare, read
+from lpis_helpers.asking import write_release
+from lpis_helpers.calls import ended_with, tool
+from lpis_helpers.places import BUILT, TOP
+from lpis_helpers.registers import RELEASE, SPAN, TEXT, made
+from lpis_helpers.spare import Spare, read
 from lpis_tools import lineage_faults, proposing, shapely_there, years
 
 EXAMPLES = os.path.join(TOP, "examples", "exact")

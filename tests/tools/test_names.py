@@ -6,9 +6,9 @@ import os
 import random
 
 import pytest
-from spare import Spare, write
-from calls import records
-import preparing_case
+from lpis_helpers.spare import Spare, write
+from lpis_helpers.calls import records
+from lpis_helpers import preparing_case
 from lpis_tools import shapely_there
 
 try:

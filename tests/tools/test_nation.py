@@ -12,14 +12,14 @@ import time
 from pathlib import Path
 
 import pytest
-from calls import run
-from places import BUILT, TOOLS, TOP
-from spare import Kept
+from lpis_helpers.calls import run
+from lpis_helpers.places import BUILT, TOOLS, TOP
+from lpis_helpers.spare import Kept
 from lpis_tools import shapely_there
 
 if shapely_there.is_there():
-    import neighbours
-    import two_years
+    from lpis_helpers import neighbours
+    from lpis_helpers import two_years
 PARCELS = int(os.environ.get("PARCELS", "0"))
 FEW, MEGABYTE = 200, 1024
 CAN = shapely_there.is_there() and BUILT and shutil.which("ogrinfo")

@@ -14,11 +14,11 @@ import time
 import zipfile
 
 import pytest
-from calls import done, ended_with, run
-from places import BUILT, TOP
-from spare import Kept, write_script
-import stopping
-import tables
+from lpis_helpers.calls import done, ended_with, run
+from lpis_helpers.places import BUILT, TOP
+from lpis_helpers.spare import Kept, write_script
+from lpis_helpers import stopping
+from lpis_helpers import tables
 
 pytestmark = pytest.mark.finds_program
 PATH = "/usr/sbin:/usr/bin:/sbin:/bin"

@@ -10,11 +10,11 @@ import unittest.mock
 from pathlib import Path
 
 import pytest
-from calls import done, ended_with, records, tool
-from places import BUILT, TOOLS
-from spare import Kept, Spare, read
-import dirty
-import exact
+from lpis_helpers.calls import done, ended_with, records, tool
+from lpis_helpers.places import BUILT, TOOLS
+from lpis_helpers.spare import Kept, Spare, read
+from lpis_helpers import dirty
+from lpis_helpers import exact
 from lpis_tools import identifiers, shapely_there
 
 # Kind, layer, identifier and words that must come, for each kind of dirt.

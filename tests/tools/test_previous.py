@@ -5,19 +5,17 @@ import filecmp
 import os
 import re
 import shutil
-import subprocess
-import sys
 from pathlib import Path
 
 import pytest
-from calls import done, ended_with, records, tool
-from places import BUILT, HELPERS
-from spare import Kept, Spare
+from lpis_helpers.calls import done, ended_with, records, tool
+from lpis_helpers.places import BUILT, run_helper
+from lpis_helpers.spare import Kept, Spare
 from lpis_tools import shapely_there
 
 if shapely_there.is_there():
-    import edits
-    import exact
+    from lpis_helpers import edits
+    from lpis_helpers import exact
     from shapely import wkt
 PARCELS, EDITS, SEED = 400, 90, 1
 COUNTED = re.compile(r"borders as in .*: (\d+) of its (\d+); this year's rounding has (\d+) of them otherwise, (\d+) by more than half a millimetre")
@@ -33,7 +31,7 @@ class TestYears(Kept):
     @classmethod
     def set_up(cls):
         cls.made = {}
-        subprocess.run([sys.executable, os.path.join(HELPERS, "make_coverage.py"), str(PARCELS), "1", cls.path("source")], check=True)
+        run_helper("make_coverage", PARCELS, 1, cls.path("source"))
         cls.made["edits"] = edits.make(cls.path("source"), cls.path("edited"), EDITS, SEED)
         edits.make(cls.path("source"), cls.path("moved"), EDITS, SEED, 0.0001)
         for name, source, *more in (("first", "source"), ("plain", "edited"), ("kept", "edited", "--previous", cls.path("first")), ("same", "source", "--previous", cls.path("first")),
@@ -67,7 +65,7 @@ class TestYears(Kept):
             assert filecmp.cmp(self.path("first", name), self.path("same", name), shallow=False)
 
     def test_the_tables_are_a_sound_map(self):
-        subprocess.run([sys.executable, os.path.join(HELPERS, "make_coverage.py"), "36", "2", self.path("few")], check=True)
+        run_helper("make_coverage", 36, 2, self.path("few"))
         edits.make(self.path("few"), self.path("few edited"), 12, SEED, 0.0001)
         for source, out, *more in (("few", "few first"), ("few edited", "few kept", "--accept", "--previous", self.path("few first"))):
             assert 0 == tool("prepare", self.path(source), self.path(out), *more).returncode

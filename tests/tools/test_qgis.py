@@ -13,11 +13,11 @@ import zipfile
 from pathlib import Path
 
 import pytest
-from calls import done, ended_with, records, tool
-import dirty
-import registers
-from places import BUILT, TOOLS, TOP
-from spare import Kept, read, write
+from lpis_helpers.calls import done, ended_with, records, tool
+from lpis_helpers import dirty
+from lpis_helpers import registers
+from lpis_helpers.places import BUILT, TOOLS, TOP
+from lpis_helpers.spare import Kept, read, write
 from lpis_tools import shapely_there
 
 EXAMPLES = os.path.join(TOP, "examples")

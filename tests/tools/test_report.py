@@ -9,11 +9,11 @@ import subprocess
 from pathlib import Path
 
 import pytest
-from browser import CHROMIUM, Browser
-from calls import ended_with, tool
-from places import BUILT, TOOLS, TOP
-from registers import RELEASE, SPAN, made
-from spare import Spare, write_script
+from lpis_helpers.browser import CHROMIUM, Browser
+from lpis_helpers.calls import ended_with, tool
+from lpis_helpers.places import BUILT, TOOLS, TOP
+from lpis_helpers.registers import RELEASE, SPAN, made
+from lpis_helpers.spare import Spare, write_script
 from lpis_tools import page, shapely_there
 
 # Answers `yes` with the areas of the tables, or the line that LINE has; `cut` finds no fault.

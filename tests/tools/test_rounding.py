@@ -6,9 +6,9 @@ import random
 from fractions import Fraction
 
 import pytest
-import hard
+from lpis_helpers import hard
 from lpis_tools import shapely_there
-from tables import orient
+from lpis_helpers.tables import orient
 
 if shapely_there.is_there():
     import numpy

@@ -13,12 +13,12 @@ import unittest.mock
 from pathlib import Path
 
 import pytest
-from calls import tool
-from registers import made
-import dirty
-import spare
-import stopping
-from places import TOOLS
+from lpis_helpers.calls import tool
+from lpis_helpers.registers import made
+from lpis_helpers import dirty
+from lpis_helpers import spare
+from lpis_helpers import stopping
+from lpis_helpers.places import TOOLS
 from lpis_tools import countries, explaining, files, ledger, origin, page, polygons, printing, refusal, registers, report, shapely_there, streams, systems, tables, unforeseen, wkb, words, years
 
 DIGITS = "1" * 5000

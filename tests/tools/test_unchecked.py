@@ -7,7 +7,7 @@ import shutil
 import subprocess
 
 import pytest
-from places import TOP
+from lpis_helpers.places import TOP
 
 RT = shutil.which("rt") or "/opt/rattle/bin/rt"
 PARTS = ("src", "specs", "proofs")

@@ -8,11 +8,11 @@ import subprocess
 import unittest.mock
 
 import pytest
-import dirty
-import places
-from calls import records
-from preparing_case import CLASSES, Case, ring
-from registers import made
+from lpis_helpers import dirty
+from lpis_helpers import places
+from lpis_helpers.calls import records
+from lpis_helpers.preparing_case import CLASSES, Case, ring
+from lpis_helpers.registers import made
 
 
 class TestUnusual(Case):

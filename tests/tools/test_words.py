@@ -7,9 +7,9 @@ import sys
 from pathlib import Path
 
 import pytest
-from calls import run, tool
-from places import TOOLS, TOP
-from spare import Spare, write, write_script
+from lpis_helpers.calls import run, tool
+from lpis_helpers.places import TOOLS, TOP
+from lpis_helpers.spare import Spare, write, write_script
 from lpis_tools import installed
 
 NAMES = ("explain", "faults", "report")

@@ -8,10 +8,10 @@ import shutil
 from pathlib import Path
 
 import pytest
-from registers import made
-from calls import ended_with, tool
-from places import BUILT, TOP
-from spare import Spare, read
+from lpis_helpers.registers import made
+from lpis_helpers.calls import ended_with, tool
+from lpis_helpers.places import BUILT, TOP
+from lpis_helpers.spare import Spare, read
 from lpis_tools import files, ledger, yearly
 
 EXAMPLES = os.path.join(TOP, "examples", "exact")
