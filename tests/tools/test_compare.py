@@ -232,6 +232,13 @@ class TestCompare(Case):
         self.edit("classes", lambda line: line.replace("TREES,30", "TREES,100"))
         assert (self.compare().returncode, [row["identifiers"] for row in self.report() if row["kind"] == "class"]) == (1, ["TREES"])
 
+    @pytest.mark.parametrize(("grass", "trees", "differing"), (("1.0", "0.3", []), ("1", "0,3", []), ("1", "0.5", ["TREES"]), ("1.0", "30", ["GRASS"])))
+    def test_shares(self, grass, trees, differing):
+        """Shares of the source are the percentages that `prepare` makes of them."""
+        made(self.land, f"UPDATE classes SET percent = '{grass}' WHERE class = 'GRASS'; UPDATE classes SET percent = '{trees}' WHERE class = 'TREES';")
+        run = self.compare()
+        assert (run.returncode, [row["identifiers"] for row in self.report() if row["kind"] == "class"]) == (int(bool(differing)), differing), run.stdout
+
     @pytest.mark.parametrize("edit, words", ((lambda line: line.replace("MULTIPOLYGON", "LINESTRING"), "covers.csv row 1: A.1: its wkt is no polygon"), (lambda line: line.replace("class,wkt", "kind,wkt"), "covers.csv: no column class")))
     def test_unreadable(self, edit, words):
         before = self.table("covers")

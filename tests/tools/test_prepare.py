@@ -180,8 +180,8 @@ class TestSources(Spare):
 
     def test_classes(self):
         path = dirty.make(self.path("l.gpkg"), [])
-        for text, words in (("class,percent\nGRASS,100\n", "4 pieces have this class, and the table of classes has not"), ("class,percent\nGRASS,0.5\nTREES,30\n", "'0.5' is no whole number"),
-                            ("class,percent\nTREES,30\nWATER,0\n", "4 pieces have this class"), ("class,percent\nGRASS,1_00\nTREES,30\n", "'1_00' is no whole number"),
+        for text, words in (("class,percent\nGRASS,100\n", "4 pieces have this class, and the table of classes has not"), ("class,percent\nGRASS,33.5\nTREES,30\n", "'33.5', no whole number"),
+                            ("class,percent\nTREES,30\nWATER,0\n", "4 pieces have this class"), ("class,percent\nGRASS,1_00\nTREES,30\n", "'1_00', no whole number"),
                             ("class,percent\nGRASS,1\nTREES,0\n", "reads as shares")):
             Path(self.path("classes.csv")).write_text(text, encoding="ascii")
             run = tool("prepare", path, self.out, "--classes", self.path("classes.csv"), "--accept")

@@ -179,11 +179,11 @@ def shown(name):
     return readable(name) or "''"
 
 
-def text_of(value):
-    """A field as text: whole numbers without a point."""
+def text_of(column, value):
+    """A field as text: whole numbers without a point, but of percentages 1.0, which may be a share."""
     if value is None:
         return None
-    if isinstance(value, float) and value.is_integer():
+    if isinstance(value, float) and value.is_integer() and (column != "percent" or value != 1):
         return str(int(value))
     return value.decode("utf-8", "backslashreplace") if isinstance(value, bytes) else str(value)
 
@@ -262,7 +262,7 @@ def rows_of(connection, origin, among=None, first=1):
     condition = f" WHERE rowid BETWEEN {among[0]:d} AND {among[1]:d} ORDER BY rowid" if among else ""
     found = databases.rows(connection, f"SELECT {', '.join(fields)} FROM {quoted(origin.table)}{condition}")
     for number, values in unforeseen.each(origin.table, found):
-        row = Row(values[0] if origin.key else number - 1 + first, dict(zip(origin.chosen, map(text_of, values[start:]))))
+        row = Row(values[0] if origin.key else number - 1 + first, dict(zip(origin.chosen, map(text_of, origin.chosen, values[start:]))))
         if shape:
             put_shape(row, values[-1], wkt.read if origin.is_text else wkb.of_package)
             if not origin.is_text or shape[1] is not None:

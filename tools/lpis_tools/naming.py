@@ -8,7 +8,7 @@ from collections import Counter
 from shapely import wkb as shapely_wkb
 from shapely.ops import unary_union
 
-from . import cells, files, identifiers, land, sheets, wkb
+from . import cells, files, identifiers, land, shares, sheets, wkb
 from .conflicts import members_of
 from .findings import Finding
 from .printing import counted
@@ -237,36 +237,27 @@ def classes(work, names, table, used=None):
     if table is None:
         return None
     used = Counter(row["class"] for row in work.layers["covers"].rows) if used is None else used
-    column = next((name for name in ("percent", "eligible") if any(name in record for record in table)), "percent")
+    column = next((name for name in (shares.PERCENT, shares.ELIGIBLE) if any(name in record for record in table)), shares.PERCENT)
     rows = {}
 
-    def wrong(kind, name, words):
-        work.findings.append(Finding(kind, "classes", None, name, words))
+    def tell(kind, name, words, done=""):
+        work.findings.append(Finding(kind, "classes", None, name, words, done, bool(done)))
 
-    for record in table:
-        old, text = (record.get("class") or "").strip(), (record.get(column) or "").strip().rstrip("%").strip()
-        new, value = names.new_name("class", old), share(text, 100 if column == "eligible" else 1)
+    for record, taken in zip(table, shares.read([record.get(column) for record in table], column)):
+        old = (record.get("class") or "").strip()
+        new = names.new_name("class", old)
         if not old:
-            wrong("nameless", "", "a row without a class")
-        elif value is None:
-            wrong("percent", old, f"its {column} {text!r} is no whole number from 0 to 100")
+            tell("nameless", "", "a row without a class")
+        elif taken.percent is None:
+            tell("percent", old, f"its {column} {taken.words}")
         elif new in rows:
-            wrong("doubled", old, "it stands twice")
-        rows[new] = value
-    if rows and column == "percent" and set(rows.values()) <= {0, 1}:
-        wrong("percent", "", "every percent is 0 or 1, which reads as shares: 1 is one percent")
+            tell("doubled", old, "it stands twice")
+        elif taken.words:
+            tell("percent", old, f"its {column} is {record[column]!r}", taken.words)
+        rows[new] = taken.percent
     near = {alike(name): name for name in rows}
     for name in sorted(set(used) - set(rows)):
         other = near.get(alike(name))
         words = f"{counted(used[name], 'piece')} {'has' if used[name] == 1 else 'have'} this class, and the table of classes has not" + (f"; it has {other}, which differs in case, or in .0, alone" if other else "")
         work.findings.append(Finding("class", "covers", None, name, words))
     return rows
-
-
-def share(text, factor):
-    """A whole number of percent, or None."""
-    try:
-        value = cells.number(text) * factor
-    except ValueError:
-        return None
-    return int(value) if 0 <= value <= 100 and value.is_integer() else None

@@ -6,7 +6,7 @@ import sys
 import tempfile
 from collections import Counter
 
-from . import accepting, ending, files, land, progress, shapely_there, sheets, unforeseen, words
+from . import accepting, ending, files, land, progress, shapely_there, shares, sheets, unforeseen, words
 from .printing import counted
 
 MOST_WIDE = 100.0  # metres
@@ -181,12 +181,19 @@ def column_of(table):
 
 
 def differing_classes(table, of_land, path):
+    """Classes of the source that have another percentage in the table beside the tables, or none."""
     from .conflicts import Loss
 
     column, other = column_of(table), column_of(of_land)
-    stand = {record.get("class"): record.get(column) for record in table}
-    return [Loss("class", [record.get("class") or ""], f"its {other} is {record.get(other)} in the source, and {stand.get(record.get('class'), 'no row')} in {path}", layer="classes")
-            for record in of_land if (column, stand.get(record.get("class"))) != (other, record.get(other))]
+    stand = {record.get("class"): record for record in table}
+    found = []
+    for record, taken in zip(of_land, shares.read([record.get(other) for record in of_land], other)):
+        beside = stand.get(record.get("class"), {})
+        text, is_whole = beside.get(column), is_percent(beside.get(column) or "", most_of(column))
+        same = is_whole and int(text) * (100 // most_of(column)) == taken.percent if taken.percent is not None else (column, text) == (other, record.get(other))
+        if not same:
+            found.append(Loss("class", [record.get("class") or ""], f"its {other} is {record.get(other)} in the source, and {text or 'no row'} in {path}", layer="classes"))
+    return found
 
 
 def lacking_classes(table, layers, path):
@@ -197,9 +204,13 @@ def lacking_classes(table, layers, path):
         if row["class"] not in known:
             rows.setdefault(row["class"], []).append(row.number)
     wrong = [Loss("class", [name], f"{counted(len(found), 'piece')} {'has' if len(found) == 1 else 'have'} this class, and {path} has not: lpis refuses it (36)", layer="covers", rows=found) for name, found in rows.items()]
-    most = 100 if column == "percent" else 1
+    most = most_of(column)
     return wrong + [Loss("class", [record.get("class") or ""], f"its {column} is {record.get(column)!r}, no whole number from 0 to {most}: lpis refuses it (3b)", layer="classes")
                     for record in table if not is_percent(str(record.get(column) or ""), most)]
+
+
+def most_of(column):
+    return 100 if column == "percent" else 1
 
 
 def is_percent(text, most):
