@@ -21,6 +21,7 @@ import subprocess
 import sys
 import tempfile
 import warnings
+from array import array
 from collections import defaultdict
 from fractions import Fraction
 from pathlib import Path
@@ -32,7 +33,6 @@ try:
     from shapely.errors import ShapelyError
     from shapely.geometry import LineString, MultiLineString, MultiPolygon, Polygon
     from shapely.ops import polygonize, unary_union
-    from shapely.strtree import STRtree
 except ImportError:
     if sys.executable == "/usr/bin/python3" or not os.path.exists("/usr/bin/python3"):
         sys.exit("source.py: Shapely is not there (apt install python3-shapely)")
@@ -43,7 +43,7 @@ HAIR = Fraction(1, 1000)  # millimetres about the polygon of a finding
 SLACK = 0.00002  # millimetres that doubles may be off
 COLUMNS = {"parcels": ["parcel"], "covers": ["piece", "parcel", "class"], "classes": ["class", "percent", "eligible"]}
 SAYING_NOTHING = ("between", "kept", "spike", "column")  # findings that change nothing
-AT_ONCE = 15_000  # shapes of the source in memory as geometries
+MOST_VALUES = 4_000_000  # of edges, before they are struck out
 ZONES = {**{25800 + zone: zone for zone in range(28, 39)}, 4647: 32, 5649: 31, 5650: 33}
 ZONES.update({north + zone: zone for zone in range(1, 61) for north in (32600, 32700)})
 
@@ -248,12 +248,14 @@ def read_sheet(folder, layer, *more):
 
 
 def members_of_text(text):
-    """The members of a table's shape, in whole millimetres."""
-    try:
-        members = read_text(text)[0].members(scale=1000)
-    except Unread as fault:
-        raise Trouble(f"a shape of the tables: {fault}") from None
-    return [[([(round(x), round(y)) for x, y in points], None) for points, _ in member] for member in members]
+    """The members of a table's shape, in whole millimetres. That it is a text by the rules is for `lpis`."""
+    members = []
+    for member in re.split(r"\)\s*\)\s*,\s*\(\s*\(", text.strip().lstrip("MULTIPOYGNmultipoygn ")):
+        members.append([])
+        for ring in re.split(r"\)\s*,\s*\(", member):
+            flat = [round(float(word) * 1000) for word in ring.strip("() \t\r\n").replace(",", " ").split()]
+            members[-1].append((list(zip(flat[::2], flat[1::2])), None))
+    return members
 
 
 # Rings that are surely alike.
@@ -418,6 +420,54 @@ def near(boxes, box, margin=0.003):
     return numpy.flatnonzero(x_is_near & (boxes[:, 1] <= box[3] + margin) & (boxes[:, 3] >= box[1] - margin))
 
 
+class Edges:
+    """The edges of shapes of the tables, without those that cancel against their reverses. What is left counts at each
+    point how many shapes have it. Where no other difference was found, source and tables overlap alike."""
+
+    def __init__(self):
+        self.left, self.values = numpy.zeros((0, 5), dtype=numpy.int64), array("q")
+
+    def add(self, members):
+        """Shells to the left, holes to the right."""
+        for member in members:
+            for number, (way, _) in enumerate(member):
+                x, y = way[0]
+                doubled = sum((a - x) * (d - y) - (b - y) * (c - x) for (a, b), (c, d) in zip(way, way[1:]))
+                for a, b in zip(way, way[1:]):
+                    self.values.extend((*a, *b) if (doubled > 0) == (number == 0) else (*b, *a))
+        if len(self.values) > MOST_VALUES:
+            self.cancel()
+
+    def cancel(self):
+        new = numpy.frombuffer(self.values, dtype=numpy.int64).reshape(-1, 4)
+        back = (new[:, 0] > new[:, 2]) | (new[:, 0] == new[:, 2]) & (new[:, 1] > new[:, 3])
+        signs = numpy.where(back, -1, 1)
+        new = numpy.where(back[:, None], new[:, [2, 3, 0, 1]], new)
+        new = numpy.concatenate([self.left, numpy.column_stack([new, signs])])
+        new, self.values = new[numpy.lexsort(new[:, :4].T)], array("q")
+        starts = numpy.flatnonzero(numpy.append(True, (new[1:, :4] != new[:-1, :4]).any(axis=1))[: len(new)])
+        counts = numpy.add.reduceat(new[:, 4], starts) if len(new) else new[:, 4]
+        self.left = numpy.column_stack([new[starts, :4], counts])[counts != 0]
+
+    def doubled_faces(self):
+        """The faces between the edges that two shapes or more have, and their origin in metres."""
+        self.cancel()
+        if not len(self.left):
+            return
+        origin = self.left[0, :2] // 1000
+        edges = self.left - numpy.append(numpy.tile(origin * 1000, 2), 0)
+        edges = edges[numpy.argsort(numpy.minimum(edges[:, 1], edges[:, 3]), kind="stable")].astype(float)
+        low, high = numpy.sort(edges[:, [1, 3]], axis=1).T
+        for face in polygonize(unary_union([LineString([edge[:2], edge[2:4]]) for edge in edges])):
+            point = face.representative_point()
+            first, last = numpy.searchsorted(low, [point.y - (high - low).max(), point.y], side="right")
+            ax, ay, bx, by, count = edges[first:last].T
+            with numpy.errstate(divide="ignore", invalid="ignore"):
+                is_crossed = ((ay > point.y) != (by > point.y)) & (point.x < ax + (point.y - ay) / (by - ay) * (bx - ax))
+            if (numpy.where(by > ay, count, -count)[is_crossed]).sum() > 1:
+                yield face, tuple(map(int, origin))
+
+
 class Judge:
     """The source beside the tables."""
 
@@ -427,9 +477,13 @@ class Judge:
         for row in rows:
             self.by_key[row.key].append(row)
         self.others, self.names, self.alike = [], set(), set()
+        self.edges, counted = {"parcels": Edges(), "covers": Edges()}, set()
         for layer, key, members in tables:
             found = self.by_key.get(key, [])
             self.names.add((layer, key[0]))
+            if key not in counted:
+                self.edges[layer].add(members)
+            counted.add(key)
             if len(found) == 1 and are_alike(found[0].shape.members(), members, distance):
                 self.alike.add(key)
             else:
@@ -453,28 +507,19 @@ class Judge:
             if row.key not in there and row.shape.counts:
                 origin = tuple(map(math.floor, row.shape.box()[:2]))
                 yield surface(row.shape.members(origin)), origin, [row], lambda point: self.has(row, point)
-        for layer in ("parcels", "covers"):
-            yield from self.overlaps([row for row in self.rows if row.layer == layer and row.shape.counts])
+        for layer, edges in self.edges.items():
+            for face, origin in edges.doubled_faces():
+                yield face, origin, [], self.shared(layer)
 
-    def overlaps(self, rows):
-        """Places that two rows of a layer have. From left to right, so that few are geometries at a time."""
-        boxes = boxes_of([row.shape for row in rows])
-        order = numpy.argsort(boxes[:, 0], kind="stable")
-        origin = tuple(map(math.floor, numpy.median(boxes[:, :2], axis=0))) if rows else (0, 0)
-        carried = {}
-        for start in range(0, len(order), AT_ONCE):
-            some = order[start : start + AT_ONCE]
-            carried = {at: found for at, found in carried.items() if boxes[at, 2] >= boxes[some[0], 0]}
-            carried |= {int(at): surface(rows[at].shape.members(origin)) for at in some}
-            items = list(carried)
-            tree = STRtree([carried[at] for at in items], items=list(range(len(items))))
-            for number in range(len(items) - len(some), len(items)):
-                for other in tree.query_items(carried[items[number]]):
-                    one, two = rows[items[number]], rows[items[other]]
-                    if other < number and one.key != two.key:
-                        place = carried[items[number]].intersection(carried[items[other]])
-                        if place.area > 1.5:
-                            yield place, origin, [one, two], lambda point: self.has(one, point) and self.has(two, point)
+    def shared(self, layer):
+        """Whether two rows of the source have a point: what decides it."""
+
+        def is_shared(point):
+            x, y = float(point[0]) / 1000, float(point[1]) / 1000
+            rows = [self.rows[at] for at in near(self.boxes, (x, y, x, y))]
+            return len({row.key for row in rows if row.layer == layer and self.has(row, point)}) > 1
+
+        return is_shared
 
     def has(self, row, point):
         return has([points for points, _ in row.shape.exact()], point)
