@@ -183,15 +183,15 @@ class Names:
 
 
 def percentages(rows, names):
-    """The percentage of each class, as a fraction, of rows (class, percent, eligible). Shares, where all are such."""
+    """The percentage of each class, as a text, of rows (class, percent, eligible). They may all be shares of 1."""
     found = {}
     for name, percent, eligible in rows:
         word = plain(percent if percent is not None else eligible).replace("%", "").replace(",", ".").strip()
         value = Fraction(word) if re.fullmatch(r"[-+]?[0-9]*\.?[0-9]+|[0-9]+\.", word) else None
-        found[names.of("class", name)] = value if percent is not None or value is None else value * 100, "." in word
-    values = [value for value, _ in found.values()]
-    are_shares = any(is_decimal for _, is_decimal in found.values()) and all(v is not None and v <= 1 for v in values)
-    return {name: value * 100 if are_shares else value for name, (value, _) in found.items()}
+        found[names.of("class", name)] = value if percent is not None or value is None else value * 100
+    values = [value for value in found.values() if value is not None]
+    times = 100 if any(0 < value < 1 for value in values) and max(values) <= 1 else 1
+    return {name: value if value is None else str(value * times) for name, value in found.items()}
 
 
 def read_source(land, names, percents):
@@ -589,7 +589,7 @@ class Judge:
                 nearest = min([nearest, *map(math.sqrt, squares)])
         return (
             f"no at {x:.6f} {y:.6f}: the source has {words_of({row.key for row in here})}, the tables have "
-            f"{words_of(tables)}; {nearest * 1000:.3f} mm from the nearest border of the source"
+            f"{words_of(tables)}; {nearest:.6f} m from the nearest border of the source"
         )
 
     def first_row(self, layers):

@@ -21,7 +21,7 @@ from lpis_helpers.places import BUILT, TOP as HOUSE
 
 TOP = Path(HOUSE)
 RELEASES, LEAST = 100, (3, 2, 3, 3)  # of a series; cases of each condition, series by series
-MOST_LINES, COLUMNS = 365, 120  # of audit/
+MOST_LINES, MOST_LINES_OF_SOURCE, COLUMNS = 365, 650, 120  # of audit/
 DAMAGES = ["tables"] * 12 + ["wrong"] * 9 + damage.CONDITIONS * 3 + [damage.pair_added, damage.other_edge] * 2 + damage.TEXTS * 7
 EXACT = TOP / "examples" / "exact"
 
@@ -72,11 +72,12 @@ def test_releases(series, least, tmp_path):
 
 
 def test_size():
-    """The second checker is read in an hour: at most so many lines that are not blank, and none is long."""
+    """The second checker is read in an hour, that of a source in another: so many lines that are not blank, none long."""
     files = sorted((TOP / "audit").glob("*.*"))
-    lines = [line for path in files for line in path.read_text(encoding="utf-8").splitlines()]
-    assert [path.name for path in files] == ["lineage.py", "register.py", "release.py"]
-    assert (sum(line != "" for line in lines) <= MOST_LINES, max(map(len, lines)) <= COLUMNS) == (True, True)
+    assert [path.name for path in files] == ["lineage.py", "register.py", "release.py", "shapes.py", "source.py"]
+    for some, most in ((files[:3], MOST_LINES), (files[3:], MOST_LINES_OF_SOURCE)):
+        lines = [line for path in some for line in path.read_text(encoding="utf-8").splitlines()]
+        assert (sum(line != "" for line in lines) <= most, max(map(len, lines)) <= COLUMNS) == (True, True)
 
 
 @pytest.mark.parametrize("header", [
