@@ -24,13 +24,14 @@ class Unread(ValueError):
 
 
 class Shape:
-    """Members, each of rings; a ring is a list of points in metres, and a byte for each: whether an arc begins there."""
+    """Members, each of rings: points in metres, and a byte for each, whether an arc begins there."""
 
     __slots__ = ("arcs", "counts", "values")
 
     def __init__(self, members):
         self.counts = tuple(tuple(len(points) for points, _ in member) for member in members)
-        self.values = array("d", (value for member in members for points, _ in member for point in points for value in point))
+        ways = [points for member in members for points, _ in member]
+        self.values = array("d", (value for points in ways for point in points for value in point))
         flags = b"".join(flags for member in members for _, flags in member)
         self.arcs = flags if any(flags) else None
         if any(not abs(value) <= FAR for value in self.values):

@@ -239,6 +239,8 @@ class PLAIN_NAMES:
 def read_sheet(folder, layer, *more):
     path = Path(folder) / f"{layer}.csv"
     if not path.exists():
+        if layer == "classes":
+            return []  # of a source without percentages
         raise Trouble(f"{path} is not there")
     records = records_of_sheet(path, ",")
     places = picked(next(records, []), COLUMNS[layer] + list(more), {}, path)
@@ -463,7 +465,8 @@ class Edges:
             first, last = numpy.searchsorted(low, [point.y - (high - low).max(), point.y], side="right")
             ax, ay, bx, by, count = edges[first:last].T
             with numpy.errstate(divide="ignore", invalid="ignore"):
-                is_crossed = ((ay > point.y) != (by > point.y)) & (point.x < ax + (point.y - ay) / (by - ay) * (bx - ax))
+                east = ax + (point.y - ay) / (by - ay) * (bx - ax) > point.x
+            is_crossed = ((ay > point.y) != (by > point.y)) & east
             if (numpy.where(by > ay, count, -count)[is_crossed]).sum() > 1:
                 yield face, tuple(map(int, origin))
 
@@ -494,9 +497,9 @@ class Judge:
         there, and what decides it of a point."""
         for key, members in self.others:
             rows = self.by_key.get(key, [])
-            corner = rows[0].shape.box()[:2] if rows and rows[0].shape.counts else [v / 1000 for v in members[0][0][0][0]]
-            origin = tuple(map(math.floor, corner))
-            moved = [[([(x - origin[0] * 1000, y - origin[1] * 1000) for x, y in way], None) for way, _ in m] for m in members]
+            origin = tuple(value // 1000 for value in members[0][0][0][0])
+            x, y = origin[0] * 1000, origin[1] * 1000
+            moved = [[([(a - x, b - y) for a, b in way], None) for way, _ in member] for member in members]
             before = unary_union([surface(row.shape.members(origin)) for row in rows])
             ways = [way for member in members for way, _ in member]
             yield before.symmetric_difference(surface(moved)), origin, rows, lambda point: has(ways, point) != any(
@@ -556,9 +559,8 @@ class Judge:
             for points, arcs in (ring for member in row.shape.members(origin) for ring in member):
                 for is_arc in lines if arcs else (False,):
                     lines[is_arc] += lines_near(points, arcs, box, is_arc)
-        return unary_union([
-            MultiLineString(some).buffer(float(self.reach(is_arc)) + 0.001, 16) for is_arc, some in lines.items() if some
-        ])
+        near_by = [(MultiLineString(some), float(self.reach(is_arc))) for is_arc, some in lines.items() if some]
+        return unary_union([some.buffer(reach + 0.001, 16) for some, reach in near_by])
 
     def reach(self, is_arc):
         return self.distance + (STRAIGHTENED if is_arc else 0)
@@ -608,7 +610,7 @@ def words_of(keys):
     words = []
     for key in sorted(keys, key=lambda key: (len(key), str(key))):
         name, *more = key
-        words.append(f"parcel {name}" if not more else f"piece {name} of {more[0]}, class {more[1]} at {more[2]} percent")
+        words.append(f"piece {name} of {more[0]}, class {more[1]} at {more[2]} percent" if more else f"parcel {name}")
     return " and ".join(words) or "nothing"
 
 

@@ -251,8 +251,12 @@ MUTANTS = {
     "a corner is moved by two millimetres": Mutant(corner, (59.9, -0.1, 60.1, 30.1)),
     "a piece is dropped": Mutant(lambda tables: tables.drop("covers", "A2"), (10, 10, 20, 20)),
     "a parcel is dropped, with its piece": Mutant(drop_parcel, (120, 0, 150, 60)),
-    "the names of two parcels are exchanged": Mutant(lambda tables: tables.swap("parcels", "A", "B", 0), (0, 0, 80, 30)),
-    "the names of two pieces are exchanged": Mutant(lambda tables: tables.swap("covers", "B1", "B2", 0), (40, 0, 80, 30)),
+    "the names of two parcels are exchanged": Mutant(
+        lambda tables: tables.swap("parcels", "A", "B", 0), (0, 0, 80, 30)
+    ),
+    "the names of two pieces are exchanged": Mutant(
+        lambda tables: tables.swap("covers", "B1", "B2", 0), (40, 0, 80, 30)
+    ),
     "the classes of two pieces are exchanged": Mutant(
         lambda tables: tables.swap("covers", "B1", "B2", 2), (40, 0, 80, 30)
     ),
