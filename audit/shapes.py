@@ -1,215 +1,182 @@
-"""Shapes as a source has them: well-known binary, that of a GeoPackage, and well-known text; arcs are straightened.
+"""Shapes as a source has them, in well-known binary, that of a GeoPackage, or well-known text; arcs are straightened.
 
-Written from the standards alone; nothing of the tools is used. What is no closed surface has no point (`Unread`).
+Written from the standards alone. A shape is a list of members, each of rings; a ring is its x and y in turns, in
+metres, and a byte for each point that says whether an arc begins there, or None. What is no closed surface of places
+is `Unread`: it has no points.
 """
 
+import json
 import math
 import re
 import struct
 from array import array
 from fractions import Fraction
+from itertools import chain
+from typing import Any, Optional
+
+Point = tuple[Any, Any]
+Ring = tuple[array, Optional[bytes]]
+Shape = list[list[Ring]]
 
 CHORD = 0.00001  # metres between an arc and the lines that it becomes
 MOST_LINES = 20_000  # of an arc
-FAR = 1e8  # metres, beyond which no coordinate is a place
-NAMES = {2: "LINESTRING", 3: "POLYGON", 6: "MULTIPOLYGON", 8: "CIRCULARSTRING", 9: "COMPOUNDCURVE", 10: "CURVEPOLYGON"}
-NAMES[12] = "MULTISURFACE"
+FAR = 1e8  # metres: beyond is no place
+WORDS = {2: "LINESTRING", 3: "POLYGON", 6: "MULTIPOLYGON", 8: "CIRCULARSTRING", 9: "COMPOUNDCURVE"}
+WORDS.update({10: "CURVEPOLYGON", 12: "MULTISURFACE"})
 ENVELOPES = (0, 32, 48, 48, 64)  # bytes, by the flags of a GeoPackage
-RING = re.compile(r"\(([^()]*[0-9][^()]*)\)")
-SKELETON = re.compile(r"[A-Z]+|#[0-9]+|[(),]")
 
 
 class Unread(ValueError):
-    """A shape that has no points, and why."""
+    """Why a shape has no points."""
 
 
-class Shape:
-    """Members, each of rings: points in metres, and a byte for each, whether an arc begins there."""
-
-    __slots__ = ("arcs", "counts", "values")
-
-    def __init__(self, members):
-        self.counts = tuple(tuple(len(points) for points, _ in member) for member in members)
-        ways = [points for member in members for points, _ in member]
-        self.values = array("d", (value for points in ways for point in points for value in point))
-        flags = b"".join(flags for member in members for _, flags in member)
-        self.arcs = flags if any(flags) else None
-        if any(not abs(value) <= FAR for value in self.values):
-            raise Unread("it has a coordinate that is no place")
-
-    def members(self, origin=(0.0, 0.0), scale=1000):
-        """The points in millimetres from an origin in metres, as members of rings (points, bytes of arcs or None).
-        The difference is exact where the origin is a whole number near by; with a Fraction as scale all is."""
-        at, members = 0, []
-        for counts in self.counts:
-            rings = []
-            for count in counts:
-                flat = self.values[2 * at : 2 * (at + count)]
-                points = [((x - origin[0]) * scale, (y - origin[1]) * scale) for x, y in zip(flat[::2], flat[1::2])]
-                rings.append((points, self.arcs and self.arcs[at : at + count]))
-                at += count
-            members.append(rings)
-        return members
-
-    def exact(self):
-        """The rings in millimetres, as fractions."""
-        values = [Fraction(value) * 1000 for value in self.values]
-        points, at = list(zip(values[::2], values[1::2])), 0
-        for count in (count for counts in self.counts for count in counts):
-            yield points[at : at + count], self.arcs and self.arcs[at : at + count]
-            at += count
-
-    def box(self):
-        xs, ys = self.values[::2], self.values[1::2]
-        return (min(xs), min(ys), max(xs), max(ys)) if xs else (math.inf, math.inf, -math.inf, -math.inf)
+def points_of(ring: Ring, origin: tuple[int, int] = (0, 0)) -> list[Point]:
+    """The points in millimetres from an origin in metres: exact differences, where it is near."""
+    values = ring[0]
+    return [((x - origin[0]) * 1000, (y - origin[1]) * 1000) for x, y in zip(values[::2], values[1::2])]
 
 
-# A shape is read as a tree of pairs: its word, and its points or the pairs in it.
+def exact(ring: Ring) -> list[Point]:
+    """The points in millimetres, as fractions."""
+    values = [Fraction(value) * 1000 for value in ring[0]]
+    return list(zip(values[::2], values[1::2]))
 
 
-def shape_of(tree):
-    members = members_of(*tree)
+def rings_of(shape: Shape) -> list[Ring]:
+    return [ring for member in shape for ring in member]
+
+
+def box_of(shape: Shape) -> tuple[float, float, float, float]:
+    """In metres; that of no points meets none."""
+    xs = [x for values, _ in rings_of(shape) for x in values[::2]] or [math.inf, -math.inf]
+    ys = [y for values, _ in rings_of(shape) for y in values[1::2]] or [math.inf, -math.inf]
+    return (min(xs), min(ys), max(xs), max(ys)) if xs[0] != math.inf else (math.inf, math.inf, -math.inf, -math.inf)
+
+
+# A shape is read as a tree: a word, and what is in it, which is trees or the number of a list of points.
+
+
+def shape_of(tree: list, ways: list[list[Point]]) -> Shape:
+    members = [[way_of(part, ways) for part in member] for member in members_of(*tree)]
     for points, _ in (ring for member in members for ring in member):
         if points[:1] != points[-1:]:
             raise Unread("a ring does not end where it begins")
-    return Shape([[ring for ring in member if ring[0]] for member in members if member and member[0][0]])
+        if any(not abs(value) <= FAR for point in points for value in point):
+            raise Unread("a coordinate is no place")
+    flat = chain.from_iterable
+    return [[(array("d", flat(points)), arcs) for points, arcs in member if points] for member in members if member]
 
 
-def members_of(word, body):
+def members_of(word: str, *parts: Any) -> list[list]:
     if word in ("MULTIPOLYGON", "MULTISURFACE"):
-        return [member for part, inner in body for member in members_of(part or "POLYGON", inner)]
-    if word not in ("POLYGON", "CURVEPOLYGON"):
+        return [member for part in parts if part for member in members_of(part[0] or "POLYGON", *part[1:])]
+    if word not in ("POLYGON", "CURVEPOLYGON") or any(isinstance(part, int) for part in parts):
         raise Unread(f"{word or 'this'} is no surface")
-    return [[way_of(*part) for part in body]]
+    return [[part for part in parts if part]]
 
 
-def way_of(word, body):
-    """Points, and a byte for each: 1 where an arc begins."""
+def way_of(tree: list, ways: list[list[Point]]) -> tuple[list[Point], Optional[bytes]]:
+    """The points of a ring or of a part of one, and where arcs begin."""
+    word, *parts = tree
     if word == "COMPOUNDCURVE":
-        points, flags = [], b""
-        for way, its_flags in (way_of(*part) for part in body):
-            if points and points[-1] != way[0]:
+        points, arcs = [], b""
+        for way, its_arcs in (way_of(part, ways) for part in parts):
+            if points[-1:] not in ([], way[:1]):
                 raise Unread("the parts of a curve do not meet")
-            points, flags = points[:-1] + way, flags[:-1] + its_flags
-        return points, flags
-    if word == "CIRCULARSTRING":
-        if len(body) % 2 == 0 or len(body) < 3:
-            raise Unread("an arc lacks a point")
-        points = body[:1]
-        for start in range(0, len(body) - 2, 2):
-            points = points + arc(*body[start : start + 3])
-        return points, b"\1" * len(points)
-    if word not in ("", "LINESTRING") or any(isinstance(point[0], str) for point in body):
+            points, arcs = points[:-1] + way, arcs[:-1] + (its_arcs or bytes(len(way)))
+        return points, arcs
+    if word not in ("", "LINESTRING", "CIRCULARSTRING") or len(parts) != 1 or not isinstance(parts[0], int):
         raise Unread(f"{word or 'this'} is no ring")
-    return body, bytes(len(body))
+    points = ways[parts[0]]
+    if word != "CIRCULARSTRING":
+        return points, None
+    if len(points) % 2 == 0 or len(points) < 3:
+        raise Unread("an arc lacks a point")
+    curve = points[:1]
+    for start in range(0, len(points) - 2, 2):
+        curve += arc(*points[start : start + 3])
+    return curve, b"\1" * len(curve)
 
 
-def arc(a, b, c):
+def arc(a: Point, b: Point, c: Point) -> list[Point]:
     """The points behind a on the arc from a over b to c."""
     (ux, uy), (vx, vy) = (b[0] - a[0], b[1] - a[1]), (c[0] - a[0], c[1] - a[1])
-    doubled = 2 * (ux * vy - uy * vx)
-    if a == c:
-        x, y, sweep = a[0] + ux / 2, a[1] + uy / 2, 2 * math.pi
-    elif doubled == 0:
+    doubled, u, v = 2 * (ux * vy - uy * vx), ux * ux + uy * uy, vx * vx + vy * vy
+    if doubled == 0 and a != c:
         return [b, c]
-    else:
-        u, v = ux * ux + uy * uy, vx * vx + vy * vy
-        x, y = a[0] + (vy * u - uy * v) / doubled, a[1] + (ux * v - vx * u) / doubled
-        turn = math.atan2(c[1] - y, c[0] - x) - math.atan2(a[1] - y, a[0] - x)
-        sweep = turn % (2 * math.pi) if doubled > 0 else -(-turn % (2 * math.pi))
-    start, radius = math.atan2(a[1] - y, a[0] - x), math.hypot(a[0] - x, a[1] - y)
-    step = 2 * math.acos(1 - min(1.0, CHORD / radius)) if radius > 0 else 1.0
+    x, y = (ux / 2, uy / 2) if a == c else ((vy * u - uy * v) / doubled, (ux * v - vx * u) / doubled)
+    start, radius = math.atan2(-y, -x), math.hypot(x, y)
+    turn = math.atan2(vy - y, vx - x) - start
+    sweep = 2 * math.pi if a == c else turn % (2 * math.pi) if doubled > 0 else -(-turn % (2 * math.pi))
+    step = 2 * math.acos(1 - CHORD / max(radius, CHORD))
     count = min(MOST_LINES, max(2, math.ceil(abs(sweep) / max(step, 1e-9))))
-    angles = (start + sweep * number / count for number in range(1, count))
-    return [(x + radius * math.cos(angle), y + radius * math.sin(angle)) for angle in angles] + [c]
+    angles = [start + sweep * number / count for number in range(1, count)]
+    return [(a[0] + x + radius * math.cos(way), a[1] + y + radius * math.sin(way)) for way in angles] + [c]
 
 
-def read_package(data):
+def read_package(data: Any) -> tuple[Shape, int]:
     """The shape and the system of a GeoPackage's field."""
     if not isinstance(data, bytes) or len(data) < 8 or data[:2] != b"GP" or (data[3] >> 1 & 7) > 4:
         raise Unread("it is no shape of a GeoPackage")
-    (system,) = struct.unpack_from("<i" if data[3] & 1 else ">i", data, 4)
-    return shape_of(binary_tree(data, 8 + ENVELOPES[data[3] >> 1 & 7])[0]), system
-
-
-def binary_tree(data, at):
-    """A tree of well-known binary, and where it ends."""
+    ways: list[list[Point]] = []
     try:
-        order = "<" if data[at] else ">"
-        (code,) = struct.unpack_from(order + "I", data, at + 1)
-        kind, size, at = code % 1000, 2 + (code // 1000 in (1, 3)) + (code // 1000 in (2, 3)), at + 5
-        if kind not in NAMES or code // 1000 > 3:
-            raise Unread(f"it is of the kind {code}, which is no surface")
-        if kind in (2, 8):
-            points, at = binary_points(data, at, order, size)
-            return (NAMES[kind], points), at
-        (count,), at, body = struct.unpack_from(order + "I", data, at), at + 4, []
-        for _ in range(count):
-            found, at = binary_points(data, at, order, size) if kind == 3 else binary_tree(data, at)
-            body.append(("", found) if kind == 3 else found)
+        tree, _ = binary_tree(data, 8 + ENVELOPES[data[3] >> 1 & 7], ways)
     except (struct.error, IndexError, RecursionError):
         raise Unread("its bytes end too early") from None
-    return (NAMES[kind], body), at
+    return shape_of(tree, ways), struct.unpack_from("<i" if data[3] & 1 else ">i", data, 4)[0]
 
 
-def binary_points(data, at, order, size):
+def binary_tree(data: bytes, at: int, ways: list[list[Point]]) -> tuple[list, int]:
+    """A tree of well-known binary, and where it ends."""
+    order = "<" if data[at] else ">"
+    (code,) = struct.unpack_from(order + "I", data, at + 1)
+    kind, size, at = code % 1000, 2 + (code // 1000 in (1, 3)) + (code // 1000 in (2, 3)), at + 5
+    if kind not in WORDS or code > 3999:
+        raise Unread(f"it is of the kind {code}, which is no surface")
+    if kind in (2, 8):
+        return [WORDS[kind], len(ways)], binary_points(data, at, order, size, ways)
+    (count,), at, tree = struct.unpack_from(order + "I", data, at), at + 4, [WORDS[kind]]
+    for _ in range(count):
+        if kind == 3:
+            tree.append(["", len(ways)])
+            at = binary_points(data, at, order, size, ways)
+        else:
+            inner, at = binary_tree(data, at, ways)
+            tree.append(inner)
+    return tree, at
+
+
+def binary_points(data: bytes, at: int, order: str, size: int, ways: list[list[Point]]) -> int:
     (count,) = struct.unpack_from(order + "I", data, at)
-    flat = struct.unpack_from(f"{order}{count * size}d", data, at + 4) if count * size * 8 <= len(data) else ()
-    if len(flat) != count * size:
-        raise Unread("its bytes end too early")
-    return list(zip(flat[::size], flat[1::size])), at + 4 + 8 * len(flat)
+    flat = struct.unpack_from(f"{order}{min(count * size, len(data))}d", data, at + 4)
+    ways.append(list(zip(flat[::size], flat[1::size])))
+    return at + 4 + 8 * len(flat)
 
 
-def read_text(text):
-    """The shape and the system (None without) of a well-known text."""
-    found = re.match(r"\s*(?:SRID\s*=\s*([0-9]+)\s*;)?", text, re.I)
-    rings = []
+def read_text(text: str) -> tuple[Shape, Optional[int]]:
+    """The shape and the system, if it says one, of a well-known text. It is written anew as a tree in JSON."""
+    ways: list[list[Point]] = []
 
-    def ring(inner):
-        rings.append(text_points(inner[1]))
-        return f"(#{len(rings) - 1})"
+    def number(found: re.Match) -> str:
+        ways.append(text_points(found[1]))
+        return f"[{len(ways) - 1}]"
 
-    skeleton = RING.sub(ring, text[found.end() :]).upper()
-    words = SKELETON.findall(skeleton)
-    if "".join(words) != "".join(skeleton.split()):
-        raise Unread("it is no text of a shape")
-    words = [re.sub("(?<=[A-Z]{4})(Z|M|ZM)$", "", word) for word in words if word not in ("Z", "M", "ZM")]
+    head, _, body = text.upper().rpartition(";")
+    system = re.fullmatch(r"\s*SRID\s*=\s*([0-9]+)\s*", head)
+    body = re.sub(r"\(([-+.,0-9\s]+)\)", number, body)
+    if (head and not system) or not re.fullmatch(r"(?:[A-Z]+|[(),\s]|\[[0-9]+\])*", body):
+        raise Unread("it is no text of a shape, or has a word that is no number")
+    body = re.sub(r"\b(?:Z|M|ZM)\b|(?<=[A-Z]{4})(?:Z|M|ZM)\b", "", body)
+    body = re.sub(r"\bEMPTY\b", "(null)", body)
+    body = re.sub(r"([A-Z]*)\s*[(\[]", r'["\1",', body).replace(")", "]")
     try:
-        tree, at = text_tree(words, 0, rings)
-    except (IndexError, RecursionError):
-        raise Unread("its text ends too early") from None
-    if at != len(words):
-        raise Unread("its text goes on behind its end")
-    return shape_of(tree), int(found[1]) if found[1] else None
+        return shape_of(json.loads(body), ways), int(system[1]) if system else None
+    except (json.JSONDecodeError, RecursionError, TypeError):
+        raise Unread("it is no text of a shape") from None
 
 
-def text_tree(words, at, rings):
-    """A tree of words, in which a ring is a number, and where it ends."""
-    word = ""
-    if words[at].isalpha():
-        word, at = words[at], at + 1
-    if words[at] == "EMPTY":
-        return (word, []), at + 1
-    if words[at] != "(":
-        raise Unread("its text lacks a parenthesis")
-    if words[at + 1][0] == "#":
-        found, end = rings[int(words[at + 1][1:])], at + 3
-        return (word, found), end
-    body, at = [], at + 1
-    while True:
-        inner, at = text_tree(words, at, rings)
-        body.append(inner)
-        if words[at] == ")":
-            return (word, body), at + 1
-        if words[at] != ",":
-            raise Unread("its text lacks a comma")
-        at += 1
-
-
-def text_points(text):
+def text_points(text: str) -> list[Point]:
     """The points of a ring's text: two numbers, and heights and measures, which are dropped."""
-    if not re.fullmatch(r"[-+.,0-9\s]*", text):
-        raise Unread("it has a word that is no number")
     try:
         points = [tuple(map(float, point.split())) for point in text.split(",")]
     except ValueError:

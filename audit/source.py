@@ -1,12 +1,15 @@
 #!/usr/bin/env python3
 """Tests that tables say of each point what their source says:   audit/source.py LAND OUT [--name WHAT=FOUND]..
 
-LAND is a source and OUT the release or country that tools/prepare or tools/country made of it. A point farther than
-0.708 mm from every border of the source (1.5 mm with --previous; half a millimetre more beside an arc) has in the
-tables the parcel, the piece, the class and its percentage that it has in the source, by the names of
-identifiers.csv, unless it lies in the polygon of a row of findings.gpkg. And no row of the one is silently not in the
-other. Prints `yes`: status 0. Else the first point where that is not so, what both say there, and its distance from the
-nearest border of the source: status 1. Status 64: it cannot be told. It shares no code with the tools.
+LAND is a source, and OUT the release or the country that tools/prepare or tools/country made of it. A point farther
+than 0.708 mm from every border of the source (1.5 mm with --previous; half a millimetre more beside an arc) has in the
+tables the parcel, the piece, the class and its percentage that it has in the source, by the names of identifiers.csv,
+unless it lies in the polygon of a row of findings.gpkg. And no row of the one is silently not in the other. Prints
+`yes`: status 0. Else the first point where that is not so, what both say there, and how far it is from the nearest
+border of the source: status 1. Status 64: it cannot be told. It shares no code with the tools.
+
+Shapely finds places that may differ, to a hundredth of a millimetre; fractions decide of each point that is told. That
+the tables are sound, and that each is a table, is for `lpis check`.
 """
 
 import argparse
@@ -25,8 +28,9 @@ from array import array
 from collections import defaultdict
 from fractions import Fraction
 from pathlib import Path
+from typing import Any, Callable, Iterable, Iterator, Optional
 
-from shapes import Shape, Unread, read_package, read_text
+from shapes import Point, Shape, Unread, box_of, exact, points_of, read_package, read_text, rings_of
 
 try:
     import numpy
@@ -41,274 +45,243 @@ except ImportError:
 ROUNDED, KEPT, STRAIGHTENED = Fraction(708, 1000), Fraction(3, 2), Fraction(51, 100)  # millimetres; the last with ours
 HAIR = Fraction(1, 1000)  # millimetres about the polygon of a finding
 SLACK = 0.00002  # millimetres that doubles may be off
-COLUMNS = {"parcels": ["parcel"], "covers": ["piece", "parcel", "class"], "classes": ["class", "percent", "eligible"]}
-SAYING_NOTHING = ("between", "kept", "spike", "column")  # findings that change nothing
 MOST_VALUES = 4_000_000  # of edges, before they are struck out
+COLUMNS = {"parcels": ["parcel"], "covers": ["piece", "parcel", "class"], "classes": ["class", "percent", "eligible"]}
+SAYING_NOTHING = ("between", "kept", "spike", "column")  # findings that change no land
 ZONES = {**{25800 + zone: zone for zone in range(28, 39)}, 4647: 32, 5649: 31, 5650: 33}
 ZONES.update({north + zone: zone for zone in range(1, 61) for north in (32600, 32700)})
+
+Key = tuple  # what a row says of its points: (parcel), or (piece, parcel, class, percentage)
+Way = list[Point]  # a ring, in millimetres
+Box = Iterable[float]  # in metres: x, y, x, y
+Region = tuple[Any, tuple[int, int], list["Row"], Callable[[Point], bool]]
 
 
 class Trouble(Exception):
     """Why it cannot be told."""
 
 
-# Tables, as spreadsheets and sqlite3 have them: records of texts by column.
+# What is read: the source, and the tables.
 
 
-def records_of_sheet(path, separators=",;\t"):
+def sheet(path: Path, separators: str = ",;\t") -> Iterator[list[str]]:
     """The records of a table of text, the header first."""
     csv.field_size_limit(1 << 30)
-    data = Path(path).read_bytes()
+    data, text = path.read_bytes(), None
     for encoding in ("utf-16",) if data[:2] in (b"\xff\xfe", b"\xfe\xff") else ("utf-8-sig", "cp1252", "iso-8859-1"):
         try:
             text = data.decode(encoding)
             break
         except UnicodeDecodeError:
             continue
-    else:
-        raise Trouble(f"{path} is no text")
-    separator = max(separators, key=text.split("\n", 1)[0].count)
-    return filter(None, csv.reader(io.StringIO(text, newline=""), delimiter=separator))
+    separator = max(separators, key=(text or "").split("\n", 1)[0].count)
+    return filter(None, csv.reader(io.StringIO(text or "", newline=""), delimiter=separator))
 
 
-def picked(header, wanted, names, where):
-    """The places of the wanted columns, by their names here; None where one is not there."""
+def fields_of(header: list[str], wanted: list[str], records: Iterable) -> Iterator[list]:
+    """Of each record the wanted fields; None where there is none."""
     lower = [field.strip().lower() for field in header]
-    found = [names.get(column, column).lower() for column in wanted]
-    return [lower.index(name) if name in lower else None for name in found]
+    places = [lower.index(name.lower()) if name.lower() in lower else None for name in wanted]
+    return ([None if at is None or at >= len(record) else record[at] for at in places] for record in records)
 
 
-class Sheets:
-    """A folder of tables of text."""
+class Source:
+    """A GeoPackage, read by sqlite3, or a folder of tables of text; what has another name there has it in `names`."""
 
-    def __init__(self, folder, names):
-        self.folder, self.names = Path(folder), names
+    def __init__(self, path: Any, names: dict[str, str]) -> None:
+        self.path, self.names, self.systems = Path(path), names, {}
+        self.base = None if self.path.is_dir() else sqlite3.connect(self.path.resolve().as_uri() + "?mode=ro", uri=True)
+        self.shape_of = read_package if self.base else lambda text: read_text(text or "")
+        if self.base:
+            self.base.text_factory = lambda data: data.decode("utf-8", "replace")
+            query = "SELECT lower(table_name), column_name, srs_id FROM gpkg_geometry_columns"
+            self.systems = {name: (column, number) for name, column, number in self.base.execute(query)}
 
-    def rows(self, layer, wanted):
-        """Number, system, fields and shape (text) of each row."""
-        path = self.folder / f"{self.names.get(layer, layer)}.csv"
-        if not path.exists():
-            return
-        records = records_of_sheet(path)
-        places = picked(next(records, []), [*wanted, "wkt"], column_names(self.names, layer), path)
-        for number, record in enumerate(records, 1):
-            yield number, None, [None if at is None or at >= len(record) else record[at] for at in places]
+    def code(self, layer: str) -> Optional[int]:
+        """The number in EPSG of a layer's system, or None."""
+        query = "SELECT organization_coordsys_id FROM gpkg_spatial_ref_sys WHERE srs_id = ? AND srs_id > 0"
+        number = self.systems.get(self.names.get(layer, layer).lower(), ("", None))[1]
+        found = self.base.execute(query, [number]).fetchone() if self.base else None
+        return found[0] if found else None
 
-    shape = staticmethod(lambda text: read_text(text or ""))
-
-
-class Package:
-    """A GeoPackage, read by sqlite3."""
-
-    def __init__(self, path, names):
-        self.names = names
-        self.base = sqlite3.connect(Path(path).resolve().as_uri() + "?mode=ro", uri=True)
-        self.base.text_factory = lambda data: data.decode("utf-8", "replace")
-        found = self.base.execute("SELECT lower(table_name), column_name, srs_id FROM gpkg_geometry_columns")
-        self.columns = {name: (column, system) for name, column, system in found}
-        found = self.base.execute("SELECT srs_id, organization_coordsys_id FROM gpkg_spatial_ref_sys")
-        self.systems = {number: code for number, code in found if number > 0}
-
-    def system(self, layer):
-        number = self.columns.get(self.names.get(layer, layer).lower(), ("", None))[1]
-        return self.systems.get(number, number)
-
-    def rows(self, layer, wanted):
+    def rows(self, layer: str, columns: list[str]) -> Iterator[tuple[int, list]]:
+        """The number of each row, its fields, and its shape as it stands there."""
         name = self.names.get(layer, layer)
-        table = self.base.execute("SELECT name FROM sqlite_master WHERE lower(name) = ?", [name.lower()]).fetchone()
-        if table is None:
-            return
-        shape, number = self.columns.get(name.lower(), (None, None))
-        cursor = self.base.execute('SELECT rowid, * FROM "{}"'.format(table[0].replace('"', '""')))
-        header = [found[0] for found in cursor.description[1:]]
-        places = picked(header, wanted, column_names(self.names, layer), name)
-        places.append(header.index(shape) if shape in header else None)
-        for row, *record in cursor:
-            yield row, number, [None if at is None else record[at] for at in places]
-
-    shape = staticmethod(read_package)
+        wanted = [self.names.get(f"{layer}.{column}", column) for column in columns]
+        if self.base is None:
+            records = sheet(self.path / f"{name}.csv") if (self.path / f"{name}.csv").exists() else iter([[]])
+            yield from enumerate(fields_of(next(records, []), [*wanted, "wkt"], records), 1)
+        elif self.base.execute("SELECT 1 FROM sqlite_master WHERE lower(name) = ?", [name.lower()]).fetchone():
+            records = self.base.execute('SELECT *, rowid FROM "{}"'.format(name.replace('"', '""')))
+            header = [column[0] for column in records.description[:-1]] + ["\0"]
+            wanted += [self.systems.get(name.lower(), ("wkt", 0))[0], "\0"]
+            yield from ((number, found) for *found, number in fields_of(header, wanted, records))
 
 
-def column_names(names, layer):
-    return {what.partition(".")[2]: found for what, found in names.items() if what.startswith(layer + ".")}
-
-
-def opened(land, names, epsg, spare):
+def opened(land: str, names: dict[str, str], epsg: Optional[int], spare: str) -> Source:
     """The source; by ogr2ogr where it is of another form, or in another system than the parcels or --epsg."""
     if (Path(land) / f"{names.get('parcels', 'parcels')}.csv").exists():
-        return Sheets(land, names)
+        return Source(land, names)
     with open(land, "rb") if Path(land).is_file() else io.BytesIO() as file:
-        package = Package(land, names) if file.read(16).startswith(b"SQLite format 3") else None
-    systems = {package.system(layer) for layer in ("parcels", "covers")} if package else {None}
-    target = epsg or (package.system("parcels") if package else None)
-    if package and (not target or systems == {target}):
+        package = Source(land, names) if file.read(16).startswith(b"SQLite format 3") else None
+    target = epsg or (package.code("parcels") if package else None)
+    if package and {target} >= {package.code("parcels"), package.code("covers")}:
         return package
     copy = str(Path(spare) / "land.gpkg")
     for layer in COLUMNS:
         words = ["ogr2ogr", "-q", "-f", "GPKG", copy, str(land), names.get(layer, layer), "-preserve_fid"]
-        words += ["-update"] * os.path.exists(copy) + (["-t_srs", f"EPSG:{target}"] if epsg or package else [])
+        words += ["-update"] * os.path.exists(copy) + (["-t_srs", f"EPSG:{target}"] if target else [])
         done = subprocess.run(words, capture_output=True, text=True)
         if done.returncode and layer != "classes":
             raise Trouble(f"{land} is not read: {done.stderr.strip()[:200]}")
-    return Package(copy, names)
+    return Source(copy, names)
 
 
-# What is compared. A key is what a row says of its points: a parcel, or a piece with its parcel, class and percentage.
-
-
-class Row:
-    __slots__ = ("key", "layer", "number", "shape")
-
-    def __init__(self, layer, number, key, shape):
-        self.layer, self.number, self.key, self.shape = layer, number, key, shape
-
-
-def plain(value):
-    """A name as a text, without blanks around it; one that a spreadsheet would take for a formula as it was."""
+def plain(value: Any) -> str:
+    """A name as a text, without blanks around it."""
     return "" if value is None else str(value).strip()
 
 
 class Names:
-    """What the names of the source are called in the tables. Two of them have not one name."""
+    """What names of the source are called in the tables. Two of them have not one name."""
 
-    def __init__(self, out):
-        self.new, self.old, path = {}, {}, Path(out) / "identifiers.csv"
-        for kind, old, new, *_ in list(records_of_sheet(path, ","))[1:] if path.exists() else []:
+    def __init__(self, out: Path) -> None:
+        self.new, self.old, path = {}, {}, out / "identifiers.csv"
+        for kind, old, new, *_ in list(sheet(path, ","))[1:] if path.exists() else []:
             self.new[kind, re.sub(r"^'(?=[=+\-@\t\r])", "", old)] = new
 
-    def of(self, kind, value):
+    def of(self, kind: str, value: Any) -> str:
         old = plain(value)
         new = self.new.get((kind, "" if value is None else str(value))) or self.new.get((kind, old)) or old
         return new if self.old.setdefault((kind, new), old) == old else f"{old!r}, whose name another has"
 
 
-def percentages(rows, names):
-    """The percentage of each class, as a text, of rows (class, percent, eligible). They may all be shares of 1."""
-    found = {}
+def percentages(rows: Iterable[list], name_of: Callable[[str], str]) -> dict[str, Optional[str]]:
+    """The percentage of each class, of rows (class, percent, eligible). They may all be shares of 1."""
+    found: dict[str, Optional[Fraction]] = {}
     for name, percent, eligible in rows:
         word = plain(percent if percent is not None else eligible).replace("%", "").replace(",", ".").strip()
         value = Fraction(word) if re.fullmatch(r"[-+]?[0-9]*\.?[0-9]+|[0-9]+\.", word) else None
-        found[names.of("class", name)] = value if percent is not None or value is None else value * 100
+        found[name_of(name)] = value if percent is not None or value is None else value * 100
     values = [value for value in found.values() if value is not None]
     times = 100 if any(0 < value < 1 for value in values) and max(values) <= 1 else 1
     return {name: value if value is None else str(value * times) for name, value in found.items()}
 
 
-def read_source(land, names, percents):
-    """The rows of the source; one whose shape cannot be read has no points."""
+class Row:
+    """A row of the source. One whose shape cannot be read has no points."""
+
+    __slots__ = ("key", "layer", "number", "shape")
+
+    def __init__(self, layer: str, number: int, key: Key, shape: Shape) -> None:
+        self.layer, self.number, self.key, self.shape = layer, number, key, shape
+
+    def has(self, point: Point) -> bool:
+        return has([exact(ring) for ring in rings_of(self.shape)], point)
+
+
+def read_source(land: Source, names: Names, percents: dict[str, Optional[str]]) -> list[Row]:
     rows, interned = [], {}
     for layer in ("parcels", "covers"):
-        for number, system, (*fields, data) in land.rows(layer, COLUMNS[layer]):
+        own = land.systems.get(land.names.get(layer, layer).lower(), ("", None))[1]
+        for number, (*fields, data) in land.rows(layer, COLUMNS[layer]):
             try:
-                shape, its_system = land.shape(data)
-                if system is not None and its_system != system:
+                shape, system = land.shape_of(data)
+                if own is not None and system != own:
                     raise Unread("it is in another system than its layer")
-                shape = without_zone(shape, ZONES.get(land.systems.get(system, system) if system else its_system))
+                without_zone(shape, ZONES.get(land.code(layer) if land.base else system))
             except Unread:
-                shape = Shape([])
+                shape = []
             key = tuple(names.of(kind, field) for kind, field in zip(COLUMNS[layer], fields))
             key = key if layer == "parcels" else (*key, percents.get(key[2]))
             rows.append(Row(layer, number, interned.setdefault(key, key), shape))
     return rows
 
 
-def without_zone(shape, zone):
-    """The shape without its zone's number before its eastings."""
-    xs = shape.values[::2]
-    if zone and xs and zone * 1_000_000 <= min(xs) and max(xs) < (zone + 1) * 1_000_000:
-        for at in range(0, len(shape.values), 2):
-            shape.values[at] -= zone * 1_000_000
-    return shape
+def without_zone(shape: Shape, zone: Optional[int]) -> None:
+    """Takes its zone's number off its eastings."""
+    low, _, high, _ = box_of(shape)
+    if zone and zone * 1_000_000 <= low and high < (zone + 1) * 1_000_000:
+        for values, _ in rings_of(shape):
+            values[::2] = array("d", (x - zone * 1_000_000 for x in values[::2]))
 
 
-def table_rows(out):
-    """Layer, key and rings (members of whole millimetres) of each row of the tables, those of all regions."""
-    plan = Path(out) / "country.txt"
-    words = plan.read_text(encoding="ascii").split("\n") if plan.exists() else []
-    for folder in [Path(out) / word[7:] for word in words if word.startswith("region ")] or [Path(out)]:
-        percents = percentages(read_sheet(folder, "classes"), PLAIN_NAMES)
+def read_table(folder: Path, layer: str, *more: str) -> Iterator[list]:
+    path = folder / f"{layer}.csv"
+    if not path.exists() and layer != "classes":
+        raise Trouble(f"{path} is not there")
+    records = sheet(path, ",") if path.exists() else iter([])
+    return fields_of(next(records, []), [*COLUMNS[layer], *more], records)
+
+
+def read_tables(out: Path) -> Iterator[tuple[str, Key, list[list[Way]]]]:
+    """Layer, key and members (in whole millimetres) of each row of the tables, those of all regions."""
+    plan = out / "country.txt"
+    lines = plan.read_text(encoding="ascii").split("\n") if plan.exists() else []
+    for folder in [out / line[7:] for line in lines if line.startswith("region ")] or [out]:
+        percents = percentages(read_table(folder, "classes"), plain)
         for layer in ("parcels", "covers"):
-            for *key, text in read_sheet(folder, layer, "wkt"):
+            for *key, text in read_table(folder, layer, "wkt"):
                 yield layer, tuple(key) if layer == "parcels" else (*key, percents.get(key[2])), members_of_text(text)
 
 
-class PLAIN_NAMES:
-    of = staticmethod(lambda _, name: name)
-
-
-def read_sheet(folder, layer, *more):
-    path = Path(folder) / f"{layer}.csv"
-    if not path.exists():
-        if layer == "classes":
-            return []  # of a source without percentages
-        raise Trouble(f"{path} is not there")
-    records = records_of_sheet(path, ",")
-    places = picked(next(records, []), COLUMNS[layer] + list(more), {}, path)
-    if None in places and layer != "classes":
-        raise Trouble(f"{path} lacks a column")
-    return ([None if at is None else record[at] for at in places] for record in records)
-
-
-def members_of_text(text):
-    """The members of a table's shape, in whole millimetres. That it is a text by the rules is for `lpis`."""
-    members = []
-    for member in re.split(r"\)\s*\)\s*,\s*\(\s*\(", text.strip().lstrip("MULTIPOYGNmultipoygn ")):
+def members_of_text(text: str) -> list[list[Way]]:
+    members: list[list[Way]] = []
+    for member in re.split(r"\)\s*\)\s*,\s*\(\s*\(", text.upper().lstrip("MULTIPOLYGON \t\r\n")):
         members.append([])
         for ring in re.split(r"\)\s*,\s*\(", member):
             flat = [round(float(word) * 1000) for word in ring.strip("() \t\r\n").replace(",", " ").split()]
-            members[-1].append((list(zip(flat[::2], flat[1::2])), None))
+            members[-1].append(list(zip(flat[::2], flat[1::2])))
     return members
 
 
-# Rings that are surely alike.
+# Shapes that are surely alike.
 
 
-def is_near(x, y, a, b, most2):
-    """Whether a point is near an edge, in millimetres and doubles."""
-    dx, dy, ex, ey = b[0] - a[0], b[1] - a[1], x - a[0], y - a[1]
+def is_near(point: Point, a: Point, b: Point, most2: float) -> bool:
+    """Whether a point is near an edge, by doubles."""
+    dx, dy, ex, ey = b[0] - a[0], b[1] - a[1], point[0] - a[0], point[1] - a[1]
     along, length2 = dx * ex + dy * ey, dx * dx + dy * dy
-    if along <= 0 or along >= length2:
-        fx, fy = (ex, ey) if along <= 0 else (x - b[0], y - b[1])
-        return fx * fx + fy * fy <= most2
-    return (dx * ey - dy * ex) ** 2 <= most2 * length2
+    if 0 < along < length2:
+        return (dx * ey - dy * ex) ** 2 <= most2 * length2
+    fx, fy = (ex, ey) if along <= 0 else (point[0] - b[0], point[1] - b[1])
+    return fx * fx + fy * fy <= most2
 
 
-def follows(ring, way, most2):
-    """Whether a way of a table's points, which ends where it begins, goes along a ring of the source: each of its edges
-    near the edge that it is on, over each corner in turn. Then each point of the ring can be moved to the way by a
-    straight step of that length, and a point farther from the ring is as often inside of the one as of the other."""
-    at, last = 0, len(ring) - 2
-    for start, (x, y) in zip(way, way[1:]):
-        while not is_near(x, y, ring[at], ring[at + 1], most2):
+def follows(ring: Way, way: Way, most2: float) -> bool:
+    """Whether a way goes along a ring and ends where it begins, at the ring's first corner: each of its edges near the
+    edge of the ring that it is on, and near each corner that it passes. Then each of its points is that near to one of
+    the ring, in the same order. So a point that is farther from the ring is as often inside of the one as of the other.
+    """
+    at, last, start = 0, len(ring) - 2, way[0]
+    for point in way[1:]:
+        while not is_near(point, ring[at], ring[at + 1], most2):
             at += 1
-            if at > last or not is_near(*ring[at], start, (x, y), most2):
+            if at > last or not is_near(ring[at], start, point, most2):
                 return False
-        while at < last and (x - ring[at + 1][0]) ** 2 + (y - ring[at + 1][1]) ** 2 <= most2:
+        while at < last and (point[0] - ring[at + 1][0]) ** 2 + (point[1] - ring[at + 1][1]) ** 2 <= most2:
             at += 1
-    while at < last:
-        at += 1
-        if not is_near(*ring[at], start, (x, y), most2):
-            return False
-    return True
+        if point is not way[-1]:
+            start = point
+    return all(is_near(corner, start, way[-1], most2) for corner in ring[at + 1 : -1])
 
 
-def are_alike(members, table, distance):
-    """Whether each ring of a shape of the source, without arcs, is followed by one of the table's, and by no other."""
-    rings = [points for member in members for points, _ in member]
-    ways = [points for member in table for points, _ in member]
-    if len(rings) != len(ways) or any(arcs for member in members for _, arcs in member):
+def are_alike(shape: Shape, members: list[list[Way]], distance: Fraction) -> bool:
+    """Whether each ring of a shape without arcs is followed by one of the table's, and by no other."""
+    rings, ways = rings_of(shape), [way for member in members for way in member]
+    if len(rings) != len(ways) or any(arcs for _, arcs in rings):
         return False
-    most2, where, left = (float(distance) - SLACK) ** 2, defaultdict(list), set(range(len(ways)))
+    most2, reach, where = (float(distance) - SLACK) ** 2, math.ceil(distance), defaultdict(list)
     for number, way in enumerate(ways):
         for at, point in enumerate(way[:-1]):
             where[point].append((number, at))
-    reach = range(-math.ceil(distance), math.ceil(distance) + 1)
-    for ring in rings:
+    left, steps = set(range(len(ways))), range(-reach, reach + 1)
+    for ring in map(points_of, rings):
         x, y = round(ring[0][0]), round(ring[0][1])
-        for number, at in [found for i in reach for j in reach for found in where.get((x + i, y + j), ())]:
+        for number, at in (found for i in steps for j in steps for found in where.get((x + i, y + j), ())):
             way = ways[number][at:] + ways[number][1 : at + 1]
-            is_start = (way[0][0] - ring[0][0]) ** 2 + (way[0][1] - ring[0][1]) ** 2 <= most2
-            if number in left and is_start and (follows(ring, way, most2) or follows(ring, way[::-1], most2)):
+            is_start = number in left and (way[0][0] - ring[0][0]) ** 2 + (way[0][1] - ring[0][1]) ** 2 <= most2
+            if is_start and (follows(ring, way, most2) or follows(ring, way[::-1], most2)):
                 left.remove(number)
                 break
         else:
@@ -319,62 +292,87 @@ def are_alike(members, table, distance):
 # Overlays, in millimetres from an origin near by.
 
 
-def surface(members):
+def surface(members: list[list[Way]]) -> Any:
     """The points in an odd number of rings."""
-    rings = [[points for points, _ in member if len(points) > 3] for member in members]
-    found = MultiPolygon([Polygon(member[0], member[1:]) for member in rings if member])
+    members = [[way for way in member if len(set(way)) > 2] for member in members]
+    found = MultiPolygon([Polygon(member[0], member[1:]) for member in members if member])
     if found.is_valid:
         return found
-    every = [ring for member in rings for ring in member]
-    faces = polygonize(unary_union([LineString(ring) for ring in every]))
-    edges = numpy.array([(*a, *b) for ring in every for a, b in zip(ring, ring[1:]) if a[1] != b[1]]).T
-    return unary_union([face for face in faces if is_odd(face.representative_point(), edges)])
+    ways = [way for member in members for way in member]
+    edges = numpy.array([(*a, *b, 1) for way in ways for a, b in zip(way, way[1:])], dtype=float)
+    faces = polygonize(unary_union([LineString(way) for way in ways]))
+    return unary_union([face for face in faces if crossings(face, edges)[1] % 2])
 
 
-def is_odd(point, edges):
-    """Whether a point is in an odd number of rings, by doubles."""
-    ax, ay, bx, by = edges
-    crossed = (ay > point.y) != (by > point.y)
-    return numpy.count_nonzero((point.x < ax + (point.y - ay) / (by - ay) * (bx - ax)) & crossed) % 2 == 1
+def crossings(face: Any, edges: Any) -> tuple[int, int]:
+    """How often a view eastwards from a face crosses edges (a, b, count), northward less southward; and in all."""
+    point, (ax, ay, bx, by, counts) = face.representative_point(), edges.T
+    with numpy.errstate(divide="ignore", invalid="ignore"):
+        is_met = ((ay > point.y) != (by > point.y)) & (ax + (point.y - ay) / (by - ay) * (bx - ax) > point.x)
+    return numpy.where(by > ay, counts, -counts)[is_met].sum(), numpy.count_nonzero(is_met)
 
 
-def lines_near(points, arcs, box, is_arc):
-    """The ways along a ring whose edges meet a box."""
-    way = []
-    for at, (a, b) in enumerate(zip(points, points[1:])):
-        beside_x = max(a[0], b[0]) < box[0] or min(a[0], b[0]) > box[2]
-        if bool(arcs and arcs[at]) == is_arc and not (
-            beside_x or max(a[1], b[1]) < box[1] or min(a[1], b[1]) > box[3]
-        ):
-            way = [*(way or [a]), b]
-        elif way:
-            yield way
-            way = []
-    if way:
-        yield way
+def parts_of(geometry: Any) -> list:
+    """Its polygons, the largest first."""
+    parts = [part for part in getattr(geometry, "geoms", [geometry]) if part.area > 0]
+    return sorted(parts, key=lambda part: -part.area)
 
 
-def polygons_in(geometry):
-    parts = getattr(geometry, "geoms", [geometry])
-    return sorted((part for part in parts if part.area > 0), key=lambda part: -part.area)
+class Edges:
+    """The edges of shapes of the tables that do not cancel against their reverses: they count at each point how many of
+    the shapes have it, and are few."""
+
+    def __init__(self) -> None:
+        self.left, self.values = numpy.zeros((0, 5), dtype=numpy.int64), array("q")
+
+    def add(self, members: list[list[Way]]) -> None:
+        """Shells have their land on the left, holes on the right."""
+        for number, way in ((number, way) for member in members for number, way in enumerate(member)):
+            (x, y), edges = way[0], list(zip(way, way[1:]))
+            doubled = sum((a - x) * (d - y) - (b - y) * (c - x) for (a, b), (c, d) in edges)
+            for a, b in edges:
+                self.values.extend((*a, *b) if (doubled > 0) == (number == 0) else (*b, *a))
+        if len(self.values) > MOST_VALUES:
+            self.cancel()
+
+    def cancel(self) -> None:
+        new, self.values = numpy.array(self.values, dtype=numpy.int64).reshape(-1, 4), array("q")
+        back = (new[:, 0] > new[:, 2]) | (new[:, 0] == new[:, 2]) & (new[:, 1] > new[:, 3])
+        new = numpy.where(back[:, None], new[:, [2, 3, 0, 1]], new)
+        new = numpy.concatenate([self.left, numpy.column_stack([new, numpy.where(back, -1, 1)])])
+        new = new[numpy.lexsort(new[:, :4].T)]
+        starts = numpy.flatnonzero(numpy.append(True, (new[1:, :4] != new[:-1, :4]).any(axis=1))[: len(new)])
+        new[starts, 4] = numpy.add.reduceat(new[:, 4], starts) if len(new) else 0
+        self.left = new[starts][new[starts, 4] != 0]
+
+    def doubled_faces(self) -> Iterator[tuple[Any, tuple[int, int]]]:
+        """The faces between these edges that two shapes or more have, and their origin in metres."""
+        self.cancel()
+        origin = self.left[:1, :2].min(axis=0, initial=1 << 60) // 1000
+        edges = self.left.astype(float)
+        edges[:, :4] = self.left[:, :4] - numpy.tile(origin * 1000, 2)
+        edges = edges[numpy.argsort(numpy.minimum(edges[:, 1], edges[:, 3]), kind="stable")]
+        low, high = numpy.sort(edges[:, [1, 3]], axis=1).T
+        for face in polygonize(unary_union([LineString([edge[:2], edge[2:4]]) for edge in edges])):
+            y = face.representative_point().y
+            first, last = numpy.searchsorted(low, [y - (high - low).max(), y], side="right")
+            if crossings(face, edges[first:last])[0] > 1:
+                yield face, (int(origin[0]), int(origin[1]))
 
 
-# Exact decisions, of a point whose coordinates are fractions of a millimetre.
+# Exact decisions, of a point in fractions of a millimetre.
 
 
-def has(rings, point):
-    """Whether a point is in an odd number of rings (points)."""
-    x, y = point
-    count = 0
-    for ring in rings:
-        for (ax, ay), (bx, by) in zip(ring, ring[1:]):
-            if (ay > y) != (by > y):
-                side = (bx - ax) * (y - ay) - (x - ax) * (by - ay)
-                count += (side > 0) == (by > ay)
+def has(ways: list[Way], point: Point) -> bool:
+    """Whether a point is in an odd number of rings."""
+    (x, y), count = point, 0
+    for (ax, ay), (bx, by) in (edge for way in ways for edge in zip(way, way[1:])):
+        if (ay > y) != (by > y):
+            count += ((bx - ax) * (y - ay) > (x - ax) * (by - ay)) == (by > ay)
     return count % 2 == 1
 
 
-def square_to(point, a, b):
+def square_to(point: Point, a: Point, b: Point) -> Any:
     """The square of the distance of a point from an edge."""
     dx, dy, ex, ey = b[0] - a[0], b[1] - a[1], point[0] - a[0], point[1] - a[1]
     length2 = dx * dx + dy * dy
@@ -382,260 +380,210 @@ def square_to(point, a, b):
     return (ex - share * dx) ** 2 + (ey - share * dy) ** 2
 
 
+def boxes_of(shapes: Iterable[Shape]) -> Any:
+    return numpy.array([box_of(shape) for shape in shapes], dtype=float).reshape(-1, 4)
+
+
+def near(boxes: Any, box: Box, margin: float = 0.003) -> Any:
+    """The places of the boxes that are near a box, in metres."""
+    left, low, right, high = box
+    is_beside = (boxes[:, 0] > right + margin) | (boxes[:, 2] < left - margin)
+    return numpy.flatnonzero(~(is_beside | (boxes[:, 1] > high + margin) | (boxes[:, 3] < low - margin)))
+
+
+def box_at(point: Point) -> list[float]:
+    return [float(value) / 1000 for value in (*point, *point)]
+
+
 class Findings:
     """The rows of findings.gpkg that settle, mend, leave out, lose, make, add or change something."""
 
-    def __init__(self, out):
-        self.shapes, self.rows, self.names, path = [], set(), set(), Path(out) / "findings.gpkg"
-        package = Package(path, {}) if path.exists() else None
-        for table in package.columns if package else ():
-            for _, _, (kind, layer, row, words, data) in package.rows(table, ["kind", "layer", "row", "identifiers"]):
+    def __init__(self, out: Path) -> None:
+        self.shapes, self.rows, self.names, path = [], set(), set(), out / "findings.gpkg"
+        package = Source(path, {}) if path.exists() else None
+        for table in package.systems if package else ():
+            for _, (kind, layer, row, words, data) in package.rows(table, ["kind", "layer", "row", "identifiers"]):
                 if kind not in SAYING_NOTHING:
                     self.rows |= {(layer, number) for number in plain(row).split()}
                     self.names |= set(plain(words).split())
-                    self.shapes += [read_package(data)[0]] if data is not None else []
+                    self.shapes += [] if data is None else [read_package(data)[0]]
         self.boxes = boxes_of(self.shapes)
 
-    def geometry(self, box, origin):
-        """The polygons near a box (metres), a hair wider, in millimetres from the origin."""
-        found = [self.shapes[at].members(origin) for at in near(self.boxes, box)]
-        return unary_union([surface([member]) for members in found for member in members]).buffer(float(HAIR), 2)
+    def geometry(self, box: Box, origin: tuple[int, int]) -> Any:
+        """The polygons near a box, a hair wider, in millimetres from the origin."""
+        members = [member for at in near(self.boxes, box) for member in self.shapes[at]]
+        found = [surface([[points_of(ring, origin) for ring in member]]) for member in members]
+        return unary_union(found).buffer(float(HAIR), 2)
 
-    def have(self, point):
+    def have(self, point: Point) -> bool:
         """Whether a point lies in one of the polygons, or a hair beside."""
-        x, y = float(point[0]) / 1000, float(point[1]) / 1000
-        for at in near(self.boxes, (x, y, x, y)):
-            rings = [points for points, _ in self.shapes[at].exact()]
-            edges = [edge for ring in rings for edge in zip(ring, ring[1:])]
-            if has(rings, point) or any(square_to(point, *edge) <= HAIR * HAIR for edge in edges):
+        for member in (member for at in near(self.boxes, box_at(point)) for member in self.shapes[at]):
+            ways = [exact(ring) for ring in member]
+            edges = [edge for way in ways for edge in zip(way, way[1:])]
+            if has(ways, point) or any(square_to(point, *edge) <= HAIR * HAIR for edge in edges):
                 return True
         return False
-
-
-def boxes_of(shapes):
-    return numpy.array([shape.box() for shape in shapes], dtype=float).reshape(-1, 4)
-
-
-def near(boxes, box, margin=0.003):
-    """The places of the boxes that are near a box, in metres."""
-    x_is_near = (boxes[:, 0] <= box[2] + margin) & (boxes[:, 2] >= box[0] - margin)
-    return numpy.flatnonzero(x_is_near & (boxes[:, 1] <= box[3] + margin) & (boxes[:, 3] >= box[1] - margin))
-
-
-class Edges:
-    """The edges of shapes of the tables, without those that cancel against their reverses. What is left counts at each
-    point how many shapes have it. Where no other difference was found, source and tables overlap alike."""
-
-    def __init__(self):
-        self.left, self.values = numpy.zeros((0, 5), dtype=numpy.int64), array("q")
-
-    def add(self, members):
-        """Shells to the left, holes to the right."""
-        for member in members:
-            for number, (way, _) in enumerate(member):
-                x, y = way[0]
-                doubled = sum((a - x) * (d - y) - (b - y) * (c - x) for (a, b), (c, d) in zip(way, way[1:]))
-                for a, b in zip(way, way[1:]):
-                    self.values.extend((*a, *b) if (doubled > 0) == (number == 0) else (*b, *a))
-        if len(self.values) > MOST_VALUES:
-            self.cancel()
-
-    def cancel(self):
-        new = numpy.frombuffer(self.values, dtype=numpy.int64).reshape(-1, 4)
-        back = (new[:, 0] > new[:, 2]) | (new[:, 0] == new[:, 2]) & (new[:, 1] > new[:, 3])
-        signs = numpy.where(back, -1, 1)
-        new = numpy.where(back[:, None], new[:, [2, 3, 0, 1]], new)
-        new = numpy.concatenate([self.left, numpy.column_stack([new, signs])])
-        new, self.values = new[numpy.lexsort(new[:, :4].T)], array("q")
-        starts = numpy.flatnonzero(numpy.append(True, (new[1:, :4] != new[:-1, :4]).any(axis=1))[: len(new)])
-        counts = numpy.add.reduceat(new[:, 4], starts) if len(new) else new[:, 4]
-        self.left = numpy.column_stack([new[starts, :4], counts])[counts != 0]
-
-    def doubled_faces(self):
-        """The faces between the edges that two shapes or more have, and their origin in metres."""
-        self.cancel()
-        if not len(self.left):
-            return
-        origin = self.left[0, :2] // 1000
-        edges = self.left - numpy.append(numpy.tile(origin * 1000, 2), 0)
-        edges = edges[numpy.argsort(numpy.minimum(edges[:, 1], edges[:, 3]), kind="stable")].astype(float)
-        low, high = numpy.sort(edges[:, [1, 3]], axis=1).T
-        for face in polygonize(unary_union([LineString([edge[:2], edge[2:4]]) for edge in edges])):
-            point = face.representative_point()
-            first, last = numpy.searchsorted(low, [point.y - (high - low).max(), point.y], side="right")
-            ax, ay, bx, by, count = edges[first:last].T
-            with numpy.errstate(divide="ignore", invalid="ignore"):
-                east = ax + (point.y - ay) / (by - ay) * (bx - ax) > point.x
-            is_crossed = ((ay > point.y) != (by > point.y)) & east
-            if (numpy.where(by > ay, count, -count)[is_crossed]).sum() > 1:
-                yield face, tuple(map(int, origin))
 
 
 class Judge:
     """The source beside the tables."""
 
-    def __init__(self, rows, tables, findings, distance):
+    def __init__(self, rows: list[Row], tables: Iterable, findings: Findings, distance: Fraction) -> None:
         self.rows, self.findings, self.distance = rows, findings, distance
-        self.boxes, self.by_key = boxes_of([row.shape for row in rows]), defaultdict(list)
+        self.boxes, self.by_key = boxes_of(row.shape for row in rows), defaultdict(list)
         for row in rows:
             self.by_key[row.key].append(row)
-        self.others, self.names, self.alike = [], set(), set()
-        self.edges, counted = {"parcels": Edges(), "covers": Edges()}, set()
+        self.alike, self.others, self.edges = set(), [], {"parcels": Edges(), "covers": Edges()}
+        self.keys: dict[Key, str] = {}  # of the tables, with their layers
         for layer, key, members in tables:
             found = self.by_key.get(key, [])
-            self.names.add((layer, key[0]))
-            if key not in counted:
+            if key not in self.keys:
+                self.keys[key] = layer
                 self.edges[layer].add(members)
-            counted.add(key)
-            if len(found) == 1 and are_alike(found[0].shape.members(), members, distance):
+            if len(found) == 1 and are_alike(found[0].shape, members, distance):
                 self.alike.add(key)
             else:
                 self.others.append((key, members))
 
-    def regions(self):
+    def regions(self) -> Iterator[Region]:
         """Where source and tables may differ, or the source has two rows: the region, its origin, rows of the source
         there, and what decides it of a point."""
         for key, members in self.others:
-            rows = self.by_key.get(key, [])
-            origin = tuple(value // 1000 for value in members[0][0][0][0])
-            x, y = origin[0] * 1000, origin[1] * 1000
-            moved = [[([(a - x, b - y) for a, b in way], None) for way, _ in member] for member in members]
-            before = unary_union([surface(row.shape.members(origin)) for row in rows])
-            ways = [way for member in members for way, _ in member]
-            yield before.symmetric_difference(surface(moved)), origin, rows, lambda point: has(ways, point) != any(
-                self.has(row, point) for row in rows
+            rows, ways = self.by_key.get(key, []), [way for member in members for way in member]
+            origin = x, y = ways[0][0][0] // 1000, ways[0][0][1] // 1000
+            moved = surface([[[(a - 1000 * x, b - 1000 * y) for a, b in way] for way in member] for member in members])
+            before = unary_union([self.surface(row, origin) for row in rows])
+            yield before.symmetric_difference(moved), origin, rows, lambda point: has(ways, point) != any(
+                row.has(point) for row in rows
             )
-        there = self.alike | {key for key, _ in self.others}
         for row in self.rows:
-            if row.key not in there and row.shape.counts:
-                origin = tuple(map(math.floor, row.shape.box()[:2]))
-                yield surface(row.shape.members(origin)), origin, [row], lambda point: self.has(row, point)
+            if row.key not in self.keys and row.shape:
+                origin = tuple(map(math.floor, box_of(row.shape)[:2]))
+                yield self.surface(row, origin), origin, [row], row.has
         for layer, edges in self.edges.items():
             for face, origin in edges.doubled_faces():
-                yield face, origin, [], self.shared(layer)
+                yield face, origin, [], lambda point: len({r.key for r in self.here(point) if r.layer == layer}) > 1
 
-    def shared(self, layer):
-        """Whether two rows of the source have a point: what decides it."""
+    @staticmethod
+    def surface(row: Row, origin: tuple[int, int]) -> Any:
+        return surface([[points_of(ring, origin) for ring in member] for member in row.shape])
 
-        def is_shared(point):
-            x, y = float(point[0]) / 1000, float(point[1]) / 1000
-            rows = [self.rows[at] for at in near(self.boxes, (x, y, x, y))]
-            return len({row.key for row in rows if row.layer == layer and self.has(row, point)}) > 1
+    def here(self, point: Point) -> list[Row]:
+        """The rows of the source that have a point."""
+        rows = (self.rows[at] for at in near(self.boxes, box_at(point)))
+        return [row for row in rows if row.has(point)]
 
-        return is_shared
-
-    def has(self, row, point):
-        return has([points for points, _ in row.shape.exact()], point)
-
-    def first_break(self):
-        """The first point that breaks the promise, or None."""
+    def first_break(self) -> Optional[Point]:
+        """The first point that breaks the promise."""
         for region, origin, rows, is_broken in self.regions():
-            for part in polygons_in(self.unexplained(region, origin, rows)):
+            for part in parts_of(self.unexplained(region, origin, rows)):
                 found = part.representative_point()
-                for x, y in ((Fraction(round(found.x * 1000), 1000), Fraction(round(found.y * 1000), 1000)),
-                             (Fraction(found.x), Fraction(found.y))):
-                    point = x + origin[0] * 1000, y + origin[1] * 1000
+                for digits in (3, 9):
+                    point = tuple(
+                        Fraction(round(value * 10**digits), 10**digits) + start * 1000
+                        for value, start in zip((found.x, found.y), origin)
+                    )
                     if is_broken(point) and self.is_far(point) and not self.findings.have(point):
                         return point
         return None
 
-    def unexplained(self, region, origin, rows):
-        """A region without what is near a border and without the polygons of findings, nearly."""
-        for cut in (lambda box: self.borders(rows, box, origin), lambda box: self.findings.geometry(box, origin),
-                    lambda box: self.borders([self.rows[at] for at in near(self.boxes, box)], box, origin)):
-            region = MultiPolygon([part for part in polygons_in(region) if part.area > 0])
+    def unexplained(self, region: Any, origin: tuple[int, int], rows: list[Row]) -> Any:
+        """A region without what is near a border, and without the polygons of findings, nearly."""
+        cuts = [
+            lambda box: self.borders(rows, box, origin),
+            lambda box: self.findings.geometry(box, origin),
+            lambda box: self.borders([self.rows[at] for at in near(self.boxes, box)], box, origin),
+        ]
+        for cut in cuts:
+            region = MultiPolygon(parts_of(region))
             if not region.is_empty:
-                low, high = region.bounds[:2], region.bounds[2:]
-                box = [value / 1000 + start for corner in (low, high) for value, start in zip(corner, origin)]
-                region = region.difference(cut(box))
+                region = region.difference(cut([v / 1000 + start for v, start in zip(region.bounds, origin * 2)]))
         return region
 
-    def borders(self, rows, box, origin):
-        """What is near the borders of rows, in and about a box in metres."""
-        lines, margin = {False: [], True: []}, 3
-        box = [(value - start) * 1000 for value, start in zip(box, (*origin, *origin))]
-        box = [box[0] - margin, box[1] - margin, box[2] + margin, box[3] + margin]
-        for row in rows:
-            for points, arcs in (ring for member in row.shape.members(origin) for ring in member):
-                for is_arc in lines if arcs else (False,):
-                    lines[is_arc] += lines_near(points, arcs, box, is_arc)
-        near_by = [(MultiLineString(some), float(self.reach(is_arc))) for is_arc, some in lines.items() if some]
-        return unary_union([some.buffer(reach + 0.001, 16) for some, reach in near_by])
+    def borders(self, rows: list[Row], box: Box, origin: tuple[int, int]) -> Any:
+        """What is near the borders of rows, in and about a box."""
+        left, low, right, high = ((value - start) * 1000 for value, start in zip(box, origin * 2))
+        lines: dict[bool, list[Way]] = {False: [], True: []}
+        for values, arcs in (ring for row in rows for ring in rings_of(row.shape)):
+            way, is_arc = [], False
+            points = points_of((values, arcs), origin)
+            for at, (a, b) in enumerate(zip(points, points[1:])):
+                is_in = max(a[0], b[0]) >= left - 3 and min(a[0], b[0]) <= right + 3
+                is_in = is_in and max(a[1], b[1]) >= low - 3 and min(a[1], b[1]) <= high + 3
+                if is_in and not (way and way[-1] is a and is_arc == bool(arcs and arcs[at])):
+                    way, is_arc = [a], bool(arcs and arcs[at])
+                    lines[is_arc].append(way)
+                if is_in:
+                    way.append(b)
+        found = [(MultiLineString(ways), self.reach(is_arc)) for is_arc, ways in lines.items() if ways]
+        return unary_union([some.buffer(float(reach) + 0.001, 16) for some, reach in found])
 
-    def reach(self, is_arc):
+    def reach(self, is_arc: Any) -> Fraction:
         return self.distance + (STRAIGHTENED if is_arc else 0)
 
-    def is_far(self, point):
+    def is_far(self, point: Point) -> bool:
         """Whether a point is farther from each border of the source than rounding moves one."""
-        x, y = float(point[0]) / 1000, float(point[1]) / 1000
-        for at in near(self.boxes, (x, y, x, y)):
-            for points, arcs in self.rows[at].shape.exact():
-                for number, (a, b) in enumerate(zip(points, points[1:])):
-                    if square_to(point, a, b) <= self.reach(bool(arcs and arcs[number])) ** 2:
+        for at in near(self.boxes, box_at(point)):
+            for ring in rings_of(self.rows[at].shape):
+                way, arcs = exact(ring), ring[1] or bytes(len(ring[0]))
+                for a, b, is_arc in zip(way, way[1:], arcs):
+                    if square_to(point, a, b) <= self.reach(is_arc) ** 2:
                         return False
         return True
 
-    def told(self, point):
+    def told(self, point: Point) -> str:
         """What source and tables say of a point, and how far it is from the nearest border of the source."""
-        x, y = float(point[0]) / 1000, float(point[1]) / 1000
-        here = [self.rows[at] for at in near(self.boxes, (x, y, x, y)) if self.has(self.rows[at], point)]
-        tables = {row.key for row in here if row.key in self.alike}
-        tables |= {key for key, members in self.others if has([way for m in members for way, _ in m], point)}
+        x, y, *_ = box_at(point)
+        here = {row.key for row in self.here(point)}
+        tables = here & self.alike | {key for key, members in self.others if has(sum(members, []), point)}
         apart = numpy.maximum(self.boxes[:, :2] - (x, y), (x, y) - self.boxes[:, 2:]).max(axis=1)
         nearest = math.inf
         for at in numpy.argsort(apart, kind="stable"):
             if apart[at] > nearest:
                 break
-            for points, _ in (ring for member in self.rows[at].shape.members(scale=1) for ring in member):
-                squares = [square_to((x, y), a, b) for a, b in zip(points, points[1:])]
-                nearest = min([nearest, *map(math.sqrt, squares)])
+            for way in map(points_of, rings_of(self.rows[at].shape)):
+                edges = zip(way, way[1:])
+                nearest = min([nearest, *(square_to((x * 1000, y * 1000), a, b) ** 0.5 / 1000 for a, b in edges)])
         return (
-            f"no at {x:.6f} {y:.6f}: the source has {words_of({row.key for row in here})}, the tables have "
-            f"{words_of(tables)}; {nearest:.6f} m from the nearest border of the source"
+            f"no at {x:.6f} {y:.6f}: the source has {words_of(here)}, the tables have {words_of(tables)}; "
+            f"{nearest:.6f} m from the nearest border of the source"
         )
 
-    def first_row(self, layers):
-        """The first row of the one that is silently not in the other, in words, or None."""
+    def first_row(self, layers: dict[str, str]) -> Optional[str]:
+        """The first row of the one that is silently not in the other, in words."""
+        in_tables = {(layer, key[0]) for key, layer in self.keys.items()}
         for row in self.rows:
             told = {(layer, str(row.number)) for layer in (row.layer, layers.get(row.layer))} & self.findings.rows
-            if (row.layer, row.key[0]) not in self.names and not told and row.key[0] not in self.findings.names:
+            if (row.layer, row.key[0]) not in in_tables and not told and row.key[0] not in self.findings.names:
                 return f"no: {row.layer} row {row.number} of the source, {words_of({row.key})}, is in no table"
-        for layer, name in sorted(self.names - {(row.layer, row.key[0]) for row in self.rows}):
+        for layer, name in sorted(in_tables - {(row.layer, row.key[0]) for row in self.rows}):
             if name not in self.findings.names:
                 return f"no: {name!r} of the tables' {layer} is no row of the source"
         return None
 
 
-def words_of(keys):
+def words_of(keys: Iterable[Key]) -> str:
     words = []
-    for key in sorted(keys, key=lambda key: (len(key), str(key))):
-        name, *more = key
+    for name, *more in sorted(keys, key=lambda key: (len(key), str(key))):
         words.append(f"piece {name} of {more[0]}, class {more[1]} at {more[2]} percent" if more else f"parcel {name}")
     return " and ".join(words) or "nothing"
 
 
-def read_percentages(arguments, land, names):
-    """The percentages of the source's table of classes; None where there is none."""
-    if arguments.classes:
-        records = records_of_sheet(arguments.classes)
-        places = picked(next(records, []), COLUMNS["classes"], {}, arguments.classes)
-        rows = [[None if at is None or at >= len(record) else record[at] for at in places] for record in records]
-    else:
-        rows = [fields[:3] for _, _, fields in land.rows("classes", COLUMNS["classes"])]
-    return percentages(rows, names)
-
-
-def answer(arguments):
-    renamed = dict(word.split("=", 1) for word in arguments.name)
-    names, out = Names(arguments.out), Path(arguments.out)
+def answer(arguments: argparse.Namespace) -> str:
+    """The line that is printed."""
+    renamed, out = dict(word.split("=", 1) for word in arguments.name), Path(arguments.out)
+    names, written = Names(out), percentages(read_table(out, "classes"), plain)
     with tempfile.TemporaryDirectory() as spare:
         land = opened(arguments.land, renamed, arguments.epsg, spare)
-        written = percentages(read_sheet(out, "classes"), PLAIN_NAMES)
-        percents = read_percentages(arguments, land, names)
+        found = (fields[:3] for _, fields in land.rows("classes", COLUMNS["classes"]))
+        if arguments.classes:
+            records = sheet(Path(arguments.classes))
+            found = fields_of(next(records, []), COLUMNS["classes"], records)
+        percents = percentages(found, lambda name: names.of("class", name))
         rows = read_source(land, names, percents or written)
     if not rows:
         raise Trouble(f"{arguments.land} has no rows of parcels and covers")
-    judge = Judge(rows, table_rows(out), Findings(out), KEPT if arguments.previous else ROUNDED)
+    judge = Judge(rows, read_tables(out), Findings(out), KEPT if arguments.previous else ROUNDED)
     point = judge.first_break()
     if point:
         return judge.told(point)
@@ -645,19 +593,18 @@ def answer(arguments):
     return judge.first_row(renamed) or "yes"
 
 
-def main():
+def main() -> None:
     parser = argparse.ArgumentParser(usage=__doc__)
-    parser.add_argument("land")
-    parser.add_argument("out")
+    for word in ("land", "out", "--classes"):
+        parser.add_argument(word)
     parser.add_argument("--name", action="append", default=[])
-    parser.add_argument("--classes")
     parser.add_argument("--epsg", type=int)
     parser.add_argument("--previous", action="store_true")
     logging.getLogger("shapely").setLevel(logging.CRITICAL)
     warnings.simplefilter("ignore")
     try:
         line = answer(parser.parse_args())
-    except (Trouble, OSError, sqlite3.Error, csv.Error, ShapelyError, ValueError) as fault:
+    except (Trouble, OSError, sqlite3.Error, csv.Error, ShapelyError, ValueError, IndexError) as fault:
         print(f"source.py: {fault}", file=sys.stderr)
         sys.exit(64)
     print(line)
