@@ -81,7 +81,7 @@ class TestSource(Case):
         assert "parcels 4 of 4 pieces 8 of 8\n" in run.stdout
         assert sorted(record["piece"] for record in self.table("covers"))[:2] == ["clean1.1", "clean1.2"]
         assert self.assert_even(run)["covers", "GRASS"]["tables_m2"] == "200.000"
-        assert sorted(os.listdir(self.out)) == ["balance.csv", "classes.csv", "covers.csv", "parcels.csv", "report.csv", "report.geojson"]
+        assert sorted(os.listdir(self.out)) == ["balance.csv", "classes.csv", "covers.csv", "findings.gpkg", "parcels.csv", "report.csv", "report.geojson"]
 
     def test_planted(self):
         dirty.make(self.land, PLANTED)

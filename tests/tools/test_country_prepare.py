@@ -60,6 +60,7 @@ class TestSources(Case):
         cls.runs = {"refused": (tool("prepare", cls.land, cls.whole), tool("country", "prepare", cls.land, cls.country))}
         cls.refused = [sorted(os.listdir(folder)) for folder in (cls.whole, cls.country)]
         cls.findings = [read(folder, "prepared.csv") for folder in (cls.whole, cls.country)]
+        cls.polygons = [Path(folder, "findings.gpkg").read_bytes() for folder in (cls.whole, cls.country)]
         cls.runs["accepted"] = tool("prepare", cls.land, cls.whole, "--accept"), tool("country", "prepare", cls.land, cls.country, "--accept", "--parcels", 30, "--tables", f"{cls.country}-tables")
         cls.regions = re.findall(r"region (\w+)", read(cls.country, "country.txt")) if cls.runs["accepted"][1].returncode == 0 else []
 
@@ -68,6 +69,7 @@ class TestSources(Case):
         one, other = self.runs["refused"]
         assert (one.returncode, other.returncode) == (1, 1), other.stdout + other.stderr
         assert self.findings[0] == self.findings[1]
+        assert self.polygons[0] == self.polygons[1]
         whole, country = ([name for name in found if not name.startswith(".")] for found in self.refused)
         assert whole == country
         assert "mend the source, or mend and leave out by --accept" in other.stdout

@@ -40,7 +40,7 @@ class TestDirt(Kept):
 
     def test_tested(self):
         run = self.runs[0]
-        assert (run.returncode, sorted(os.listdir(self.outs[0]))) == (1, [".rounded", "identifiers.csv", "prepared.csv"]), run.stderr
+        assert (run.returncode, sorted(os.listdir(self.outs[0]))) == (1, [".rounded", "findings.gpkg", "identifiers.csv", "prepared.csv"]), run.stderr
         found = records(self.outs[0], "prepared.csv")
         for kind, layer, name, words, _ in WANTED:
             assert any(row["kind"] == kind and row["layer"] == layer and row["identifier"] == name and words in row["words"] for row in found), run.stdout

@@ -35,6 +35,10 @@ class Entry:
     def group(self):
         return group_of(self.layer, self.row)
 
+    def members(self):
+        """Its polygons as they were read, and those of rows that were joined with it."""
+        return without_zone([member for found in self.founds for member in found.members], self.row.found and self.row.found.members)
+
 
 def group_of(layer, row):
     return layer, (row["class"] or "(no class)") if layer == "covers" else ""
@@ -70,13 +74,9 @@ class Balance:
         return len(founds) == 1 and founds[0] is row.found
 
     def source_of(self, row):
-        """The polygons of a row as they were read; None where it has them still. A zone's number that was taken off is taken off here too."""
-        if self.is_as_read(row):
-            return None
-        founds = self.entries[id(row)].founds
-        members, now = [member for found in founds for member in found.members], row.found.members
-        away = round((members[0][0][0][0] - now[0][0][0][0]) / ZONE) * ZONE if members and now else 0
-        return [[[(x - away, y) for x, y in ring] for ring in member] for member in members] if away else members
+        """The polygons of a row as they were read; None where it has them still, or never had any."""
+        entry = self.entries[id(row)]
+        return None if self.is_as_read(row) or not entry.founds else entry.members()
 
     def reasons(self):
         """How many rows of the source have no shape, by why."""
@@ -150,6 +150,12 @@ class Balance:
 
     def is_even(self):
         return all(abs(missing(found)) < NEAR for _, found in self.lines())
+
+
+def without_zone(members, now):
+    """Polygons as they were read; a zone's number before their eastings that was taken off the polygons of `now` is taken off here too."""
+    away = round((members[0][0][0][0] - now[0][0][0][0]) / ZONE) * ZONE if members and now else 0
+    return [[[(x - away, y) for x, y in ring] for ring in member] for member in members] if away else members
 
 
 def aligned(rows):

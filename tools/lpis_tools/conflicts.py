@@ -20,6 +20,7 @@ WIDE = 0.02  # metres: a conflict of this width is a fault of the source
 ROUNDING = 0.000_001  # metres: of doubles
 LEAST = 0.001  # metres: conflicts that are narrower are rounding, and no rows
 SPIKE = 0.0005  # metres: narrower than twice that, a part of a shape is no place to show it
+AREA = 0.000_001  # square metres: of doubles
 FAR = 20_000_000.0  # metres: the range of the tables
 MANY = 100  # pieces of one name, from which on they are asked for by their boxes
 ORDER = ("lost", "left out", "made", "doubled", "identifier", "stranger", "added", "class", "invalid", "overlap", "gap", "outside", "between", "spike", "changed", "kept", "column")
@@ -53,6 +54,16 @@ class Loss:
 
     def at(self):
         return self.place()
+
+    def blob_of_polygons(self):
+        """Its polygons as well-known binary, or None where it has none."""
+        members = members_of(self.shape)
+        return wkb.written(members) if members else None
+
+    def of_layer(self):
+        """Its values in the columns of findings.gpkg."""
+        rows, names = " ".join(map(str, self.rows)), " ".join(self.names)
+        return self.kind, self.layer, rows, names, self.width, self.area, *(self.place() or (None, None)), int(self.stops()), "", self.words
 
     def place(self):
         """A place in it, well within where it is wide enough."""
@@ -100,6 +111,23 @@ def enclosed_by(members):
 
 def outline(ring):
     return unary_union(list(polygonize(unary_union(LineString(ring)))))
+
+
+def doubtful(members, enclosed, mended):
+    """Where polygons that cross themselves may have land, whoever reads them: all that their borders enclose, less the holes that are sound. `enclosed` is what
+    `enclosed_by` gives of them, `mended` their land."""
+    return unary_union([enclosed, mended, *(outline(ring) for rings in members if not has_sound_holes(*rings) for ring in rings)])
+
+
+def has_sound_holes(shell, *holes):
+    """Whether no reader sees land in the holes: they are valid, apart from each other, and within the land of their shell."""
+    found = [Polygon(hole) for hole in holes]
+    if not holes or Polygon(shell, holes).is_valid:
+        return True
+    if not all(hole.is_valid for hole in found):
+        return False
+    whole = unary_union(found)
+    return abs(whole.area - sum(hole.area for hole in found)) <= AREA and whole.difference(land_of_member([shell])).area <= AREA
 
 
 def by_geos(what, rows, operation, *shapes):
@@ -157,6 +185,16 @@ class Source:
         """The shape of a row, made when it is asked for; None where it has no land."""
         return shape_of(row.found) if id(row) in self.shaped else None
 
+    def land(self, rows):
+        """The land of rows, or None where they have none."""
+        shapes = [shape for row in rows if (shape := self.shape(row)) is not None]
+        return by_geos("the land", [(self.of(row), row[self.KEYS[self.of(row)]], row) for row in rows], unary_union, shapes) if shapes else None
+
+    @staticmethod
+    def of(row):
+        """The layer of a row."""
+        return "covers" if "piece" in row.fields else "parcels"
+
     @staticmethod
     def is_far(row):
         """Takes a shape out of range from its row."""
@@ -167,10 +205,13 @@ class Source:
 
     def mended(self, layer, column, row, shape):
         why = explain_validity(shape)
-        mended = by_geos("the shape", [(layer.name, row[column], row)], polygons_by, row.found.members)
-        words = f"{why}; mended it has {mended.area:.3f} m2 of the {max(mended.area, enclosed_by(row.found.members).area):.3f} that its border encloses"
+        named, members = [(layer.name, row[column], row)], row.found.members
+        mended = by_geos("the shape", named, polygons_by, members)
+        enclosed = by_geos("the border", named, enclosed_by, members)
+        words = f"{why}; mended it has {mended.area:.3f} m2 of the {max(mended.area, enclosed.area):.3f} that its border encloses"
+        whole = by_geos("the border", named, doubtful, members, enclosed, mended)
         row.found = wkb.Found(members_of(mended))
-        self.losses.append(Loss("invalid", [row[column]], words, mended, None, mended.area, layer.name, [row.number]))
+        self.losses.append(Loss("invalid", [row[column]], words, whole, None, mended.area, layer.name, [row.number]))
         return mended
 
 
@@ -179,9 +220,10 @@ def find_names(source):
     for name, column in Source.KEYS.items():
         rows = {}
         for row in source.layers[name].rows:
-            rows.setdefault(row[column], []).append(row.number)
+            rows.setdefault(row[column], []).append(row)
         words = "the tables have one row with the land of all" if name == "parcels" else "lpis refuses it (34)"
-        source.losses += [Loss("doubled", [who], f"{len(found)} rows have this identifier: {words}", layer=name, rows=found) for who, found in rows.items() if len(found) > 1]
+        source.losses += [Loss("doubled", [who], f"{len(found)} rows have this identifier: {words}", source.land(found), layer=name, rows=[row.number for row in found])
+                          for who, found in rows.items() if len(found) > 1]
     for name, column in (("parcels", "parcel"), ("covers", "piece"), ("covers", "class")):
         rows = {}
         for row in source.layers[name].rows:

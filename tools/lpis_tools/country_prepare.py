@@ -171,7 +171,7 @@ class Run(prepared.Run):
         self.base.commit()
         self.say("tables")
         seen.tables(self.made, self.tracked)
-        return losses.concluded(seen.losses, seen.counts, work.counts, self.words.out, self.accept, work.epsg, whole, prepared.recipe.unwritten(self.words.out))
+        return losses.concluded(seen.losses, seen.counts, work.counts, self.words.out, self.accept, work.epsg, whole, prepared.recipe.unwritten(self.words.out), work.findings)
 
     def put(self, whole):
         """Splits the tables into regions; the balance of the folder stays that from the source to the tables."""

@@ -9,17 +9,19 @@ from .printing import readable
 
 MOST_SHOWN = 20
 NOTES = {"curve": "arcs made straight, within half a millimetre", "z": "heights dropped", "m": "measures dropped"}
+KEYS = {"parcels": "parcel", "covers": "piece"}
 COLUMNS = ["kind", "layer", "row", "identifier", "area_m2", "x", "y", "words", "done"]
 
 
 class Finding:
-    """Something that the tests found. Mended: without asking; else only where that is accepted; `done` is empty where it cannot be."""
+    """Something that the tests found. Mended: without asking; else only where that is accepted; `done` is empty where it cannot be. `blob` are the polygons, as well-known
+    binary, of which the tables may say other than the source. `of` is the row that it is about, or `final` the name that the tables have in place of `name`."""
 
-    __slots__ = ("area", "done", "is_mended", "key", "kind", "layer", "name", "place", "row", "words")
+    __slots__ = ("area", "blob", "done", "final", "is_mended", "key", "kind", "layer", "name", "of", "place", "row", "width", "words")
 
-    def __init__(self, kind, layer, row, name, words, done="", is_mended=False, area=None, place=None, key="row"):
+    def __init__(self, kind, layer, row, name, words, done="", is_mended=False, area=None, place=None, key="row", blob=None, of=None, final="", width=None):
         self.kind, self.layer, self.row, self.name, self.words, self.done, self.is_mended = kind, layer, row, name, words, done, is_mended
-        self.area, self.place, self.key = area, place, key
+        self.area, self.place, self.key, self.blob, self.of, self.final, self.width = area, place, key, blob, of, final, width
 
     def is_grave(self):
         return not self.is_mended
@@ -41,8 +43,20 @@ class Finding:
         done = self.done if self.is_mended or (self.done and accept.takes(self)) else ""
         return ": ".join(filter(None, (self.kind, f"{who}{size}{at}", self.words, done)))
 
+    def identifiers(self):
+        """The names that the tables have, where they have some."""
+        return self.final or (self.of[KEYS[self.layer]] if self.of is not None else self.name)
+
+    def what_was_done(self, accept):
+        return (self.done or NOTES.get(self.kind, "")) if self.is_mended or accept.takes(self) else ""
+
+    def of_layer(self, accept):
+        """Its values in the columns of findings.gpkg."""
+        row = "" if self.row is None else str(self.row)
+        return self.kind, self.layer, row, self.identifiers(), self.width, self.area, *(self.place or (None, None)), int(self.is_grave()), self.what_was_done(accept), self.words
+
     def record(self, accept):
-        done = (self.done or NOTES.get(self.kind, "")) if self.is_mended or accept.takes(self) else ""
+        done = self.what_was_done(accept)
         area = "" if self.area is None else f"{self.area:.3f}"
         x, y = (f"{value:.3f}" for value in self.place) if self.place else ("", "")
         return [self.kind, self.layer, "" if self.row is None else self.row, cells.text(self.name), area, x, y, cells.text(self.words), cells.text(done)]
@@ -54,6 +68,12 @@ def write(findings, path, accept):
         table = cells.Writer(file)
         table.writerow(COLUMNS)
         table.writerows(finding.record(accept) for finding in findings)
+
+
+def put(findings, accept, package):
+    """The findings in the layers of findings.gpkg."""
+    for finding in findings:
+        package.add(finding.kind, finding.blob, finding.of_layer(accept))
 
 
 def lines_of(findings, accept):

@@ -12,7 +12,7 @@ from collections import Counter
 
 from shapely.geometry import mapping
 
-from . import balance, causes, cells, files, land, outcome
+from . import balance, causes, cells, files, findings, geopackage, land, outcome
 from .accepting import Left
 from .conflicts import ORDER, Loss, Source, find_conflicts, find_names, polygons_by
 from .findings import readable
@@ -20,6 +20,7 @@ from .printing import counted
 
 MOST_TOLD = 20
 MOST_REASONS = 3
+LAYERS = "findings.gpkg"
 APART = ("between", "kept")  # kinds that have files of their own, where there are any
 COUNTED = (("between", "places between parcels that nobody has: see report.csv"), ("spike", "spikes and notches narrower than a millimetre that are not in the tables: see report.csv"),
            ("kept", "borders kept as they were last year: see kept.csv"))
@@ -47,7 +48,7 @@ def find_all(source, tables, say, whole, seen, between, of_gaps=None):
     whole.begin(layers)
     whole.between = math.fsum(loss.area for loss in source.losses if loss.kind == "between")
     for entry in whole.left_out(layers):
-        name, members = entry.row[Source.KEYS[entry.layer]], [member for found in entry.founds for member in found.members]
+        name, members = entry.row[Source.KEYS[entry.layer]], entry.members()
         shape = polygons_by(members) if members else None
         source.losses.append(Loss("left out", [name], "it was left out before the rounding: prepared.csv has the reason", shape, None, entry.area, entry.layer, [entry.row.number]))
     for name, layer in layers.items():
@@ -55,6 +56,14 @@ def find_all(source, tables, say, whole, seen, between, of_gaps=None):
     found = outcome.Outcome(source, tables, whole).find()
     source.losses.sort(key=lambda loss: (not loss.stops(), ORDER.index(loss.kind), -(loss.width or loss.area or 0), loss.names))
     return source.losses, found
+
+
+def put_layers(losses, out, accept, epsg, found_before):
+    """The layers of what was found before the tables were made, and of the report."""
+    with geopackage.anew(os.path.join(out, LAYERS), epsg) as package:
+        findings.put(found_before, accept, package)
+        for loss in losses:
+            package.add(loss.kind, loss.blob_of_polygons(), loss.of_layer())
 
 
 def write(losses, out, epsg=None):
@@ -146,22 +155,25 @@ def why_nothing(losses, whole):
     return "; ".join(f"{counted(count, 'row')}: {words}" for words, count in found.most_common(MOST_REASONS)) or "the tables have no row"
 
 
-def report(layers, out, accept, say, epsg=None, counts=None, whole=None, tables=None, source=None, seen=None, between=land.BETWEEN, refusal="", of_gaps=None):
+def report(layers, out, accept, say, epsg=None, counts=None, whole=None, tables=None, source=None, seen=None, between=land.BETWEEN, refusal="", of_gaps=None,
+           found_before=()):
     """Finds, writes and prints. The status: 1 where something is lost, changed or in wide conflict, unless `accept` takes it. `counts` are the rows of
     the source, where some were left out before; `whole` the balance of what was read, where that was mended; `tables` the folder of the tables,
-    where that is another than `out`; `seen` the conflicts that the rounded map shows, where that was made; `of_gaps` what gaps may come of."""
+    where that is another than `out`; `seen` the conflicts that the rounded map shows, where that was made; `of_gaps` what gaps may come of; `found_before` the
+    findings of the source."""
     if epsg is None:
         systems = [layer.system.number for layer in layers.values() if isinstance(layer, land.Layer) and layer.system]
         epsg = systems[0] if systems else None
     whole = whole or balance.Balance(layers)
     losses, found = find_all(source or Source(layers), tables or out, say, whole, seen, between, of_gaps)
     counts = counts or {name: len(layers[name].rows) for name in ("parcels", "covers")}
-    return concluded(losses, found, counts, out, accept, epsg, whole, refusal)
+    return concluded(losses, found, counts, out, accept, epsg, whole, refusal, found_before)
 
 
-def concluded(losses, found, counts, out, accept, epsg, whole, refusal):
+def concluded(losses, found, counts, out, accept, epsg, whole, refusal, found_before=()):
     """Writes and prints what was found, the gravest first: `losses` are gone over several times. The status of the run."""
-    written = write(losses, out, epsg)
+    written = [*write(losses, out, epsg), LAYERS]
+    put_layers(losses, out, accept, epsg, found_before)
     whole.write(out)
     for line in [*told(losses, found, counts), f"written: {', '.join(os.path.join(out, name) for name in (*written, balance.FILE))}", *whole.words()]:
         print(line)

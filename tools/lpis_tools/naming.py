@@ -80,7 +80,7 @@ class Names:
         if first:
             row, old, bare = first
             layer = self.work.layers[name]
-            self.work.findings.append(Finding("blanks", name, row.number, bare, f"{count} of the column {column} have blanks before or behind, such as {old!r}", "taken off, the same in all tables", True, key=layer.key))
+            self.work.findings.append(Finding("blanks", name, row.number, bare, f"{count} of the column {column} have blanks before or behind, such as {old!r}", "taken off, the same in all tables", True, key=layer.key, final=self.new_name(column, bare)))
 
     def new_name(self, column, old):
         """The identifier of a name: that of an earlier year, or the name itself, or what is made of it."""
@@ -108,7 +108,7 @@ class Names:
             is_taken = self.owner_of(column, new, old.strip()) != old.strip()
             self.renamed[column][old] = new
             key = work.layers[layer].key
-            work.findings.append(Finding("identifier", layer, row.number, old, f"{column} {old!r} is no identifier" if not identifiers.is_one(old) else f"{column} {old!r}", f"now {new}", True, key=key))
+            work.findings.append(Finding("identifier", layer, row.number, old, f"{column} {old!r} is no identifier" if not identifiers.is_one(old) else f"{column} {old!r}", f"now {new}", True, key=key, final=new))
             if is_taken or not identifiers.is_one(new):
                 work.find("identifier", layer, row, f"{column} {old!r} would be {new}, which is another's or no identifier: name another by --identifiers", "")
         return True

@@ -110,7 +110,8 @@ class Outcome:
         """A row that has a row in the tables."""
         for other in OTHERS[name]:
             if record[other] != row[other]:
-                self.add("changed", name, [row[column]], f"its {other} is {row[other]} in the source and {record[other]} in the tables", [row.number], None).is_grave = True
+                words = f"its {other} is {row[other]} in the source and {record[other]} in the tables"
+                self.add("changed", name, [row[column]], words, [row.number], self.either(name, row, column, members)).is_grave = True
         if id(row) not in self.source.shaped:
             after = self.valid(name, row[column], members)
             self.add("made", name, [row[column]], f"{row.why or 'it has no shape that can be used'}: it was made of its pieces", [row.number], after)
@@ -119,10 +120,15 @@ class Outcome:
         if self.whole.is_as_read(row) and is_rounded(row.found.members, members):
             before = self.whole.area_of(row)
             self.whole.book(row, before, area - before)
-            self.least(name, row, column, before, area)
+            self.least(name, row, column, before, area, members)
             return
         now = self.source.shape(row)
         self.compare(name, row, column, self.before(row, now), now, self.valid(name, row[column], members))
+
+    def either(self, name, row, column, members):
+        """The land that a row has in the source or in the tables."""
+        before, after = self.source.shape(row), self.valid(name, row[column], members)
+        return after if before is None else by_geos("the land", [(name, row[column], row)], before.union, after)
 
     @staticmethod
     def valid(name, who, members):
@@ -154,12 +160,14 @@ class Outcome:
                 words = f"{what} of {part.length / 2:.3f} m, narrower than a millimetre, is not in the tables"
                 self.source.losses.append(Loss("spike", [row[column]], words, part, None, part.area, name, [row.number]))
 
-    def least(self, name, row, column, before, area):
-        """Of a row that was rounded alone the change is no more than its border has room for."""
+    def least(self, name, row, column, before, area, members):
+        """Of a row that was rounded alone the change is no more than its border has room for. Its place is one in the row."""
         change = abs(area - before)
         if self.is_greatest(name, change):
-            words = f"rounded alone, from {before:.3f} to {area:.3f} m2"
-            self.keep_greatest(name, change, Loss("changed", [row[column]], words, self.source.shape(row), None, change, name, [row.number]))
+            now, after, named = self.source.shape(row), self.valid(name, row[column], members), [(name, row[column], row)]
+            words, place = f"rounded alone, from {before:.3f} to {area:.3f} m2", Loss("changed", [], "", now).place()
+            loss = Loss("changed", [row[column]], words, by_geos("the change", named, now.symmetric_difference, after), None, change, name, [row.number], False, place)
+            self.keep_greatest(name, change, loss)
 
     def is_greatest(self, name, change):
         return name == "parcels" and (self.greatest is None or change > self.greatest[0])
@@ -170,7 +178,8 @@ class Outcome:
 
     def lose(self, name, column, row, is_told):
         shape = self.source.shape(row)
-        self.add("lost", name, [row[column]], NAMESAKE if is_told and row.found else self.why_lost(name, row), [row.number], shape, self.whole.area_of(row))
+        whole = self.before(row, shape)
+        self.add("lost", name, [row[column]], NAMESAKE if is_told and row.found else self.why_lost(name, row), [row.number], whole, self.whole.area_of(row))
         self.whole.book(row, self.whole.area_of(row) if shape is None else shape.area, None)
 
     def why_lost(self, name, row):

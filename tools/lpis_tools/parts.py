@@ -12,7 +12,7 @@ from dataclasses import asdict
 
 from . import databases, files, identifiers, land, naming, preparing, sizes, store, unforeseen
 
-RULE = "lpis parts 2"  # what another rule gave is not taken
+RULE = "lpis parts 3"  # what another rule gave is not taken
 MOST = 25_000  # rows
 SHAPES, VALID = 1, 2  # steps: what a part finds
 
@@ -99,8 +99,8 @@ def write(path, name, rows, key, options):
         base.execute("INSERT INTO shape VALUES (?, ?, ?)", (number, row.found.blob if row.found else None, found.blob if found and row.found is not found else None))
     places = {row.number: number for number, row in enumerate(rows)}
     shapeless = {id(finding) for _, finding in work.shapeless}
-    base.executemany(f"INSERT INTO finding VALUES (NULL, {', '.join('?' * 14)})",
-                     ((SHAPES if number < count else VALID, places[finding.row], id(finding) in shapeless, *store.fields_of(finding)) for number, finding in enumerate(work.findings)))
+    base.executemany(f"INSERT INTO finding VALUES (NULL, ?, ?, ?{', ?' * store.FIELDS})",
+                     ((SHAPES if number < count else VALID, place := places[finding.row], id(finding) in shapeless, *store.fields_of(finding, place)) for number, finding in enumerate(work.findings)))
     base.commit()
     base.close()
 

@@ -103,10 +103,10 @@ class Preparation(preparing.Preparation):
     def at(self, step):
         self.findings.step, self.findings.place = step, 0.0
 
-    def find(self, kind, layer, row, words, done="left out", is_mended=False):
+    def find(self, kind, layer, row, words, done="left out", is_mended=False, blob=None):
         if self.base and self.findings.step in (PARCELS, PIECES, STRANGERS, BARE) and row:
             self.findings.place = row.id
-        super().find(kind, layer, row, words, done, is_mended)
+        super().find(kind, layer, row, words, done, is_mended, blob)
 
     def grave(self):
         return self.findings.those("NOT is_mended") if self.base else super().grave()
@@ -223,8 +223,9 @@ class Balance(balance.Balance):
 
 def left_out(base):
     """A loss for each row that is left out before the rounding."""
-    for *fields, area, blob in base.execute(f"SELECT {', '.join(f'row.{column.strip()}' for column in store.COLUMNS.split(','))}, area, coalesce(read, shape) FROM row JOIN shape USING (id) WHERE NOT is_kept AND NOT is_joined ORDER BY row.id"):
+    for *fields, area, read, now in base.execute(f"SELECT {', '.join(f'row.{column.strip()}' for column in store.COLUMNS.split(','))}, area, read, shape FROM row JOIN shape USING (id) WHERE NOT is_kept AND NOT is_joined ORDER BY row.id"):
         row = Row(base, *fields)
         layer = "covers" if "piece" in row.fields else "parcels"
-        shape = polygons_by(wkb.unpacked(blob)) if blob else None
+        members = [wkb.unpacked(blob) if blob else [] for blob in (read or now, now)]
+        shape = polygons_by(balance.without_zone(*members)) if members[0] else None
         yield Loss("left out", [row["piece" if layer == "covers" else "parcel"]], "it was left out before the rounding: prepared.csv has the reason", shape, None, area, layer, [row.number])

@@ -7,7 +7,7 @@ import os
 import shutil
 import tempfile
 
-from . import accepting, again, balance, causes, files, findings, land, losses, naming, preparing, previous, recipe, rounding
+from . import accepting, again, balance, causes, files, findings, geopackage, land, losses, naming, preparing, previous, recipe, rounding
 
 TABLES = ("parcels.csv", "covers.csv", "classes.csv")
 FINDINGS = "prepared.csv"
@@ -127,7 +127,9 @@ class Run:
         if self.before is None:
             self.before = files.aside(self.path(FINDINGS))
         findings.write(work.findings, os.path.join(self.made, FINDINGS), self.accept)
-        recipe.put(self.made, self.words.out, [FINDINGS])
+        with geopackage.anew(os.path.join(self.made, losses.LAYERS), work.epsg) as package:
+            findings.put(work.findings, self.accept, package)
+        recipe.put(self.made, self.words.out, [FINDINGS, losses.LAYERS])
 
     def tell_before(self):
         """Removes the table of the run before, where this one has the same, or says where it is."""
@@ -189,7 +191,7 @@ class Run:
 
     def report(self, work, seen, whole):
         return losses.report(work.layers, self.words.out, self.accept, self.say, work.epsg, work.counts, whole, self.made, seen=seen, between=self.words.between, refusal=recipe.unwritten(self.words.out),
-                             of_gaps=causes.OfRows(work, whole))
+                             of_gaps=causes.OfRows(work, whole), found_before=work.findings)
 
     def make_classes(self, work, classes):
         """Writes the table of classes, or says which rows it would have."""

@@ -3,11 +3,12 @@
 from __future__ import annotations
 
 from shapely import wkb as shapely_wkb
+from shapely.errors import ShapelyError
 from shapely.validation import explain_validity
 
 from . import land, progress, systems, unforeseen, wkb
 from .boxes import Boxes
-from .conflicts import enclosed_by, members_of, polygons_by
+from .conflicts import doubtful, enclosed_by, members_of, polygons_by
 from .findings import NOTES, Finding
 from .printing import counted
 from .sizes import areas_of
@@ -28,12 +29,12 @@ class Preparation:
         self.counts = {name: len(layer.rows) for name, layer in layers.items()}
         self.shapeless = []  # parcels without a shape that can be used, each with its finding
 
-    def find(self, kind, layer, row, words, done="left out", is_mended=False):
-        """A finding about a row, or about a layer. What is not mended without asking has its area and place."""
+    def find(self, kind, layer, row, words, done="left out", is_mended=False, blob=None):
+        """A finding about a row, or about a layer. What is not mended without asking has its area, its place and its polygons, the row's own or those given."""
         name = row[KEYS[layer]] if row and layer in KEYS else ""
-        area, place = (None, None) if is_mended or not row else size_of(row)
+        area, place, own = (None, None, None) if is_mended or not row else looked_at(row)
         number, key = (row.number, self.layers[layer].key) if row else (None, "row")
-        self.findings.append(Finding(kind, layer, number, name, words, done, is_mended, area, place, key))
+        self.findings.append(Finding(kind, layer, number, name, words, done, is_mended, area, place, key, blob or own, row))
 
     def grave(self):
         return [finding for finding in self.findings if finding.is_grave()]
@@ -45,7 +46,8 @@ class Preparation:
         """Places in conflict that are settled where that is accepted, found before any rounding."""
         for loss in losses:
             rows, key = " ".join(map(str, loss.rows)) or None, self.layers[loss.layer].key
-            self.findings.append(Finding(loss.kind, loss.layer, rows, " ".join(loss.names), f"{loss.width:.3f} m wide: {loss.words}", "settled", False, loss.area, loss.place(), key))
+            words = f"{loss.width:.3f} m wide: {loss.words}"
+            self.findings.append(Finding(loss.kind, loss.layer, rows, " ".join(loss.names), words, "settled", False, loss.area, loss.place(), key, loss.blob_of_polygons(), width=loss.width))
 
     # Tables and columns.
 
@@ -183,8 +185,10 @@ class Preparation:
         if mended.is_empty:
             self.without_shape("invalid", name, row, f"{why}, and nothing of it has an area")
             return False
-        enclosed, row.found = enclosed_by(row.found.members).area, wkb.Found(members_of(mended), row.found.notes)
-        self.find("invalid", name, row, why, f"made valid: {mended.area:.3f} m2 of the {max(enclosed, mended.area):.3f} that its border encloses")
+        members, enclosed = row.found.members, enclosed_by(row.found.members)
+        row.found = wkb.Found(members_of(mended), row.found.notes)
+        whole = wkb.written(members_of(doubtful(members, enclosed, mended)))
+        self.find("invalid", name, row, why, f"made valid: {mended.area:.3f} m2 of the {max(enclosed.area, mended.area):.3f} that its border encloses", blob=whole)
         return True
 
     def taken_from_neighbours(self, mended):
@@ -214,14 +218,24 @@ def take_shapes(rows, transformed):
             row.found, row.why, row.place = new.found, f"{new.why}, after it was transformed", None
 
 
-def size_of(row):
-    """The area of a row's shape by its points, where it is known, and a place in it."""
+def looked_at(row):
+    """The area of a row's shape by its points, where it is known, a place in it, and its polygons as well-known binary: where it crosses itself those that are doubtful."""
     if row.found is None:
-        return None, row.place
+        return None, row.place, None
     box = row.found.box()
     shape = shapely_wkb.loads(row.found.blob)
     try:
         inner = shape.representative_point() if shape.is_valid else None
     except ValueError:
         inner = None
-    return areas_of([row.found])[0], (inner.x, inner.y) if inner else ((box[0] + box[2]) / 2, (box[1] + box[3]) / 2)
+    blob = row.found.blob if shape.is_valid else blob_of_doubtful(row.found.members) if row.found.count() <= MOST_POINTS else None
+    return areas_of([row.found])[0], (inner.x, inner.y) if inner else ((box[0] + box[2]) / 2, (box[1] + box[3]) / 2), blob
+
+
+def blob_of_doubtful(members):
+    """Where polygons that cross themselves may have land, as well-known binary; None where that has no area, or cannot be worked out."""
+    try:
+        enclosed = enclosed_by(members)
+        return wkb.written(found) if (found := members_of(doubtful(members, enclosed, polygons_by(members)))) else None
+    except (ShapelyError, ValueError):
+        return None

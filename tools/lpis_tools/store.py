@@ -16,7 +16,8 @@ ROWS = """
 CREATE TABLE row (id INTEGER PRIMARY KEY, is_cover INTEGER, number, name TEXT, parcel TEXT, class TEXT, is_odd INTEGER, is_kept INTEGER, is_joined INTEGER,
   area REAL, points INTEGER, why TEXT, x REAL, y REAL, left REAL, low REAL, right REAL, high REAL);
 CREATE TABLE shape (id INTEGER PRIMARY KEY, shape BLOB, read BLOB);
-CREATE TABLE finding (seq INTEGER PRIMARY KEY, step INTEGER, place REAL, is_shapeless INTEGER, kind TEXT, layer TEXT, number, name TEXT, words TEXT, done TEXT, is_mended INTEGER, area REAL, x REAL, y REAL, key TEXT);
+CREATE TABLE finding (seq INTEGER PRIMARY KEY, step INTEGER, place REAL, is_shapeless INTEGER, kind TEXT, layer TEXT, number, name TEXT, words TEXT, done TEXT, is_mended INTEGER, area REAL, x REAL, y REAL, key TEXT,
+  blob BLOB, final TEXT, width REAL, of INTEGER);
 """
 WHOLE = """
 CREATE VIRTUAL TABLE box USING rtree(id, left, right, low, high);
@@ -126,18 +127,25 @@ class Findings:
         self.base, self.step, self.place, self.after = base, 0, 0.0, 0.0
 
     def append(self, finding):
-        self.base.execute("INSERT INTO finding VALUES (NULL, ?, ?, 0, ?, ?, ?, ?, ?, ?, ?, ?, ?, ?, ?)", (self.step, self.place, *fields_of(finding)))
+        self.base.execute(f"INSERT INTO finding VALUES (NULL, ?, ?, 0{', ?' * FIELDS})", (self.step, self.place, *fields_of(finding, getattr(finding.of, "id", None))))
 
     def __iter__(self):
         return self.those("1")
 
     def those(self, condition):
-        for kind, layer, number, name, words, done, is_mended, area, x, y, key in self.base.execute(f"SELECT kind, layer, number, name, words, done, is_mended, area, x, y, key FROM finding WHERE {condition} ORDER BY step, place, seq"):
-            yield Finding(kind, layer, number, name, words, done, bool(is_mended), area, None if x is None else (x, y), key)
+        for kind, layer, number, name, words, done, is_mended, area, x, y, key, blob, final, width in self.base.execute(THOSE.format(condition)):
+            yield Finding(kind, layer, number, name, words, done, bool(is_mended), area, None if x is None else (x, y), key, blob, None, final, width)
 
 
-def fields_of(finding):
-    return (finding.kind, finding.layer, finding.row, finding.name, finding.words, finding.done, finding.is_mended, finding.area, *(finding.place or (None, None)), finding.key)
+FIELDS = 15
+THOSE = """SELECT kind, layer, finding.number, finding.name, words, done, is_mended, finding.area, finding.x, finding.y, key, blob,
+  CASE WHEN final = '' AND of IS NOT NULL THEN (SELECT name FROM row WHERE id = of) ELSE final END, width FROM finding WHERE {} ORDER BY step, place, seq"""
+
+
+def fields_of(finding, of):
+    """A finding's values in its table, about the row with that id."""
+    return (finding.kind, finding.layer, finding.row, finding.name, finding.words, finding.done, finding.is_mended, finding.area, *(finding.place or (None, None)), finding.key, finding.blob,
+            finding.final, finding.width, of)
 
 
 def merged(path, parts):
@@ -161,7 +169,7 @@ def filled(base, parts):
         starts.append(count)
         base.execute("INSERT INTO row SELECT id + ?, is_cover, number, name, parcel, class, is_odd, is_kept, is_joined, area, points, why, x, y, left, low, right, high FROM part.row", (count,))
         base.execute("INSERT INTO shape SELECT id + ?, shape, read FROM part.shape", (count,))
-        base.execute("INSERT INTO finding SELECT NULL, step, place + ?, is_shapeless, kind, layer, number, name, words, done, is_mended, area, x, y, key FROM part.finding ORDER BY seq", (count,))
+        base.execute("INSERT INTO finding SELECT NULL, step, place + ?1, is_shapeless, kind, layer, number, name, words, done, is_mended, area, x, y, key, blob, final, width, of + ?1 FROM part.finding ORDER BY seq", (count,))
         (rows,) = base.execute("SELECT count(*) FROM part.row").fetchone()
         count += rows
         base.commit()
