@@ -25,7 +25,7 @@ if shapely_there.is_there():
     from lpis_tools import land as land_module, rounding
 PARCELS = 110  # of the dirty source
 TABLES = ("parcels.csv", "covers.csv", "classes.csv")
-REPORTS = ("prepared.csv", "identifiers.csv", "report.csv", "report.geojson", "balance.csv", "classes.csv")
+REPORTS = ("prepared.csv", "findings.gpkg", "identifiers.csv", "report.csv", "report.geojson", "balance.csv", "classes.csv")
 
 
 def rows_of(folder, table, regions=None):
@@ -37,7 +37,7 @@ def rows_of(folder, table, regions=None):
 def assert_same(one, other, *names):
     """Files of two folders are the same."""
     for name in names:
-        assert read(one, name) == read(other, name), name
+        assert Path(one, name).read_bytes() == Path(other, name).read_bytes(), name
 
 
 def workers_of(folder):
