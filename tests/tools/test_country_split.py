@@ -12,7 +12,8 @@ import pytest
 from lpis_helpers.calls import ended_with, tool
 from lpis_helpers.country_case import CLASSES, HEADS, Case, Land, country, lines, read, wkt, write, write_text
 from lpis_helpers import judged_country as judged
-from lpis_tools import countries, parting, splitting, streams, tiles
+from lpis_tools import countries, parting, placing, splitting, streams, tiles
+from lpis_tools.trouble import Trouble
 
 
 def changed(told):
@@ -190,10 +191,11 @@ class TestSplits(Case):
             with pytest.raises(error):
                 splitting.split(Changing(self.source, name, edit), self.out, parting.Most(12, 10**6, 10**6), False, lambda words: None)
             assert self.times() == before
-            assert [file for _, _, files in os.walk(self.out) for file in files if file.endswith(".new")] == []
-        with unittest.mock.patch.object(splitting, "settle", fails), pytest.raises(OSError):
-            splitting.split(streams.Folder(self.source), self.out, parting.Most(12, 10**6, 10**6), False, lambda words: None)
-        assert not os.path.exists(os.path.join(self.out, "split.txt"))  # tables of two sources are compared with none
+            assert [name for name in os.listdir(self.out) if name.startswith(".")] == []
+        counts = read(self.out, "split.txt")
+        with unittest.mock.patch.object(placing.Move, "go", fails), pytest.raises(Trouble, match="stands there still"):
+            splitting.split(streams.Folder(self.source), self.out, parting.Most(5, 10**6, 10**6), True, lambda words: None)
+        assert (self.times(), read(self.out, "split.txt")) == (before, counts)
 
     def test_words(self):
         for words, status, text in ((["--version"], 0, "lpis-country "), (["--help"], 0, "usage: "), (["split", self.source, self.source], 64, "DIR is SOURCE"), (["split", "--parcels", "x", "a", "b"], 64, "usage: "),

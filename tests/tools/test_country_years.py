@@ -62,7 +62,7 @@ class TestLineage(Case):
         with pytest.raises(streams.Trouble, match="2 rows a region are too few"):
             splitting.split(streams.Folder(self.source), self.out, MOST, False, lambda words: None)
         assert self.lineage() == before
-        assert [file for _, _, files in os.walk(self.out) for file in files if file.endswith(".new")] == []
+        assert [name for name in os.listdir(self.out) if name.startswith(".")] == []
 
     def test_none(self):
         os.remove(os.path.join(self.source, "lineage.csv"))

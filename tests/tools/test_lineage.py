@@ -99,7 +99,7 @@ class TestProposals(Years):
             assert (64, ["a,a1,"], True) == (ran.returncode, self.read("new", "lineage.csv"), told in ran.stderr), ran.stderr
         for name, rows, error in (("lineage.csv", (), FileExistsError), ("half.csv", (1 / 0 for _ in "a"), ZeroDivisionError)):
             with pytest.raises(error):
-                proposing.write_rows(os.path.join(new, name), rows)
+                proposing.write(os.path.join(new, name), os.path.join(new, "report.csv"), (), rows, None)
         assert (["lineage.csv", "parcels.csv"], ["a,a1,"]) == (sorted(os.listdir(new)), self.read("new", "lineage.csv"))
 
     def test_trouble_is_no_traceback(self):

@@ -7,7 +7,7 @@ import os
 import shutil
 from collections import Counter
 
-from . import again, causes, engines, files, gathering, jobs, land, last_year, losses, naming, parts, passes, prepared, progress, splitting, store, streams
+from . import again, causes, engines, files, gathering, jobs, land, last_year, losses, naming, parts, passes, placing, prepared, progress, splitting, store, streams
 from .printing import counted
 
 
@@ -177,10 +177,18 @@ class Run(prepared.Run):
         """Splits the tables into regions; the balance of the folder stays that from the source to the tables."""
         words = self.words
         if words.tables:
-            os.makedirs(words.tables, exist_ok=True)
-            for name in prepared.TABLES:
-                with files.beside(os.path.join(words.tables, name)) as new:
-                    shutil.copyfile(os.path.join(self.made, name), new)
-        lines = splitting.split(streams.Folder(self.made), words.out, words.most, words.anew, self.say, words.lineage)
-        whole.write(words.out)
+            self.put_whole(words.tables)
+        lines = splitting.split(streams.Folder(self.made), words.out, words.most, words.anew, self.say, words.lineage, os.path.join(self.made, "regions"), whole)
         print(lines[-1])
+
+    def put_whole(self, folder):
+        """The tables of the whole country in a folder of their own."""
+        os.makedirs(folder, exist_ok=True)
+        placing.end(folder)
+        made = files.folder(folder, ".prepare-")
+        try:
+            for name in prepared.TABLES:
+                shutil.copyfile(os.path.join(self.made, name), os.path.join(made, name))
+            placing.put(made, folder, prepared.TABLES)
+        finally:
+            placing.clear(made)

@@ -75,6 +75,7 @@ def compare(folder, lines):
 def publish(command, said, say):
     """Answers 0 where the country is published."""
     progress.Quiet.tool = "country"
+    ending.tell("nothing was published")
     yearly.look_at_places(said, "the certificates, and what is printed,")
     kept = Kept(said.folder, said.year)
     try:
@@ -104,7 +105,7 @@ def publish(command, said, say):
             print(answer(command, ["exact-country", said.register, said.folder, cert], False, progress.Bytes("country", "marked rows", size + MARKED * size_of_parcels))[-1], end="", flush=True)
             options = ["--exact", cert]
         say(f"keeping a copy of the country for {kept.place}")
-        with kept.copied([*files, *(["exact.txt"] if cert else [])]):
+        with kept.copied([*files, *(["exact.txt"] if cert else [])]), yearly.publishing(said):
             say("publishing the country")
             lines = answer(command, ["publish-country", said.register, str(said.year), said.folder, *options], True, progress.Bytes("country", "publishing", size + (LATER if last else FIRST) * size_of_parcels))
             printed = yearly.write(os.path.join(said.folder, f"published-{said.year}.txt"), "".join(lines).encode())

@@ -2,8 +2,11 @@
 
     ending.listen()             from now on INT, TERM and HUP end all of them, and then raise `Stopped`
     ending.run, ending.start    as `subprocess.run` and `subprocess.Popen`, and never after such a signal
+    with ending.held()          what is done to its end: a signal that comes meanwhile ends the programs, and is raised behind it
+    ending.tell(words)          how far the tool is, which such a signal tells
 """
 
+import contextlib
 import os
 import signal
 import subprocess
@@ -16,20 +19,43 @@ SIGNALS = (signal.SIGINT, signal.SIGTERM, signal.SIGHUP)
 STEPS = ((0, signal.SIGINT), (1, signal.SIGTERM), (10, signal.SIGKILL))
 
 _starting = threading.RLock()
-_stops = []
+_stops, _held = [], []
+_said = {"state": "", "last": None}
 
 
 class Stopped(KeyboardInterrupt):
     """A signal has come."""
 
     def __init__(self, number):
-        super().__init__(f"stopped by {signal.Signals(number).name}")
+        state = _said["state"]
+        super().__init__(f"stopped by {signal.Signals(number).name}" + (f": {state}" if state else ""))
         self.status = 128 + number
 
 
 def stopped():
     """The signal that has come, as an exception, or None."""
     return Stopped(_stops[0]) if _stops else None
+
+
+def tell(words):
+    _said["state"] = words
+
+
+@contextlib.contextmanager
+def held():
+    _held.append(True)
+    try:
+        yield
+    finally:
+        _held.pop()
+        if _stops and not _held:
+            heard(_stops[0])
+
+
+def heard(number):
+    if _said["last"]:
+        _said["last"](Stopped(number))
+    raise Stopped(number)
 
 
 def start(words, **more):
@@ -63,10 +89,10 @@ def listen(last=None):
         with _starting:
             _stops.append(number)
         end_programs()
-        if last:
-            last(Stopped(number))
-        raise Stopped(number)
+        if not _held:
+            heard(number)
 
+    _said["last"] = last
     for number in SIGNALS:
         if signal.getsignal(number) is not signal.SIG_IGN:
             signal.signal(number, stop)

@@ -1,6 +1,7 @@
 """Files that take their place only when they are whole, and that are never written through a link which lies in their place.
 
     with files.anew(path) as file      beside the place under a name that nobody can foresee, and then renamed; the mode of what stood there is kept
+    with files.together()              files that are made in it take their place at its end
     with files.fresh(path) as file     in its place from the start; what lies there is removed first, and a link is not followed
     with files.more(path) as file      goes on with a file of one's own; a link is not followed
     files.own(html=path)               refuses a path where something else stands than what the tool writes there
@@ -21,6 +22,7 @@ import stat
 import string
 import tempfile
 
+from . import ending
 from .trouble import Trouble
 
 NEW = ".new"  # how the names of files end that are not whole
@@ -33,7 +35,7 @@ HEADS = {"html": b'<!DOCTYPE html>\n<html lang="en">', "json": b'{\n "date": ', 
 
 PART = 1 << 20  # bytes at once
 
-_unfinished, _alone = set(), {}
+_unfinished, _waiting, _alone = set(), [], {}
 
 
 def is_device(path):
@@ -81,10 +83,29 @@ def beside(path, mode=None):
             os.fchmod(handle, mode)
         os.close(handle)
         yield name
-        os.replace(name, path)
+        if _waiting:
+            _waiting[-1].append((name, path))
+        else:
+            os.replace(name, path)
     finally:
-        remove(name)
-        _unfinished.discard(name)
+        if not (_waiting and (name, path) in _waiting[-1]):
+            remove(name)
+            _unfinished.discard(name)
+
+
+@contextlib.contextmanager
+def together():
+    """Files that are whole wait for each other, and no signal comes between them."""
+    _waiting.append([])
+    try:
+        yield
+        with ending.held():
+            for name, path in _waiting[-1]:
+                os.replace(name, path)
+    finally:
+        for name, _ in _waiting.pop():
+            remove(name)
+            _unfinished.discard(name)
 
 
 @contextlib.contextmanager

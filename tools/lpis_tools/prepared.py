@@ -4,10 +4,9 @@ from __future__ import annotations
 
 import filecmp
 import os
-import shutil
 import tempfile
 
-from . import accepting, again, balance, causes, files, findings, geopackage, land, losses, naming, preparing, previous, recipe, rounding
+from . import accepting, again, balance, causes, files, findings, geopackage, land, losses, naming, placing, preparing, previous, recipe, rounding
 
 TABLES = ("parcels.csv", "covers.csv", "classes.csv")
 FINDINGS = "prepared.csv"
@@ -28,6 +27,7 @@ class Run:
         self.given = naming.given_identifiers(words.identifiers)
         os.makedirs(words.out, exist_ok=True)
         files.alone(words.out)
+        placing.end(words.out)
         self.made, self.spare = files.folder(words.out, ".prepare-"), tempfile.mkdtemp()
         self.stop_at_once()
 
@@ -38,7 +38,7 @@ class Run:
         if self.before:
             self.tell_before()
         for folder in (self.made, self.spare):
-            shutil.rmtree(folder, ignore_errors=True)
+            placing.clear(folder)
 
     def path(self, name):
         return os.path.join(self.words.out, name)
@@ -118,7 +118,7 @@ class Run:
         if names and (any(names.renamed.values()) or os.path.exists(self.path("identifiers.csv"))):
             naming.write_identifiers(names.renamed, os.path.join(self.made, "identifiers.csv"))
             files.append("identifiers.csv")
-        recipe.put(self.made, self.words.out, files)
+        placing.put(self.made, self.words.out, files)
         for line in findings.lines_of(work.findings, self.accept):
             print(line)
 
@@ -129,7 +129,7 @@ class Run:
         findings.write(work.findings, os.path.join(self.made, FINDINGS), self.accept)
         with geopackage.anew(os.path.join(self.made, losses.LAYERS), work.epsg) as package:
             findings.put(work.findings, self.accept, package)
-        recipe.put(self.made, self.words.out, [FINDINGS, losses.LAYERS])
+        placing.put(self.made, self.words.out, [FINDINGS, losses.LAYERS])
 
     def tell_before(self):
         """Removes the table of the run before, where this one has the same, or says where it is."""
@@ -203,4 +203,4 @@ class Run:
 
     def put(self, _whole):
         """Puts the tables in their place; the balance stands there."""
-        recipe.put(self.made, self.words.out, [name for name in TABLES if os.path.exists(os.path.join(self.made, name))])
+        placing.put(self.made, self.words.out, [name for name in TABLES if os.path.exists(os.path.join(self.made, name))], f"the tables are written in {self.words.out}")

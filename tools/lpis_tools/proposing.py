@@ -1,13 +1,12 @@
 """Proposes rows of lineage from the land that dropped parcels and new ones share: of each dropped parcel by the new ones whose boxes meet its own alone. Wants
 Shapely."""
 
-import contextlib
 import errno
 import os
 from dataclasses import dataclass
 from functools import lru_cache
 
-from . import cells, files
+from . import cells, files, placing
 from .changes import Changes
 from .years import Row
 
@@ -120,17 +119,23 @@ def are_exact(groups, ask):
     return ask.answers("exact", [(group.is_merge, group.name, group.parts) for group in groups], "comparing splits and merges")
 
 
-@contextlib.contextmanager
-def new_table(path):
-    """A table that takes its place when it is whole; one that is there by then stays, and is an error."""
-    with files.anew(path, newline="") as file:
-        yield cells.Writer(file)
-        if os.path.lexists(path):
-            raise FileExistsError(errno.EEXIST, os.strerror(errno.EEXIST), path)
+def write(path, report, found, rows, changes):
+    """Both tables take their place together; one that is there by then stays, and is an error."""
+    folder, names = os.path.dirname(os.path.abspath(path)), [os.path.basename(each) for each in (path, report)]
+    made = files.folder(folder, ".lineage-")
+    try:
+        write_rows(os.path.join(made, names[0]), rows)
+        write_report(os.path.join(made, names[1]), found, rows, changes)
+        for there in filter(os.path.lexists, (path, report)):
+            raise FileExistsError(errno.EEXIST, os.strerror(errno.EEXIST), there)
+        placing.put(made, folder, names, f"{path} and {report} are written")
+    finally:
+        placing.clear(made)
 
 
 def write_rows(path, rows):
-    with new_table(path) as writer:
+    with files.anew(path, newline="") as file:
+        writer = cells.Writer(file)
         writer.writerow(["old", "new", "exact"])
         writer.writerows([row.old, row.new, int(row.is_marked)] for row in rows)
 
@@ -138,7 +143,8 @@ def write_rows(path, rows):
 def write_report(path, found, rows, changes):
     """All that dropped parcels share with new ones, and what is proposed of it."""
     proposed = {(row.old, row.new): row for row in rows}
-    with new_table(path) as writer:
+    with files.anew(path, newline="") as file:
+        writer = cells.Writer(file)
         writer.writerow(REPORT)
         for fate in found:
             kind = changes.kind(fate.name) or ""

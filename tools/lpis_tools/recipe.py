@@ -1,12 +1,11 @@
-"""What `prepare` and `compare` share: words, signals, files that take their place all or none; and how `compare` goes from a source and its tables to the report."""
+"""What `prepare` and `compare` share: words and signals; and how `compare` goes from a source and its tables to the report."""
 
 import os
-import shutil
 import sys
 import tempfile
 from collections import Counter
 
-from . import accepting, ending, files, land, progress, shapely_there, shares, sheets, unforeseen, words
+from . import accepting, ending, files, land, placing, progress, shapely_there, shares, sheets, unforeseen, words
 from .printing import counted
 
 MOST_WIDE = 100.0  # metres
@@ -58,11 +57,12 @@ def stop_at_once(name, *folders):
     """A signal ends the tool from now on, what it runs and the folders."""
     def last(stopped):
         for folder in folders:
-            shutil.rmtree(folder, ignore_errors=True)
+            placing.clear(folder)
         files.forget()
-        os.write(sys.stderr.fileno(), f"{name}: {stopped}: no table is written\n".encode())
+        os.write(sys.stderr.fileno(), f"{name}: {stopped}\n".encode())
         os._exit(stopped.status)
 
+    ending.tell("no table is written")
     ending.listen(last)
 
 
@@ -92,21 +92,6 @@ def compared(name, text):
 def unwritten(out):
     """What is said where no table takes its place."""
     return f"no table is written in {out}" + (" (those that stand there are of an earlier run)" if os.path.exists(os.path.join(out, "parcels.csv")) else "")
-
-
-def put(made, out, names):
-    """Puts files in their place, all or none: the old ones are put aside first, and back where that fails."""
-    aside = tempfile.mkdtemp(dir=made)
-    try:
-        for name in names:
-            if os.path.exists(os.path.join(out, name)):
-                os.replace(os.path.join(out, name), os.path.join(aside, name))
-        for name in names:
-            files.settle(os.path.join(made, name), os.path.join(out, name), files.mode_of(os.path.join(aside, name)))
-    except OSError:
-        for name in os.listdir(aside):
-            os.replace(os.path.join(aside, name), os.path.join(out, name))
-        raise
 
 
 def suited(layers):

@@ -9,7 +9,7 @@ import re
 import zlib
 from array import array
 
-from . import balance, files, parting, progress, tiles
+from . import balance, ending, files, parting, placing, progress, tiles
 from .areas import AREA, decimal
 from .printing import counted
 from .streams import Folder, OneFile, Stream, Trouble, ended, measured, shown
@@ -18,10 +18,9 @@ MOST_TOLD = 20
 BUFFERED = 64_000_000  # letters, until they are written
 GROWN = 1.05  # a tiling that stands is used again while no region is over the limits by more
 NAMES = ("parcels", "covers", "classes")
-WRITTEN = (*NAMES, "lineage")
 MOST_ROWS = 200_000  # of a table
 COUNTS = "split.txt"
-NEW = files.NEW  # behind the name of a file that is to take the place of another
+MADE = ".split-"  # the folder in which all files are made before they take their place
 MASK = (1 << 128) - 1
 PARCELS = ("parcels", "")
 CHANGED = "the source changed while it was read; nothing was changed, run it again"
@@ -166,14 +165,14 @@ def tiling_of(land, out, most, anew, say):
 
 
 class Writer:
-    """One table of all regions. Rows are gathered and then written, so that few files are open, into files beside those that stand."""
+    """One table of all regions. Rows are gathered and then written, so that few files are open."""
 
-    def __init__(self, out, folders, name, header):
-        self.paths = [os.path.join(out, folder, f"{name}.csv") for folder in folders]
+    def __init__(self, made, folders, name, header):
+        self.names = [os.path.join(folder, f"{name}.csv") for folder in folders]
+        self.paths = [os.path.join(made, each) for each in self.names]
         self.rows, self.size = {}, 0
         for path in self.paths:
-            with files.fresh(path + NEW, encoding="latin-1", newline="") as file:
-                file.write(header)
+            write(path, header)
 
     def add(self, regions, raw):
         for region in regions:
@@ -184,108 +183,100 @@ class Writer:
 
     def flush(self):
         for region, rows in self.rows.items():
-            with files.more(self.paths[region] + NEW, encoding="latin-1", newline="") as file:
+            with files.more(self.paths[region], encoding="latin-1", newline="") as file:
                 file.writelines(rows)
         self.rows, self.size = {}, 0
 
 
-def settle(path):
-    """Puts a new file in the place of that which stands, where it differs, so that one that is the same keeps its time; answers whether it does."""
-    if os.path.exists(path) and filecmp.cmp(path, path + NEW, shallow=False):
-        os.remove(path + NEW)
-        return False
-    files.settle(path + NEW, path)
-    return True
-
-
-def write_new(path, text):
-    with files.fresh(path + NEW, encoding="latin-1", newline="") as file:
-        file.write(text)
-    return path
-
-
 def write(path, text):
-    return settle(write_new(path, text))
+    os.makedirs(os.path.dirname(path), exist_ok=True)
+    with files.fresh(path, encoding="latin-1", newline="") as file:
+        file.write(text)
 
 
-def write_regions(land, tiling, places, out, say):
-    """The new tables of all regions beside those that stand; answers their paths."""
-    paths = []
+def write_regions(land, tiling, places, made, say):
+    """The new tables of all regions in a folder; answers their names in it."""
+    names = []
     for name in ("parcels", "covers"):
         say(f"writing the {name} of {counted(len(tiling.folders), 'region')}")
         stream = Stream(land.source, name, ["parcel", "parcel"])
-        writer = Writer(out, tiling.folders, name, stream.header)
-        paths += writer.paths
+        writer = Writer(made, tiling.folders, name, stream.header)
+        names += writer.names
         for row, (parcel, _), raw in tracked(land.source, name, stream):
             if parcel not in land.numbers:
                 raise Trouble(f"{name}.csv row {row}: parcel {shown(parcel)}: {CHANGED}")
             writer.add(places.of(land.numbers[parcel]), ended(raw))
         writer.flush()
     classes = "".join(land.source.lines("classes"))
-    return paths + [write_new(os.path.join(out, folder, "classes.csv"), classes) for folder in ("", *tiling.folders)]
+    of_classes = [os.path.join(folder, "classes.csv") for folder in ("", *tiling.folders)]
+    for each in of_classes:
+        write(os.path.join(made, each), classes)
+    return names + of_classes
 
 
-def write_lineage(path, folders, out, say):
-    """The new tables of lineage: the source's rows, the first to the first region, as many to each as a table may have. Answers their paths, and how many
+def write_lineage(path, folders, made, say):
+    """The new tables of lineage: the source's rows, the first to the first region, as many to each as a table may have. Answers their names, and how many
     rows there are."""
     stream, count = None, 0
     if path:
         say(f"dealing out the rows of {path}")
         stream = Stream(OneFile(path), "lineage", ["old", "new"])
-    writer = Writer(out, folders, "lineage", stream.header if stream else "old,new\n")
+    writer = Writer(made, folders, "lineage", stream.header if stream else "old,new\n")
     for count, _, raw in stream or ():
         region = (count - 1) // MOST_ROWS
         if region == len(folders):
             raise Trouble(f"{path}: {MOST_ROWS} rows a region are too few: it has more")
         writer.add((region,), ended(raw))
     writer.flush()
-    return writer.paths, count
+    return writer.names, count
 
 
 def deal(path, folders, out, say):
     """Deals out a table of lineage to the regions of a country that is split; answers how many rows it has."""
-    try:
-        paths, count = write_lineage(path, folders, out, say)
-        for each in paths:
-            settle(each)
-    finally:
-        clear(out, folders)
+    with made_in(out) as made:
+        names, count = write_lineage(path, folders, made, say)
+        settle(made, out, names, f"the tables of lineage of {out} are those of {path}")
     return count
 
 
-def clear(out, folders):
-    """Removes tables that did not take their place."""
-    for folder in ("", *folders):
-        for name in WRITTEN:
-            with contextlib.suppress(OSError):
-                os.remove(os.path.join(out, folder, f"{name}.csv{NEW}"))
+@contextlib.contextmanager
+def made_in(out):
+    """A folder for new tables."""
+    made = files.folder(out, MADE)
+    try:
+        yield made
+    finally:
+        placing.clear(made)
 
 
-class New(Folder):
-    """The tables that were written beside those of a region."""
+def settle(made, out, names, then):
+    """Puts new files in the place of those that stand, where they differ, so that one that is the same keeps its time; answers which do."""
+    changed = [name for name in names if not (os.path.exists(place := os.path.join(out, name)) and filecmp.cmp(place, os.path.join(made, name), shallow=False))]
+    for folder in {os.path.dirname(os.path.join(out, name)) for name in changed}:
+        os.makedirs(folder, exist_ok=True)
+    placing.put(made, out, changed, then)
+    return changed
 
-    ENDING = f".csv{NEW}"
 
-
-def sums_of(land, tiling, places, out):
-    """What the regions have, each row in the first region of its parcel."""
+def sums_of(land, tiling, places, made):
+    """What the new tables of the regions have, each row in the first region of its parcel."""
     sums = Sums()
     for region, folder in enumerate(progress.each(tiling.folders, "country", "looking for every row", len(tiling.folders), "regions", 1)):
-        new = New(os.path.join(out, folder))
+        new = Folder(os.path.join(made, folder))
         for _, (name, wkt), raw in Stream(new, "parcels", ["parcel", "wkt"]):
             if places.first[land.numbers[name]] == region:
                 sums.add("parcels", raw, PARCELS, measured(wkt)[1])
         for _, (name, land_class, wkt), raw in Stream(new, "covers", ["parcel", "class", "wkt"]):
             if places.first[land.numbers[name]] == region:
                 sums.add("covers", raw, ("covers", land_class or "(no class)"), measured(wkt)[1])
-    for _, _, raw in Stream(New(out), "classes", ["class", "class"]):
+    for _, _, raw in Stream(Folder(made), "classes", ["class", "class"]):
         sums.add("classes", raw, None, 0)
     return sums
 
 
-def judge(land, tiling, places, out):
+def judge(land, tiling, places, made):
     """The balance of the source and the regions; where a row is not there as it was, nothing is changed."""
-    found = sums_of(land, tiling, places, out)
+    found = sums_of(land, tiling, places, made)
     for name in NAMES:
         if (found.rows[name], found.bytes[name]) != (land.sums.rows[name], land.sums.bytes[name]):
             raise Trouble(f"{name}.csv: {land.sums.rows[name]} rows were read, and the regions have {found.rows[name]}: {CHANGED}")
@@ -303,28 +294,26 @@ def strays(out, tiling):
     return sorted(name for name in os.listdir(out) if re.fullmatch("r[0-9]{4,}", name) and name not in names)
 
 
-def split(source, out, most, anew, say, lineage=None):
-    """Splits a source, with its table of lineage or another one; answers the lines that tell what was made."""
+def split(source, out, most, anew, say, lineage=None, made=None, of_source=None):
+    """Splits a source, with its table of lineage or another one; answers the lines that tell what was made. `made` is the folder in which the new files are made, where
+    there is one; `of_source` the balance that takes its place with them, where this source was made of another."""
+    ending.tell("no table is written")
     land = Land(source, say)
     tiling, places = tiling_of(land, out, most, anew, say)
     os.makedirs(out, exist_ok=True)
     files.alone(out)
-    for folder in tiling.folders:
-        os.makedirs(os.path.join(out, folder), exist_ok=True)
-    try:
-        paths = write_regions(land, tiling, places, out, say)
-        more, rows = write_lineage(lineage or source.lineage(), tiling.folders, out, say)
-        paths += more
+    placing.end(out)
+    with contextlib.nullcontext(made) if made else made_in(out) as made:
+        names = write_regions(land, tiling, places, made, say)
+        more, rows = write_lineage(lineage or source.lineage(), tiling.folders, made, say)
         say("looking for every row of the source in the regions")
-        whole = judge(land, tiling, places, out)
-        files.remove(os.path.join(out, COUNTS))  # who is stopped from here on leaves tables of two sources, which nothing is compared with
-        changed = sum(map(settle, paths))
-    finally:
-        clear(out, tiling.folders)
-    write(os.path.join(out, COUNTS), f"{land.sums.counts()}\n")
-    write(os.path.join(out, "country.txt"), tiling.text())
-    whole.write(out)
+        whole = judge(land, tiling, places, made)
+        for name, text in ((COUNTS, f"{land.sums.counts()}\n"), (tiles.FILE, tiling.text())):
+            write(os.path.join(made, name), text)
+        (of_source or whole).write(made)
+        tables = {*names, *more}
+        changed = tables.intersection(settle(made, out, [*names, *more, balance.FILE, COUNTS, tiles.FILE], f"the tables are written in {out}"))
     if others := strays(out, tiling):
         say(f"folders of a split before, which are no regions now: {' '.join(others[:MOST_TOLD])}")
     counts = f"parcels {len(land.boxes)} pieces {land.sums.rows['covers']}"
-    return [*whole.words(), f"regions {len(tiling.folders)} {counts} guests {len(places.several)} (parcels of several regions) rows {places.rows()} lineage {rows} (rows dealt out) files changed {changed} (the others are as they were)"]
+    return [*whole.words(), f"regions {len(tiling.folders)} {counts} guests {len(places.several)} (parcels of several regions) rows {places.rows()} lineage {rows} (rows dealt out) files changed {len(changed)} (the others are as they were)"]

@@ -5,7 +5,7 @@ import re
 
 from .streams import Trouble
 
-HEAD = "lpis-country 1"
+FILE, HEAD = "country.txt", "lpis-country 1"
 FAR = 20_000_000_000
 MOST_REGIONS = 10_000
 NAME = re.compile(r"[A-Za-z0-9_-]{1,100}")
@@ -69,7 +69,7 @@ class Tiling:
 
 def of_folder(folder):
     """The tiling that stands in a country's folder."""
-    path = os.path.join(folder, "country.txt")
+    path = os.path.join(folder, FILE)
     if not os.path.exists(path):
         raise FileNotFoundError(f"{path} is not there: {folder} is no country that was split")
     with open(path, encoding="latin-1", newline="") as file:

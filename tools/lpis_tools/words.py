@@ -9,7 +9,7 @@ import sqlite3
 import subprocess
 import sys
 
-from . import databases, ending, installed, printing, program, unforeseen
+from . import databases, ending, installed, placing, printing, program, unforeseen
 from .printing import readable
 from .trouble import Trouble
 
@@ -75,6 +75,7 @@ def ended(name, main, *troubles):
     printing.begin()
     ending.listen()
     try:
+        placing.end_all(sys.argv[1:])
         status = outcome(main)
         printing.finish()
         return status

@@ -1,5 +1,6 @@
 """What tools/year and `tools/country publish` share: what is looked at before a year is published, the backup, a command's answer, and the line of the log."""
 
+import contextlib
 import datetime
 import getpass
 import os
@@ -90,6 +91,26 @@ def told(command, *said):
             ending.run([sys.executable, os.path.join(program.HERE, "explain"), folder], input=line.encode(), check=False)
         raise Stop(f"`lpis {said[0]}` ended with status {ran.returncode}; nothing was published", ran.returncode)
     return ran.stdout
+
+
+@contextlib.contextmanager
+def publishing(said):
+    """From the publication to its line of the log no signal comes between: it ends `lpis`, and is raised behind that, with what came of it."""
+    with ending.held():
+        try:
+            yield
+        finally:
+            ending.tell(state_of(said))
+
+
+def state_of(said):
+    """Whether the year is in the register and in its log."""
+    with contextlib.suppress(Trouble, OSError):
+        if os.path.isfile(said.register) and years.last_year(said.register) == said.year:
+            lines = ledger.lines_of(said.register)
+            is_logged = bool(lines) and ledger.entry_of(lines[-1])[0].get("year") == said.year
+            return f"{said.year} is published in {said.register}, and {'its line is in the log' if is_logged else 'the log has no line of it'}"
+    return "nothing was published"
 
 
 def write(path, text):

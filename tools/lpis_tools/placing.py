@@ -1,0 +1,198 @@
+"""Files that take their place together: afterwards all of them are the new ones, or all are those that stood there.
+
+    placing.put(made, out, names)     files of the folder `made`, which is in `out` and has a name that begins with a dot, take their place in `out`
+    placing.end(out)                  ends what a run that was killed had begun there
+
+The new files are on the disk before the journal is. With the journal it is decided: the old files go aside, then the new ones come, and the journal goes. A signal
+waits for that. Where a rename fails, the old files come back. Where the process is killed, the next run of any tool that is given the folder goes on.
+"""
+
+from __future__ import annotations
+
+import contextlib
+import errno
+import fcntl
+import json
+import os
+import shutil
+import sys
+
+from . import ending, files
+from .trouble import Trouble
+
+JOURNAL = ".lpis-placing"
+OLD = ".old"  # in the folder of the new files: those that stood in their places
+HALF = "a run was stopped while its files took their place"
+
+
+class Move:
+    """Files on their way from a folder to that in which it lies; where each one is tells how far they have come."""
+
+    def __init__(self, out, made, names):
+        self.out, self.made, self.names = out, os.path.join(out, made), names
+
+    def paths(self, name):
+        """Where a file is new, where it is put, and where that goes that stood there."""
+        return tuple(os.path.join(folder, name) for folder in (self.made, self.out, os.path.join(self.made, OLD)))
+
+    def make_ready(self):
+        """Gives the new files the modes of those that stand, and has the disk write them; refuses what no file may replace."""
+        for name in self.names:
+            new, place, old = self.paths(name)
+            if os.path.isdir(place) and not os.path.islink(place):
+                raise IsADirectoryError(errno.EISDIR, os.strerror(errno.EISDIR), place)
+            mode = files.mode_of(place)
+            if mode is not None:
+                os.chmod(new, mode)
+            flush(new)
+            os.makedirs(os.path.dirname(old), exist_ok=True)
+        for folder in self.folders(self.made):
+            flush(folder)
+
+    def folders(self, top):
+        return sorted({os.path.dirname(os.path.join(top, name)) for name in self.names})
+
+    def go(self):
+        """Takes the old files away, the last of the names first, and then puts the new ones there, that one last: who reads meanwhile finds no table, and no mix."""
+        for new, place, old in map(self.paths, reversed(self.names)):
+            if os.path.lexists(new) and os.path.lexists(place):
+                os.replace(place, old)
+        for new, place, _ in map(self.paths, self.names):
+            if os.path.lexists(new):
+                os.replace(new, place)
+        for folder in self.folders(self.out):
+            flush(folder)
+
+    def undo(self):
+        """Brings back what stood there."""
+        for new, place, old in map(self.paths, self.names):
+            if not os.path.lexists(new):
+                os.replace(place, new)
+            if os.path.lexists(old):
+                os.replace(old, place)
+
+    def tried(self):
+        """Goes; where that fails, goes back, and answers why. Where it can do neither the journal stays."""
+        try:
+            return self.go()
+        except OSError as error:
+            try:
+                self.undo()
+            except OSError:
+                raise Trouble(f"{error.filename or self.out}: {error.strerror}: some files are in their place in {self.out}, and others not; the next run on it ends that") from None
+            return error
+
+    def lost(self):
+        """Files that are neither new nor in their place."""
+        return [name for name in self.names if not any(map(os.path.lexists, self.paths(name)[:2]))]
+
+
+def put(made, out, names, then=""):
+    """Puts files in their place, all or none. `then` is what a signal tells that comes from then on."""
+    names = list(names)
+    with ending.held():
+        if len(names) == 1:
+            files.settle(os.path.join(made, names[0]), os.path.join(out, names[0]))
+        elif names:
+            together(Move(out, os.path.relpath(made, out), names))
+        if then:
+            ending.tell(then)
+
+
+def together(move):
+    end(move.out)
+    move.make_ready()
+    path, handle = begun(move)
+    try:
+        failed = move.tried()
+        os.remove(path)
+    finally:
+        os.close(handle)
+    if failed:
+        raise Trouble(f"{failed.filename or move.out}: {failed.strerror}: what stood in {move.out} stands there still")
+
+
+def begun(move):
+    """The journal in its place, locked as long as it is open."""
+    path = os.path.join(move.out, JOURNAL)
+    with files.beside(path) as name:
+        handle = os.open(name, os.O_RDWR | os.O_CLOEXEC)
+        with contextlib.suppress(OSError):  # a file system without locks
+            fcntl.flock(handle, fcntl.LOCK_EX | fcntl.LOCK_NB)
+        os.write(handle, json.dumps([os.path.relpath(move.made, move.out), move.names]).encode())
+        os.fsync(handle)
+    flush(move.out)
+    return path, handle
+
+
+def end(out):
+    """Puts the files in their place that a run which was killed had made, and had begun to put there."""
+    path = os.path.join(out, JOURNAL)
+    try:
+        handle = os.open(path, os.O_RDONLY | os.O_NOFOLLOW | os.O_CLOEXEC)
+    except (FileNotFoundError, NotADirectoryError):
+        return
+    with open(handle, encoding="utf-8") as file, ending.held():
+        with contextlib.suppress(OSError):
+            fcntl.flock(file, fcntl.LOCK_EX)  # a run that lives ends it itself
+        if not is_at(path, file):
+            return
+        move = read(file, out)
+        try:
+            move.go()
+            os.remove(path)
+        except OSError as error:
+            raise Trouble(f"{out}: {HALF}, and cannot go on ({error.strerror}): run this as somebody who may write there") from None
+    shutil.rmtree(move.made, ignore_errors=True)
+    print(f"{out}: {HALF}; they are in their place now", file=sys.stderr, flush=True)
+
+
+def end_all(words):
+    """The same of all folders that a command line names, and of a country that a region is named of."""
+    for word in words:
+        folder = word.partition("=")[2] if word.startswith("-") else word
+        for place in (folder, os.path.dirname(os.path.abspath(folder))):
+            if folder and os.path.isdir(place):
+                end(place)
+
+
+def clear(made):
+    """Removes the folder of new files, but for those that a journal names."""
+    if not os.path.lexists(os.path.join(os.path.dirname(made), JOURNAL)):
+        shutil.rmtree(made, ignore_errors=True)
+
+
+def is_at(path, file):
+    try:
+        return os.path.samestat(os.stat(path), os.fstat(file.fileno()))
+    except FileNotFoundError:
+        return False
+
+
+def read(file, out):
+    """What a journal says. It moves files in its own folder alone, whoever wrote it."""
+    try:
+        made, names = json.load(file)
+        move = Move(out, made, names)
+        is_one = all(map(is_inner, [made, *names])) and made.startswith(".") and os.path.isdir(move.made) and not os.path.islink(move.made)
+    except (ValueError, TypeError, UnicodeError):
+        is_one = False
+    if not is_one or move.lost():
+        raise Trouble(f"{os.path.join(out, JOURNAL)}: {HALF}, and what it names is no longer there: remove this file, and make the tables again")
+    return move
+
+
+def is_inner(name):
+    return isinstance(name, str) and name not in ("", ".") and os.path.normpath(name) == name and not name.startswith(("..", "/"))
+
+
+def flush(path):
+    """Has the disk write a file or a folder."""
+    handle = os.open(path, os.O_RDONLY | os.O_CLOEXEC)
+    try:
+        os.fsync(handle)
+    except OSError as error:
+        if error.errno not in (errno.EINVAL, errno.EBADF):  # a file system that cannot do so of a folder
+            raise
+    finally:
+        os.close(handle)
