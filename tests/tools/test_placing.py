@@ -9,12 +9,13 @@ from pathlib import Path
 
 import pytest
 from lpis_helpers import dirty, places
+from lpis_helpers.calls import tool
 from lpis_helpers.country_case import Land
-from lpis_helpers.spare import Spare
+from lpis_helpers.spare import Spare, write_script
 from lpis_tools import files, placing, shapely_there
 from lpis_tools.trouble import Trouble
 
-DRIVER = os.path.join(places.HELPERS, "stopped_renames.py")
+DRIVER = os.path.join(places.TESTS, "lpis_helpers", "stopped_renames.py")
 SIGNALS = {"TERM": 143, "INT": 130, "HUP": 129, "KILL": -9}
 TABLES = ("parcels.csv", "covers.csv", "classes.csv")
 lacks_shapely = pytest.mark.skipif(not shapely_there.python(), reason=shapely_there.LACKING)
@@ -187,6 +188,21 @@ class TestJournals(Placed):
             other.stdout.readline()
             placing.end(self.out)
         assert self.texts()[2] == ""
+
+
+@pytest.mark.skipif(not places.BUILT, reason="the program is not built")
+class TestYears(Spare):
+    @pytest.mark.parametrize("command, words", (("publish", "2024 is published in {}, and its line is in the log"), ("cut", "nothing was published")))
+    def test_a_signal_at_a_command(self, command, words):
+        """Behind a publication the log gets its line, whatever comes."""
+        base, release, standin = self.path("lpis.db"), self.path("release"), self.path("lpis")
+        shutil.copytree(os.path.join(places.TOP, "examples", "exact", "2024"), release)
+        write_script(f'#!/bin/sh\n{places.BUILT} "$@"\nstatus=$?\n[ "$1" = {command} ] && kill -TERM $PPID\nexit $status\n', standin)
+        run = tool("year", base, "2024", release, "--new", "--year-anyway", "--lpis", standin)
+        assert (run.returncode, words.format(base) in run.stderr) == (143, True), run.stdout + run.stderr
+        assert os.path.exists(base) == (command == "publish")
+        if command == "publish":
+            assert tool("year", "--verify", base).returncode == 0
 
 
 class TestReports(Spare):
