@@ -63,8 +63,8 @@ def shape_of(tree: list, ways: list[list[Point]]) -> Shape:
             raise Unread("a ring does not end where it begins")
         if any(not abs(value) <= FAR for point in points for value in point):
             raise Unread("a coordinate is no place")
-    flat = chain.from_iterable
-    return [[(array("d", flat(points)), arcs) for points, arcs in member if points] for member in members if member]
+    shape = [[(array("d", chain.from_iterable(way)), arcs) for way, arcs in member if way] for member in members]
+    return [member for member in shape if member]
 
 
 def members_of(word: str, *parts: Any) -> list[list]:

@@ -34,7 +34,6 @@ from shapes import Point, Shape, Unread, box_of, exact, points_of, read_package,
 
 try:
     import numpy
-    from shapely.errors import ShapelyError
     from shapely.geometry import LineString, MultiLineString, MultiPolygon, Polygon
     from shapely.ops import polygonize, unary_union
 except ImportError:
@@ -604,8 +603,8 @@ def main() -> None:
     warnings.simplefilter("ignore")
     try:
         line = answer(parser.parse_args())
-    except (Trouble, OSError, sqlite3.Error, csv.Error, ShapelyError, ValueError, IndexError) as fault:
-        print(f"source.py: {fault}", file=sys.stderr)
+    except Exception as fault:  # whatever it is, it is no answer
+        print(f"source.py: {'' if isinstance(fault, Trouble) else type(fault).__name__} {fault}", file=sys.stderr)
         sys.exit(64)
     print(line)
     sys.exit(line != "yes")

@@ -66,8 +66,8 @@ _lpis_explain() { _lpis_options '--cert --register --area --points --svg --geojs
 _lpis_faults() { _lpis_options '--html --epsg --lpis --version --help'; }
 _lpis_lineage() { _lpis_options '--register --check --rows --workers --quiet --help'; }
 _lpis_prepare() { _lpis_options '--accept --accept-from --between --classes --epsg --name --identifiers --previous --quiet --help'; }
-_lpis_report() { _lpis_options '--json --html --diff --register --audit --quiet --lpis --version --help'; }
-_lpis_year() { _lpis_options '--new --year-anyway --register-anyway --audit --verify --lpis --help'; }
+_lpis_report() { _lpis_options '--json --html --diff --register --audit --source --quiet --lpis --version --help'; }
+_lpis_year() { _lpis_options '--new --year-anyway --register-anyway --audit --source --verify --lpis --help'; }
 
 complete -o filenames -F _lpis lpis
 complete -o filenames -F _lpis_country lpis-country

@@ -5,11 +5,13 @@ import argparse
 import math
 import random
 import re
+import shutil
 from array import array
 from fractions import Fraction
 
 import pytest
 import source
+from lpis_helpers import calls, places
 from lpis_helpers.mutants import MUTANTS, Tables, source_of, turned_back
 from shapely.geometry import LineString
 
@@ -99,3 +101,21 @@ def test_a_quick_yes_is_right():
                 edges = zip(source.exact(shape[0][0]), source.exact(shape[0][0])[1:])
                 assert min(source.square_to((x, y), a, b) for a, b in edges) <= distance**2, (ring, way, x, y)
     assert alike > cases / 3
+
+
+@pytest.mark.parametrize("tool", ["year", "report"])
+def test_tools(tool, tmp_path):
+    """`--source` of tools/year and tools/report runs it. Where it says no the status is 1, and nothing is published."""
+    exact = f"{places.TOP}/examples/exact/2024"
+    out = shutil.copytree(exact, tmp_path / "out")
+    register, cert = tmp_path / "register.db", tmp_path / "cert.txt"
+    calls.done(places.BUILT, "cut", out, cert)
+    words = [register, "2024", out, "--new", "--year-anyway"] if tool == "year" else [out, cert]
+    wrong = shutil.copytree(exact, tmp_path / "a land")
+    table = wrong / "covers.csv"
+    table.write_text(table.read_text().replace(",grass,", ",arable,", 1))
+    ended = calls.tool(tool, *words, "--source", wrong)
+    assert (ended.returncode, register.exists()) == (1, False), ended.stderr
+    assert re.search("the second checker says of .*a land and .*: no at .* class arable .* class grass", ended.stderr)
+    ended = calls.tool(tool, *words, "--source", f"{exact} --classes {exact}/classes.csv --previous")
+    assert ended.returncode == 0 and f"the second checker says of {exact} and {out}: yes\n" in ended.stdout, ended.stderr

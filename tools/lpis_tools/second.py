@@ -3,6 +3,7 @@
 import contextlib
 import csv
 import os
+import shlex
 import sys
 import tempfile
 
@@ -18,8 +19,17 @@ class Disagree(Trouble):
     """Two programs do not agree: words."""
 
 
+class Broken(Trouble):
+    """Tables do not say what their source says, or that cannot be told: words, and the status."""
+
+    def __init__(self, said: str, status: int) -> None:
+        super().__init__(said)
+        self.status = status
+
+
 def add_option(parser):
     parser.add_argument("--audit", action="store_true", help="ask the second checker too, and stop where two programs do not agree")
+    parser.add_argument("--source", metavar="LAND", help="the source of the tables: ask it whether they say of each point what LAND says; words of audit/source.py stand behind LAND")
 
 
 def asked(script, *words):
@@ -41,6 +51,16 @@ def agreement(command, folder, cert):
     if first.returncode in (1, 2) and status == 1:
         return f"two programs agree: {last}; the second says: {other.rstrip()}"
     raise Disagree(f"two programs do not agree: lpis says {last}, the second checker {other.rstrip().rpartition(chr(10))[2]}")
+
+
+def of_source(said: str, folder: str) -> str:
+    """What the second checker says of tables and their source: its path, or one text of it and of further words."""
+    land, *more = [said] if os.path.exists(said) else shlex.split(said) or [said]
+    status, text = asked("source.py", land, folder, *more)
+    answer = f"the second checker says of {land} and {folder}: {text.rstrip()}"
+    if status != 0:
+        raise Broken(answer, status)
+    return answer
 
 
 def of_lineage(register, folder, cert):
