@@ -13,6 +13,7 @@ the tables are sound, and that each is a table, is for `lpis check`.
 """
 
 import argparse
+import contextlib
 import csv
 import io
 import logging
@@ -106,14 +107,14 @@ class Source:
     def rows(self, layer: str, columns: list[str]) -> Iterator[tuple[int, list]]:
         """The number of each row, its fields, and its shape as it stands there."""
         name = self.names.get(layer, layer)
-        wanted = [self.names.get(f"{layer}.{column}", column) for column in columns]
+        wanted = [self.names.get(f"{layer}.{column}", column) for column in (*columns, "wkt")]
         if self.base is None:
             records = sheet(self.path / f"{name}.csv") if (self.path / f"{name}.csv").exists() else iter([[]])
-            yield from enumerate(fields_of(next(records, []), [*wanted, "wkt"], records), 1)
+            yield from enumerate(fields_of(next(records, []), wanted, records), 1)
         elif self.base.execute("SELECT 1 FROM sqlite_master WHERE lower(name) = ?", [name.lower()]).fetchone():
             records = self.base.execute('SELECT *, rowid FROM "{}"'.format(name.replace('"', '""')))
             header = [column[0] for column in records.description[:-1]] + ["\0"]
-            wanted += [self.systems.get(name.lower(), ("wkt", 0))[0], "\0"]
+            wanted[-1:] = [self.systems.get(name.lower(), ("wkt", 0))[0], "\0"]
             yield from ((number, found) for *found, number in fields_of(header, wanted, records))
 
 
@@ -405,7 +406,8 @@ class Findings:
                 if kind not in SAYING_NOTHING:
                     self.rows |= {(layer, number) for number in plain(row).split()}
                     self.names |= set(plain(words).split())
-                    self.shapes += [] if data is None else [read_package(data)[0]]
+                    with contextlib.suppress(Unread):  # it has no place, or one that no table has
+                        self.shapes.append(read_package(data)[0])
         self.boxes = boxes_of(self.shapes)
 
     def geometry(self, box: Box, origin: tuple[int, int]) -> Any:
@@ -564,7 +566,8 @@ class Judge:
 def words_of(keys: Iterable[Key]) -> str:
     words = []
     for name, *more in sorted(keys, key=lambda key: (len(key), str(key))):
-        words.append(f"piece {name} of {more[0]}, class {more[1]} at {more[2]} percent" if more else f"parcel {name}")
+        percent = f" at {more[2]} percent" if more and more[2] else ""
+        words.append(f"piece {name} of {more[0]}, class {more[1]}{percent}" if more else f"parcel {name}")
     return " and ".join(words) or "nothing"
 
 
