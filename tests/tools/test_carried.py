@@ -7,6 +7,7 @@ import re
 import shutil
 import subprocess
 import sys
+import time
 
 import pytest
 from lpis_helpers.places import TOP
@@ -176,6 +177,27 @@ class TestSources(Case):
             change()
             assert self.sources() not in known, name
             known.add(self.sources())
+
+    def test_the_digest_that_is_kept(self):
+        """It is taken while no file or folder was written since; a time that was set back hides no change."""
+        self.put("program", program("carried"))
+        other, path, kept = "0" * 64, self.top / "crates/lpis_points/src/lib.rt", self.top / "out/sources"
+        time.sleep(2.1)
+        assert self.answer("area") == (0, "carried area\n", []) and kept.read_text() == self.sources() + "\n"
+        times = kept.stat()
+        kept.write_text(other + "\n")
+        os.utime(kept, ns=(times.st_atime_ns, times.st_mtime_ns))
+        assert self.answer("area")[2] == [f"lpis: the program (program/lpis) {OTHER}"], "the digest that is kept was not taken"
+        times, text = path.stat(), path.read_text()
+        path.write_text(text.upper())
+        os.utime(path, ns=(times.st_atime_ns, times.st_mtime_ns))
+        assert self.answer("area")[2] == [f"lpis: the program (program/lpis) {OTHER}"]
+        path.write_text(text)
+        assert self.answer("area") == (0, "carried area\n", [])
+        kept.unlink()
+        (self.top / "out").rmdir()
+        (self.top / "out").write_text("no folder")
+        assert self.answer("area") == (0, "carried area\n", [])
 
     def test_another_folder(self):
         other = self.top.parent / "other"

@@ -11,6 +11,8 @@ OPPOSITE = -0.866  # of two borders' directions: they face each other within thi
 TINY = 1e-6  # millimetres, of doubles
 LEAST = 16  # millimetres: the side of a cell, and half of what is looked at first
 SHORT, ASIDE, LONGEST = 20.0, 1.5, 200.0  # millimetres: borders whose direction rounding has changed, and how far from a line that stands for them
+MOST_NEAR, NEAR_EACH = 1 << 27, 400  # pairs of a place and a border in a cell of its land that are looked at, in all or for each border
+MOST_OVER, OVER_EACH = 1 << 20, 64  # such pairs of which the border lies over the place
 
 
 class Facing:
@@ -26,6 +28,7 @@ class Facing:
         self.frames = numpy.hstack([a, self.along]).tolist()
         self.edges = numpy.hstack([a, b])
         self.side = size_of_cells(self.edges, LEAST)
+        self.most_over, self.crowded = max(MOST_OVER, OVER_EACH * len(a)), {}  # how many places of each one were left out, where borders lie in heaps
 
     def strips(self, most):
         """Whose border lies next to whose, a polygon of the land between in metres, and how often its depth has its width: by the borders, and along each."""
@@ -49,15 +52,25 @@ class Facing:
         over = (numpy.minimum(u1, u2) < high[item] - TINY) & (numpy.maximum(u1, u2) > low[item] + TINY) & (numpy.minimum(v1, v2) < width) & (numpy.maximum(v1, v2) > TINY)
         facing = ((self.normal[e] * self.normal[other]).sum(axis=1) <= OPPOSITE)[over].tolist()
         lines, others = numpy.stack([u1, v1, u2, v2], axis=1)[over].tolist(), other[over].tolist()
+        is_kept = self.kept(one, numpy.bincount(item[over], minlength=len(one)), self.most_over)
+        self.most_over -= int(numpy.count_nonzero(is_kept[item[over]]))
         starts = numpy.searchsorted(item[over], numpy.arange(len(waiting) + 1)).tolist()
-        left = []
-        for (border, begin, end), start, behind in zip(waiting, starts, starts[1:]):
-            for number, *piece in envelope(lines[start:behind], begin, end, width):
+        left, waiting = [], [place if kept else None for place, kept in zip(waiting, is_kept.tolist())]
+        for place, start, behind in zip(waiting, starts, starts[1:]):
+            border, begin, end = place or (0, 0.0, 0.0)
+            for number, *piece in envelope(lines[start:behind], begin, end, width) if place else ():
                 if number is None:
                     left.append((border, *piece))
                 elif facing[start + number] and self.whose[others[start + number]] != self.whose[border]:
                     found.append((border, *piece, others[start + number]))
         return left
+
+    def kept(self, one, loads, most):
+        """Which places of borders are looked at, of which each has so much to look at. The others are told."""
+        is_kept = within(loads, most)
+        for border in one[~is_kept].tolist():
+            self.crowded[self.whose[border]] = self.crowded.get(self.whose[border], 0) + 1
+        return is_kept
 
     def polygon(self, border, pieces):
         """What lies over a part of a border, up to lines one after the other."""
@@ -85,6 +98,8 @@ class Facing:
         key, asked = unique_pairs(key, asked)
         first = numpy.searchsorted(self.keys, key)
         counts = numpy.searchsorted(self.keys, key, "right") - first
+        is_kept = self.kept(one, numpy.bincount(asked, counts, len(one)), max(MOST_NEAR, NEAR_EACH * len(self.a)) - self.looked)[asked]
+        first, counts, asked = first[is_kept], counts[is_kept], asked[is_kept]
         self.looked += len(key) + int(counts.sum())
         corners = numpy.stack([p, q, p + far, q + far])
         least, most = corners.min(axis=0) - TINY, corners.max(axis=0) + TINY
@@ -98,6 +113,13 @@ class Facing:
             pairs.append(numpy.unique((place[~apart] << 32) | other[~apart]))
         pairs = numpy.unique(numpy.concatenate(pairs))
         return pairs >> 32, pairs & 0xFFFFFFFF
+
+
+def within(loads, most):
+    """Which of some loads are taken, the least first, so that they are together at most so many."""
+    order, is_taken = numpy.argsort(loads, kind="stable"), numpy.ones(len(loads), bool)
+    is_taken[order] = numpy.cumsum(loads[order]) <= most
+    return is_taken
 
 
 def straightened(a, b, whose, following):
