@@ -8,6 +8,7 @@ import shutil
 from pathlib import Path
 
 from lpis_helpers import lands_damage
+from lpis_helpers import lands_conflicts
 from lpis_helpers import lands_source
 from lpis_helpers.calls import lpis, records
 from lpis_helpers.country_example import regions_of
@@ -205,6 +206,9 @@ def of_land(land, runner, folder, is_first_enough=False):
 
 def try_land(trial, land, folder):
     source, words = lands_source.write(land, folder)
+    if isinstance(land, lands_conflicts.Conflicts):
+        lands_conflicts.try_conflicts(trial, land, source)
+        return
     plain, accepted, out = trial.path("plain"), trial.path("accepted"), trial.path("accepted")
     first = trial.prepared(source, plain, *words)
     run = trial.prepared(source, accepted, *words, "--accept")
