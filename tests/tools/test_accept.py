@@ -79,8 +79,8 @@ class TestAccepted(Case):
     def test_tables_that_are_none(self):
         self.run_on(self.source)
         copy = self.marked("prepared.csv", lambda row: True, header=("who",))
-        Path(self.path("yes.csv")).write_text("kind,layer,row,identifier,area_m2,x,y,accepted\nshape,covers,10,null.2,,,,yes\n", encoding="ascii")
-        Path(self.path("size.csv")).write_text("kind,layer,row,identifier,area_m2,x,y,accepted\nshape,covers,10,null.2,1_0,,,1\n", encoding="ascii")
+        Path(self.path("yes.csv")).write_text("kind,layer,row,identifier,area_m2,x,y,words,place,accepted\nshape,covers,10,null.2,,,,,,yes\n", encoding="ascii")
+        Path(self.path("size.csv")).write_text("kind,layer,row,identifier,area_m2,x,y,words,place,accepted\nshape,covers,10,null.2,1_0,,,,,1\n", encoding="ascii")
         for path, words in ((copy, "no column accepted: it is no copy of prepared.csv or report.csv"), (self.path("yes.csv"), "accepted is 'yes', and not 1, 0 or empty"),
                             (self.path("size.csv"), "'1_0' is no number, in a row that is accepted"), (self.path("none.csv"), "none.csv")):
             run = self.run_on(self.source, "--accept-from", path)

@@ -1,18 +1,23 @@
-"""What of the findings is accepted: everything, some kinds, or the rows that somebody marked in a copy of prepared.csv or report.csv."""
+"""What of the findings is accepted: everything, some kinds, or the rows that somebody marked in a copy of prepared.csv or report.csv. A mark holds for what lies in the
+polygons that were marked, with a millimetre about them; that of a row without polygons for the same row."""
 
 from __future__ import annotations
 
 import argparse
+import re
 from collections import Counter
 
-from . import cells, land, sheets
+from . import cells, land, outlines, sheets
 from .findings import readable
 
 ALL = "all"
 LAST = 0.0011  # the last digit of an area and of a place, as the tables have them
 KINDS = ("table", "system", "shape", "degrees", "far", "points", "invalid", "nameless", "identifier", "doubled", "stranger", "bare", "class", "classes", "percent", "previous", "lost", "left out", "made",
          "added", "overlap", "gap", "outside", "changed")
-WITHOUT_ROW = ("overlap", "gap", "outside")  # they are known by their identifiers and their place
+BY_PLACE = ("overlap", "gap", "outside", "invalid")  # their words tell of the place alone
+COLUMNS = {"kind", "layer", "row", "area_m2", "x", "y", "words", "place", "accepted"}
+# What words tell of sizes and of rows, which may be others in a year that has the same to tell.
+SIZES = re.compile(r"[0-9]+\.[0-9]{3}(?= m2\b| m\b| to [0-9]+\.[0-9]{3} m2\b)|(?<=\bfid[ -])[0-9]+|(?<=\brow[ -])[0-9]+")
 NO_KIND = f"{{}} is none of {', '.join(KINDS)}, or some of them with commas between"
 MOST_NAMED = 3
 
@@ -73,9 +78,11 @@ class Accepting:
         sheet = sheets.read(path)
         records = list(sheet.records)
         columns = {name.lower() for name in sheet.columns}
-        lacking = sorted({"kind", "layer", "row", "area_m2", "x", "y", "accepted"} - columns) + ([] if columns & {"identifier", "identifiers"} else ["identifier"])
+        lacking = sorted(COLUMNS - columns) + ([] if columns & {"identifier", "identifiers"} else ["identifier"])
         faults = [f"{path}: {fault.words}" for fault in sheet.faults]
-        if lacking:
+        if lacking == ["place"]:
+            faults.append(f"{path}: no column place: it is a copy of an earlier version's table, which does not say what was marked: run again without it, and mark the rows of the new table")
+        elif lacking:
             faults.append(f"{path}: no column {' and '.join(lacking)}: it is no copy of prepared.csv or report.csv with a column accepted")
         if faults:
             raise land.Trouble(*faults)
@@ -84,26 +91,48 @@ class Accepting:
             if record["accepted"] not in ("", "0", "1"):
                 raise land.Trouble(f"{path} row {number}: accepted is {record['accepted']!r}, and not 1, 0 or empty")
             if record["accepted"] == "1":
-                size = [value_of(record[name]) for name in ("area_m2", "x", "y")]
-                self.rows.setdefault(key_of(record["kind"], record["layer"], record["row"], record.get("identifier") or record.get("identifiers") or ""), []).append(size)
+                self.add(path, number, record)
+
+    def add(self, path, number, record):
+        """A row that is marked."""
+        try:
+            mark = Mark(record)
+        except outlines.Damaged:
+            raise land.Trouble(f"{path} row {number}: its place is not as it was written: take the row from the table again, and leave the column place as it is") from None
+        names = cells.plain(record.get("identifier") or record.get("identifiers") or "")
+        self.rows.setdefault((record["kind"], record["layer"], names.strip()), []).append(mark)
 
     def takes(self, found):
         """Whether a finding or a loss is accepted."""
         if self.is_all or found.kind in self.kinds:
             return True
-        size = [found.area, *(found.at() or (None, None))]
-        return any(all(map(is_same, one, size)) for one in self.rows.get(key_of(*found.key_words()), ()))
+        kind, layer, _, names = found.key_words()
+        return any(mark.holds_for(found) for mark in self.rows.get((kind, layer, names.strip()), ()))
 
     def __bool__(self):
         return bool(self.is_all or self.kinds or self.rows)
 
 
-def key_of(kind, layer, row, names):
-    return kind, layer, "" if kind in WITHOUT_ROW else str(row), text_of(names)
+class Mark:
+    """A row that somebody marked."""
+
+    def __init__(self, record):
+        self.row, self.size = record["row"], [value_of(record[name]) for name in ("area_m2", "x", "y")]
+        self.words, self.place = without_sizes(cells.plain(record["words"])), record["place"]
+        if self.place:
+            outlines.data_of(self.place)
+
+    def holds_for(self, found):
+        """Whether it is for something that was found, of the same kind, layer and names: its polygons lie in what was marked; or the row is the same, where it has none."""
+        kind, _, row, _ = found.key_words()
+        blob = found.polygons()
+        if bool(blob) != bool(self.place) or (kind not in BY_PLACE and self.words != without_sizes(found.words)):
+            return False
+        return outlines.has(self.place, blob) if blob else self.row == str(row) and all(map(is_same, self.size, [found.area, *(found.at() or (None, None))]))
 
 
-def text_of(name):
-    return cells.plain(name).strip()
+def without_sizes(words):
+    return SIZES.sub("..", words.strip())
 
 
 def value_of(text):

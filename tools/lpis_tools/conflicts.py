@@ -10,7 +10,7 @@ from shapely.geometry import LineString, Polygon
 from shapely.ops import polygonize, unary_union
 from shapely.validation import explain_validity, make_valid
 
-from . import identifiers, land, progress, wkb
+from . import identifiers, land, outlines, progress, wkb
 from .between import width_of
 from .boxes import Boxes
 from .printing import counted
@@ -55,10 +55,14 @@ class Loss:
     def at(self):
         return self.place()
 
-    def blob_of_polygons(self):
+    def polygons(self):
         """Its polygons as well-known binary, or None where it has none."""
         members = members_of(self.shape)
         return wkb.written(members) if members else None
+
+    def outline(self):
+        """Its polygons as a text, by which a mark of its row is known; nothing where nobody has to mark it."""
+        return outlines.text_of(blob) if self.stops() and (blob := self.polygons()) else ""
 
     def of_layer(self):
         """Its values in the columns of findings.gpkg."""

@@ -4,13 +4,13 @@ from __future__ import annotations
 
 from collections import Counter
 
-from . import cells, files
+from . import cells, files, outlines
 from .printing import readable
 
 MOST_SHOWN = 20
 NOTES = {"curve": "arcs made straight, within half a millimetre", "z": "heights dropped", "m": "measures dropped"}
 KEYS = {"parcels": "parcel", "covers": "piece"}
-COLUMNS = ["kind", "layer", "row", "identifier", "area_m2", "x", "y", "words", "done"]
+COLUMNS = ["kind", "layer", "row", "identifier", "area_m2", "x", "y", "words", "done", "place"]
 
 
 class Finding:
@@ -36,6 +36,14 @@ class Finding:
     def at(self):
         return self.place
 
+    def polygons(self):
+        """Its polygons as well-known binary, or None."""
+        return self.blob
+
+    def outline(self):
+        """Its polygons as a text, by which a mark of its row is known; nothing where nobody has to mark it."""
+        return outlines.text_of(self.blob) if self.blob and self.is_grave() else ""
+
     def line(self, accept):
         who = " ".join(word for word in (self.layer, readable(self.name), f"({self.key} {self.row})" if self.row is not None else "") if word)
         size = f" ({self.area:.3f} m2)" if self.area is not None else ""
@@ -59,7 +67,7 @@ class Finding:
         done = self.what_was_done(accept)
         area = "" if self.area is None else f"{self.area:.3f}"
         x, y = (f"{value:.3f}" for value in self.place) if self.place else ("", "")
-        return [self.kind, self.layer, "" if self.row is None else self.row, cells.text(self.name), area, x, y, cells.text(self.words), cells.text(done)]
+        return [self.kind, self.layer, "" if self.row is None else self.row, cells.text(self.name), area, x, y, cells.text(self.words), cells.text(done), self.outline()]
 
 
 def write(findings, path, accept):

@@ -24,7 +24,7 @@ LAYERS = "findings.gpkg"
 APART = ("between", "kept")  # kinds that have files of their own, where there are any
 COUNTED = (("between", "places between parcels that nobody has: see report.csv"), ("spike", "spikes and notches narrower than a millimetre that are not in the tables: see report.csv"),
            ("kept", "borders kept as they were last year: see kept.csv"))
-COLUMNS = ["kind", "layer", "row", "identifiers", "width_m", "area_m2", "x", "y", "stops", "words"]
+COLUMNS = ["kind", "layer", "row", "identifiers", "width_m", "area_m2", "x", "y", "stops", "words", "place"]
 
 
 def conflicts_alone(layers, say, seen=None, of_gaps=None):
@@ -63,7 +63,7 @@ def put_layers(losses, out, accept, epsg, found_before):
     with geopackage.anew(os.path.join(out, LAYERS), epsg) as package:
         findings.put(found_before, accept, package)
         for loss in losses:
-            package.add(loss.kind, loss.blob_of_polygons(), loss.of_layer())
+            package.add(loss.kind, loss.polygons(), loss.of_layer())
 
 
 def write(losses, out, epsg=None):
@@ -96,7 +96,7 @@ def write_rows(losses, path):
         for loss in losses:
             x, y = loss.place() or (None, None)
             table.writerow([loss.kind, loss.layer, " ".join(map(str, loss.rows)), cells.text(" ".join(loss.names)), *(("" if value is None else f"{value:.4f}") for value in (loss.width, loss.area)),
-                            *(("" if value is None else f"{value:.3f}") for value in (x, y)), int(loss.stops()), cells.text(loss.words)])
+                            *(("" if value is None else f"{value:.3f}") for value in (x, y)), int(loss.stops()), cells.text(loss.words), loss.outline()])
 
 
 def write_layer(losses, path, epsg):

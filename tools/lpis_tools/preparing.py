@@ -47,7 +47,7 @@ class Preparation:
         for loss in losses:
             rows, key = " ".join(map(str, loss.rows)) or None, self.layers[loss.layer].key
             words = f"{loss.width:.3f} m wide: {loss.words}"
-            self.findings.append(Finding(loss.kind, loss.layer, rows, " ".join(loss.names), words, "settled", False, loss.area, loss.place(), key, loss.blob_of_polygons(), width=loss.width))
+            self.findings.append(Finding(loss.kind, loss.layer, rows, " ".join(loss.names), words, "settled", False, loss.area, loss.place(), key, loss.polygons(), width=loss.width))
 
     # Tables and columns.
 
