@@ -89,12 +89,13 @@ class TestAccepted(Case):
 
 class TestAgain(Case):
     def test_taken_up(self):
-        """A run that accepts takes up the borders of the run before, and has the tables of one that rounds; where anything is another it rounds."""
+        """A run that accepts takes up the borders of the run before, and has the tables of one that rounds; where a row, a table
+        or a word is another it rounds; what else is in the source's file is none of it."""
         source = dirty.make(self.path("land.gpkg"), KINDS)
         assert self.run_on(source, "--accept").returncode == 0
         wanted = {name: self.bytes_of(name) for name in ("parcels.csv", "covers.csv", "report.csv", "balance.csv")}
         assert ".rounded" not in os.listdir(self.out)
-        for change, words, is_taken in ((lambda: None, [], True), (self.change_source, [], False), (self.change_tables, [], False), (lambda: None, ["--between", "2"], False)):
+        for change, words, is_taken in ((lambda: None, [], True), (self.add_note, [], True), (self.change_tables, [], False), (lambda: None, ["--between", "2"], False)):
             assert self.run_on(source).returncode == 1
             change()
             run = self.run_on(source, "--accept", *words)
@@ -105,7 +106,7 @@ class TestAgain(Case):
     def bytes_of(self, name):
         return Path(self.out, name).read_bytes()
 
-    def change_source(self):
+    def add_note(self):
         made(self.path("land.gpkg"), "CREATE TABLE note (text TEXT)")
 
     def change_tables(self):

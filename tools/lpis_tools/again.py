@@ -1,5 +1,5 @@
-"""What a run that was refused has rounded, kept for a run that accepts: its tables and the conflicts of its map, with the digest of all that they come of. Beside
-the tables of a folder; taken up only where nothing of it changed."""
+"""What a run that was refused has rounded, kept for a run that accepts: its tables and the conflicts of its map, with the digest of all that they come of: the rows as
+they were read, whatever files they stood in. Beside the tables of a folder; taken up only where nothing of it changed."""
 
 from __future__ import annotations
 
@@ -19,34 +19,41 @@ TABLES = ("parcels.csv", "covers.csv")
 HERE = os.path.dirname(os.path.realpath(__file__))
 
 
-def digest_of(paths, words):
-    """A digest of files, of folders with their files, of words, and of these tools. None where a source is no file, such as a database."""
-    digest = hashlib.sha256(repr(words).encode())
-    for path in [*paths, HERE]:
-        if not os.path.exists(path):
-            return None
-        names = sorted(os.listdir(path)) if os.path.isdir(path) else [None, "-wal"]
-        for name in names:
-            whole = os.path.join(path, name) if os.path.isdir(path) else path + (name or "")
-            if os.path.isfile(whole):
-                digest.update(f"{name}\0{os.path.getsize(whole)}\0".encode(errors="surrogateescape"))
-                files.digest(whole, digest)
+def digest_of(words, layers=None):
+    """A digest of words, of these tools, and of rows with their shapes, in their order."""
+    digest = hashlib.sha256(repr(words).encode(errors="backslashreplace"))
+    for name in sorted(os.listdir(HERE)):
+        if os.path.isfile(os.path.join(HERE, name)):
+            digest.update(f"{name} {files.digest(os.path.join(HERE, name))} ".encode())
+    for name, rows in shaped(layers).items() if layers else ():
+        digest.update(f"{name} {len(rows)} ".encode())
+        for row in rows:
+            blob = row.found.blob
+            digest.update(f"{row.fields!r} {len(blob)} ".encode(errors="backslashreplace"))
+            digest.update(blob)
     return digest.hexdigest()
 
 
+def shaped(layers):
+    """The rows that are rounded: those with a shape."""
+    return {name: [row for row in layers[name].rows if row.found] for name in ("parcels", "covers")}
+
+
 class Rounded:
-    """The tables of a run in a folder, and the conflicts, by the numbers of the rows that have a shape."""
+    """The tables of a run in a folder, and the conflicts, by the numbers of the rows that have a shape. `words` are what the tables hang on beside these rows, as they were read
+    and mended; None where that is not known, and nothing is kept."""
 
-    def __init__(self, out, digest):
-        self.folder, self.digest = os.path.join(out, FOLDER), digest
+    def __init__(self, out, words):
+        self.folder, self.words = os.path.join(out, FOLDER), words
 
-    def tables_digest(self, folder):
-        return digest_of([os.path.join(folder, name) for name in TABLES], "tables")
+    @staticmethod
+    def tables_digest(folder):
+        return [files.digest(os.path.join(folder, name)) for name in TABLES]
 
     def keep(self, layers, made, seen):
         """Moves the tables of a folder here. Nothing is kept with last year's borders, which are a source too."""
         self.forget()
-        if self.digest is None or seen.kept:
+        if self.words is None or seen.kept:
             return
         try:
             self.write(layers, made, seen)
@@ -54,8 +61,8 @@ class Rounded:
             self.forget()
 
     def write(self, layers, made, seen):
-        number = {id(row): place for rows in self.shaped(layers) for place, row in enumerate(rows)}
-        facts = {"digest": self.digest, "overlaps": [[number[id(row)] for row in pair] for pair in seen.overlaps], "gaps": [number[id(row)] for row in seen.gaps],
+        number = {id(row): place for rows in shaped(layers).values() for place, row in enumerate(rows)}
+        facts = {"digest": digest_of(self.words, layers), "overlaps": [[number[id(row)] for row in pair] for pair in seen.overlaps], "gaps": [number[id(row)] for row in seen.gaps],
                  "outsides": [[number[id(row)] for row in pair] for pair in seen.outsides], "between": [[gap.names, gap.shape.wkt] for gap in seen.between]}
         os.mkdir(self.folder)
         for name in TABLES:
@@ -69,9 +76,9 @@ class Rounded:
         try:
             with open(os.path.join(self.folder, FACTS), encoding="utf-8") as file:
                 facts = json.load(file)
-            if self.digest is None or facts["digest"] != self.digest or facts["tables"] != self.tables_digest(self.folder):
+            if self.words is None or facts["tables"] != self.tables_digest(self.folder) or facts["digest"] != digest_of(self.words, layers):
                 return None
-            parcels, covers = self.shaped(layers)
+            parcels, covers = shaped(layers).values()
             seen = Conflicts([(covers[one], covers[other]) for one, other in facts["overlaps"]], [parcels[one] for one in facts["gaps"]],
                              [(covers[one], parcels[other]) for one, other in facts["outsides"]], [], [Gap(names, wkt.loads(shape)) for names, shape in facts["between"]])
             for name in TABLES:
@@ -79,10 +86,6 @@ class Rounded:
         except (OSError, ValueError, KeyError, TypeError, IndexError):
             return None
         return seen
-
-    @staticmethod
-    def shaped(layers):
-        return [[row for row in layers[name].rows if row.found] for name in ("parcels", "covers")]
 
     def forget(self):
         shutil.rmtree(self.folder, ignore_errors=True)

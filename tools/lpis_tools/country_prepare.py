@@ -7,7 +7,7 @@ import os
 import shutil
 from collections import Counter
 
-from . import again, causes, engines, files, gathering, jobs, land, last_year, losses, naming, parts, passes, placing, prepared, progress, splitting, store, streams
+from . import again, causes, contents, engines, files, gathering, jobs, land, last_year, losses, naming, parts, passes, placing, prepared, progress, splitting, store, streams
 from .printing import counted
 
 
@@ -19,6 +19,7 @@ class Run(prepared.Run):
     def __init__(self, words, names, say):
         super().__init__(words, names, say)
         self.results, self.base, self.gathered, self.whole = jobs.begin(self.path(jobs.FOLDER)), None, None, None
+        self.contents = contents.Contents()
         shutil.rmtree(self.spare)
         self.spare = files.folder(words.out, ".source-")  # where all machines see it
         self.stop_at_once()
@@ -29,7 +30,7 @@ class Run(prepared.Run):
             files.remove(os.path.join(self.results, jobs.STORE))
         super().close()
 
-    def digest(self):
+    def rounded_by(self):
         """None: what was rounded is kept cell by cell."""
         return None
 
@@ -80,7 +81,7 @@ class Run(prepared.Run):
     def stored(self, work, layers):
         """Makes the store of all rows; answers where each layer begins in it and how many rows it has, and whether the source is in metres."""
         plan, are_metres = self.planned(work, layers)
-        made = engines.prepared(self.words, self.results, "part", plan)
+        made = self.read_parts(plan, self.contents)
         self.say("writing all rows by their places")
         self.base, begins = store.merged(os.path.join(self.results, jobs.STORE), [os.path.join(self.results, name) for name in made])
         ends = [*begins[1:], self.base.execute("SELECT count(*) FROM row").fetchone()[0]]
@@ -94,11 +95,24 @@ class Run(prepared.Run):
         self.plan, self.kept_files = plan, made
         return starts, are_metres
 
+    def read_parts(self, plan, known, *what):
+        """The names of the files of parts. Where one is new, the files that they come of have to be as they were."""
+        before = set(os.listdir(self.results))
+        made = engines.prepared(self.words, self.results, "part", plan, *what)
+        if new := set(made) - before:
+            try:
+                known.hold()
+            except land.Trouble:
+                for name in new:
+                    files.remove(os.path.join(self.results, name))
+                raise
+        return made
+
     def planned(self, work, layers):
         options = {"epsg": work.epsg, "given": {kind: sorted(names) for kind, names in self.given.items()}}
         origins = {name: [layers[name].origin, *filter(None, [work.transformed.get(name)])] for name in store.LAYERS}
         are_metres = any(parts.first_of(origins[name][-1], lambda found: land.reads_as_metres(found.box())) for name in store.LAYERS)
-        return parts.planned(origins, {name: layers[name].key for name in store.LAYERS}, {**options, "are_metres": are_metres}), are_metres
+        return parts.planned(origins, {name: layers[name].key for name in store.LAYERS}, {**options, "are_metres": are_metres}, self.contents), are_metres
 
     # The rounding.
 
@@ -106,7 +120,7 @@ class Run(prepared.Run):
         """Has all cells rounded, and puts together what they give."""
         if self.gathered is None:
             count = store.put_cells(self.base)
-            digest = again.digest_of([], [self.plan, self.given, self.previous.stamps() if self.previous else None])
+            digest = again.digest_of([[part["file"] for part in self.plan], self.given, self.previous.digests() if self.previous else None])
             names = self.cells(count, digest)
             self.whole.begin(None)
             self.gathered = gathering.Gathered(self.base, self.results, names, self.whole)
@@ -130,7 +144,7 @@ class Run(prepared.Run):
             return names
         if self.previous:
             self.say(f"reading the corners of {self.previous.folder}")
-            self.previous.put(self.base, [os.path.join(self.results, name) for name in engines.prepared(self.words, self.results, "part", then, "reading last year's corners")])
+            self.previous.put(self.base, [os.path.join(self.results, name) for name in self.read_parts(then, self.previous.contents, "reading last year's corners")])
         before = set(filter(jobs.OWN.fullmatch, os.listdir(self.results)))
         is_first = not any(name.endswith(".jsonl") for name in before)
         self.say(f"rounding {counted(count, 'cell')}" if is_first else f"comparing {counted(count, 'cell')} with those that a run before has rounded, and rounding what changed")

@@ -7,7 +7,7 @@ import os
 
 import numpy
 
-from . import land, noding, parts, polygons, previous, progress, store, streams, tables, years
+from . import contents, land, noding, parts, polygons, previous, progress, store, streams, tables, years
 
 CORNERS = "lpis corners 1"  # what another rule gave is not taken
 THEN = "SELECT places, left, low, right, high FROM box_of_corner JOIN corner USING (id) WHERE left <= ? AND right >= ? AND low <= ? AND high >= ?"
@@ -67,16 +67,16 @@ class LastYear:
     """The tables of a folder."""
 
     def __init__(self, folder):
-        self.folder, self.system, self.counts = folder, previous.system_of(folder), None
+        self.folder, self.system, self.counts, self.contents = folder, previous.system_of(folder), None, contents.Contents()
         self.folders = [os.path.join(folder, region) for region in years.regions_of(folder)]
         for name in ("covers", "parcels"):
             for path in (tables.path_of(each, name) for each in self.folders):
                 if not os.path.isfile(path):
                     raise land.Trouble(f"{folder} has no table {os.path.relpath(path, folder)} of last year")
 
-    def stamps(self):
-        """What its tables are known by until they change."""
-        return [parts.stamp(tables.path_of(folder, name)) for folder in self.folders for name in ("covers", "parcels")]
+    def digests(self):
+        """What its tables are known by."""
+        return [self.contents.digest(tables.path_of(folder, name)) for folder in self.folders for name in ("covers", "parcels")]
 
     def why_not(self, work):
         """Why a source cannot have these borders, by what is known before they are read; nothing where it can."""
@@ -100,7 +100,10 @@ class LastYear:
 
     def planned(self):
         """The parts in which the corners are read, a region each, as parts of a source are."""
-        return [{"corners": os.path.abspath(folder), "file": parts.part_name([CORNERS, os.path.abspath(folder), parts.stamp(tables.path_of(folder, "covers"))])} for folder in self.folders]
+        return [self.part_of(folder, tables.path_of(folder, "covers")) for folder in self.folders]
+
+    def part_of(self, folder, path):
+        return {"corners": os.path.abspath(folder), "table": os.path.abspath(path), "signs": [self.contents.signs(path)], "file": parts.part_name([CORNERS, self.contents.digest(path)])}
 
     def put(self, base, paths):
         """Takes the corners into a store, piece by piece, from the files that the parts gave. None of them where this year's land lies is trouble."""

@@ -10,7 +10,7 @@ import os
 import sqlite3
 from dataclasses import asdict
 
-from . import databases, files, identifiers, land, naming, preparing, sizes, store, unforeseen
+from . import contents, databases, files, identifiers, land, naming, preparing, sizes, store, unforeseen
 
 RULE = "lpis parts 3"  # what another rule gave is not taken
 MOST = 25_000  # rows
@@ -26,29 +26,24 @@ def ranges_of(connection, origin):
     return [((low, high - 1), 1 + place * MOST) for place, (low, high) in enumerate(zip(numbers, [*numbers[1:], (1 << 63)]))]
 
 
-def stamp(path):
-    """What a file is known by until it changes."""
-    facts = [os.path.realpath(path)]
-    for name in (path, f"{path}-wal"):
-        with contextlib.suppress(FileNotFoundError):
-            facts += [os.stat(name).st_size, os.stat(name).st_mtime_ns]
-    return facts
-
-
 def part_name(facts):
     return f"{hashlib.sha256(json.dumps([RULE, facts]).encode()).hexdigest()}.part"
 
 
-def planned(origins, keys, options):
-    """The parts of a source. `origins` has where each layer's rows are, and where it was transformed those with its shapes too; `keys` what their numbers are."""
+def planned(origins, keys, options, known):
+    """The parts of a source. `origins` has where each layer's rows are, and where it was transformed those with its shapes too; `keys` what their numbers are; `known` the digests of
+    files."""
     plan = []
     for name in store.LAYERS:
+        digests, signs = ([of(origin.path) for origin in origins[name]] for of in (known.digest, known.signs))
         with contextlib.closing(land.opened(origins[name][0].path)) as connection:
             ranges = ranges_of(connection, origins[name][0])
-        stamps = [stamp(origin.path) for origin in origins[name]]
         for among, first in ranges:
-            facts = {"layer": name, "origins": [{**asdict(origin), "path": os.path.abspath(origin.path)} for origin in origins[name]], "among": among, "first": first, "key": keys[name], **options}
-            plan.append({**facts, "file": part_name([*stamps, facts])})
+            facts = {"layer": name, "origins": [asdict(origin) for origin in origins[name]], "among": among, "first": first, "key": keys[name], **options}
+            file = part_name([digests, {**facts, "origins": [{**origin, "path": ""} for origin in facts["origins"]]}])
+            for origin in facts["origins"]:
+                origin["path"] = os.path.abspath(origin["path"])
+            plan.append({**facts, "signs": signs, "file": file})
     return plan
 
 
@@ -60,6 +55,7 @@ def made(part, folder):
 
         with files.beside(path) as new:
             last_year.write_corners(new, part["corners"])
+            hold([part["table"]], part["signs"])
     elif not os.path.exists(path):
         rows, key = read(part), part["key"]
         with files.beside(path) as new:
@@ -72,7 +68,15 @@ def read(part):
     rows, *others = (rows_of(land.Origin(**origin), part) for origin in part["origins"])
     for transformed in others:
         preparing.take_shapes(rows, transformed)
+    hold([origin["path"] for origin in part["origins"]], part["signs"])
     return rows
+
+
+def hold(paths, signs):
+    """Trouble where a file was written since its digest was worked out."""
+    for path, then in zip(paths, signs):
+        if contents.signs_of(path) != then:
+            raise contents.changed(path)
 
 
 def rows_of(origin, part):

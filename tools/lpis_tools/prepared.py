@@ -22,7 +22,7 @@ class Run:
         land.apart(words.land, words.out)
         land.apart(words.previous or "", words.out, "last year's folder")
         self.accept = accepting.Accepting(words.accept, words.accept_from, ("left out", "made"))
-        self.kept = again.Rounded(words.out, self.digest())
+        self.kept = again.Rounded(words.out, self.rounded_by())
         self.table = self.read_table(words.classes) if words.classes else None
         self.given = naming.given_identifiers(words.identifiers)
         os.makedirs(words.out, exist_ok=True)
@@ -50,11 +50,9 @@ class Run:
             raise land.Trouble(*(f"{path}: {words}" for words in faults))
         return records
 
-    def digest(self):
-        """Of all that the rounded borders come of; None where last year's tables are among it."""
-        words = self.words
-        files = [path for path in (words.land, words.classes, words.identifiers) if path]
-        return None if words.previous else again.digest_of(files, [words.epsg, words.between, sorted(self.names.items())])
+    def rounded_by(self):
+        """What the rounded borders hang on beside the rows; None where last year's tables are among it."""
+        return None if self.words.previous else [self.words.between]
 
     def classes(self, layers):
         """The table of classes that is there: named, of the land, or beside the tables."""
