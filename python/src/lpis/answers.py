@@ -165,18 +165,22 @@ def areas_of(data: bytes) -> list[Area]:
     return [Area(line) for line in answer.text.splitlines()]
 
 
-def cut(parcels: Table, covers: Table, classes: Table) -> Certificate:
+def cut(parcels: Table, covers: Table = None, classes: Table = None) -> Certificate:
     """Makes the certificate of a release.
 
     Args:
-        parcels: a table of `parcel` and a shape, in metres with three decimals at most (`lpis.tables` says what a table may be).
+        parcels: a table of `parcel` and a shape, in metres with three decimals at most (`lpis.tables` says what a table may be); or, alone, what `prepare`
+            gave.
         covers: a table of `piece`, `parcel`, `class` and a shape.
         classes: a table of `class` and `percent`, or a mapping of the one to the other.
 
     Raises:
         Refused: where the release is wrong, with a place where one is known.
         Failed: where there is no answer.
+        ValueError: where there is no table, with what stops where `prepare` wrote none.
     """
+    if covers is None and classes is None and hasattr(parcels, "table_of"):
+        covers = classes = parcels
     tables = release_of(parcels, covers, classes)
     answer, data = chosen().cut(*tables.values())
     if answer.status:

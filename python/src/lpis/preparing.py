@@ -27,7 +27,7 @@ class Prepared:
     """What became of a source. `findings`, `settled`, `balance` and `identifiers` are the rows of prepared.csv, report.csv, balance.csv and identifiers.csv.
 
     Attributes:
-        parcels, covers, classes: the tables as bytes, for `cut` and `check`; None where they were not written.
+        parcels, covers, classes: the tables as bytes, for `cut` and `check`; None where they were not written. `cut` takes the whole too, and says what stops.
         findings: what is wrong with the source, a row each.
         settled: overlaps, gaps and what was left out or changed, a row each.
         balance: the balance of land, by class.
@@ -49,14 +49,20 @@ class Prepared:
         """Whether there are tables."""
         return self.parcels is not None
 
+    def table_of(self, name: str) -> bytes:
+        """A table as bytes. `ValueError` says what stops where none was written."""
+        found: bytes | None = self.__dict__[name] if name in TABLES else None
+        if found is None:
+            why = "a source without a table of classes wants `classes`" if self.is_written else (self.said.splitlines() or [""])[-1]
+            raise ValueError(f"no {name} were written: {why}")
+        return found
+
     def __repr__(self) -> str:
         return f"<lpis.Prepared: {'tables' if self.is_written else 'no tables'}, {len(self.findings)} findings, {len(self.settled)} settled>"
 
     def to_frame(self, table: str = "findings") -> Any:
         """Rows as a frame of pandas: `parcels`, `covers`, `classes`, `findings`, `settled`, `balance` or `identifiers`."""
-        found = self.__dict__[table]
-        if found is None:
-            raise ValueError(f"no {table} were written: {self.said.splitlines()[-1] if self.said else ''}")
+        found = self.table_of(table) if table in TABLES else self.__dict__[table]
         return frame_of(rows_of_text(found.decode("utf-8")) if isinstance(found, bytes) else found)
 
 
