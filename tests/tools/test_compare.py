@@ -16,6 +16,8 @@ from lpis_helpers import exact
 from lpis_helpers import stopping
 from lpis_tools import shapely_there
 
+if shapely_there.is_there():
+    from lpis_helpers import found_layers
 COMPARE = os.path.join(TOOLS, "recipes", "compare")
 # Rounds a source as it stands, with nothing mended.
 ROUNDS = ("import sys; sys.path.insert(0, sys.argv[1]); from lpis_tools import conflicts, land, recipe, rounding; layers = land.read(sys.argv[2]); "
@@ -221,6 +223,8 @@ class TestCompare(Case):
         assert self.compare().returncode == 1
         assert ([one[:3] for kind in ("lost", "added", "changed") for one in self.found(kind)]
                 == [("covers", "A.1", "1"), ("covers", "D.1", "4"), ("covers", "X.1", ""), ("covers", "B.1", "2"), ("covers", "C.1", "3")])
+        whole = {(row["kind"], row["identifiers"]): round(row["geom"].area, 3) for row in found_layers.rows_of(self.out) if row["stops"]}
+        assert whole == {("lost", "A.1"): 100, ("lost", "D.1"): 100, ("added", "X.1"): 100, ("changed", "B.1"): 100, ("changed", "C.1"): 100}
 
     def test_columns(self):
         """Columns that no table has are named."""
@@ -229,8 +233,9 @@ class TestCompare(Case):
         assert [(row["layer"], row["identifiers"]) for row in self.report() if row["kind"] == "column"] == [("covers", "owner"), ("parcels", "since")]
 
     def test_classes(self):
-        self.edit("classes", lambda line: line.replace("TREES,30", "TREES,100"))
-        assert (self.compare().returncode, [row["identifiers"] for row in self.report() if row["kind"] == "class"]) == (1, ["TREES"])
+        self.edit("classes", lambda line: line.replace("TREES,30", "TREES,100").replace("GRASS,100", "GRASS,30"))
+        assert (self.compare().returncode, [row["identifiers"] for row in self.report() if row["kind"] == "class"]) == (1, ["GRASS", "TREES"])
+        assert [row["geom"] and row["geom"].area for row in found_layers.of_kind(self.out, "class")] == [500, None]
 
     @pytest.mark.parametrize(("grass", "trees", "differing"), (("1.0", "0.3", []), ("1", "0,3", []), ("1", "0.5", ["TREES"]), ("1.0", "30", ["GRASS"])))
     def test_shares(self, grass, trees, differing):

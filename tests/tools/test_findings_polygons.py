@@ -4,11 +4,13 @@ not; and that outside of these the tables say what the source says. Wants Shapel
 import os
 import shutil
 import sqlite3
+import sys
 from pathlib import Path
 
 import pytest
 from lpis_helpers import dirty
 from lpis_helpers.calls import ended_with, records, run
+from lpis_helpers.places import TOP
 from lpis_helpers.preparing_case import Case
 from lpis_tools import shapely_there
 
@@ -39,7 +41,6 @@ def same(shape, *texts):
 class Polygons(Case):
     def prepared(self, parcels, covers, *words, status=0):
         """The rows of findings.gpkg of a run over tables, which has to end with that status."""
-        self.parcels, self.covers = parcels, covers
         shutil.rmtree(self.out, ignore_errors=True)
         self.tables(parcels, covers)
         self.ran = ended_with(status, self.run_on(self.sheets, *words))
@@ -50,12 +51,9 @@ class Polygons(Case):
         assert len(found) == 1, (kind, rows)
         return found[0]
 
-    def assert_promise(self, names=None):
-        """Outside of the polygons the tables say what the source says, by the names that the tables have."""
-        names = names or {}
-        parcels = [(names.get(name, name), wkt.loads(text)) for name, text in self.parcels if text and wkt.loads(text).is_valid]
-        covers = [(*(names.get(name, name) for name in row), wkt.loads(text)) for *row, text in self.covers if text and wkt.loads(text).is_valid]
-        assert found_layers.breaks(parcels, covers, self.out) == []
+    def assert_promise(self):
+        """Outside of the polygons the tables say what the source says."""
+        ended_with(0, run(sys.executable, os.path.join(TOP, "audit", "source.py"), self.sheets, self.out))
 
 
 class TestFormat(Polygons):
@@ -112,7 +110,7 @@ class TestKinds(Polygons):
     WHOLE = [("A", box(0, 0)), ("B", box(10, 0))]
     PIECES = [("1", "A", "GRASS", box(0, 0)), ("2", "B", "GRASS", box(10, 0))]
 
-    def both(self, parcels, covers, kind, *texts, names=None):
+    def both(self, parcels, covers, kind, *texts):
         """The row of a kind, which has the land of these texts in both runs."""
         row = self.only(self.prepared(parcels, covers, status=1), kind)
         assert same(row["geom"], *texts), row
@@ -121,7 +119,7 @@ class TestKinds(Polygons):
         rows = self.prepared(parcels, covers, "--accept")
         row = self.only([row for row in rows if row["done"] or row["kind"] in ("overlap", "gap", "outside")], kind)
         assert same(row["geom"], *texts), row
-        self.assert_promise(names)
+        self.assert_promise()
         return rows
 
     def test_conflicts(self):
@@ -165,6 +163,15 @@ class TestKinds(Polygons):
         assert same(self.only(rows, "made")["geom"], box(0, 0))
         assert self.only(rows, "shape")["geom"] is None
         self.assert_promise()
+
+    def test_zone(self):
+        """A zone's number that was taken off is off the polygons too, of rows that are left out and of those that cross themselves."""
+        def far(text):
+            return "SRID=25832;" + text.replace("5500", "325500")
+
+        rows = self.prepared([(name, far(text)) for name, text in self.WHOLE], [("1", "A", "GRASS", far(polygon(BOW))), ("2", "B", "GRASS", far(box(10, 0))), ("3", "C", "GRASS", far(box(10, 0)))], "--accept")
+        assert {row["kind"] for row in rows if row["geom"]} >= {"invalid", "stranger", "left out", "gap"}
+        assert all(row["geom"] is None or 550_000 <= row["geom"].bounds[0] < 551_000 for row in rows), rows
 
     def test_what_comes_of_another(self):
         """A gap that comes of a piece which is left out, and that piece: both have polygons."""

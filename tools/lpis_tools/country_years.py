@@ -10,7 +10,7 @@ from .yearly import Stop
 
 FOLDER = "years"
 LOG = "log.json"
-BESIDE = ("split.txt", "report.geojson", "between.geojson", "kept.csv", "kept.geojson", *origin.FILES)  # of what is not in the log's line
+BESIDE = ("split.txt", "findings.gpkg", "report.geojson", "between.geojson", "kept.csv", "kept.geojson", *origin.FILES)  # of what is not in the log's line
 
 
 class Kept:

@@ -86,6 +86,9 @@ def compared(name, text):
         without_degrees([row for name in land.SHAPED for row in layers[name].rows if row.found])
         source = conflicts.Source(layers)
         source.losses += classes(layers, said.out)
+        for loss in source.losses:
+            if loss.kind == "class":  # its pieces have another percentage, or none
+                loss.shape = source.land([row for row in source.covers if row["class"] == loss.names[0]])
         return losses.report(layers, said.out, accept, say, said.epsg, whole=whole, source=source, between=said.between)
 
 
