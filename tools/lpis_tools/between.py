@@ -22,7 +22,8 @@ class Gap:
     """Land that nobody has, with the parcels beside it, the two with the longest borders first."""
 
     names: list
-    shape: Polygon  # in metres
+    shape: Polygon | None  # in metres; None: `unsearched` borders of a parcel lie in heaps, beside which nothing was looked for
+    unsearched: int = 0
 
 
 class Between:
@@ -88,14 +89,16 @@ def arms(a, b, names, width, own=None):
     """The narrow arms between two parcels, up to a width in metres, of borders from a to b in millimetres, with nobody to their left and a parcel to their right. `own`:
     those alone of which the parcel with the lesser name is one of these."""
     names, strips = Names(names), {}
-    for one, other, *strip in Facing(a.astype(float), b.astype(float), names.numbers).strips(millimetres(width)):
+    facing = Facing(a.astype(float), b.astype(float), names.numbers)
+    for one, other, *strip in facing.strips(millimetres(width)):
         if own is None or names.all[min(one, other)] in own:
             strips.setdefault((min(one, other), max(one, other)), {}).setdefault(one, []).append(strip)
     gaps = []
     for pair, sides in sorted(strips.items()):
         whole = land_of([side for _, side in sorted(sides.items())]).buffer(HAIR, join_style=2).buffer(-HAIR, join_style=2)
         gaps += [Gap([names.all[number] for number in pair], part) for part in getattr(whole, "geoms", [whole]) if part.area > 0]
-    return gaps
+    unsearched = [(names.all[number], count) for number, count in sorted(facing.unsearched.items())]
+    return gaps + [Gap([name], None, count) for name, count in unsearched if own is None or name in own]
 
 
 def millimetres(width):

@@ -3,6 +3,7 @@ its pieces, or a piece and not its parcel."""
 
 from __future__ import annotations
 
+from collections import Counter
 from dataclasses import dataclass, field
 
 from shapely.errors import ShapelyError
@@ -23,6 +24,7 @@ SPIKE = 0.0005  # metres: narrower than twice that, a part of a shape is no plac
 AREA = 0.000_001  # square metres: of doubles
 FAR = 20_000_000.0  # metres: the range of the tables
 MANY = 100  # pieces of one name, from which on they are asked for by their boxes
+MOST_OVERLAPS, OVERLAPS_EACH = 20_000, 100  # beyond so many in all, those of a piece that lies on more than so many others are one
 ORDER = ("lost", "left out", "made", "doubled", "identifier", "stranger", "added", "class", "invalid", "overlap", "gap", "outside", "between", "spike", "changed", "kept", "column")
 STOPPING = frozenset(ORDER[:9])
 
@@ -44,6 +46,10 @@ class Loss:
 
     def is_wide(self):
         return self.kind != "between" and self.width is not None and self.width >= WIDE - ROUNDING
+
+    def is_heap(self):
+        """Whether it stands for the overlaps of a piece that are too many to be measured."""
+        return self.kind == "overlap" and self.width is None
 
     def stops(self):
         return self.kind in STOPPING or self.is_wide() or self.is_grave
@@ -247,7 +253,9 @@ def find_conflicts(source, say, found=None, between=land.BETWEEN):
     is none."""
     found = found or Map(source.parcels, source.covers, say).conflicts(between)
     say(f"conflicts: {counted(len(found.overlaps), 'overlap')}, {counted(len(found.gaps), 'gap')}, {counted(len(found.outsides), 'piece')} outside of their parcel to be measured")
-    for first, second in progress.over(found.overlaps, "measuring", "overlaps"):
+    overlaps, heaps = without_heaps(found.overlaps)
+    source.losses += [heap_of(source, row, count) for row, count in heaps]
+    for first, second in progress.over(overlaps, "measuring", "overlaps"):
         find_overlap(source, first, second)
     for row in progress.over(found.gaps, "measuring", "gaps"):
         find_gap(source, row)
@@ -255,6 +263,22 @@ def find_conflicts(source, say, found=None, between=land.BETWEEN):
         find_outside(source, piece, row)
     source.losses += [kept_of(border, rows) for border, rows in found.kept]
     source.losses += between_all(found.between)
+
+
+def without_heaps(overlaps):
+    """Overlaps to be measured one by one, and pieces that lie on very many others, each with how many: where there are too many overlaps to measure all."""
+    if len(overlaps) <= MOST_OVERLAPS:
+        return overlaps, []
+    firsts = [min(pair, key=lambda row: row["piece"]) for pair in overlaps]
+    counts = Counter(map(id, firsts))
+    heaps = {id(row): row for row in firsts if counts[id(row)] > OVERLAPS_EACH}
+    return [pair for pair, row in zip(overlaps, firsts) if id(row) not in heaps], [(row, counts[key]) for key, row in heaps.items()]
+
+
+def heap_of(source, row, count):
+    """A piece that lies on very many others: its whole shape is in conflict."""
+    shape = source.shape(row)
+    return Loss("overlap", [row["piece"]], f"this piece lies on {count} others, too many to be measured one by one", shape, None, shape.area, "covers", [row.number], is_grave=True)
 
 
 def find_overlap(source, row, other):
@@ -279,10 +303,12 @@ def find_outside(source, piece, row):
 
 def between_all(gaps):
     """A loss for each gap, but for those that are rounding."""
-    return [loss for loss in map(between_of, gaps) if loss.width >= LEAST - ROUNDING]
+    return [loss for loss in map(between_of, gaps) if loss.width is None or loss.width >= LEAST - ROUNDING]
 
 
 def between_of(gap):
+    if gap.shape is None:
+        return Loss("between", gap.names, f"{counted(gap.unsearched, 'border')} of this parcel lie in heaps: land between parcels was not looked for beside them", layer="parcels")
     more = f", with {len(gap.names) - 2} more parcels beside it" if len(gap.names) > 2 else ""
     return Loss("between", gap.names[:2], f"nobody has this place between parcels{more}", gap.shape, width_of(gap.shape), gap.shape.area, "parcels")
 

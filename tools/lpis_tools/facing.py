@@ -11,7 +11,7 @@ OPPOSITE = -0.866  # of two borders' directions: they face each other within thi
 TINY = 1e-6  # millimetres, of doubles
 LEAST = 16  # millimetres: the side of a cell, and half of what is looked at first
 SHORT, ASIDE, LONGEST = 20.0, 1.5, 200.0  # millimetres: borders whose direction rounding has changed, and how far from a line that stands for them
-MOST_NEAR, NEAR_EACH = 1 << 27, 400  # pairs of a place and a border in a cell of its land that are looked at, in all or for each border
+MOST_NEAR, NEAR_EACH = 1 << 26, 400  # pairs of a place and a border in a cell of its land that are looked at, in all or for each border
 MOST_OVER, OVER_EACH = 1 << 20, 64  # such pairs of which the border lies over the place
 
 
@@ -28,7 +28,7 @@ class Facing:
         self.frames = numpy.hstack([a, self.along]).tolist()
         self.edges = numpy.hstack([a, b])
         self.side = size_of_cells(self.edges, LEAST)
-        self.most_over, self.crowded = max(MOST_OVER, OVER_EACH * len(a)), {}  # how many places of each one were left out, where borders lie in heaps
+        self.most_over, self.unsearched = max(MOST_OVER, OVER_EACH * len(a)), {}  # how many places of each one's borders were left out, where borders lie in heaps
 
     def strips(self, most):
         """Whose border lies next to whose, a polygon of the land between in metres, and how often its depth has its width: by the borders, and along each."""
@@ -69,7 +69,7 @@ class Facing:
         """Which places of borders are looked at, of which each has so much to look at. The others are told."""
         is_kept = within(loads, most)
         for border in one[~is_kept].tolist():
-            self.crowded[self.whose[border]] = self.crowded.get(self.whose[border], 0) + 1
+            self.unsearched[self.whose[border]] = self.unsearched.get(self.whose[border], 0) + 1
         return is_kept
 
     def polygon(self, border, pieces):

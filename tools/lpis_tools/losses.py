@@ -34,7 +34,7 @@ def conflicts_alone(layers, say, seen=None, of_gaps=None):
     find_conflicts(source, say, seen)
     if of_gaps:
         causes.tell(source.losses, of_gaps)
-    return [loss for loss in source.losses if loss.is_wide()]
+    return [loss for loss in source.losses if loss.is_wide() or loss.is_heap()]
 
 
 def find_all(source, tables, say, whole, seen, between, of_gaps=None):
@@ -46,7 +46,7 @@ def find_all(source, tables, say, whole, seen, between, of_gaps=None):
         causes.tell(source.losses, of_gaps)
     say("comparing the tables with the source")
     whole.begin(layers)
-    whole.between = math.fsum(loss.area for loss in source.losses if loss.kind == "between")
+    whole.between = math.fsum(loss.area or 0.0 for loss in source.losses if loss.kind == "between")
     for entry in whole.left_out(layers):
         name, members = entry.row[Source.KEYS[entry.layer]], entry.members()
         shape = polygons_by(members) if members else None

@@ -46,7 +46,7 @@ class Preparation:
         """Places in conflict that are settled where that is accepted, found before any rounding."""
         for loss in losses:
             rows, key = " ".join(map(str, loss.rows)) or None, self.layers[loss.layer].key
-            words = f"{loss.width:.3f} m wide: {loss.words}"
+            words = loss.words if loss.width is None else f"{loss.width:.3f} m wide: {loss.words}"
             self.findings.append(Finding(loss.kind, loss.layer, rows, " ".join(loss.names), words, "settled", False, loss.area, loss.place(), key, loss.polygons(), width=loss.width))
 
     # Tables and columns.

@@ -15,6 +15,7 @@ from . import faces, snapping
 from .between import Between
 from .land import BETWEEN
 from .polygons import metres
+from .trouble import Trouble
 
 MOST_NAMESAKES = 10  # parcels of one name, beyond which it is not asked which of them a piece lies outside of: they are rows of their own
 warnings.filterwarnings("ignore", module="shapely")
@@ -42,12 +43,23 @@ class Map:
     def __init__(self, parcels, covers, say, previous=None, then=()):
         self.parcels, self.covers, self.previous = parcels, covers, previous
         say(f"borders, as those of {previous.folder} where they are the same" if previous else "borders")
-        self.network = snapping.network_of([row.found for row in parcels + covers], say, previous, then)
+        self.network = self.rounded(say, then)
         say("faces")
         self.faces = faces.Faces(self.network)
         self.windings = self.faces.windings()
         self.pieces = self.owners()
         self.texts = []
+
+    def rounded(self, say, then):
+        """The borders. Where they cross one another too often, a row is named that others cross most."""
+        rows = self.parcels + self.covers
+        try:
+            return snapping.network_of([row.found for row in rows], say, self.previous, then)
+        except snapping.Crossed as crossed:
+            row = rows[crossed.owner]
+            layer, name = ("covers", row["piece"]) if row["piece"] else ("parcels", row["parcel"])
+            where = f" (row {row.number})" if isinstance(row.number, int) else ""
+            raise Trouble(f"{layer}: the borders cross one another more than {crossed.count} times, those of {name}{where} most: mend these rows, which lie on many others") from None
 
     def owners(self):
         """The piece of each face: where several have it, that with the least identifier."""

@@ -31,6 +31,17 @@ ON = 2  # parts: what step 1 may move a point of an edge beside it, half of one 
 DOUBT = 1e-6  # pixels: crossings so near to a pixel's side are placed in whole numbers; doubles err by less than 1e-9
 
 
+MOST_CROSSINGS, CROSSINGS_EACH = 1 << 18, 4  # of borders, in all or for each edge: beyond that a source is told to be mended
+
+
+class Crossed(noding.Trouble):
+    """The borders cross one another too often to be rounded: how often at least, and the number of a shape that is crossed very often."""
+
+    def __init__(self, count, owner):
+        super().__init__(f"the borders cross one another more than {count} times")
+        self.count, self.owner = count, owner
+
+
 def parts_of_points(points):
     """Points in metres as whole parts, each coordinate by itself."""
     return numpy.rint(points * (1000.0 * WHOLE)).astype(numpy.int64)
@@ -97,11 +108,15 @@ class Edges:
     def crossings(self):
         """The pixels of all proper crossings."""
         (low, high), found = self.boxes(), [numpy.zeros((0, 2), numpy.int64)]
+        most = max(MOST_CROSSINGS, CROSSINGS_EACH * len(self.ends))
         for i, j in noding.pairs_in_cells(self.edge, self.key, low[:, 0], high[:, 0]):
             for axis in (0, 1):  # boxes that touch alone have no proper crossing
                 near = (high[i, axis] > low[j, axis]) & (high[j, axis] > low[i, axis])
                 i, j = i[near], j[near]
             found += [crossing_pixels(self.ends[i[mask]], self.ends[j[mask]], kind) for mask, kind in (self.kinds(i, j) if len(i) else ())]
+            count = sum(map(len, found))
+            if count > most:
+                raise Crossed(count, int(self.owner[numpy.argmax(self.number == numpy.argmax(numpy.bincount(i)))]))
         return numpy.concatenate(found)
 
     def met(self, hot):
