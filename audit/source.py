@@ -477,7 +477,7 @@ class Judge:
     def first_break(self) -> Optional[Point]:
         """The first point that breaks the promise."""
         for region, origin, rows, is_broken in self.regions():
-            for part in parts_of(self.unexplained(region, origin, rows)):
+            for part in self.unexplained(region, origin, rows):
                 found = part.representative_point()
                 for digits in (3, 9):
                     point = tuple(
@@ -488,18 +488,18 @@ class Judge:
                         return point
         return None
 
-    def unexplained(self, region: Any, origin: tuple[int, int], rows: list[Row]) -> Any:
-        """A region without what is near a border, and without the polygons of findings, nearly."""
+    def unexplained(self, region: Any, origin: tuple[int, int], rows: list[Row]) -> list:
+        """What is left of a region without what is near a border, and without the polygons of findings, nearly."""
         cuts = [
             lambda box: self.borders(rows, box, origin),
             lambda box: self.findings.geometry(box, origin),
             lambda box: self.borders([self.rows[at] for at in near(self.boxes, box)], box, origin),
         ]
+        left = [MultiPolygon(parts_of(region))] if parts_of(region) else []
         for cut in cuts:
-            region = MultiPolygon(parts_of(region))
-            if not region.is_empty:
-                region = region.difference(cut([v / 1000 + start for v, start in zip(region.bounds, origin * 2)]))
-        return region
+            boxes = [[value / 1000 + start for value, start in zip(part.bounds, origin * 2)] for part in left]
+            left = [rest for part, box in zip(left, boxes) for rest in parts_of(part.difference(cut(box)))]
+        return left
 
     def borders(self, rows: list[Row], box: Box, origin: tuple[int, int]) -> Any:
         """What is near the borders of rows, in and about a box."""

@@ -21,7 +21,7 @@ from lpis_helpers.places import BUILT, TOP as HOUSE
 
 TOP = Path(HOUSE)
 RELEASES, LEAST = 100, (3, 2, 3, 3)  # of a series; cases of each condition, series by series
-MOST_LINES, MOST_LINES_OF_SOURCE, COLUMNS = 365, 660, 120  # of audit/
+MOST_LINES, MOST_LINES_OF_SOURCE, COLUMNS = 365, 670, 120  # of audit/
 DAMAGES = ["tables"] * 12 + ["wrong"] * 9 + damage.CONDITIONS * 3 + [damage.pair_added, damage.other_edge] * 2 + damage.TEXTS * 7
 EXACT = TOP / "examples" / "exact"
 
