@@ -597,6 +597,7 @@ def answer(arguments: argparse.Namespace) -> str:
 
 def main() -> None:
     parser = argparse.ArgumentParser(usage=__doc__)
+    parser.exit = lambda status=0, text="": (print(end=text, file=sys.stderr), sys.exit(64 if status else 0))
     for word in ("land", "out", "--classes"):
         parser.add_argument(word)
     parser.add_argument("--name", action="append", default=[])

@@ -2,17 +2,33 @@
 is caught by a point that is right, and lands without such a fault get a yes."""
 
 import argparse
+import csv
 import math
 import random
 import re
 import shutil
+import sys
 from array import array
 from fractions import Fraction
 
 import pytest
 import source
-from lpis_helpers import calls, places
-from lpis_helpers.mutants import MUTANTS, Tables, source_of, turned_back
+from lpis_helpers import calls, dirty, places
+from lpis_helpers.mutants import (
+    MUTANTS,
+    PARCELS,
+    PERCENTS,
+    PIECES,
+    TOLD,
+    WHOLE,
+    Tables,
+    box,
+    country_of,
+    source_of,
+    turned_back,
+    wkt,
+    write_findings,
+)
 from shapely.geometry import LineString
 
 POINT = re.compile(r"no at (-?[0-9.]+) (-?[0-9.]+): the source has (.*), the tables have (.*); ([0-9.]+) m from")
@@ -39,13 +55,136 @@ def test_mutants(name, land, tmp_path):
     tables, mutant = Tables(tmp_path).write(), MUTANTS[name]
     mutant.does(tables)
     line = answered(land, tmp_path)
+    expect(line, mutant.where)
     found = POINT.match(line)
-    assert found, line
-    x, y = turned_back(float(found[1]), float(found[2]))
-    left, low, right, high = mutant.where
-    assert left <= x <= right and low <= y <= high, (line, x, y)
     assert found[3] != found[4] or " and piece" in found[3], line
     assert float(found[5]) > 0.0007
+
+
+def expect(line, where, said=""):
+    """A no that is told of a point in a box of the land."""
+    found = POINT.match(line)
+    assert found and said in line, line
+    x, y = turned_back(float(found[1]), float(found[2]))
+    assert where[0] <= x <= where[2] and where[1] <= y <= where[3], (line, x, y)
+
+
+def shifted(region):
+    """Last year's tables, or others': all lies three millimetres beside."""
+    region.move_all(0.003)
+
+
+def widened(region):
+    """A guest's copy in one region alone is another."""
+    region.shape("covers", "B1", [[box(40, 0, 60.5, 30)]])
+
+
+COUNTRY = {
+    "a region is of another year": ("east", shifted, (40, 0, 150, 60)),
+    "a guest differs in one region": ("west", widened, (60, 0, 60.5, 30)),
+    "a piece is in no region": ("east", lambda region: region.drop("covers", "H1"), (120, 0, 150, 60)),
+    "a region has another percentage": ("east", lambda region: region.change("classes", "GRASS", 1, "99"), WHOLE),
+}
+
+
+@pytest.mark.parametrize("name", [None, *COUNTRY])
+def test_country(name, land, tmp_path):
+    """Of a country each region's rows are held to the source, those of guests in each."""
+    regions = country_of(Tables(tmp_path / "whole").write(), tmp_path / "country")
+    if name is None:
+        assert answered(land, tmp_path / "country") == "yes"
+        return
+    region, change, where = COUNTRY[name]
+    change(regions[region])
+    expect(answered(land, tmp_path / "country"), where)
+
+
+def test_distances(land, tmp_path):
+    """A corner 1.2 mm beside is within what --previous may move it by, and not without."""
+    tables = Tables(tmp_path).write()
+    tables.shape("covers", "B1", [[[(40, 0), (60.0012, 0), (60, 30), (40, 30), (40, 0)]]])
+    tables.shape("covers", "B2", [[[(60.0012, 0), (80, 0), (80, 30), (60, 30), (60.0012, 0)]]])
+    expect(answered(land, tmp_path), (59.9, -0.1, 60.1, 30.1))
+    assert answered(land, tmp_path, previous=True) == "yes"
+
+
+def test_rows_that_change_no_land(land, tmp_path):
+    """A row of land that nobody has excuses no piece that was lost."""
+    tables = Tables(tmp_path).write()
+    tables.drop("covers", "A2")
+    (tmp_path / "findings.gpkg").unlink()
+    write_findings(tmp_path / "findings.gpkg", {**TOLD, "between": ("2", "A A", box(10, 10, 20, 20))})
+    expect(answered(land, tmp_path), (10, 10, 20, 20))
+
+
+def test_rows_without_points(tmp_path):
+    """A row that has no point far from a border is in the tables, or a finding has it."""
+    land = source_of(tmp_path / "land.gpkg", {"E2": [[box(100, 0, 100.0005, 45)]]})
+    tables = Tables(tmp_path / "out").write()
+    tables.drop("covers", "E2")
+    tables.shape("parcels", "E", [[box(80, 0, 99.7, 45)]])
+    gap = {**TOLD, "gap": ("5", "E", box(99.7, 0, 120, 45))}
+    (tmp_path / "out" / "findings.gpkg").unlink()
+    write_findings(tmp_path / "out" / "findings.gpkg", gap)
+    line = answered(land, tmp_path / "out")
+    assert line == "no: covers row 9 of the source, piece E2 of E, class GRASS at 100 percent, is in no table"
+    tables.findings("UPDATE gap SET layer = 'covers', row = '9'")
+    assert answered(land, tmp_path / "out") == "yes"
+
+
+SHEETS = {
+    "commas": (",", "utf-8", {}),
+    "semicolons and decimal commas": (";", "cp1252", {"30": "30,0 %"}),
+    "tabs in UTF-16": ("\t", "utf-16", {}),
+    "shares": (";", "utf-8-sig", {"100": "1", "30": "0,3"}),
+}
+
+
+@pytest.mark.parametrize("name", SHEETS)
+def test_sheets(name, tmp_path):
+    """A folder of tables as spreadsheets write them, under names of its own."""
+    separator, encoding, percents = SHEETS[name]
+    tables, folder = Tables(tmp_path / "out").write(), tmp_path / "land"
+    folder.mkdir()
+    rows = {
+        "blocks": [["blk", "shape"], *([name, wkt(members)] for name, members in PARCELS.items())],
+        "covers": [["piece", "blk", "class", "wkt"], *([k, p, c, wkt(m)] for k, (p, c, m) in PIECES.items())],
+        "classes": [["CLASS", "percent"], *([kind, percents.get(str(v), v)] for kind, v in PERCENTS.items())],
+    }
+    for table, records in rows.items():
+        with open(folder / f"{table}.csv", "w", newline="", encoding=encoding) as file:
+            csv.writer(file, delimiter=separator).writerows(records)
+    words = ["parcels=blocks", "parcels.parcel=blk", "parcels.wkt=shape", "covers.parcel=blk"]
+    assert answered(folder, tmp_path / "out", name=words) == "yes"
+    tables.change("classes", "TREES", 1, "29")
+    expect(answered(folder, tmp_path / "out", name=words), (40, 0, 60, 60), "class TREES at 30 percent, the tables have")
+
+
+def test_arcs(tmp_path):
+    """Beside an arc it is half a millimetre more, and an arc is none of its chords."""
+    middle, ends = (5 - 5 * math.sqrt(0.5), 5 * math.sqrt(0.5)), [(10.0, 0.0), (5.0, 5.0), (0.0, 0.0)]
+    shape = dirty.arc(ends[0], (5 + 5 * math.sqrt(0.5), middle[1]), ends[1], middle, ends[2], (5.0, -5.0), ends[0])
+    dirty.put(tmp_path / "land.gpkg", [("A", shape)], [("A1", "A", "GRASS", shape)], [("GRASS", 100)])
+    for count, answer in ((200, "yes"), (20, "no at")):
+        angles = [math.tau * at / count for at in range(count)]
+        way = [f"{5 + 5 * math.cos(angle):.3f} {5 * math.sin(angle):.3f}" for angle in angles]
+        text = f"POLYGON(({','.join([*way, way[0]])}))"
+        out = Tables(tmp_path)
+        out.put("parcels", [["parcel", "wkt"], ["A", text]])
+        out.put("covers", [["piece", "parcel", "class", "wkt"], ["A1", "A", "GRASS", text]])
+        out.put("classes", [["class", "percent"], ["GRASS", "100"]])
+        assert answered(tmp_path / "land.gpkg", tmp_path).startswith(answer)
+
+
+def test_statuses(land, tmp_path):
+    """As a process, by a Python without Shapely too: 0, 1, and 64 where it cannot be told."""
+    tables, script = Tables(tmp_path / "out").write(), f"{places.TOP}/audit/source.py"
+    assert calls.done("python3", script, land, tables.folder) == "yes\n"
+    tables.drop("covers", "A2")
+    assert calls.ended_with(1, calls.run("python3", script, land, tables.folder)).stdout.startswith("no at ")
+    for words in ((land, tmp_path / "none"), (tmp_path / "none.gpkg", tables.folder), (tables.folder / "findings.gpkg",)):
+        ended = calls.run(sys.executable, script, *words)
+        assert (ended.returncode, ended.stdout) == (64, ""), ended.stderr
 
 
 def drawn(numbers, count, size):

@@ -7,6 +7,7 @@ the land (x, y, x, y in metres, before it is turned).
 
 import csv
 import re
+import shutil
 import sqlite3
 from dataclasses import dataclass
 from pathlib import Path
@@ -158,6 +159,20 @@ def wkt(members: list) -> str:
     ]
     bodies = [f"({','.join(member)})" for member in rings]
     return f"POLYGON{bodies[0]}" if len(bodies) == 1 else f"MULTIPOLYGON({','.join(bodies)})"
+
+
+def country_of(tables: Tables, folder: Path) -> dict[str, Tables]:
+    """A country of these tables in two regions, both of which have the parcels B and C."""
+    regions = {name: Tables(folder / name) for name in ("west", "east")}
+    for name, parcels in (("west", "ABCD"), ("east", ("B", "C", "E", "H", "Muehle-1"))):
+        regions[name].folder.mkdir(parents=True)
+        for table, column in (("parcels", 0), ("covers", 1), ("classes", None)):
+            header, *rows = tables.read(table)
+            regions[name].put(table, [header, *(row for row in rows if column is None or row[column] in parcels)])
+    (folder / "country.txt").write_text("lpis-country 1\nx 550050000\nregion west\nregion east\n", encoding="ascii")
+    for name in ("classes.csv", "identifiers.csv", "findings.gpkg"):
+        shutil.copy(tables.folder / name, folder / name)
+    return regions
 
 
 def write_findings(path: Path, told: Optional[dict] = None) -> None:
