@@ -35,7 +35,7 @@ def lands():
     yield [("a", boxed(0, 0, 50, 40)), ("b", boxed(50.5, 40.5, 50, 40))], []  # corner to corner
     yield [("a", boxed(0, 0, 50, 40)), ("b", boxed(0, 40, 20, 40)), ("c", boxed(60, 0, 40, 80))], []  # corners of a road
     wedge = [("a", [(0, 0), (100, 0), (100, 20), (0, 20), (0, 0)]), ("b", [(0, 20), (100, 30), (100, 60), (0, 20)])]
-    yield wedge, [("a b", 0.4986, 5.0)]  # up to where it is a metre wide
+    yield wedge, [("a b", 0.9496, 5.0)]  # up to where it is a metre wide
     yield [("a", boxed(0, 0, 50, 40)), ("b", boxed(50.4, 0, 0.2, 40)), ("c", boxed(51, 0, 50, 40))], [("a b", 0.4, 16.0), ("b c", 0.4, 16.0)]  # nothing across a narrow parcel
 
 

@@ -7,7 +7,7 @@ from fractions import Fraction
 
 import numpy
 
-from . import progress
+from . import progress, widths
 from .between import Between, Names
 from .faces import Faces
 from .noding import Corners, Network
@@ -73,7 +73,7 @@ def narrow(base, files, width):
     for ring, area, length, left, right, low, high in progress.each(found, progress.Quiet.tool, "narrow land between parcels", count, "rings"):
         box = [value + sign * abs(value) * ROUNDED for value, sign in ((left, -1), (right, 1), (low, -1), (high, 1))]
         islands, shores = base.execute(f"SELECT total(area), total(length) {WITHIN.format('ring USING (id)')} AND area < 0", box).fetchone()
-        if area + islands <= width * (length + shores) / 2 * DOUBT:
+        if area + islands <= (width + widths.ROUNDING) * (length + shores) / 2 * DOUBT:
             face = Group(base, files, box).face(ring, width)
             if face:
                 gap, rings = face

@@ -10,7 +10,7 @@ import numpy
 from shapely.geometry import Polygon
 from shapely.ops import unary_union
 
-from . import faces
+from . import faces, widths
 from .facing import TINY, Facing, straightened
 
 DEEP = 10  # times the width: strips up to this depth cross a few of the other side
@@ -106,7 +106,7 @@ def millimetres(width):
 
 
 def is_narrow(shape, width):
-    return width_of(shape) * 1000 <= millimetres(width)
+    return not widths.is_as_wide(shape, width + widths.ROUNDING)
 
 
 def land_of(sides):
@@ -123,10 +123,3 @@ def in_order(lengths):
     """Names, the two with the longest borders first: by name among these, and by length to the millimetre among all."""
     names = sorted(lengths, key=lambda name: (-round(lengths[name]), name))
     return sorted(names[:2]) + names[2:]
-
-
-def width_of(part):
-    """The area over the length: the width of the rectangle that has the area and the border's length of a part."""
-    area, half = part.area, part.length / 2
-    root = half * half - 4 * area
-    return 2 * area / (half + root**0.5) if root > 0 else area**0.5

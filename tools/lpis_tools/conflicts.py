@@ -12,13 +12,12 @@ from shapely.ops import polygonize, unary_union
 from shapely.validation import explain_validity, make_valid
 
 from . import identifiers, land, outlines, progress, wkb
-from .between import width_of
 from .boxes import Boxes
 from .printing import counted
 from .rounding import Map, shape_of
+from .widths import ROUNDING, is_as_wide, parts_of, places_of, width_of
 
-WIDE = 0.02  # metres: a conflict of this width is a fault of the source
-ROUNDING = 0.000_001  # metres: of doubles
+WIDE = 0.02  # metres: a conflict that is as wide as this somewhere is a fault of the source
 LEAST = 0.001  # metres: conflicts that are narrower are rounding, and no rows
 SPIKE = 0.0005  # metres: narrower than twice that, a part of a shape is no place to show it
 AREA = 0.000_001  # square metres: of doubles
@@ -90,15 +89,6 @@ class Loss:
         return point.x, point.y
 
 
-def parts_of(shape):
-    """The polygons of whatever an operation gave."""
-    if shape is None or shape.is_empty:
-        return []
-    if shape.geom_type == "Polygon":
-        return [shape]
-    return [part for inner in getattr(shape, "geoms", []) for part in parts_of(inner)]
-
-
 def members_of(shape):
     return [[list(map(tuple, ring.coords)) for ring in (part.exterior, *part.interiors)] for part in parts_of(shape)]
 
@@ -150,10 +140,13 @@ def by_geos(what, rows, operation, *shapes):
 
 
 def pieces_found(kind, names, rows, shape, words):
-    for part in parts_of(shape):
-        width = width_of(part)
-        if width >= LEAST - ROUNDING:
-            yield Loss(kind, names, words, part, width, part.area, "parcels" if kind == "gap" else "covers", rows)
+    """A loss for each place that is wide, and one for what is thin of each connected part: that is no more than rounding where it is nowhere as wide as a millimetre."""
+    for part in parts_of(shape) if is_as_wide(shape, LEAST - ROUNDING) else ():
+        wide, thin = places_of(part, WIDE - ROUNDING)
+        found = [(place, max(width_of(place), WIDE - ROUNDING)) for place in wide]
+        if is_as_wide(thin, LEAST - ROUNDING):
+            found.append((thin, min(width_of(thin), WIDE - 2 * ROUNDING)))
+        yield from (Loss(kind, names, words, place, width, place.area, "parcels" if kind == "gap" else "covers", rows) for place, width in found)
 
 
 class Source:
@@ -303,7 +296,7 @@ def find_outside(source, piece, row):
 
 def between_all(gaps):
     """A loss for each gap, but for those that are rounding."""
-    return [loss for loss in map(between_of, gaps) if loss.width is None or loss.width >= LEAST - ROUNDING]
+    return [between_of(gap) for gap in gaps if gap.shape is None or is_as_wide(gap.shape, LEAST - ROUNDING)]
 
 
 def between_of(gap):

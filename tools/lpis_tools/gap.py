@@ -12,7 +12,7 @@ from . import between, conflicts, ways
 from .cell import record_of, written
 from .noding import cells_along, key_of
 
-RULE = "lpis gaps 1"  # what another rule gave is not taken
+RULE = "lpis gaps 2"  # what another rule gave is not taken
 LEAST = 100_000  # millimetres: the side of the squares in which near borders are looked for
 BESIDE = "SELECT id, cell, at FROM box_of_way JOIN way USING (id) WHERE left <= ? AND right >= ? AND low <= ? AND high >= ? AND NOT is_narrow"
 

@@ -13,8 +13,9 @@ from shapely.prepared import prep
 
 from . import land, polygons, progress
 from .along import Along, edges_of
-from .conflicts import LEAST, Loss, Source, by_geos, parts_of, polygons_by, width_of
+from .conflicts import LEAST, WIDE, Loss, Source, by_geos, polygons_by
 from .snapping import pixel_of
+from .widths import ROUNDING, is_as_wide, parts_of, widest
 
 ROUNDED = 0.001  # metres: what a border moves by rounding, at most
 ALONG = 1.5 * ROUNDED  # metres from a border to what lies along it
@@ -148,15 +149,20 @@ class Outcome:
         if before is not now:
             gone, come = (by_geos("the change", named, one.difference, other) for one, other in ((before, after), (after, before)))
         change = gone.area + come.area
-        is_grave = change > before.length * ROUNDED + TINY
+        is_grave = change > before.length * ROUNDED + TINY or any(is_as_wide(one, WIDE - ROUNDING) for one in (gone, come))
         if is_grave or self.is_greatest(name, change):
             words = f"{gone.area:.3f} m2 went and {come.area:.3f} m2 came, from {before.area:.3f} to {after.area:.3f} m2"
-            loss = Loss("changed", [row[column]], words, by_geos("the change", named, gone.union, come), None, change, name, [row.number], is_grave)
+            width, place = max(map(widest, (gone, come))) if is_grave else (None, None)
+            loss = Loss("changed", [row[column]], words, by_geos("the change", named, gone.union, come), width, change, name, [row.number], is_grave, place)
             self.source.losses += [loss] if is_grave else []
             self.keep_greatest(name, change, loss)
-        narrow = [(what, part) for what, found in (("a spike", gone), ("a notch", come)) for part in parts_of(found) if width_of(part) < LEAST and part.length > 4 * ROUNDED]
-        for (what, part), leads_away in zip(narrow, lead_away(after, [part for _, part in narrow])):
-            if leads_away:
+        self.spikes(name, row, column, after, (("a spike", gone), ("a notch", come)))
+
+    def spikes(self, name, row, column, after, changes):
+        """Of what went and what came the parts that are narrow and lead away from the border."""
+        parts = [(what, part) for what, found in changes for part in parts_of(found) if 2 * part.area < LEAST * part.length and part.length > 4 * ROUNDED]
+        for (what, part), leads_away in zip(parts, lead_away(after, [part for _, part in parts])):
+            if leads_away and not is_as_wide(part, LEAST):
                 words = f"{what} of {part.length / 2:.3f} m, narrower than a millimetre, is not in the tables"
                 self.source.losses.append(Loss("spike", [row[column]], words, part, None, part.area, name, [row.number]))
 
