@@ -62,7 +62,7 @@ class TestCells(ByCells):
             for y in (range(side + 2) if x in (0, side + 1) else (0, side + 1)):
                 land.parcel([boxed(x, y, 1)])
         land.parcel([boxed(1 + wide, 1 + wide, side - 2 * wide, side - 0.1 - wide)])
-        for width, count, area in ((0.5, 1, side * side - (side - 1) * (side - 0.6)), (0.2, side, 0.1 * (side - 1))):
+        for width, count, area in ((0.6, 1, side * side - (side - 1) * (side - 0.6)), (0.2, side, 0.1 * (side - 1))):
             found = self.whole(land, width)
             assert (len(found), round(sum(loss[5] for loss in found), 6)) == (count, round(area, 6))
             assert self.by_cells(land, 1, width=width)[1] == found
@@ -74,10 +74,10 @@ class TestCells(ByCells):
         frame = (-20, -10, 10, 100), (-10, -10, 310, 10), (-10, 80, 310, 10), (300, -10, 10, 100)
         for ring in (*(boxed(*of) for of in (*frame, (5.001, 10, 10, 10.001), (4.999, 59.999, 10, 10))), closed((0, 0), (0.0004, 0), (10, 40)), closed((19.9996, 80), (20, 80), (10, 40))):
             land.parcel([ring])
-        whole = self.whole(land, 20.0)
+        whole = self.whole(land, 24.0)
         assert [(len(names), words.count("4 more parcels"), round(area)) for _, names, _, words, _, area, _ in whole] == [(2, 1, 1500), (2, 0, 100), (2, 0, 13)]
         for most in (20, 1):
-            assert self.by_cells(land, most, width=20.0)[1] == whole
+            assert self.by_cells(land, most, width=24.0)[1] == whole
 
     @pytest.mark.parametrize("is_wide", (True, False))
     def test_needle_on_fine_borders(self, is_wide):

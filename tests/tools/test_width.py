@@ -105,6 +105,40 @@ class TestConflicts(ByCells):
         assert (width, area) == (pytest.approx(0.5, abs=0.0005), pytest.approx(0.5, abs=0.01))
 
 
+class TestSilence(ByCells):
+    """Conflicts of rows that are hard to see each other."""
+
+    def told_of(self, land):
+        told = self.whole(land)
+        assert self.by_cells(land, 1)[1] == told
+        return [(kind, names, round(area, 6)) for kind, names, _, _, _, area, _ in told]
+
+    def test_three_pieces(self):
+        """A third piece lies over the overlap of two, and over more; and two pieces of one parcel share a place: each pair is told."""
+        left, right, third = box(-50, 0, 2, 100), box(0, 0, 50, 100), box(-1, 10, 1, 11)
+        parcels = [("A", left), ("B", right), ("C", third)]
+        assert self.told_of(Land(parcels, parcels)) == [("overlap", ["A.1", "B.2"], 200), ("overlap", ["A.1", "C.3"], 2), ("overlap", ["B.2", "C.3"], 1)]
+        same = [("A", box(0, 0, 6, 10)), ("A", box(5, 0, 10, 10)), ("A", box(5, 4, 6, 5))]
+        assert self.told_of(Land([("A", box(0, 0, 10, 10))], same)) == [("overlap", ["A.1", "A.2"], 10), ("overlap", ["A.1", "A.3"], 1), ("overlap", ["A.2", "A.3"], 1)]
+
+    def test_one_has_pieces(self):
+        """Two parcels overlap, and one of them alone has pieces there, or none has."""
+        left, right = box(-50, 0, 2, 100), box(0, 0, 50, 100)
+        parcels = [("A", left), ("B", right)]
+        assert self.told_of(Land(parcels, [("A", left), ("B", right.difference(left))])) == [("gap", ["B"], 200)]
+        assert self.told_of(Land(parcels, [("A", left.difference(right)), ("B", right.difference(left))])) == [("gap", ["A"], 200), ("gap", ["B"], 200)]
+
+    @pytest.mark.parametrize("count", (1, 2, 11, 150))
+    def test_namesakes(self, count):
+        """A piece lies outside of its parcel where no parcel of the name has the place, however many there are; a piece in another of them is not outside."""
+        shapes = [box(20 * number, 0, 20 * number + 10, 10) for number in range(count)]
+        covers = [("A", box(*shape.bounds[:3], 13) if number == 0 else shape) for number, shape in enumerate(shapes)]
+        layers = {name: land_module.Layer(name, rows, is_valid=True) for name, rows in vars(Land([("A", shape) for shape in shapes], covers)).items() if name != "turn"}
+        source = conflicts.Source(layers)
+        conflicts.find_conflicts(source, lambda words: None, between=None)
+        assert [(loss.kind, loss.names, loss.rows, round(loss.width, 4), round(loss.area, 4)) for loss in source.losses] == [("outside", ["A.1", "A"], [1, 1], 3, 30)]
+
+
 class TestChanges(Case):
     def test_wide(self):
         """A change that is as wide as a place stops, however long the border is, and is told where it is."""

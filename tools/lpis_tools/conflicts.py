@@ -22,7 +22,7 @@ LEAST = 0.001  # metres: conflicts that are narrower are rounding, and no rows
 SPIKE = 0.0005  # metres: narrower than twice that, a part of a shape is no place to show it
 AREA = 0.000_001  # square metres: of doubles
 FAR = 20_000_000.0  # metres: the range of the tables
-MANY = 100  # pieces of one name, from which on they are asked for by their boxes
+MANY = 100  # rows of one name, from which on they are asked for by their boxes
 MOST_OVERLAPS, OVERLAPS_EACH = 20_000, 100  # beyond so many in all, those of a piece that lies on more than so many others are one
 ORDER = ("lost", "left out", "made", "doubled", "identifier", "stranger", "added", "class", "invalid", "overlap", "gap", "outside", "between", "spike", "changed", "kept", "column")
 STOPPING = frozenset(ORDER[:9])
@@ -149,6 +149,14 @@ def pieces_found(kind, names, rows, shape, words):
         yield from (Loss(kind, names, words, place, width, place.area, "parcels" if kind == "gap" else "covers", rows) for place, width in found)
 
 
+def by_parcel(rows):
+    """Rows by the names of their parcels."""
+    found = {}
+    for row in rows:
+        found.setdefault(row["parcel"], []).append(row)
+    return found
+
+
 class Source:
     """A land whose shapes are valid: `shaped` has the ids of the rows that have one."""
 
@@ -157,19 +165,24 @@ class Source:
     def __init__(self, layers):
         self.losses, self.layers, self.shaped = [], layers, set()
         self.parcels, self.covers = ([row for row in layers[name].rows if self.has_land(layers[name], column, row)] for name, column in self.KEYS.items())
-        self.pieces_of, self.boxes_of = {}, {}
-        for row in self.covers:
-            self.pieces_of.setdefault(row["parcel"], []).append(row)
+        self.parcels_of, self.pieces_of = by_parcel(self.parcels), by_parcel(self.covers)
+        self.boxes_of = {}
 
     def pieces_near(self, row):
         """The pieces of a parcel's name, at least those that have a place in it."""
-        name = row["parcel"]
-        pieces = self.pieces_of[name]
-        if len(pieces) < MANY:
-            return pieces
-        if name not in self.boxes_of:
-            self.boxes_of[name] = Boxes([piece.found.box() for piece in pieces])
-        return [pieces[number] for number in self.boxes_of[name].meeting(row.found.box())]
+        return self.near(self.pieces_of[row["parcel"]], row)
+
+    def parcels_near(self, piece):
+        """The parcels that have the name of a piece's parcel, at least those that have a place in it."""
+        return self.near(self.parcels_of.get(piece["parcel"], []), piece)
+
+    def near(self, rows, row):
+        """Of rows of one name and layer those that meet the box of a row, where they are many."""
+        if len(rows) < MANY:
+            return rows
+        if id(rows) not in self.boxes_of:
+            self.boxes_of[id(rows)] = Boxes([one.found.box() for one in rows])
+        return [rows[number] for number in self.boxes_of[id(rows)].meeting(row.found.box())]
 
     def has_land(self, layer, column, row):
         """Whether a row has a shape with an area, which is mended first where it crosses itself."""
@@ -278,20 +291,24 @@ def find_overlap(source, row, other):
     shapes = [source.shape(one) for one in (row, other)]
     both = by_geos("the overlap", [("covers", one["piece"], one) for one in (row, other)], shapes[0].intersection, shapes[1])
     first, second = sorted((row, other), key=lambda one: one["piece"])
-    source.losses += pieces_found("overlap", [first["piece"], second["piece"]], [first.number, second.number], both, "both pieces have this place")
+    found = pieces_found("overlap", [first["piece"], second["piece"]], [first.number, second.number], both, "both pieces have this place")
+    source.losses += by_geos("the width of the overlap", [("covers", one["piece"], one) for one in (first, second)], list, found)
 
 
 def find_gap(source, row):
     named = [("parcels", row["parcel"], row)]
     whole = by_geos("the pieces", named, unary_union, [source.shape(piece) for piece in source.pieces_near(row)])
     gap = by_geos("the gaps", named, source.shape(row).difference, whole)
-    source.losses += pieces_found("gap", [row["parcel"]], [row.number], gap, "the parcel has this place, and none of its pieces")
+    source.losses += by_geos("the width of the gap", named, list, pieces_found("gap", [row["parcel"]], [row.number], gap, "the parcel has this place, and none of its pieces"))
 
 
 def find_outside(source, piece, row):
     named = [("parcels", row["parcel"], row), ("covers", piece["piece"], piece)]
-    outside = by_geos("the outside", named, source.shape(piece).difference, source.shape(row))
-    source.losses += pieces_found("outside", [piece["piece"], row["parcel"]], [piece.number, row.number], outside, "the piece has this place, and its parcel has not")
+    shapes = [source.shape(parcel) for parcel in source.parcels_near(piece)]
+    whole = shapes[0] if len(shapes) == 1 else by_geos("the parcels", named, unary_union, shapes)
+    outside = by_geos("the outside", named, source.shape(piece).difference, whole)
+    found = pieces_found("outside", [piece["piece"], row["parcel"]], [piece.number, row.number], outside, "the piece has this place, and its parcel has not")
+    source.losses += by_geos("the width of the outside", named, list, found)
 
 
 def between_all(gaps):

@@ -149,10 +149,10 @@ class Outcome:
         if before is not now:
             gone, come = (by_geos("the change", named, one.difference, other) for one, other in ((before, after), (after, before)))
         change = gone.area + come.area
-        is_grave = change > before.length * ROUNDED + TINY or any(is_as_wide(one, WIDE - ROUNDING) for one in (gone, come))
+        is_grave = change > before.length * ROUNDED + TINY or any(by_geos("the width of the change", named, is_as_wide, one, WIDE - ROUNDING) for one in (gone, come))
         if is_grave or self.is_greatest(name, change):
             words = f"{gone.area:.3f} m2 went and {come.area:.3f} m2 came, from {before.area:.3f} to {after.area:.3f} m2"
-            width, place = max(map(widest, (gone, come))) if is_grave else (None, None)
+            width, place = max(by_geos("the width of the change", named, widest, one) for one in (gone, come)) if is_grave else (None, None)
             loss = Loss("changed", [row[column]], words, by_geos("the change", named, gone.union, come), width, change, name, [row.number], is_grave, place)
             self.source.losses += [loss] if is_grave else []
             self.keep_greatest(name, change, loss)

@@ -17,7 +17,6 @@ from .land import BETWEEN
 from .polygons import metres
 from .trouble import Trouble
 
-MOST_NAMESAKES = 10  # parcels of one name, beyond which it is not asked which of them a piece lies outside of: they are rows of their own
 warnings.filterwarnings("ignore", module="shapely")
 
 
@@ -28,7 +27,8 @@ def shape_of(found):
 
 @dataclass
 class Conflicts:
-    """The rows that have a face in conflict: two pieces, a parcel and none of its pieces, a piece and not its parcel; and borders that were kept."""
+    """The rows that have a face in conflict: two pieces, a parcel and none of its pieces, a piece and none of the parcels of its parcel's name, with the first of these;
+    and borders that were kept."""
 
     overlaps: list
     gaps: list
@@ -76,13 +76,12 @@ class Map:
         named = {row["parcel"] for row in self.covers}
         for number, row in enumerate(self.parcels):
             parcels_of.setdefault(row["parcel"], []).append(number)
-        asked = {name: numbers for name, numbers in parcels_of.items() if name and len(numbers) <= MOST_NAMESAKES}
         for winding in set(self.windings):
             pieces = [who - start for who, times in winding if who >= start and times > 0]
             parcels = {who for who, times in winding if who < start and times > 0}
-            held = {self.covers[number]["parcel"] for number in pieces}
+            held, there = {self.covers[number]["parcel"] for number in pieces}, {self.parcels[number]["parcel"] for number in parcels}
             gaps.update((number, None) for number in parcels if self.parcels[number]["parcel"] not in held and self.parcels[number]["parcel"] in named)
-            outsides.update(((number, one), None) for number in pieces for one in asked.get(self.covers[number]["parcel"], ()) if one not in parcels)
+            outsides.update(((number, one), None) for number in pieces for one in parcels_of.get(self.covers[number]["parcel"], ())[:1] if self.covers[number]["parcel"] not in there)
         return Conflicts([(self.covers[a], self.covers[b]) for a, b in self.overlaps()], [self.parcels[number] for number in sorted(gaps)],
                          [(self.covers[piece], self.parcels[number]) for piece, number in sorted(outsides)], self.kept(), self.between(between) if between else [])
 
