@@ -45,7 +45,7 @@ except ImportError:
 ROUNDED, KEPT, STRAIGHTENED = Fraction(708, 1000), Fraction(3, 2), Fraction(51, 100)  # millimetres; the last with ours
 HAIR = Fraction(1, 1000)  # millimetres about the polygon of a finding
 SLACK = 0.00002  # millimetres that doubles may be off
-MOST_VALUES = 4_000_000  # of edges, before they are struck out
+MOST_VALUES = 1_000_000  # of edges, before they are struck out
 COLUMNS = {"parcels": ["parcel"], "covers": ["piece", "parcel", "class"], "classes": ["class", "percent", "eligible"]}
 SAYING_NOTHING = ("between", "kept", "spike", "column")  # findings that change no land
 ZONES = {**{25800 + zone: zone for zone in range(28, 39)}, 4647: 32, 5649: 31, 5650: 33}
@@ -67,15 +67,16 @@ class Trouble(Exception):
 def sheet(path: Path, separators: str = ",;\t") -> Iterator[list[str]]:
     """The records of a table of text, the header first."""
     csv.field_size_limit(1 << 30)
-    data, text = path.read_bytes(), None
-    for encoding in ("utf-16",) if data[:2] in (b"\xff\xfe", b"\xfe\xff") else ("utf-8-sig", "cp1252", "iso-8859-1"):
-        try:
-            text = data.decode(encoding)
-            break
-        except UnicodeDecodeError:
-            continue
-    separator = max(separators, key=(text or "").split("\n", 1)[0].count)
-    return filter(None, csv.reader(io.StringIO(text or "", newline=""), delimiter=separator))
+    with path.open("rb") as file:
+        is_wide = file.read(2) in (b"\xff\xfe", b"\xfe\xff")
+    for encoding in ("utf-16",) if is_wide else ("utf-8-sig", "cp1252", "iso-8859-1"):
+        with contextlib.suppress(UnicodeDecodeError), path.open(encoding=encoding, newline="") as file:
+            separator = max(separators, key=file.readline().count)
+            while file.read(1 << 20):
+                pass
+            file.seek(0)
+            yield from filter(None, csv.reader(file, delimiter=separator))
+            return
 
 
 def fields_of(header: list[str], wanted: list[str], records: Iterable) -> Iterator[list]:
@@ -146,14 +147,14 @@ class Names:
     """What names of the source are called in the tables. Two of them have not one name."""
 
     def __init__(self, out: Path) -> None:
-        self.new, self.old, path = {}, {}, out / "identifiers.csv"
+        self.new, self.old, path = {}, defaultdict(dict), out / "identifiers.csv"
         for kind, old, new, *_ in list(sheet(path, ","))[1:] if path.exists() else []:
             self.new[kind, re.sub(r"^'(?=[=+\-@\t\r])", "", old)] = new
 
     def of(self, kind: str, value: Any) -> str:
         old = plain(value)
         new = self.new.get((kind, "" if value is None else str(value))) or self.new.get((kind, old)) or old
-        return new if self.old.setdefault((kind, new), old) == old else f"{old!r}, whose name another has"
+        return sys.intern(new) if self.old[kind].setdefault(new, old) == old else f"{old!r}, whose name another has"
 
 
 def percentages(rows: Iterable[list], name_of: Callable[[str], str]) -> dict[str, Optional[str]]:
@@ -181,20 +182,20 @@ class Row:
 
 
 def read_source(land: Source, names: Names, percents: dict[str, Optional[str]]) -> list[Row]:
-    rows, interned = [], {}
+    rows = []
     for layer in ("parcels", "covers"):
-        own = land.systems.get(land.names.get(layer, layer).lower(), ("", None))[1]
+        own, code = land.systems.get(land.names.get(layer, layer).lower(), ("", None))[1], land.code(layer)
         for number, (*fields, data) in land.rows(layer, COLUMNS[layer]):
             try:
                 shape, system = land.shape_of(data)
                 if own is not None and system != own:
                     raise Unread("it is in another system than its layer")
-                without_zone(shape, ZONES.get(land.code(layer) if land.base else system))
+                without_zone(shape, ZONES.get(code if land.base else system))
             except Unread:
                 shape = []
             key = tuple(names.of(kind, field) for kind, field in zip(COLUMNS[layer], fields))
             key = key if layer == "parcels" else (*key, percents.get(key[2]))
-            rows.append(Row(layer, number, interned.setdefault(key, key), shape))
+            rows.append(Row(layer, number, key, shape))
     return rows
 
 
@@ -381,7 +382,7 @@ def square_to(point: Point, a: Point, b: Point) -> Any:
 
 
 def boxes_of(shapes: Iterable[Shape]) -> Any:
-    return numpy.array([box_of(shape) for shape in shapes], dtype=float).reshape(-1, 4)
+    return numpy.fromiter((value for shape in shapes for value in box_of(shape)), dtype=float).reshape(-1, 4)
 
 
 def near(boxes: Any, box: Box, margin: float = 0.003) -> Any:
@@ -438,6 +439,7 @@ class Judge:
         self.keys: dict[Key, str] = {}  # of the tables, with their layers
         for layer, key, members in tables:
             found = self.by_key.get(key, [])
+            key = found[0].key if found else key  # one copy of it is kept
             if key not in self.keys:
                 self.keys[key] = layer
                 self.edges[layer].add(members)
