@@ -3,7 +3,7 @@ lie in them. It has letters, digits, - and _ alone and begins with a letter, so 
 number, a date or a formula.
 
     text = outlines.text_of(blob)           of polygons as well-known binary
-    outlines.has(text, blob)                whether polygons are those of a text, or lie in them, with a millimetre about them
+    outlines.has(text, blob)                whether polygons are those of a text, or within a millimetre of them
 """
 
 from __future__ import annotations
@@ -122,7 +122,8 @@ def has(text: str, blob: bytes) -> bool:
 
     try:
         members = members_of(text)
-        rings = [LineString(ring) for member in members for ring in member]  # where rounding leaves a line of a narrow part
-        return unary_union([polygons_by(members), *rings]).buffer(ABOUT).covers(polygons_by(wkb.unpacked(blob)))
+        rings = [LineString(ring) for member in members for ring in member]  # rounding leaves a line of a narrow part
+        whole = unary_union([polygons_by(members), *rings]).buffer(ABOUT)
+        return whole.covers(polygons_by(wkb.unpacked(blob)))
     except (ShapelyError, ValueError):
         return False
