@@ -612,7 +612,7 @@ def main() -> None:
     except Exception as fault:  # whatever it is, it is no answer
         print(f"source.py: {'' if isinstance(fault, Trouble) else type(fault).__name__} {fault}", file=sys.stderr)
         sys.exit(64)
-    print(line)
+    print(" ".join(line.split()))
     sys.exit(line != "yes")
 
 

@@ -13,7 +13,8 @@ from fractions import Fraction
 
 import pytest
 import source
-from lpis_helpers import calls, dirty, places
+from lpis_helpers import calls, dirty, lands_source, places
+from lpis_helpers.lands_land import Land
 from lpis_helpers.mutants import (
     MUTANTS,
     PARCELS,
@@ -130,6 +131,28 @@ def test_rows_without_points(tmp_path):
     assert line == "no: covers row 9 of the source, piece E2 of E, class GRASS at 100 percent, is in no table"
     tables.findings("UPDATE gap SET layer = 'covers', row = '9'")
     assert answered(land, tmp_path / "out") == "yes"
+
+
+def test_what_the_tools_make(tmp_path):
+    """Of a land with every kind of dirt the release, the country, and last year's borders; of a coverage all borders."""
+    land, out, country, later = (tmp_path / name for name in ("land.gpkg", "release", "country", "later"))
+    dirty.make(land, dirty.ALL)
+    calls.ended_with(0, calls.tool("prepare", land, out, "--accept"))
+    calls.ended_with(0, calls.tool("country", "prepare", land, country, "--accept"))
+    calls.ended_with(0, calls.tool("prepare", land, later, "--accept", "--previous", out))
+    answers = [answered(land, out), answered(land, country), answered(land, later, previous=True)]
+    assert answers == ["yes"] * 3
+    calls.done(sys.executable, f"{places.TOP}/tests/lpis_helpers/make_coverage.py", "40", "1", tmp_path / "coverage")
+    calls.done(f"{places.TOOLS}/prepare", tmp_path / "coverage", tmp_path / "rounded")
+    assert answered(tmp_path / "coverage", tmp_path / "rounded") == "yes"
+
+
+@pytest.mark.parametrize("seed", [4, 16, 17, 22, 27, 42, 44])
+def test_generated_lands(seed, tmp_path):
+    """Tables that tools/prepare writes of a generated land, asking nothing."""
+    land, words = lands_source.write(Land(seed, most=60), str(tmp_path))
+    calls.ended_with(0, calls.tool("prepare", land, tmp_path / "out", *words))
+    assert answered(land, tmp_path / "out", classes=words[1] if words else None) == "yes"
 
 
 SHEETS = {
