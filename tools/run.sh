@@ -9,10 +9,14 @@
 
 NEEDS='Linux on x86-64 with glibc 2.34 or later (Debian 12, Ubuntu 22.04, RHEL 9)'
 
-# Says a line. Names of tables and views of a stranger's file stand in some: letters that move the cursor do not reach the terminal.
+# A standard error that the caller closed takes everything and keeps nothing: else its number would be given to a file that is opened here.
+true >&2 || exec 2>/dev/null
+
+# Says a line. Names of tables and views of a stranger's file stand in some: letters that move the cursor do not reach the terminal. Where it
+# cannot be said, nothing else hangs on that.
 say() {
   local text=$*
-  printf 'lpis: %s\n' "${text//[[:cntrl:]]/?}" >&2
+  printf 'lpis: %s\n' "${text//[[:cntrl:]]/?}" >&2 || true
 }
 
 # The value of the line `$1 VALUE` of a file of facts; nothing where it has none.
@@ -367,7 +371,7 @@ run_program() {
   # The program's standard output is the caller's own; its standard error, of a few lines, is passed on as it is.
   { exec {out}>&1; } 2>/dev/null || exec "$program" "$@" # standard output is closed
   run_and_hear "$out" "$program" "$@"
-  printf '%s' "$told" >&2
+  printf '%s' "$told" >&2 || true
   [[ $status -ne 0 || $# -ne 1 || ($1 != --version && $1 != -V) ]] || say_facts "$home_of_program"
   [[ $status -ne 0 ]] || say_origin "$@"
   [[ $status -ne 3 ]] || say_cause "${told%$'\n'}" "$out" "$@"

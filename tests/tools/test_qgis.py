@@ -13,7 +13,7 @@ import zipfile
 from pathlib import Path
 
 import pytest
-from lpis_helpers.calls import done, ended_with, records, tool
+from lpis_helpers.calls import done, ended_with, records, run, tool
 from lpis_helpers import dirty
 from lpis_helpers import registers
 from lpis_helpers.places import BUILT, TOOLS, TOP
@@ -112,6 +112,9 @@ class TestAlgorithms(Kept):
         assert "published 2025" == self.run_it("publish", REGISTER=self.base, YEAR=2025, DIR=self.path("2025"))["VERDICT"]
         found = self.run_it("trace", REGISTER=self.base, ID="slope", DESCENDANTS=self.path("slope.gpkg"))
         assert (2, ["slope-1", "slope-2"]) == (found["COUNT"], sorted(row["parcel"] for row in layer(self.path("slope.gpkg"))))
+        words = [f"--REGISTER={self.base}", "--ID=-15", f"--DESCENDANTS={self.path('none.gpkg')}"]
+        ran = run(PROCESS, "--json", "run", "lpis:trace", *words, env=self.surroundings, timeout=SECONDS)
+        assert "lpis trace ended with status 1: refused 83" in ran.stdout + ran.stderr  # a name, and no option
         self.run_it("keptshapes", REGISTER=self.base, SHAPES=self.path("kept.gpkg"))
         assert {row["parcel"] for row in records(self.path("2025", "parcels.csv"))} == {row["parcel"] for row in layer(self.path("kept.gpkg"))}
 

@@ -22,6 +22,7 @@ LEAST = 0.001  # metres: conflicts that are narrower are rounding, and no rows
 SPIKE = 0.0005  # metres: narrower than twice that, a part of a shape is no place to show it
 AREA = 0.000_001  # square metres: of doubles
 FAR = 20_000_000.0  # metres: the range of the tables
+FARTHEST = 1e12  # metres: places beyond are not told
 MANY = 100  # rows of one name, from which on they are asked for by their boxes
 MOST_OVERLAPS, OVERLAPS_EACH = 20_000, 100  # beyond so many in all, those of a piece that lies on more than so many others are one
 ORDER = ("lost", "left out", "made", "doubled", "identifier", "stranger", "added", "class", "invalid", "overlap", "gap", "outside", "between", "spike", "changed", "kept", "column")
@@ -82,11 +83,16 @@ class Loss:
 
     def place_of_shape(self):
         parts = parts_of(self.shape)
-        if not parts and (self.shape is None or self.shape.is_empty):
+        if not parts and (self.shape is None or self.shape.is_empty) or not is_on_a_map(self.shape.bounds):
             return None
         largest = max(parts or [self.shape], key=lambda part: part.area)
         point = max(parts_of(largest.buffer(-SPIKE)) or [largest], key=lambda part: part.area).representative_point()
         return point.x, point.y
+
+
+def is_on_a_map(box):
+    """Whether places in a box can be told, and worked out: beyond FARTHEST, and of what is no number, there is none."""
+    return all(abs(side) <= FARTHEST for side in box)
 
 
 def members_of(shape):

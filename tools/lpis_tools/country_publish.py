@@ -36,11 +36,11 @@ def by_kind(lines):
     return ", ".join(f"{count} {kind}" for kind, count in sorted(counts.items()))
 
 
-def answer(command, said, is_shown, shown):
+def answer(command, said, is_shown, shown, options=()):
     """The lines of a command over a country, shown as they come, but for those of lineage, or kept; a refusal is shown with its words, and stops. `shown`: its
     progress, by bytes."""
     lines = []
-    with ending.start([*command, *said], stdout=subprocess.PIPE, text=True) as run, watching.Watched(run.pid, shown):
+    with ending.start(program.call(command, *said, options=options), stdout=subprocess.PIPE, text=True) as run, watching.Watched(run.pid, shown):
         for line in run.stdout:
             lines.append(line)
             if is_shown and not line.startswith(LINEAGE):
@@ -48,10 +48,10 @@ def answer(command, said, is_shown, shown):
     if run.returncode != 0:
         last = lines[-1] if lines else ""
         if last.startswith("refused"):
-            register = ["--register", said[1]] if said[0] != "country" else []
-            cert = ["--cert", said[said.index("--exact") + 1]] if "--exact" in said else []
+            register = [f"--register={said[1]}"] if said[0] != "country" else []
+            cert = [f"--cert={word.partition('=')[2]}" for word in options if word.startswith("--exact=")]
             folder = next(word for word in said[1:] if os.path.isdir(word))
-            explained = ending.run([sys.executable, os.path.join(program.HERE, "explain"), folder, *register, *cert], input=last.encode(), stdout=subprocess.PIPE, check=False).stdout.decode("utf-8", "replace")
+            explained = ending.run([sys.executable, os.path.join(program.HERE, "explain"), *register, *cert, "--", folder], input=last.encode(), stdout=subprocess.PIPE, check=False).stdout.decode("utf-8", "replace")
             print(explained.split("\n", 1)[-1] if is_shown else explained, end="", flush=True)
         raise Stop(f"`lpis {said[0]}` ended with status {run.returncode}; nothing was published", run.returncode)
     return lines
@@ -103,11 +103,12 @@ def publish(command, said, say):
             cert = os.path.join(said.folder, "exact.txt")
             say("looking for the borders of marked splits and merges")
             print(answer(command, ["exact-country", said.register, said.folder, cert], False, progress.Bytes("country", "marked rows", size + MARKED * size_of_parcels))[-1], end="", flush=True)
-            options = ["--exact", cert]
+            options = [f"--exact={cert}"]
         say(f"keeping a copy of the country for {kept.place}")
         with kept.copied([*files, *(["exact.txt"] if cert else [])]), yearly.publishing(said):
             say("publishing the country")
-            lines = answer(command, ["publish-country", said.register, str(said.year), said.folder, *options], True, progress.Bytes("country", "publishing", size + (LATER if last else FIRST) * size_of_parcels))
+            lines = answer(command, ["publish-country", said.register, str(said.year), said.folder], True,
+                           progress.Bytes("country", "publishing", size + (LATER if last else FIRST) * size_of_parcels), options)
             printed = yearly.write(os.path.join(said.folder, f"published-{said.year}.txt"), "".join(lines).encode())
             say("the line of the log: digests of what was published, and of the register")
             entry = yearly.entry_of(said, command, files, cert, printed, before)

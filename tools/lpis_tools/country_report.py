@@ -9,7 +9,7 @@ import subprocess
 from collections import Counter
 from dataclasses import dataclass, field
 
-from . import country_changes, differences, ending, origin, page, progress, registers, release_page, report, streams, tiles, watching
+from . import country_changes, differences, ending, origin, page, program, progress, registers, release_page, report, streams, tiles, watching
 from .areas import AREA, both, decimal, hectares
 from .explaining import Explained
 from .printing import counted
@@ -44,7 +44,7 @@ def is_one(folder):
 
 def answered(command, folder, size):
     """What `lpis country` says of a folder with so many bytes."""
-    said = [*command, "country", folder]
+    said = program.call(command, "country", folder)
     with ending.start(said, stdout=subprocess.PIPE, stderr=subprocess.PIPE, text=True) as run, watching.Watched(run.pid, progress.Bytes("report", "checking the country", size)):
         told = run.communicate()
     return subprocess.CompletedProcess(said, run.returncode, *told)

@@ -12,7 +12,7 @@ import tempfile
 from concurrent.futures import FIRST_COMPLETED, ThreadPoolExecutor, wait
 from dataclasses import dataclass
 
-from . import ending, polygons, refusal
+from . import ending, polygons, program, refusal
 from .trouble import Trouble
 
 FAR = 19_000_000_000  # of the coordinates' range, with room to spare
@@ -50,7 +50,7 @@ class Fault:
 
 def run_on(command, folder, cert):
     """The status and the line of `lpis cut` on a folder."""
-    ended = ending.run([*command, "cut", folder, cert], capture_output=True, text=True, check=False)
+    ended = ending.run(program.call(command, "cut", folder, cert), capture_output=True, text=True, check=False)
     if ended.returncode not in (0, 1, 2) or not ended.stdout:
         raise Trouble(f"{' '.join(command)} cut: status {ended.returncode} {ended.stderr.strip()}")
     return ended.returncode, ended.stdout.strip()

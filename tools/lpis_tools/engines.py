@@ -7,7 +7,7 @@ import shutil
 import subprocess
 import sys
 
-from . import drawing, ending, files, finding, jobs, progress, snakefile, tiles
+from . import drawing, ending, files, finding, jobs, program, progress, snakefile, tiles
 from .printing import escaped
 from .splitting import COUNTS, write
 from .streams import Trouble
@@ -26,8 +26,8 @@ all: $(REGIONS:%=%/cert.txt)
 
 %/cert.txt: %/parcels.csv %/covers.csv %/classes.csv
 	@rm -f -- $@.new $*/cut.txt
-	@$(LPIS) cut $* $@.new >$*/cut.txt && mv -- $@.new $@
-	@echo "$*: $$(cat $*/cut.txt)"
+	@$(LPIS) cut ./$* ./$@.new >$*/cut.txt && mv -- $@.new $@
+	@echo "$*: $$(cat -- $*/cut.txt)"
 """
 
 
@@ -177,7 +177,7 @@ def check(command, words, say):
     compared, and that is no success: who has no source calls `lpis country`."""
     options = ["--parcels"] if words.parcels else []
     told, shown = [], progress.Progress("country", "checking", lines_of_regions(words.folder), "regions")
-    with ending.start([*command, "country", *options, words.folder], stdout=subprocess.PIPE, text=True) as lpis:
+    with ending.start(program.call(command, "country", words.folder, options=options), stdout=subprocess.PIPE, text=True) as lpis:
         for line in lpis.stdout:
             print(line, end="", flush=True)
             if line.startswith("country regions "):

@@ -2,6 +2,7 @@
 
 from __future__ import annotations
 
+import itertools
 import unicodedata
 from collections import Counter
 
@@ -173,14 +174,20 @@ def doubled_pieces(work, layer, used):
             work.find("doubled", "covers", row, f"{layer.key} {before.number} has this identifier, parcel and class too", "the two are joined")
             joined.setdefault(id(before), [before]).append(row)
             continue
-        number = next(number for number in range(next_of.get(name[:36], 2), 10**6) if f"{name[:36]}-{number}" not in used)
-        new, next_of[name[:36]] = f"{name[:36]}-{number}", number + 1
+        number = next(number for number in itertools.count(next_of.get(name[:36], 2)) if numbered(name, number) not in used)
+        new, next_of[name[:36]] = numbered(name, number), number + 1
         used.add(new)
         work.find("doubled", "covers", row, f"{layer.key} {before.number} has this identifier too, for another parcel or class", f"now {new}")
         row.fields["piece"] = new
         first[new] = row
     layer.rows = list(first.values())
     return joined
+
+
+def numbered(name, number):
+    """An identifier with a number behind it: no longer than one may be."""
+    end = f"-{number}"
+    return f"{name[:identifiers.MOST - len(end)]}{end}"
 
 
 def join_rows(joined, whole):

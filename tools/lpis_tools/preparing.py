@@ -8,7 +8,7 @@ from shapely.validation import explain_validity
 
 from . import land, progress, systems, unforeseen, wkb
 from .boxes import Boxes
-from .conflicts import doubtful, enclosed_by, members_of, polygons_by
+from .conflicts import doubtful, enclosed_by, is_on_a_map, members_of, polygons_by
 from .findings import NOTES, Finding
 from .printing import counted
 from .sizes import areas_of
@@ -221,7 +221,7 @@ def take_shapes(rows, transformed):
 def looked_at(row):
     """The area of a row's shape by its points, where it is known, a place in it, and its polygons as well-known binary: where it crosses itself those that are doubtful."""
     if row.found is None:
-        return None, row.place, None
+        return None, row.place if is_on_a_map(row.place or ()) else None, None
     box = row.found.box()
     shape = shapely_wkb.loads(row.found.blob)
     try:
@@ -229,7 +229,8 @@ def looked_at(row):
     except ValueError:
         inner = None
     blob = row.found.blob if shape.is_valid else blob_of_doubtful(row.found.members) if row.found.count() <= MOST_POINTS else None
-    return areas_of([row.found])[0], (inner.x, inner.y) if inner else ((box[0] + box[2]) / 2, (box[1] + box[3]) / 2), blob
+    place = (inner.x, inner.y) if inner else ((box[0] + box[2]) / 2, (box[1] + box[3]) / 2)
+    return areas_of([row.found])[0], place if is_on_a_map(box) else None, blob
 
 
 def blob_of_doubtful(members):

@@ -37,19 +37,53 @@ class Printed(io.TextIOWrapper):
         return super().write(UNSEEN.sub(lambda found: written_out(found[0]), text) if UNSEEN.search(text) else text)
 
 
+class Told(Printed):
+    """Standard error. What it does not take goes nowhere, and nothing else hangs on that: a tool keeps its status."""
+
+    def write(self, text):
+        with contextlib.suppress(OSError):
+            super().write(text)
+            return len(text)
+        lead_nowhere(self)
+        return len(text)
+
+    def flush(self):
+        with contextlib.suppress(OSError):
+            super().flush()
+            return
+        lead_nowhere(self)
+
+
+def lead_nowhere(stream):
+    """What waits in a stream, and all that follows, goes nowhere."""
+    with contextlib.suppress(OSError, ValueError):
+        os.dup2(os.open(os.devnull, os.O_WRONLY), stream.fileno())
+
+
 _closed = []  # streams that the caller closed
 
 
 def begin():
     """From now on what is printed is fit for a terminal. A stream that the caller closed takes everything and keeps nothing."""
-    for name in ("stdout", "stderr"):
+    take_numbers()
+    for name, kind in (("stdout", Printed), ("stderr", Told)):
         stream = getattr(sys, name)
         if stream is None:
             _closed.append(name)
             setattr(sys, name, open(os.devnull, "w", encoding="utf-8", errors="backslashreplace"))
         elif type(stream) is io.TextIOWrapper:
             more = {"encoding": stream.encoding, "line_buffering": stream.line_buffering, "write_through": stream.write_through}
-            setattr(sys, name, Printed(stream.detach(), errors="backslashreplace", **more))
+            setattr(sys, name, kind(stream.detach(), errors="backslashreplace", **more))
+
+
+def take_numbers():
+    """Gives the numbers of streams that the caller closed to nothing: else a file that is opened would have one, and what this process runs would write
+    into it. Of standard output nothing can be written there: that stays a failure for what this process runs or becomes."""
+    for number, mode in enumerate((os.O_RDONLY, os.O_RDONLY, os.O_WRONLY)):
+        try:
+            os.fstat(number)
+        except OSError:
+            os.set_inheritable(os.open(os.devnull, mode), True)
 
 
 def finish():
@@ -60,6 +94,5 @@ def finish():
     try:
         sys.stdout.flush()
     except (OSError, ValueError):
-        with contextlib.suppress(OSError, ValueError):
-            os.dup2(os.open(os.devnull, os.O_WRONLY), sys.stdout.fileno())
+        lead_nowhere(sys.stdout)
         raise

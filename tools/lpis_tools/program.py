@@ -64,6 +64,11 @@ def started(words):
     return words
 
 
+def call(command, name, *paths, options=()):
+    """The words of a call over paths. One that begins with a dash is a path, and no option."""
+    return [*command, name, *options, *(os.path.join(os.curdir, path) if path.startswith("-") else path for path in paths)]
+
+
 def needs():
     """The systems on which the program starts, by the script that runs it."""
     with open(os.path.join(HERE, "run.sh"), encoding="utf-8") as file:

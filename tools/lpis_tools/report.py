@@ -143,7 +143,7 @@ def make(command, folder, cert, old=None, register=None):
     """Runs `lpis check`, and reports what is known of a release."""
     began = datetime.datetime.now(datetime.timezone.utc)
     files = files_of(folder, cert)
-    run = ending.run([*command, "check", folder, cert], capture_output=True, text=True, check=False)
+    run = ending.run(program.call(command, "check", folder, cert), capture_output=True, text=True, check=False)
     if files_of(folder, cert) != files:
         raise Trouble("a table or the certificate changed while it was read: make the report again")
     answer, land = answer_of(run), read(folder)

@@ -7,7 +7,7 @@ import shlex
 import sys
 import tempfile
 
-from . import ending, registers
+from . import ending, program, registers
 from .trouble import Trouble
 
 TOOLS = os.path.dirname(os.path.dirname(os.path.realpath(__file__)))
@@ -43,7 +43,7 @@ def asked(script, *words):
 
 def agreement(command, folder, cert):
     """What both programs say of a release and its certificate. A yes has to have the same report of both."""
-    first = ending.run([*command, "check", folder, cert], capture_output=True)
+    first = ending.run(program.call(command, "check", folder, cert), capture_output=True)
     text, (status, other) = first.stdout.decode("utf-8", "replace"), asked("release.py", folder, cert)
     last = (text + first.stderr.decode("utf-8", "replace")).rstrip("\n").rpartition("\n")[2]
     if first.returncode == 0 and status == 0 and text == other:

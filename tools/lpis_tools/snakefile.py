@@ -89,7 +89,7 @@ rule cut:
         mem_mb=1500,
         runtime=60,
     shell:
-        "rm -f -- {output}.new {wildcards.region}/cut.txt; {LPIS} cut {wildcards.region} {output}.new >{wildcards.region}/cut.txt && mv -- {output}.new {output}"
+        "rm -f -- {output}.new {wildcards.region}/cut.txt; {LPIS} cut ./{wildcards.region} ./{output}.new >{wildcards.region}/cut.txt && mv -- {output}.new {output}"
 
 
 rule check:

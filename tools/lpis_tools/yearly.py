@@ -82,13 +82,13 @@ def back_up(register, year):
 
 def told(command, *said):
     """What a command of lpis printed; a refusal is shown with its words, and stops."""
-    ran = ending.run([*command, *said], stdout=subprocess.PIPE, check=False)
+    ran = ending.run(program.call(command, *said), stdout=subprocess.PIPE, check=False)
     text = ran.stdout.decode("utf-8", "replace")
     if ran.returncode != 0:
         line = (text.splitlines(keepends=True) or [""])[-1]
         if line.startswith("refused"):
             folder = next(word for word in said if os.path.isdir(word))
-            ending.run([sys.executable, os.path.join(program.HERE, "explain"), folder], input=line.encode(), check=False)
+            ending.run([sys.executable, os.path.join(program.HERE, "explain"), "--", folder], input=line.encode(), check=False)
         raise Stop(f"`lpis {said[0]}` ended with status {ran.returncode}; nothing was published", ran.returncode)
     return ran.stdout
 

@@ -55,7 +55,7 @@ class Folder(Styled):
         if not is_older(cert, folder):
             return places.Ran(YES, [])
         feedback.setProgressText("cutting: no certificate that is newer than the tables")
-        return places.done(places.run([places.lpis(), "cut", folder, cert], feedback), "lpis cut", (REFUSED, UNREADABLE))
+        return places.done(places.run([places.lpis(), "cut", "--", folder, cert], feedback), "lpis cut", (REFUSED, UNREADABLE))
 
     def add_shapes(self, words, before=""):
         for name, (_, source) in KINDS.items():
@@ -96,7 +96,7 @@ class CheckRelease(Folder):
         ran = self.cut(folder, cert, feedback)
         if ran.status == YES:
             feedback.setProgressText("checking")
-            ran = places.done(places.run([places.lpis(), "check", folder, cert], feedback, quiet=True), "lpis check", (REFUSED, UNREADABLE))
+            ran = places.done(places.run([places.lpis(), "check", "--", folder, cert], feedback, quiet=True), "lpis check", (REFUSED, UNREADABLE))
         feedback.pushInfo(ran.last())
         rows = report_rows(folder, ran.lines) if ran.status == YES else []
         columns = [("parcel", TEXT), ("area", TEXT), ("eligible", TEXT), ("area_m2", NUMBER), ("eligible_m2", NUMBER)]
@@ -131,7 +131,7 @@ class FindFaults(Folder):
         folder = self.parameterAsFile(parameters, "DIR", context)
         with tempfile.TemporaryDirectory() as spare:
             path = os.path.join(spare, "faults.geojson")
-            ran = places.done(places.run([places.tool("faults"), folder, path, "--lpis", places.lpis()], feedback), "tools/faults", (REFUSED,))
+            ran = places.done(places.run([places.tool("faults"), f"--lpis={places.lpis()}", "--", folder, path], feedback), "tools/faults", (REFUSED,))
             self.written = self.fill_shapes((parameters, context), [path], FAULT_COLUMNS)
         words = ran.last().split()
         return {**self.written, "COUNT": int(words[1]) if len(words) > 1 else 0, "SUMMARY": "\n".join(ran.lines)}
@@ -153,7 +153,7 @@ class CheckCountry(Folder):
 
     def processAlgorithm(self, parameters, context, feedback):
         place, folder = (parameters, context), self.parameterAsFile(parameters, "DIR", context)
-        ran = places.done(places.run([places.lpis(), "country", folder], feedback), "lpis country", (REFUSED, UNREADABLE))
+        ran = places.done(places.run([places.lpis(), "country", "--", folder], feedback), "lpis country", (REFUSED, UNREADABLE))
         if ran.status == YES and ran.last() != "yes":
             raise QgsProcessingException("the report does not end with yes")
         columns = [("region", TEXT), ("parcels", WHOLE), ("pieces", WHOLE), ("area", TEXT), ("eligible", TEXT)]

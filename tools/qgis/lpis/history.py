@@ -39,7 +39,7 @@ class ProposeLineage(Styled):
         old, register, new = (self.parameterAsFile(parameters, name, context) for name in ("OLD", "REGISTER", "NEW"))
         if bool(old) == bool(register):
             raise QgsProcessingException("one of the two is wanted: the folder of the older release, or the register")
-        source = ["--register", register] if register else [old]
+        source = [f"--register={register}", "--"] if register else ["--", old]
         ran = places.done(places.run([places.tool("lineage"), *source, new, new], feedback), "tools/lineage", (LEFT,))
         shapes = {name: shape_of(text) for name, _, text in kept_of(register) if text} if register else shapes_of(old)
         rows = [(values_of(row), shapes.get(row["old"])) for row in rows_of(os.path.join(new, "lineage-report.csv"))]
@@ -70,7 +70,7 @@ class Publish(Algorithm):
         register, year = str(parameters["REGISTER"]), self.parameterAsInt(parameters, "YEAR", context)
         folder = self.parameterAsFile(parameters, "DIR", context)
         more = ["--new"] if self.parameterAsBool(parameters, "NEW", context) else []
-        ran = places.run([places.tool("year"), register, str(year), folder, *more, "--lpis", places.lpis()], feedback)
+        ran = places.run([places.tool("year"), *more, f"--lpis={places.lpis()}", "--", register, str(year), folder], feedback)
         refusal = next((line for line in ran.lines if line.startswith("refused")), "")
         if ran.status != YES and not refusal:
             raise QgsProcessingException(f"not published, status {ran.status}: {' '.join(ran.told) or ran.last()}")
@@ -99,7 +99,7 @@ class Trace(Styled):
         register, name = self.parameterAsFile(parameters, "REGISTER", context), self.parameterAsString(parameters, "ID", context)
         if not os.path.isfile(register):
             raise QgsProcessingException(f"{register} is not there")
-        ran = places.done(places.run([places.lpis(), "trace", register, name], feedback), "lpis trace")
+        ran = places.done(places.run([places.lpis(), "trace", "--", register, name], feedback), "lpis trace")
         kept = {kept: (since, text) for kept, since, text in kept_of(register)}
         rows = [([found, kept[found][0]], shape_of(kept[found][1]) if kept[found][1] else None) for found in ran.lines]
         layer = self.parameterAsVectorLayer(parameters, "PARCELS", context)

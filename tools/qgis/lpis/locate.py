@@ -75,7 +75,7 @@ class LocatePoints(Folder):
                 writer = csv.writer(file, lineterminator="\n")
                 writer.writerow(["point", "x", "y"])
                 writer.writerows([number, f"{point.x():.9f}", f"{point.y():.9f}"] for number, (_, point) in enumerate(points))
-            return places.done(places.run([places.lpis(), "locate", folder, cert, table], feedback, quiet=True), "lpis locate", (REFUSED, UNREADABLE))
+            return places.done(places.run([places.lpis(), "locate", "--", folder, cert, table], feedback, quiet=True), "lpis locate", (REFUSED, UNREADABLE))
 
 
 def rows_of(points, found):

@@ -65,7 +65,7 @@ class PrepareRelease(Folder):
             package = os.path.join(spare, "land.gpkg")
             for number, layer in enumerate(COLUMNS):
                 self.export(parameters, context, layer, package, number == 0)
-            ran = places.done(places.run([places.tool("prepare"), package, out, *self.options(parameters, context)], feedback), "tools/prepare", (LOOK,))
+            ran = places.done(places.run([places.tool("prepare"), *self.options(parameters, context), "--", package, out], feedback), "tools/prepare", (LOOK,))
         place = parameters, context
         rows = [([row[name] for name, _ in FOUND_COLUMNS], place_of(row)) for row in rows_of(os.path.join(out, "prepared.csv"))]
         *reports, between = [path if stamp(path) != old else "" for path, old in before.items()]
