@@ -58,7 +58,7 @@ _lpis_country() {
     prepare) _lpis_options '--accept --accept-from --between --classes --epsg --name --identifiers --previous --tables --workers --snakemake --profile --lineage --parcels --covers --points --anew --quiet --help' ;;
     split) _lpis_options '--lineage --parcels --covers --points --anew --quiet --help' -d ;;
     cut) _lpis_options '--jobs --snakemake --profile --lpis --quiet --help' -d ;;
-    publish) _lpis_options '--lineage --new --year-anyway --jobs --snakemake --profile --lpis --quiet --help' ;;
+    publish) _lpis_options '--lineage --new --year-anyway --register-anyway --previous --jump --accept-from --jobs --snakemake --profile --lpis --quiet --help' ;;
     *) _lpis_options '--parcels --lpis --quiet --help' -d ;;
   esac
 }
@@ -66,8 +66,8 @@ _lpis_explain() { _lpis_options '--cert --register --area --points --svg --geojs
 _lpis_faults() { _lpis_options '--html --epsg --lpis --version --help'; }
 _lpis_lineage() { _lpis_options '--register --check --rows --workers --quiet --help'; }
 _lpis_prepare() { _lpis_options '--accept --accept-from --between --classes --epsg --name --identifiers --previous --quiet --help'; }
-_lpis_report() { _lpis_options '--json --html --diff --register --audit --source --quiet --lpis --version --help'; }
-_lpis_year() { _lpis_options '--new --year-anyway --register-anyway --audit --source --verify --lpis --help'; }
+_lpis_report() { _lpis_options '--json --html --diff --jump --changes --accept-from --register --audit --source --quiet --lpis --version --help'; }
+_lpis_year() { _lpis_options '--new --year-anyway --register-anyway --audit --source --previous --jump --accept-from --verify --lpis --help'; }
 
 complete -o filenames -F _lpis lpis
 complete -o filenames -F _lpis_country lpis-country

@@ -89,7 +89,8 @@ class TestLineage(Case):
 @pytest.mark.skipif(not BUILT, reason="the program is not built")
 class TestPublishing(Case):
     def publish(self, year, *options):
-        return run("country", "publish", self.base, year, self.out, *options)
+        """The example's years differ by a tenth of their land, which is no matter here."""
+        return run("country", "publish", self.base, year, self.out, "--jump", "100", *options)
 
     def first(self):
         self.split(os.path.join(YEARS, "2024"))
@@ -136,7 +137,7 @@ class TestPublishing(Case):
         assert self.publish(2025).returncode == 0
         write("kind,layer,row,identifier,area_m2,x,y,words,done\nz,parcels,1,ford,,10.000,10.000,,\nshape,parcels,2,x,,,,its shape is NULL,\nshape,parcels,3,y,,,,it is empty,\n", self.out, "prepared.csv")
         write("kind,layer,row,identifiers,width_m,area_m2,x,y,stops,words\ngap,parcels,1,ford,1,4.5,10.000,10.000,1,\ngap,parcels,1,ford,1,4.5,10.000,10.000,0,\nleft out,parcels,2,x,,0,,,1,\nlost,parcels,9,z,,0,,,1,no more\n", self.out, "report.csv")
-        ended = run("report", self.out, "--diff", os.path.join(self.out, "years", "2024"), "--json", self.path("r.json"), "--html", self.path("r.html"))
+        ended = run("report", self.out, "--diff", os.path.join(self.out, "years", "2024"), "--jump", "100", "--json", self.path("r.json"), "--html", self.path("r.html"))
         told = json.loads(read(self.folder, "r.json"))
         found, rows = told["difference"], told["regions"]
         assert (ended.returncode, [row["parcel"] for row in found["gone"]], found["gone"][0]["ended"]) == (0, ["croft", "ford", "heath", "mill", "weir"], True), ended.stdout + ended.stderr
@@ -180,7 +181,7 @@ class TestPublishing(Case):
     def test_a_release_after_it(self):
         """tools/year goes on with the same register and its log."""
         self.first()
-        ended = run("year", self.base, 2025, self.source)
+        ended = run("year", self.base, 2025, self.source, "--jump", "100")
         assert (ended.returncode, "published 2025, in" in ended.stdout) == (0, True), ended.stdout + ended.stderr
         assert len(ledger.lines_of(self.base)) == 2
 

@@ -31,6 +31,9 @@ def lines_of_guide():
     return [line.strip() for line in part[part.index("    ogrinfo") :].split("\n\n")[0].splitlines()]
 
 
+STOPPED = ("tools/country prepare land-2026.gpkg country", "tools/country publish register.db 2027 country --lineage lineage-2027.csv")
+
+
 @pytest.mark.skipif(not CAN, reason="Shapely, ogrinfo or the program is not there")
 class TestNation(Kept):
     @classmethod
@@ -52,9 +55,9 @@ class TestNation(Kept):
         return found
 
     def test_each_line(self):
-        """The first prepare reports what is wrong; all else ends well."""
+        """The first prepare reports what is wrong, and the second year what changed; all else ends well."""
         found = [(line, ended.returncode) for line, ended in self.told.items()]
-        assert found == [(line, int(line == "tools/country prepare land-2026.gpkg country")) for line, _ in found], "".join(ended.stdout[-2000:] + ended.stderr[-2000:] for ended in self.told.values() if ended.returncode)
+        assert found == [(line, int(line in STOPPED)) for line, _ in found], "".join(ended.stdout[-2000:] + ended.stderr[-2000:] for ended in self.told.values() if ended.returncode)
         assert len(found) >= 10
 
     def test_checked_once(self):
@@ -65,7 +68,7 @@ class TestNation(Kept):
 
     def test_two_years(self):
         """Nine regions; all splits and merges are exact and published; both years are kept, and each is a yes."""
-        last = self.ended("tools/country publish register.db 2027").stdout
+        last = self.ended("tools/country publish register.db 2027 country --accept-from").stdout
         assert "\npublished 2027\n" in last
         assert int(re.search(r"(?m)^exact (\d+)$", last)[1]) == self.edits, last
         for year in ("2026", "2027"):

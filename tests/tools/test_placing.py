@@ -180,6 +180,17 @@ class TestJournals(Placed):
                 placing.end(self.out)
             assert (self.texts(), os.listdir(other)) == (["old"] * 3, ["parcels.csv"])
 
+    def test_strangers_journals(self, monkeypatch):
+        """In a folder such as /tmp a journal of somebody else is none."""
+        self.begin()
+        monkeypatch.setattr(os, "geteuid", lambda: 4711)
+        os.chmod(self.out, 0o1777)
+        placing.end(self.out)
+        assert self.texts()[2] == ""
+        os.chmod(self.out, 0o777)
+        placing.end(self.out)
+        assert self.texts()[2] == "new"
+
     def test_a_living_run(self):
         """A journal that is locked is waited for, and then it is gone."""
         self.begin()

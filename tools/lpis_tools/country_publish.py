@@ -5,7 +5,7 @@ import subprocess
 import sys
 from collections import Counter
 
-from . import ending, engines, ledger, origin, program, progress, splitting, tiles, watching, words, yearly
+from . import ending, engines, ledger, origin, program, progress, splitting, tiles, watching, words, year_against_year, yearly
 from .country_years import Kept
 from .tables import Table
 from .yearly import Stop
@@ -78,6 +78,7 @@ def publish(command, said, say):
     ending.tell("nothing was published")
     yearly.look_at_places(said, "the certificates, and what is printed,")
     kept = Kept(said.folder, said.year)
+    marks = year_against_year.Marks(said.accept_from)
     try:
         last = yearly.last_year(said)
     except Stop as stop:
@@ -94,6 +95,7 @@ def publish(command, said, say):
     size, size_of_parcels = size_of(said.folder, files), size_of(said.folder, [os.path.join(region, "parcels.csv") for region in regions])
     wanted = compare(said.folder, answer(command, ["country", said.folder], False, progress.Bytes("country", "checking", size)))
     print(f"the counts and the area are those of the source: {' '.join(wanted)}", flush=True)
+    yearly.compare(said, last, marks, kept.of(last), said.jobs or len(os.sched_getaffinity(0)))
     with ledger.held(said.register) as log:
         before = ledger.content_of(said.register) if last else {}
         if not said.new:
@@ -111,7 +113,7 @@ def publish(command, said, say):
                            progress.Bytes("country", "publishing", size + (LATER if last else FIRST) * size_of_parcels), options)
             printed = yearly.write(os.path.join(said.folder, f"published-{said.year}.txt"), "".join(lines).encode())
             say("the line of the log: digests of what was published, and of the register")
-            entry = yearly.entry_of(said, command, files, cert, printed, before)
+            entry = yearly.entry_of(said, command, files, cert, printed, before, kept.place)
             digest = ledger.add(log, said.register, entry)
             wrong = kept.settle(printed, said.register, entry)
     if kinds := by_kind(lines):

@@ -20,6 +20,10 @@ class Kept:
         self.folder, self.place = folder, os.path.join(folder, FOLDER, str(year))
         self.made = os.path.join(folder, FOLDER, f".{year}.new")
 
+    def of(self, year):
+        """Where another year is kept."""
+        return os.path.join(self.folder, FOLDER, str(year))
+
     def look(self):
         """Stops where the year has a folder."""
         if os.path.lexists(self.place):

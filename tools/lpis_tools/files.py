@@ -31,7 +31,8 @@ FOLDER = os.O_RDONLY | os.O_DIRECTORY | os.O_NOFOLLOW | os.O_CLOEXEC
 RANDOM = set(string.ascii_lowercase + string.digits + "_")  # of a temporary name
 TEXT = {"encoding": "utf-8", "errors": "backslashreplace"}  # bytes of a folder's name that are no letters are no crash
 
-HEADS = {"html": b'<!DOCTYPE html>\n<html lang="en">', "json": b'{\n "date": ', "geojson": b'{\n "type": "FeatureCollection"', "svg": b"<svg xmlns="}  # of what tools write
+HEADS = {"html": b'<!DOCTYPE html>\n<html lang="en">', "json": b'{\n "date": ', "geojson": b'{\n "type": "FeatureCollection"', "svg": b"<svg xmlns=",
+         "csv": b"kind,of,identifier,before,after,difference,percent,words\n"}  # of what tools write
 
 PART = 1 << 20  # bytes at once
 

@@ -40,11 +40,18 @@ def read(folder):
     for table, record in records(folder, "covers"):
         if members := polygons.read(table.field(record, "wkt")):
             land.pieces.append((*(shown(table.field(record, name)) for name in ("piece", "parcel", "class")), members))
+    land.percents = percents(folder)
+    return land
+
+
+def percents(folder):
+    """The percentage of each class of a folder; None where it is no number that can be shown."""
+    found = {}
     for table, record in records(folder, "classes"):
         column, factor = ("percent", 1) if "percent" in table.names else ("eligible", 100)
         text = table.field(record, column)
-        land.percents[shown(table.field(record, "class"))] = int(text) * factor if text.isdigit() and len(text) <= MOST_DIGITS else None
-    return land
+        found[shown(table.field(record, "class"))] = int(text) * factor if text.isdigit() and len(text) <= MOST_DIGITS else None
+    return found
 
 
 def records(folder, name):

@@ -9,7 +9,8 @@ import stat
 import subprocess
 import sys
 
-from . import ending, files, ledger, program, registers, words, years
+from . import ending, files, ledger, program, registers, words, year_against_year, years
+from .printing import counted
 from .trouble import Trouble
 
 STOPPED = 1
@@ -28,6 +29,8 @@ def add_options(parser):
     parser.add_argument("--new", action="store_true", help="make a new register: this is its first year")
     parser.add_argument("--year-anyway", action="store_true", help="take a year that is far from the last one, or past next year")
     parser.add_argument("--register-anyway", action="store_true", help="go on with a register that changed since the last line of the log, or has no log")
+    parser.add_argument("--previous", metavar="FOLDER", help="the folder of last year's tables, to compare classes and eligible areas with; without it the one that the log names")
+    year_against_year.add_options(parser)
 
 
 def look_at_places(said, made):
@@ -80,6 +83,45 @@ def back_up(register, year):
     print(f"backup {path} sha256 {digest}")
 
 
+def tables_before(said, last, place):
+    """The folder of last year's tables: that which is named, or `place`, where it has what was published by the log. Else None, and why."""
+    lines = ledger.lines_of(said.register)
+    entry = ledger.entry_of(lines[-1])[0] if lines else {}
+    published = entry["tables"] if entry.get("year") == last and isinstance(entry.get("tables"), dict) else {}
+    if said.previous:
+        if not os.path.isdir(said.previous):
+            raise Stop(f"{said.previous} is no folder", words.TROUBLE)
+        if not is_published(said.previous, published):
+            print(f"{said.previous} has other tables than were published in {last}, by the log: they are compared all the same")
+        return said.previous, ""
+    place = place or str(entry.get("folder") or "")
+    if place and is_published(place, published):
+        return place, ""
+    return None, f"{place} has no longer what was published in {last}" if place else f"the log does not say where the tables of {last} are"
+
+
+def is_published(folder, published):
+    """Whether the tables of shapes and classes in a folder are those of a line of the log."""
+    wanted = {name: digest for name, digest in published.items() if os.path.basename(name) != "lineage.csv" and name.endswith(".csv")}
+    paths = {name: os.path.join(folder, name) for name in wanted}
+    return bool(wanted) and all(map(os.path.isfile, paths.values())) and ledger.digests_of(paths, "digests of last year's tables") == wanted
+
+
+def compare(said, last, marks, place="", workers=1):
+    """Compares the year with the one before, and stops where something changed by more than it may and nobody accepted it. Nothing is done before."""
+    if not last:
+        print("a first year: there is nothing to compare it with")
+        return
+    path = os.path.join(said.folder, f"against-{last}.csv")
+    with year_against_year.Comparison(said.folder, said.jump, workers) as found:
+        found.compare(said.register, *tables_before(said, last, place))
+        year_against_year.write(path, found.rows())
+        judged = year_against_year.judged(found, marks, last)
+    print("\n".join(judged.lines), flush=True)
+    if judged.left:
+        raise Stop(f"{counted(judged.left, 'change')} since {last} to look at, in {path}; nothing was published: mend the source, or give a copy of that table, with 1 in a column accepted, by --accept-from")
+
+
 def told(command, *said):
     """What a command of lpis printed; a refusal is shown with its words, and stops."""
     ran = ending.run(program.call(command, *said), stdout=subprocess.PIPE, check=False)
@@ -119,11 +161,11 @@ def write(path, text):
     return path
 
 
-def entry_of(said, command, tables, cert, printed, before):
-    """A line of the log; `tables` are names in the folder, `cert` a path or None."""
+def entry_of(said, command, tables, cert, printed, before, folder=None):
+    """A line of the log; `tables` are names in the folder, `cert` a path or None; `folder` is where they stay, where that is another one."""
     facts = program.facts(command)
     return {
-        "time": datetime.datetime.now(datetime.timezone.utc).isoformat(timespec="seconds"), "user": getpass.getuser(), "year": said.year,
+        "time": datetime.datetime.now(datetime.timezone.utc).isoformat(timespec="seconds"), "user": getpass.getuser(), "year": said.year, "folder": os.path.abspath(folder or said.folder),
         "program": {"commit": facts.get("commit", ""), "kit": facts.get("kit", ""), "sha256": files.digest(command[0])},
         "tables": ledger.digests_of({name: os.path.join(said.folder, name) for name in tables}, "digests of what was published"),
         "certificate": files.digest(cert) if cert else "", "printed": files.digest(printed),
