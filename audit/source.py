@@ -48,6 +48,7 @@ SLACK = 0.00002  # millimetres that doubles may be off
 MOST_VALUES = 1_000_000  # of edges, before they are struck out
 COLUMNS = {"parcels": ["parcel"], "covers": ["piece", "parcel", "class"], "classes": ["class", "percent", "eligible"]}
 SAYING_NOTHING = ("between", "kept", "spike", "column")  # findings that change no land
+CONFLICTS = ("overlap", "gap", "outside")  # those of places alone: no row is gone for them
 ZONES = {**{25800 + zone: zone for zone in range(28, 39)}, 4647: 32, 5649: 31, 5650: 33}
 ZONES.update({north + zone: zone for zone in range(1, 61) for north in (32600, 32700)})
 
@@ -404,9 +405,10 @@ class Findings:
         package = Source(path, {}) if path.exists() else None
         for table in package.systems if package else ():
             for _, (kind, layer, row, words, data) in package.rows(table, ["kind", "layer", "row", "identifiers"]):
-                if kind not in SAYING_NOTHING:
+                if kind not in SAYING_NOTHING + CONFLICTS:
                     self.rows |= {(layer, number) for number in plain(row).split()}
                     self.names |= set(plain(words).split())
+                if kind not in SAYING_NOTHING:
                     with contextlib.suppress(Unread):  # it has no place, or one that no table has
                         self.shapes.append(read_package(data)[0])
         self.boxes = boxes_of(self.shapes)

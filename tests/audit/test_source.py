@@ -130,6 +130,8 @@ def test_rows_without_points(tmp_path):
     line = answered(land, tmp_path / "out")
     assert line == "no: covers row 9 of the source, piece E2 of E, class GRASS at 100 percent, is in no table"
     tables.findings("UPDATE gap SET layer = 'covers', row = '9'")
+    assert answered(land, tmp_path / "out") == line  # a gap is told, and no row that is gone
+    tables.findings("UPDATE gap SET kind = 'lost'")
     assert answered(land, tmp_path / "out") == "yes"
 
 
