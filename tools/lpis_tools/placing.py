@@ -151,7 +151,8 @@ def end(out: str) -> None:
             reason = f"{HALF}, and cannot go on ({error.strerror}): run this as somebody who may write there"
             raise Trouble(f"{out}: {reason}") from None
     shutil.rmtree(move.made, ignore_errors=True)
-    print(f"{out}: {HALF}; they are in their place now", file=sys.stderr, flush=True)
+    with contextlib.suppress(OSError, ValueError):  # a full or closed standard error
+        print(f"{out}: {HALF}; they are in their place now", file=sys.stderr, flush=True)
 
 
 def end_all(words: Iterable[str]) -> None:

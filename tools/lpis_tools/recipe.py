@@ -1,5 +1,6 @@
 """What `prepare` and `compare` share: words and signals; and how `compare` goes from a source and its tables to the report."""
 
+import contextlib
 import os
 import sys
 import tempfile
@@ -59,7 +60,8 @@ def stop_at_once(name, *folders):
         for folder in folders:
             placing.clear(folder)
         files.forget()
-        os.write(sys.stderr.fileno(), f"{name}: {stopped}\n".encode())
+        with contextlib.suppress(OSError, ValueError):  # a full or closed standard error
+            os.write(sys.stderr.fileno(), f"{name}: {stopped}\n".encode(errors="backslashreplace"))
         os._exit(stopped.status)
 
     ending.tell("no table is written")
