@@ -54,16 +54,18 @@ def widest(shape):
     area = shape.area
     if area <= 0:
         return 0.0, None
-    low, high, core, depth = area / shape.length, (area / math.pi) ** 0.5, shape, 0.0
+    low, high, core, base, depth, size = area / shape.length, (area / math.pi) ** 0.5, shape, shape, 0.0, len(shape.wkb)
     tried = [low * step for step in STEPS]
-    share = 0 if len(shape.wkb) < LARGE else DOUBT / 5
+    share = 0 if size < LARGE else DOUBT / 5
     while high - low > max(FINE, low * share):
         radius = next((one for one in tried if low < one < high), (low + high) / 2)
-        inner = core.buffer(depth - radius)
+        inner = base.buffer(depth - radius)
         if inner.is_empty:
             high, tried = radius, []
-        else:
-            core, depth, low = inner, radius, radius
+            continue
+        core, low = inner, radius
+        if len(core.wkb) <= size:  # else it has a corner for each chord of an arc
+            base, depth = core, radius
     border = shape.boundary
     middles = [part.representative_point() for part in sorted(parts_of(core), key=lambda part: -part.area)[:MOST_MIDDLES]]
     width, place = max((2 * border.distance(middle), (middle.x, middle.y)) for middle in middles)
