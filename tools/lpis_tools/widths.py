@@ -1,7 +1,9 @@
-"""How wide land is, in metres: the diameter of the largest circle that fits into it. What is joined by thinner parts is several places.
+"""How wide land is, in metres: the diameter of the largest circle that fits into it. What is joined by thinner parts is
+several places.
 
-The cores of a shape are the parts of what is at least a radius from its border: each place that is as wide as twice that has one. GEOS's buffer passes over shallow corners,
-up to a hundredth of its radius: it says what is clear. Where a core may be there or not, or may be one or two, the land within the radius of each edge is taken away."""
+The cores of a shape are the parts of what is at least a radius from its border: each place that is as wide as twice
+that has one. GEOS's buffer passes over shallow corners, up to a hundredth of its radius: it says what is clear. Where a
+core may be there or not, or may be one or two, the land within the radius of each edge is taken away."""
 
 from __future__ import annotations
 
@@ -67,7 +69,8 @@ def widest(shape):
         if len(core.wkb) <= size:  # else it has a corner for each chord of an arc
             base, depth = core, radius
     border = shape.boundary
-    middles = [part.representative_point() for part in sorted(parts_of(core), key=lambda part: -part.area)[:MOST_MIDDLES]]
+    largest = sorted(parts_of(core), key=lambda part: -part.area)[:MOST_MIDDLES]
+    middles = [part.representative_point() for part in largest]
     width, place = max((2 * border.distance(middle), (middle.x, middle.y)) for middle in middles)
     return max(width, 2 * area / shape.length), place
 
@@ -102,7 +105,8 @@ def cores(shape, radius: float):
         if len(inner) == 1 and border.is_clear(inner[0], radius):
             yield part, (1 - DOUBT) * radius
         else:
-            yield from ((core, radius) for core in parts_of(part.difference(border.land(part.bounds, radius))) if border.is_clear(core, radius))
+            left = parts_of(part.difference(border.land(part.bounds, radius)))
+            yield from ((core, radius) for core in left if border.is_clear(core, radius))
 
 
 class Border:
@@ -117,7 +121,8 @@ class Border:
         self.length = numpy.hypot(*self.way.T)
         self.normal = numpy.stack([-self.way[:, 1], self.way[:, 0]], axis=1) / self.length[:, None]
         self.following = self.next_ones(ring)
-        self.boxes = Boxes(numpy.hstack([numpy.minimum(self.edges[:, :2], self.edges[:, 2:]), numpy.maximum(self.edges[:, :2], self.edges[:, 2:])]))
+        a, b = self.edges[:, :2], self.edges[:, 2:]
+        self.boxes = Boxes(numpy.hstack([numpy.minimum(a, b), numpy.maximum(a, b)]))
 
     def next_ones(self, ring):
         """The edge that follows each: the next of its ring, or the one before, where the ring was turned."""
@@ -142,15 +147,18 @@ class Border:
     def land(self, bounds, radius):
         """The land within a radius of the border, as far as it may lie in a box."""
         near = self.near(bounds, radius)
-        a, b, normal, way, after = (some[near] for some in (self.edges[:, :2], self.edges[:, 2:], self.normal, self.way, self.following))
+        a, b, normal, after = self.edges[near, :2], self.edges[near, 2:], self.normal[near], self.following[near]
+        way = self.way[near]
         turn = numpy.arctan2(numpy.cross(way, self.way[after]), (way * self.way[after]).sum(axis=1))
         bands = numpy.stack([a, b, b + radius * normal, a + radius * normal], axis=1).tolist()
-        wedges = [wedge(corner, along, other, angle, radius) for corner, along, other, angle in zip(b, normal, self.normal[after], turn.tolist()) if angle < -TURN]
+        corners = zip(b, normal, self.normal[after], turn.tolist())
+        wedges = [wedge(*corner, radius) for corner in corners if corner[-1] < -TURN]
         return unary_union([Polygon(ring) for ring in (*bands, *wedges)])
 
 
 def wedge(corner, normal, other, turn, radius):
     """What is within a radius of a corner, from one edge's normal to the next one's."""
     start, count = math.atan2(normal[1], normal[0]), math.ceil(-turn / CHORD)
-    over = [(corner[0] + radius * math.cos(start + turn * step / count), corner[1] + radius * math.sin(start + turn * step / count)) for step in range(1, count)]
+    angles = [start + turn * step / count for step in range(1, count)]
+    over = [(corner[0] + radius * math.cos(angle), corner[1] + radius * math.sin(angle)) for angle in angles]
     return [tuple(corner), tuple(corner + radius * normal), *over, tuple(corner + radius * other)]
