@@ -83,8 +83,11 @@ fn tell(rt: &HostRuntime, error: &clap::Error) -> Result<u8, Failure> {
 
 /// Runs the command that these matches ask for.
 fn perform_asked(rt: &HostRuntime, matches: &ArgMatches<'_>) -> Result<u8, Failure> {
-    let request = request_of(matches)?;
-    perform(rt, &request)
+    match request_of(matches) {
+        Some(request) => perform(rt, &request),
+        // No accepted line comes here: a command and its words are required.
+        None => usage_ends(ErrorKind::MissingRequiredArgument, false),
+    }
 }
 
 /// Runs a command. Its files are opened first, in their order; a register before them.
