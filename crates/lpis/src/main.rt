@@ -21,7 +21,7 @@ use lpis_run_check::{run_area, run_check, run_cut};
 use lpis_run_locate::{PointsIn, run_locate};
 use lpis_run_publish::{refuse_register, run_exact, run_publish, run_trace};
 use opening::{open, open_folder, open_submission, open_tables};
-use sqlite::{Alter, Unknown};
+use sqlite::{Alter, Connection, Unknown};
 use std::alloc::Global;
 use std::env::Args;
 use std::process::ExitCode;
@@ -83,8 +83,11 @@ fn tell(rt: &HostRuntime, error: &clap::Error) -> Result<u8, Failure> {
 
 /// Runs the command that these matches ask for.
 fn perform_asked(rt: &HostRuntime, matches: &ArgMatches<'_>) -> Result<u8, Failure> {
-    let request = request_of(matches)?;
-    perform(rt, &request)
+    match request_of(matches) {
+        Some(request) => perform(rt, &request),
+        // No accepted line comes here: a command and its words are required.
+        None => usage_ends(ErrorKind::MissingRequiredArgument, false),
+    }
 }
 
 /// Runs a command. Its files are opened first, in their order; a register before them.
@@ -135,7 +138,8 @@ fn locate(
 /// Opens the register in the file at this path, does a job with it and closes it. No other function
 /// names a register over files: each that does is proved over all of the database engine.
 fn in_register(rt: &HostRuntime, db: &str, job: &Job<'_>) -> Result<u8, Failure> {
-    match open_file(rt, rt.alloc(), db, Unknown) {
+    let opened = Connection::open_from(rt, db, false, Unknown);
+    match open_file(rt.alloc(), opened) {
         Ok(mut register) => {
             let ran = work(rt, &mut register, job);
             // Its log goes into its file. What was published stands in the log, whether or not this
@@ -143,7 +147,7 @@ fn in_register(rt: &HostRuntime, db: &str, job: &Job<'_>) -> Result<u8, Failure>
             let _ = register.into_connection().close();
             ran
         }
-        Err((fault, _files)) => refuse_register(rt.alloc(), &fault, &mut rt.stdout()),
+        Err((fault, _left)) => refuse_register(rt.alloc(), &fault, &mut rt.stdout()),
     }
 }
 

@@ -10,6 +10,11 @@ use Rattle.lpis_run.specs.declared.folder.Submission.{Submission}
 use Rattle.lpis_command_line.specs.Files.{AreTablesIn, IsFile, in_folder}
 use Rattle.lpis_command_line.specs.declared.files.NamedFile.{NamedFile}
 
+-- of what was found this is so; where nothing was found, it is so of nothing
+abbrev pub Finds : {X : Type 0} → (X → Type 0) → Option X → Type 0
+Finds P (Some x) = P x
+Finds {X} P None = (x : X) → P x → ⊥
+
 -- the argument has a word, of which this is so
 abbrev pub HasWord : Text → (Text → Type 0) → List Row → Type 0
 HasWord id P rows = (word : Text) × (first_of id rows ≡ Some word) × P word

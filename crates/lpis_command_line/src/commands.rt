@@ -1,8 +1,10 @@
 //! The commands: their words, as one table, and what these ask for.
 
-ghost use Rattle.std.specs.Prelude.{IfSome, codes};
+ghost use Rattle.std.specs.Prelude.{codes};
 ghost use Rattle.clap.specs.Words.{found_of, rows_of};
 ghost use Rattle.lpis_command_line.specs.Commands.{IsJobNamed, IsRequestNamed};
+ghost use Rattle.lpis_command_line.specs.Words.{Finds};
+ghost use Rattle.lpis_command_line.specs.private.Found.{IsInRegister};
 
 use crate::arguments::{
     AREA, BLOCKS_WRITTEN, CERT, CERT_WRITTEN, COUNTRY, EXACT, FLATS_WRITTEN, IDENTIFIERS, Line,
@@ -150,8 +152,8 @@ pub enum Job<'a> {
 
 /// `area` with its words.
 fn area_asked<'a>(matches: &ArgMatches<'a>) -> Option<Request<'a>>
-    ensures { IfSome result (λ r. IsRequestNamed r (codes "area")
-        (rows_of (found_of matches.now))) }
+    ensures { Finds (λ r. IsRequestNamed r (codes "area")
+        (rows_of (found_of matches.now))) result }
 {
     let table = file_of(matches, "file", Name::Area)?;
     Some(Request::Area { table })
@@ -159,8 +161,8 @@ fn area_asked<'a>(matches: &ArgMatches<'a>) -> Option<Request<'a>>
 
 /// `cut` with its words.
 fn cut_asked<'a>(matches: &ArgMatches<'a>) -> Option<Request<'a>>
-    ensures { IfSome result (λ r. IsRequestNamed r (codes "cut")
-        (rows_of (found_of matches.now))) }
+    ensures { Finds (λ r. IsRequestNamed r (codes "cut")
+        (rows_of (found_of matches.now))) result }
 {
     let tables = tables_of(matches)?;
     let cert = word_of(matches, "cert")?;
@@ -169,8 +171,8 @@ fn cut_asked<'a>(matches: &ArgMatches<'a>) -> Option<Request<'a>>
 
 /// `check` with its words.
 fn check_asked<'a>(matches: &ArgMatches<'a>) -> Option<Request<'a>>
-    ensures { IfSome result (λ r. IsRequestNamed r (codes "check")
-        (rows_of (found_of matches.now))) }
+    ensures { Finds (λ r. IsRequestNamed r (codes "check")
+        (rows_of (found_of matches.now))) result }
 {
     let release = release_of(matches)?;
     Some(Request::Check { release })
@@ -178,8 +180,8 @@ fn check_asked<'a>(matches: &ArgMatches<'a>) -> Option<Request<'a>>
 
 /// `country` with its words.
 fn country_asked<'a>(matches: &ArgMatches<'a>) -> Option<Request<'a>>
-    ensures { IfSome result (λ r. IsRequestNamed r (codes "country")
-        (rows_of (found_of matches.now))) }
+    ensures { Finds (λ r. IsRequestNamed r (codes "country")
+        (rows_of (found_of matches.now))) result }
 {
     let country = country_of(matches)?;
     let detail = detail_of(matches)?;
@@ -188,8 +190,8 @@ fn country_asked<'a>(matches: &ArgMatches<'a>) -> Option<Request<'a>>
 
 /// `locate` with its words.
 fn locate_asked<'a>(matches: &ArgMatches<'a>) -> Option<Request<'a>>
-    ensures { IfSome result (λ r. IsRequestNamed r (codes "locate")
-        (rows_of (found_of matches.now))) }
+    ensures { Finds (λ r. IsRequestNamed r (codes "locate")
+        (rows_of (found_of matches.now))) result }
 {
     let release = release_of(matches)?;
     let points = file_of(matches, "points", Name::Points)?;
@@ -198,8 +200,8 @@ fn locate_asked<'a>(matches: &ArgMatches<'a>) -> Option<Request<'a>>
 
 /// `locate-country` with its words.
 fn locate_country_asked<'a>(matches: &ArgMatches<'a>) -> Option<Request<'a>>
-    ensures { IfSome result (λ r. IsRequestNamed r (codes "locate-country")
-        (rows_of (found_of matches.now))) }
+    ensures { Finds (λ r. IsRequestNamed r (codes "locate-country")
+        (rows_of (found_of matches.now))) result }
 {
     let country = country_of(matches)?;
     let points = file_of(matches, "points", Name::Points)?;
@@ -208,8 +210,8 @@ fn locate_country_asked<'a>(matches: &ArgMatches<'a>) -> Option<Request<'a>>
 
 /// `exact` with its words, but for the register.
 fn exact_asked<'a>(matches: &ArgMatches<'a>) -> Option<Job<'a>>
-    ensures { IfSome result (λ j. IsJobNamed j (codes "exact")
-        (rows_of (found_of matches.now))) }
+    ensures { Finds (λ j. IsJobNamed j (codes "exact")
+        (rows_of (found_of matches.now))) result }
 {
     let submission = submission_of(matches)?;
     let out = word_of(matches, "out")?;
@@ -218,8 +220,8 @@ fn exact_asked<'a>(matches: &ArgMatches<'a>) -> Option<Job<'a>>
 
 /// `exact-country` with its words, but for the register.
 fn exact_country_asked<'a>(matches: &ArgMatches<'a>) -> Option<Job<'a>>
-    ensures { IfSome result (λ j. IsJobNamed j (codes "exact-country")
-        (rows_of (found_of matches.now))) }
+    ensures { Finds (λ j. IsJobNamed j (codes "exact-country")
+        (rows_of (found_of matches.now))) result }
 {
     let country = country_of(matches)?;
     let file = word_of(matches, "file")?;
@@ -228,8 +230,8 @@ fn exact_country_asked<'a>(matches: &ArgMatches<'a>) -> Option<Job<'a>>
 
 /// `publish` with its words, but for the register.
 fn publish_asked<'a>(matches: &ArgMatches<'a>) -> Option<Job<'a>>
-    ensures { IfSome result (λ j. IsJobNamed j (codes "publish")
-        (rows_of (found_of matches.now))) }
+    ensures { Finds (λ j. IsJobNamed j (codes "publish")
+        (rows_of (found_of matches.now))) result }
 {
     let year = year_of(matches)?;
     let submission = submission_of(matches)?;
@@ -238,8 +240,8 @@ fn publish_asked<'a>(matches: &ArgMatches<'a>) -> Option<Job<'a>>
 
 /// `publish-country` with its words, but for the register.
 fn publish_country_asked<'a>(matches: &ArgMatches<'a>) -> Option<Job<'a>>
-    ensures { IfSome result (λ j. IsJobNamed j (codes "publish-country")
-        (rows_of (found_of matches.now))) }
+    ensures { Finds (λ j. IsJobNamed j (codes "publish-country")
+        (rows_of (found_of matches.now))) result }
 {
     let year = year_of(matches)?;
     let country = country_of(matches)?;
@@ -255,8 +257,8 @@ fn publish_country_asked<'a>(matches: &ArgMatches<'a>) -> Option<Job<'a>>
 
 /// `trace` with its words, but for the register.
 fn trace_asked<'m, 'a>(matches: &'m ArgMatches<'a>) -> Option<Job<'m>>
-    ensures { IfSome result (λ j. IsJobNamed j (codes "trace")
-        (rows_of (found_of matches.now))) }
+    ensures { Finds (λ j. IsJobNamed j (codes "trace")
+        (rows_of (found_of matches.now))) result }
 {
     let ids = words_of(matches, "id")?;
     Some(Job::Trace { ids })
@@ -264,7 +266,7 @@ fn trace_asked<'m, 'a>(matches: &'m ArgMatches<'a>) -> Option<Job<'m>>
 
 /// The job of this name, with its words.
 fn job_named<'m, 'a>(name: &str, matches: &'m ArgMatches<'a>) -> Option<Job<'m>>
-    ensures { IfSome result (λ j. IsJobNamed j name.now (rows_of (found_of matches.now))) }
+    ensures { Finds (λ j. IsJobNamed j name.now (rows_of (found_of matches.now))) result }
 {
     match name {
         "exact" => exact_asked(matches),
@@ -278,7 +280,7 @@ fn job_named<'m, 'a>(name: &str, matches: &'m ArgMatches<'a>) -> Option<Job<'m>>
 
 /// The job of this name with its register.
 fn in_register<'m, 'a>(name: &str, matches: &'m ArgMatches<'a>) -> Option<Request<'m>>
-    ensures { IfSome result (λ r. IsRequestNamed r name.now (rows_of (found_of matches.now))) }
+    ensures { Finds (λ r. IsInRegister r name.now (rows_of (found_of matches.now))) result }
 {
     let db = word_of(matches, "db")?;
     let job = job_named(name, matches)?;
@@ -287,7 +289,7 @@ fn in_register<'m, 'a>(name: &str, matches: &'m ArgMatches<'a>) -> Option<Reques
 
 /// The command of this name, with its words.
 pub(crate) fn request_named<'m, 'a>(name: &str, matches: &'m ArgMatches<'a>) -> Option<Request<'m>>
-    ensures { IfSome result (λ r. IsRequestNamed r name.now (rows_of (found_of matches.now))) }
+    ensures { Finds (λ r. IsRequestNamed r name.now (rows_of (found_of matches.now))) result }
 {
     match name {
         "area" => area_asked(matches),

@@ -1,42 +1,33 @@
 //! The words of a command, and its files, by its arguments.
 
-ghost use Rattle.std.specs.Prelude.{◌≡◌, IfSome, Some, codes, map};
-ghost use Rattle.clap.specs.Words.{all_of, first_of, found_of, rows_of};
+ghost use Rattle.std.specs.Prelude.{codes};
+ghost use Rattle.clap.specs.Words.{found_of, rows_of};
 ghost use Rattle.lpis_command_line.specs.Files.{AreTablesIn, IsCountryIn, IsFile};
-ghost use Rattle.lpis_command_line.specs.Words.{HasWord, IsDetail, IsExact, IsRelease};
+ghost use Rattle.lpis_command_line.specs.Words.{Finds, HasWord, IsDetail, IsExact, IsRelease};
 ghost use Rattle.lpis_command_line.specs.Words.{IsSubmission, IsYear};
-ghost use Rattle.lpis_command_line.specs.private.Found.{IsWord};
+ghost use Rattle.lpis_command_line.specs.private.Found.{AreWords, IsWord};
 
 use crate::files::{CountryFolder, NamedFile, country_in, file_at, lineage_in, tables_in};
 use clap::ArgMatches;
 use lpis_run::{Detail, Folder, Name, Submission, Tables};
 
 /// The word of an argument, if it is there.
-fn option_of<'a>(matches: &ArgMatches<'a>, id: &str) -> Option<&'a str>
+pub(crate) fn word_of<'a>(matches: &ArgMatches<'a>, id: &str) -> Option<&'a str>
     ensures { IsWord id.now result (rows_of (found_of matches.now)) }
 {
     matches.get_str(id)
 }
 
-/// The word of an argument.
-pub(crate) fn word_of<'a>(matches: &ArgMatches<'a>, id: &str) -> Option<&'a str>
-    ensures { IfSome result (λ word. first_of id.now (rows_of (found_of matches.now)) ≡ Some
-        word.now) }
-{
-    option_of(matches, id)
-}
-
-/// All words of an argument, in their order.
+/// All words of an argument, in their order, if it is there.
 pub(crate) fn words_of<'m, 'a>(matches: &'m ArgMatches<'a>, id: &str) -> Option<&'m [&'a str]>
-    ensures { IfSome result (λ words. all_of id.now (rows_of (found_of matches.now)) ≡ Some
-        (map (λ w. w.now) words.now)) }
+    ensures { AreWords id.now result (rows_of (found_of matches.now)) }
 {
     matches.get_strs(id)
 }
 
 /// The year of the argument `year`. Another number is none: `clap` lets no other through.
 pub(crate) fn year_of(matches: &ArgMatches<'_>) -> Option<u16>
-    ensures { IfSome result (λ year. IsYear year (rows_of (found_of matches.now))) }
+    ensures { Finds (λ year. IsYear year (rows_of (found_of matches.now))) result }
 {
     let word = word_of(matches, "year")?;
     match word.parse::<u16>() {
@@ -47,7 +38,7 @@ pub(crate) fn year_of(matches: &ArgMatches<'_>) -> Option<u16>
 
 /// What is printed of a country. `clap` lets no other word through.
 pub(crate) fn detail_of(matches: &ArgMatches<'_>) -> Option<Detail>
-    ensures { IfSome result (λ detail. IsDetail detail (rows_of (found_of matches.now))) }
+    ensures { Finds (λ detail. IsDetail detail (rows_of (found_of matches.now))) result }
 {
     let word = word_of(matches, "parcels")?;
     match word {
@@ -59,8 +50,8 @@ pub(crate) fn detail_of(matches: &ArgMatches<'_>) -> Option<Detail>
 
 /// The file at the path of an argument.
 pub(crate) fn file_of<'a>(matches: &ArgMatches<'a>, id: &str, name: Name) -> Option<NamedFile<'a>>
-    ensures { IfSome result (λ i. HasWord id.now (λ path. IsFile name path i)
-        (rows_of (found_of matches.now))) }
+    ensures { Finds (λ i. HasWord id.now (λ path. IsFile name path i)
+        (rows_of (found_of matches.now))) result }
 {
     let path = word_of(matches, id)?;
     Some(file_at(path, name))
@@ -70,7 +61,7 @@ pub(crate) fn file_of<'a>(matches: &ArgMatches<'a>, id: &str, name: Name) -> Opt
 pub(crate) fn exact_of<'a>(matches: &ArgMatches<'a>) -> Option<NamedFile<'a>>
     ensures { IsExact result (rows_of (found_of matches.now)) }
 {
-    match option_of(matches, "exact") {
+    match word_of(matches, "exact") {
         Some(path) => Some(file_at(path, Name::Cert)),
         None => None,
     }
@@ -78,8 +69,8 @@ pub(crate) fn exact_of<'a>(matches: &ArgMatches<'a>) -> Option<NamedFile<'a>>
 
 /// The tables of the release in the folder of the argument `dir`.
 pub(crate) fn tables_of<'a>(matches: &ArgMatches<'a>) -> Option<Tables<NamedFile<'a>>>
-    ensures { IfSome result (λ t. HasWord (codes "dir") (λ dir. AreTablesIn dir t)
-        (rows_of (found_of matches.now))) }
+    ensures { Finds (λ t. HasWord (codes "dir") (λ dir. AreTablesIn dir t)
+        (rows_of (found_of matches.now))) result }
 {
     let dir = word_of(matches, "dir")?;
     Some(tables_in(dir))
@@ -87,7 +78,7 @@ pub(crate) fn tables_of<'a>(matches: &ArgMatches<'a>) -> Option<Tables<NamedFile
 
 /// The release in the folder of the argument `dir`, with its certificate.
 pub(crate) fn release_of<'a>(matches: &ArgMatches<'a>) -> Option<Folder<NamedFile<'a>>>
-    ensures { IfSome result (λ f. IsRelease f (rows_of (found_of matches.now))) }
+    ensures { Finds (λ f. IsRelease f (rows_of (found_of matches.now))) result }
 {
     let tables = tables_of(matches)?;
     let cert = file_of(matches, "cert", Name::Cert)?;
@@ -96,7 +87,7 @@ pub(crate) fn release_of<'a>(matches: &ArgMatches<'a>) -> Option<Folder<NamedFil
 
 /// The same, with its lineage table.
 pub(crate) fn submission_of<'a>(matches: &ArgMatches<'a>) -> Option<Submission<NamedFile<'a>>>
-    ensures { IfSome result (λ s. IsSubmission s (rows_of (found_of matches.now))) }
+    ensures { Finds (λ s. IsSubmission s (rows_of (found_of matches.now))) result }
 {
     let folder = release_of(matches)?;
     let dir = word_of(matches, "dir")?;
@@ -106,8 +97,8 @@ pub(crate) fn submission_of<'a>(matches: &ArgMatches<'a>) -> Option<Submission<N
 
 /// The country in the folder of the argument `dir`.
 pub(crate) fn country_of<'a>(matches: &ArgMatches<'a>) -> Option<CountryFolder<'a>>
-    ensures { IfSome result (λ c. HasWord (codes "dir") (λ dir. IsCountryIn dir c)
-        (rows_of (found_of matches.now))) }
+    ensures { Finds (λ c. HasWord (codes "dir") (λ dir. IsCountryIn dir c)
+        (rows_of (found_of matches.now))) result }
 {
     let dir = word_of(matches, "dir")?;
     Some(country_in(dir))

@@ -1,35 +1,40 @@
--- How a register in files is opened, and how it is not.
-use Rattle.std.specs.Prelude.{◌≡◌}
-use Rattle.sqlite_trees.specs.declared.store.Store.{Ghosts}
-use Rattle.sqlite_wal.specs.Recovery.{Image}
-use Rattle.sqlite.specs.Held.{Held, IsNew, state}
-use Rattle.sqlite.specs.Start.{FindsIn}
-use Rattle.sqlite.specs.State.{HasCleanDisk, IsLive, Opens}
+-- How a register in files is opened, and how it is not, by what opening its database answered.
+use Rattle.std.specs.Prelude.{◌≡◌, ◌≢◌, ◌⊎◌, Option, Result, Ok, Err}
+use Rattle.sqlite_disk.specs.declared.Disk.{Ghosts}
+use Rattle.sqlite_store.specs.declared.store.FileStore.{FileStore}
+use Rattle.sqlite.specs.Files.{over_files}
+use Rattle.sqlite.specs.Held.{Held}
+use Rattle.sqlite.specs.declared.error.Error.{Error}
+use Rattle.sqlite.specs.declared.error.Error.TheVariants.{SqliteFailure}
+use Rattle.sqlite.specs.declared.error.ErrorCode.TheVariants.{OutOfMemory}
+use Rattle.sqlite.specs.declared.file.Leftover.{Leftover}
 use Rattle.lpis_register.specs.FailingToOpen.{HasOpeningCause}
 use Rattle.lpis_register.specs.Holdings.{RegisterState}
 use Rattle.lpis_register.specs.Opening.{IsOpened, IsUnopened}
 use Rattle.lpis_register.specs.declared.fault.PublishFault.{PublishFault}
-use Rattle.lpis_register.specs.declared.fault.PublishFault.TheVariants.{Store}
+use Rattle.lpis_register.specs.declared.fault.PublishFault.TheVariants.{Memory, Store}
+use Rattle.lpis_register_file.specs.declared.Unopened.{Unopened}
+use Rattle.lpis_register_file.specs.declared.Unopened.TheVariants.{Files, Database}
 
-module _ {S : Type 0} (store : Ghosts S) where
-  -- a connection that was just opened: if the disk kept what was written, it finds what the files
-  -- hold
-  pub record IsOver (image : Image) (conn : Held S) : Type 0 where
-    pub fresh : IsNew conn
-    pub opens : HasCleanDisk (state store conn) → Opens (state store conn)
-        × IsLive (state store conn)
-    pub finds : HasCleanDisk (state store conn) → FindsIn image (state store conn)
+-- the database's want of memory is told as such, and each other error of it as its failure
+abbrev pub IsToldAs : Error → PublishFault → Type 0
+IsToldAs error fault = ((error ≡ SqliteFailure OutOfMemory) × (fault ≡ Memory))
+    ⊎ ((error ≢ SqliteFailure OutOfMemory) × (fault ≡ Store))
 
-  -- the files were opened, and the register in them was
-  pub record OpensInFiles (image : Image) (it : RegisterState S) : Type 0 where
-    pub opened : Held S
-    pub over : IsOver image opened
-    pub opens : IsOpened store opened it.conn it.held.history it.held.shapes
+module _ {D : Type 0} {g : Ghosts D} where
+  -- the database was opened, and no register in it: it is left, and where it failed there is a
+  -- cause
+  abbrev pub LeavesDatabase : Held (FileStore D g) → PublishFault × Unopened D g → Type 0
+  LeavesDatabase opened e = (rest : Held (FileStore D g)) × (e.1 ≡ Database rest)
+      × IsUnopened over_files opened rest e.0
+      × HasOpeningCause over_files opened rest (e.0 ≡ Store)
 
-  -- they were, and the register in them was not: what is left of their connection, and where the
-  -- database failed there is a cause
-  pub record FailsInFiles (image : Image) (left : Held S) (fault : PublishFault) : Type 0 where
-    pub opened : Held S
-    pub over : IsOver image opened
-    pub unopened : IsUnopened store opened left fault
-    pub cause : HasOpeningCause store opened left (fault ≡ Store)
+  -- a register comes of a database alone, and is what its tables say; where none was opened, its
+  -- error is told, and what is left of the files is left
+  abbrev pub AnswersOpening : Result (Held (FileStore D g)) (Error × Option (Leftover D g))
+      → Result (RegisterState (FileStore D g)) (PublishFault × Unopened D g) → Type 0
+  AnswersOpening (Ok opened) (Ok it) =
+      IsOpened over_files opened it.conn it.held.history it.held.shapes
+  AnswersOpening (Ok opened) (Err e) = LeavesDatabase opened e
+  AnswersOpening (Err failed) (Ok it) = ⊥
+  AnswersOpening (Err failed) (Err e) = IsToldAs failed.0 e.0 × (e.1 ≡ Files failed.1)

@@ -1,47 +1,49 @@
-//! A register in the files at a path.
+//! A register in files that were opened.
 //!
-//! The layer above may cite: the register is the one that the files hold; why it is not opened.
+//! The layer above may cite: the register is that of the database that was opened; why there is
+//! none, and what is left.
 //! Begin at `specs/Opening.antt`, then `src/lib.rt`.
 #![tactic(auto)]
 
-ghost use Rattle.std.specs.Prelude.{◌≡◌, None, IfErr, IfOk, IfSome};
-ghost use Rattle.sqlite_wal.specs.Files.{image_at};
-ghost use Rattle.sqlite.specs.Files.{over_files};
-ghost use Rattle.lpis_register.specs.Faults.{IsFailure};
-ghost use Rattle.lpis_register_file.specs.Opening.{FailsInFiles, OpensInFiles};
+ghost use Rattle.std.specs.Prelude.{IfOk};
+ghost use Rattle.sqlite.specs.Held.{IsNew};
+ghost use Rattle.lpis_register_file.specs.Opening.{AnswersOpening};
 
 use lpis_register::{PublishFault, Register, fault_of};
-use sqlite::{Connection, FileFrom, FileStore, Start};
+use sqlite::{Connection, Error, FileStore, Leftover};
+use sqlite_disk::Disk;
 use std::alloc::Global;
-use std::rt::HostRuntime;
 
-/// Opens the register in the file at a path, or makes one; `start` stands for what the file holds.
-/// A file that is no database, that another program has locked, or whose disk fails is the
-/// register's failure to store. One that was not there begins with no release. Right after Ok a
-/// crash leaves tables that say the register that was opened, by the law
-/// `a_crash_leaves_what_is_said`.
+/// What is left of files in which no register was opened.
+#[derive(Drop)]
+pub enum Unopened<D: Disk> {
+    /// No database was: what is left of the files, if they were opened.
+    Files(Option<Leftover<D>>),
+    /// Their database, which no register was made of.
+    Database(Connection<FileStore<D>>),
+}
+
+/// Opens the register of the database that `Connection::open_from` opened, or makes one in it. It
+/// is handed the answer as it is: which file is opened is the caller's.
 ///
-/// Where the files were opened and the register in them was not, their connection comes back beside
-/// the fault; with none they were not opened.
-pub fn open_file<S: Start>(
-    rt: &HostRuntime,
+/// With an error of that call, what it left comes back as it is. A file that is no database, that
+/// another program has locked, or whose disk fails is the register's failure to store, and only
+/// want of memory is out of memory. So the causes of that error are those that the call states, and
+/// nothing was written but what it says. Else the fault is that of the register, and the database
+/// comes back beside it. Right after Ok a crash leaves tables that say the register that was
+/// opened, by the law `a_crash_leaves_what_is_said`.
+pub fn open_file<D: Disk + Drop>(
     alloc: Global,
-    path: &str,
-    start: S,
-) -> Result<
-    Register<FileStore<FileFrom<S>>>,
-    (PublishFault, Option<Connection<FileStore<FileFrom<S>>>>),
->
-    ensures opened { IfOk result (λ it. OpensInFiles over_files (image_at S.Start) it) }
-    ensures unopened { IfErr result (λ e. IfSome e.1 (λ conn. FailsInFiles over_files
-        (image_at S.Start) conn e.0)) }
-    ensures unasked { IfErr result (λ e. e.1 ≡ None → IsFailure e.0) }
+    opened: Result<Connection<FileStore<D>>, (Error, Option<Leftover<D>>)>,
+) -> Result<Register<FileStore<D>>, (PublishFault, Unopened<D>)>
+    requires fresh { IfOk opened IsNew }
+    ensures { AnswersOpening opened result }
 {
-    match Connection::open_from(rt, path, false, start) {
+    match opened {
         Ok(conn) => match Register::adopt(alloc, conn) {
             Ok(register) => Ok(register),
-            Err((conn, fault)) => Err((fault, Some(conn))),
+            Err((conn, fault)) => Err((fault, Unopened::Database(conn))),
         },
-        Err((error, _)) => Err((fault_of(error), None)),
+        Err((error, files)) => Err((fault_of(error), Unopened::Files(files))),
     }
 }

@@ -15,7 +15,7 @@ use Rattle.lpis_release.specs.declared.parcel.Parcel.{Parcel}
 use Rattle.lpis_rings.specs.declared.polygon.Member.{Member}
 use Rattle.lpis_run.specs.Outputs.{Outputs, line_alone}
 use Rattle.lpis_run.specs.Status.{done, refused}
-use Rattle.lpis_run_publish.specs.ExactAnswer.{AnswersSubmitted, FillsGroups, HasParts, HasTextOnlyIfDone, IsExactAnswer, blocks_line, unfilled_line}
+use Rattle.lpis_run_publish.specs.ExactAnswer.{AnswersSubmitted, FillsGroups, HasParts, HasTextOnlyIfDone, IsExactAnswer, IsFirstUnfilled, blocks_line, unfilled_line}
 use Rattle.lpis_register.specs.Holdings.{Holdings}
 use Rattle.lpis_run_publish.specs.Submission.{IsSubmitted, SubmissionInputs, Submitted}
 use Rattle.lpis_run_publish.specs.private.ExactRuns.{filled_with}
@@ -44,12 +44,12 @@ ids-of gs xs e = sym (parts xs) ∙ ap (map (λ (n : Bool × List ℕ). n.1)) e 
 
 -- ---- outcomes
 pub outcome-unfilled : (before : Holdings) (parcels : List Parcel) (rows : List Row) (cert : Cert) (gs : List Group) (xs : List ExactPart) (id : List ℕ) (o : Outputs)
-    → AsksFor before.history before.shapes parcels rows gs xs → has_id (map (λ (x : ExactPart). x.id) xs) id ≡ true → o ≡ line_alone (unfilled_line id) refused
+    → AsksFor before.history before.shapes parcels rows gs xs → (has_id (map (λ (x : ExactPart). x.id) xs) id ≡ true) × IsFirstUnfilled xs id → o ≡ line_alone (unfilled_line id) refused
     → FillsGroups parcels rows cert before o
 outcome-unfilled before parcels rows cert gs xs id o asks one e =
     let names = names-of (shape_named before.shapes) (shape_named (shapes_in parcels)) gs xs asks.parts in
-    let is_one : has_id (map (λ (g : Group). g.id) gs) id ≡ true = rw (sym (ids-of gs xs names)) one in
-    rw e (record { answer = inr (record { gs = gs; xs = xs; asks = asks; answer = inl (id, is_one, refl) }); no_text = λ _. refl })
+    let is_one : has_id (map (λ (g : Group). g.id) gs) id ≡ true = rw (sym (ids-of gs xs names)) one.0 in
+    rw e (record { answer = inr (record { gs = gs; xs = xs; asks = asks; answer = inl (id, is_one, one.1, refl) }); no_text = λ _. refl })
 
 filled-line : (n m : ℕ) → n ≡ m → ◌≡◌ {A = Answer} (blocks_line n, done) (blocks_line m, done)
 filled-line n m e = ap (λ (k : ℕ). (blocks_line k, done)) e

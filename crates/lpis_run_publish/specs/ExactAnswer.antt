@@ -1,9 +1,12 @@
 -- The answer to what is asked for the blocks of marked rows: the certificate with them, or the line
 -- that says why there is none; and the status.
-use Rattle.std.specs.Prelude.{◌≡◌, ◌≢◌, ◌⊎◌, ◌++◌, true, ℕ, List, codes, length, map, Option}
-use Rattle.std.specs.Prelude.{None, Result, Some}
+use Rattle.std.specs.Prelude.{◌≡◌, ◌≢◌, ◌⊎◌, ◌++◌, [], All, true, ℕ, List, codes, length, map}
+use Rattle.std.specs.Prelude.{None, Option, Result, Some, slice_get, take}
 use Rattle.std.specs.Fmt.{decimal}
-use Rattle.lpis_tables.specs.Ids.{has_id}
+use Rattle.lpis_points.specs.Triangles.{IsFlat}
+use Rattle.lpis_points.specs.declared.triangle.Triangle.{Triangle}
+use Rattle.lpis_edge_sums.specs.Making.{EdgesCancel, FlatsHaveCorners}
+use Rattle.lpis_tables.specs.Ids.{has_id, same_id}
 use Rattle.lpis_release.specs.declared.parcel.Parcel.{Parcel}
 use Rattle.lpis_release.specs.Release.{parcel_ids}
 use Rattle.lpis_cert.specs.declared.cert.Cert.{Cert}
@@ -41,6 +44,24 @@ unfilled_line id = codes "refused 45 exact " ++ id ++ codes "\n"
 abbrev pub blocks_line : ℕ → List ℕ
 blocks_line n = codes "exact " ++ decimal n ++ codes "\n"
 
+-- ---- the group that is named
+-- flats make the parts of a group up to its whole
+pub record AreFlatsOf (x : ExactPart) (flats : List Triangle) : Type 0 where
+  pub flat : All IsFlat flats
+  pub corners : FlatsHaveCorners x.whole x.parts flats
+  pub edges : EdgesCancel x.whole x.parts flats
+
+-- a group of this identifier gets no block, as the first: those before it have flats that make them
+-- up, and it is not made up without any
+pub record IsFirstUnfilled (xs : List ExactPart) (id : List ℕ) : Type 0 where
+  pub at : ℕ
+  pub part : ExactPart
+  pub stands : slice_get xs at ≡ Some part
+  pub named : same_id id part.id ≡ true
+  pub before : All (λ (x : ExactPart). (flats : List Triangle) × AreFlatsOf x flats) (take at xs)
+  pub unfilled : AreFlatsOf part [] → ⊥
+
+-- ---- the blocks
 -- a certificate has the pieces, parcels and pairs of another
 pub record HasParts (c made : Cert) : Type 0 where
   pub pieces : made.pieces ≡ c.pieces
@@ -49,14 +70,14 @@ pub record HasParts (c made : Cert) : Type 0 where
 
 -- of parcels with these rows, where a register holds this: what a certificate has beside its blocks
 module _ (parcels : List Parcel) (rows : List Row) (Has : Cert → Type 0) (before : Holdings) where
-  -- the marks ask for groups. Some group gets no block; or each gets one, and the text is that of a
-  -- certificate with blocks of their names, in their order, and the rest
+  -- the marks ask for groups. The first that gets no block is named; or each gets one, and the text
+  -- is that of a certificate with blocks of their names, in their order, and the rest
   pub record AnswersGroups (text : Option (List ℕ)) (a : Answer) : Type 0 where
     pub gs : List Group
     pub xs : List ExactPart
     pub asks : AsksFor before.history before.shapes parcels rows gs xs
     pub answer : ((id : List ℕ) × (has_id (map (λ (g : Group). g.id) gs) id ≡ true)
-        × (a ≡ (unfilled_line id, refused)))
+        × IsFirstUnfilled xs id × (a ≡ (unfilled_line id, refused)))
         ⊎ ((made : Cert) × Has made × (map block_name made.exact ≡ map group_name gs)
         × (text ≡ Some (cert_text made)) × (a ≡ (blocks_line (length gs), done)))
 

@@ -1,15 +1,20 @@
 //! The blocks that marked rows ask for.
 
-ghost use Rattle.std.specs.Prelude.{◌≡◌, ◌≤◌, ◌+◌, ◌∷◌, [], IfErr, IfOk, length, map, sum_by};
+ghost use Rattle.std.specs.Prelude.{◌≡◌, ◌≤◌, ◌+◌, ◌↔◌, [], IfErr, IfOk, IfSome, IsSomeAnd};
+ghost use Rattle.std.specs.Prelude.{IsTrue, length, map, sum_by};
+ghost use Rattle.lpis_edge_sums.specs.Making.{polygons};
 ghost use Rattle.lpis_checker.specs.ExactBlocks.{block_name, part_name};
-ghost use Rattle.lpis_run_publish.specs.ExactAnswer.{HasParts};
-ghost use Rattle.lpis_run_publish.specs.private.Blocks.{IsOf};
+ghost use Rattle.lpis_run_publish.specs.ExactAnswer.{AreFlatsOf, HasParts};
+ghost use Rattle.lpis_run_publish.specs.private.Blocks.{IsOf, IsUnfilled};
 ghost use Rattle.lpis_run_publish.specs.declared.blocks.BlockFault.{BlockFault};
 
 use lpis_cert::{Cert, ExactBlock, MOST_FLATS};
 use lpis_checker::ExactPart;
 use lpis_cutter::exact_flats;
+use lpis_edge_sums::{EdgeSum, are_flat, flats_have_corners};
 use lpis_memory::Sequence;
+use lpis_points::Triangle;
+use lpis_rings::Polygon;
 use lpis_tables::Id;
 use std::alloc::{AllocError, AllocFailed, Global};
 
@@ -53,14 +58,64 @@ fn count_flats(cert: &Cert) -> usize
     count
 }
 
+/// Polygons where they stand.
+fn polygons_at(alloc: Global, parts: &[Polygon]) -> Result<Vec<&Polygon>, AllocError>
+    ensures { IfOk result (λ v. polygons v.items ≡ parts.now) }
+{
+    let mut polygons = Vec::with_capacity(alloc, parts.len())?;
+    for part in parts {
+        polygons.push(part)?;
+    }
+    Ok(polygons)
+}
+
+/// Whether all three are so.
+fn all_of(flat: bool, corners: bool, edges: bool) -> bool
+    ensures { IsTrue result ↔ (IsTrue flat × IsTrue corners × IsTrue edges) }
+{
+    flat && corners && edges
+}
+
+/// Whether these flats make the parts up to the whole.
+fn are_flats_of(alloc: Global, part: &ExactPart, flats: &[Triangle]) -> Result<bool, AllocError>
+    ensures { IfOk result (λ b. IsTrue b ↔ AreFlatsOf part.now flats.now) }
+{
+    let polygons = polygons_at(alloc, part.parts.as_slice())?;
+    let parts = polygons.as_slice();
+    let mut sum = EdgeSum::new(alloc);
+    let corners = flats_have_corners(alloc, &part.whole, parts, flats)?;
+    let edges = sum.cancels(&part.whole, parts, flats)?;
+    Ok(all_of(are_flat(flats), corners, edges))
+}
+
+/// Flats that make the parts up to the whole, if any are found: none where it takes none.
+fn flats_of(alloc: Global, part: &ExactPart) -> Result<Option<Vec<Triangle>>, AllocError>
+    ensures flats { IfOk result (λ o. IfSome o (λ v. AreFlatsOf part.now v.items)) }
+    ensures none { IfOk result (λ o. AreFlatsOf part.now [] → IsSomeAnd o (λ v. v.items ≡ [])) }
+{
+    let none = Vec::new(alloc);
+    if are_flats_of(alloc, part, none.as_slice())? {
+        return Ok(Some(none));
+    }
+    let Some(found) = exact_flats(alloc, &part.whole, part.parts.as_slice())? else {
+        return Ok(None);
+    };
+    if are_flats_of(alloc, part, found.as_slice())? {
+        Ok(Some(found))
+    } else {
+        Ok(None)
+    }
+}
+
 /// The block of a part, of so many flats at most.
 fn block_of(alloc: Global, part: &ExactPart, most: usize) -> Result<ExactBlock, BlockFault>
     ensures name { IfOk result (λ b. block_name b ≡ part_name part.now) }
     ensures few { IfOk result (λ b. length b.flats ≤ most) }
-    ensures fault { IfErr result (λ fault. IsOf (part.now ∷ []) fault) }
+    ensures shown { IfOk result (λ b. AreFlatsOf part.now b.flats) }
+    ensures fault { IfErr result (IsUnfilled part.now) }
 {
     let id = part.id.copy()?;
-    let Some(flats) = exact_flats(alloc, &part.whole, part.parts.as_slice())? else {
+    let Some(flats) = flats_of(alloc, part)? else {
         return Err(BlockFault::NoFlats { id });
     };
     if flats.len() > most {

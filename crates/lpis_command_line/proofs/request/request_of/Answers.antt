@@ -1,7 +1,7 @@
 use Rattle.std.proofs.Common.{◌∙◌}
 use Rattle.clap.specs.Words.{found_of, rows_of, subcommand_rows_of}
 use Rattle.lpis_command_line.proofs.RequestLemmas.{requests-are, name_from_rows}
-use Rattle.lpis_command_line.proofs.request.request_in.Goals as goal
+use Rattle.lpis_command_line.proofs.request.request_of.Goals as goal
 
 pub returns : goal.returns
 returns c =
