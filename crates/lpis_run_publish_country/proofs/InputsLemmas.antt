@@ -49,8 +49,8 @@ module _ {R : Type 0} where
   pub exact_unread : (old new : Top R) (e after : Option R) (told : Option Known) (f : Failure) → is_some after ≡ is_some e → AreUnread (exact_named told) f
       → AreUntouched (inputs_named old e) (inputs_named new after) f
   exact_unread old new e after None f same never = absurd never
-  exact_unread old new e after (Some told) f same (inl (inl memory)) = (λ is. cc (memory, is), (λ is. cc (memory, is), exact-last e after f same))
-  exact_unread old new e after (Some told) f same (inl (inr read)) = (λ is. cc (read, is), (λ is. cc (read, is), exact-last e after f same))
+  exact_unread old new e after (Some told) f same (inl (inl memory)) = (λ is. absurd (cc (memory, is)), (λ is. absurd (cc (memory, is)), exact-last e after f same))
+  exact_unread old new e after (Some told) f same (inl (inr read)) = (λ is. absurd (cc (read, is)), (λ is. absurd (cc (read, is)), exact-last e after f same))
   exact_unread old new e after (Some told) f same (inr (within, never)) = absurd never
 
   -- as many as before
@@ -104,13 +104,13 @@ module _ {R : Type 0} (top end : Top R) (given : CountryFiles) (x : PublishCount
       in-lines (inl (lines, (said, are_said, stopped), written)) = regions_name_none (setting_said given Regions said) lines f stopped
       in-lines (inr (write, begun)) = write_names_none Out f write
 
-      at-end : (o : Outputs) (mid : Held E) → BreaksOff o f mid new → NamesNone f
-      at-end o mid (inl (write, part)) = write_names_none Cert f write
-      at-end o mid (inr (write, part)) = write_names_none Out f write
+      at-end : (o : Outputs) (mid : Known) → BreaksOff o f (record old { out = mid }) new → NamesNone f
+      at-end o mid (inl broken) = write_names_none Cert f broken.0
+      at-end o mid (inr broken) = write_names_none Out f broken.0
 
       by : (⊥ × (new.cert ≡ old.cert) × Keeps old.out new.out) ⊎ (BreaksOffIn (StopsFillBehind given x) (λ a. ⊥) old.out new.out f × (new.cert ≡ old.cert))
           ⊎ ((lines : List ℕ) × (o : Outputs) × FillsWhole given x before lines o × (mid : Known) × Appends old.out mid lines × BreaksOff o f (record old { out = mid }) new)
           → NamesNone f
-      by (inl (never, kept)) = absurd never
-      by (inr (inl (broken, kept))) = in-lines broken
-      by (inr (inr (lines, o, fills, mid, written, broken))) = at-end o (record old { out = mid }) broken
+      by (inl stopped) = absurd stopped.0
+      by (inr (inl broken)) = in-lines broken.0
+      by (inr (inr (lines, o, fills, mid, written, broken))) = at-end o mid broken
