@@ -18,10 +18,10 @@ pub(crate) fn check_country(
     country: &CountryFolder<'_>,
     detail: Detail,
 ) -> Result<u8, Failure> {
-    let top = open_top(rt, &country.top)?;
+    let mut top = open_top(rt, &country.top)?;
     let folders = Folders::new(rt, country.path);
     let mut out = rt.stdout();
-    run_country(rt.alloc(), top, &folders, detail, &mut out)
+    run_country(rt.alloc(), &mut top, &folders, detail, &mut out)
 }
 
 /// Finds the points of this table in a country, which is checked first.
@@ -32,9 +32,10 @@ pub(crate) fn locate_in_country(
 ) -> Result<u8, Failure> {
     let files = open_top(rt, &country.top)?;
     let points = open(rt, points)?;
+    let mut asked = PointsIn { files, points };
     let folders = Folders::new(rt, country.path);
     let mut out = rt.stdout();
-    run_locate_country(rt.alloc(), PointsIn { files, points }, &folders, &mut out)
+    run_locate_country(rt.alloc(), &mut asked, &folders, &mut out)
 }
 
 /// Writes the blocks that the marks of a country's lineage ask for after a register.
@@ -44,7 +45,7 @@ pub(crate) fn fill_country<S: Alter>(
     country: &CountryFolder<'_>,
     filled: &str,
 ) -> Result<u8, Failure> {
-    let top = open_top(rt, &country.top)?;
+    let mut top = open_top(rt, &country.top)?;
     let folders = Folders::new(rt, country.path);
     // Where there are no such blocks, a file that stands at this path stays as it is.
     let mut filled = Created::new(rt, filled);
@@ -52,7 +53,7 @@ pub(crate) fn fill_country<S: Alter>(
     run_exact_country(
         rt.alloc(),
         register,
-        top,
+        &mut top,
         &folders,
         &folders,
         &mut filled,
@@ -69,16 +70,16 @@ pub(crate) fn publish_country<S: Alter>(
     exact: &Option<NamedFile<'_>>,
     detail: Detail,
 ) -> Result<u8, Failure> {
-    let top = open_top(rt, &country.top)?;
-    let exact = open_if_named(rt, exact)?;
+    let mut top = open_top(rt, &country.top)?;
+    let mut exact = open_if_named(rt, exact)?;
     let folders = Folders::new(rt, country.path);
     let mut out = rt.stdout();
     run_publish_country(
         rt.alloc(),
         register,
         year,
-        top,
-        exact,
+        &mut top,
+        &mut exact,
         &folders,
         &folders,
         detail,

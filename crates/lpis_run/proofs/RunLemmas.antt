@@ -1,11 +1,11 @@
 -- How a run ends.
-use Rattle.std.proofs.Common.{◌≡◌, ◌⊎◌, ◌∷◌, [], inl, inr, subst, sym, ℕ, List, Option, Result, Ok, Err, IfErr, IfOk, OnOk}
+use Rattle.std.proofs.Common.{◌≡◌, ◌⊎◌, ◌∷◌, [], arith, inl, inr, length, refl, subst, sym, ℕ, List, Option, Result, Ok, Err, IfErr, IfOk, OnOk}
 use Rattle.std.proofs.KnownBytes.{Keeps-refl}
 use Rattle.std.proofs.lemmas.Result.{IfErr-weaker, IfOk-weaker}
 use Rattle.lpis_run.specs.CheckAnswer.{Answer}
 use Rattle.lpis_run.specs.Outputs.{BreaksOff, Held, Outputs, Writes}
 use Rattle.lpis_run.specs.Run.{BreaksOffIn, Runs, RunsBoth, RunsOn}
-use Rattle.lpis_run.specs.Failures.{AreUnread}
+use Rattle.lpis_run.specs.Failures.{AreUnread, AreUntouched}
 use Rattle.lpis_run.specs.Streams.{Begins, Known}
 use Rattle.lpis_run.specs.declared.failure.Failure.{Failure}
 use Rattle.lpis_run.specs.declared.failure.Failure.TheVariants.{Memory, Read, Write}
@@ -35,11 +35,11 @@ runs_written Stops Answers text status old new (Err f) answers is written begun 
     record { answer = tt; failure = inr (begun.0, (text, status), answers, begun.1) }
 
 -- so it is of a run that writes a certificate
-pub both_stopped : (Stops : Failure → Type 0) (Answers : Outputs → Type 0) (outs : Held) (failure : Failure) → Stops failure → RunsBoth Stops Answers outs outs (Err failure)
-both_stopped Stops Answers outs failure stops = record { answer = tt; failure = inl (stops, Keeps-refl outs.cert, Keeps-refl outs.out) }
+pub both_stopped : {E : Type 0} (Stops : Failure → Type 0) (Answers : Outputs → Type 0) (outs : Held E) (failure : Failure) → Stops failure → RunsBoth Stops Answers outs outs (Err failure)
+both_stopped Stops Answers outs failure stops = record { answer = tt; failure = inl (stops, refl, Keeps-refl outs.out) }
 
 -- and so if it has an answer
-pub both_written : (Stops : Failure → Type 0) (Answers : Outputs → Type 0) (a : Outputs) (old new : Held) (result : Result ℕ Failure) → Answers a
+pub both_written : {E : Type 0} (Stops : Failure → Type 0) (Answers : Outputs → Type 0) (a : Outputs) (old new : Held E) (result : Result ℕ Failure) → Answers a
     → IfOk result (λ status. Writes a status old new) → IfErr result (λ failure. BreaksOff a failure old new) → RunsBoth Stops Answers old new result
 both_written Stops Answers a old new result answers written broken = record {
   answer = IfOk-weaker result _ _ (λ status all. (a, answers, all)) written;
@@ -73,3 +73,34 @@ pub runs_on_written : (P : Failure → Type 0) (S : List ℕ → Failure → Typ
     → IfOk r (λ s. s ≡ status) → OnOk r (Appends old new text) → IfErr r (λ failure. (failure ≡ Write Out) × Begins old new text) → RunsOn P S A old new r
 runs_on_written P S A text status old new (Ok s) answers is written begun = record { answer = (text, subst (λ (n : ℕ). A (text, n)) (sym is) answers, written); failure = tt }
 runs_on_written P S A text status old new (Err f) answers is written begun = record { answer = tt; failure = inr (inr (begun.0, (text, inr (status, answers), begun.1))) }
+
+-- ---- readers behind the one that a failure names
+-- a failure that names no input of the run
+abbrev pub NamesNone : Failure → Type 0
+NamesNone f = (name : Name) → f ≡ Read name → ⊥
+
+-- out of memory names none
+pub memory_names_none : (f : Failure) → f ≡ Memory → NamesNone f
+memory_names_none f memory name is = cc (memory, is)
+
+-- nor does an output that failed
+pub write_names_none : (file : Name) (f : Failure) → f ≡ Write file → NamesNone f
+write_names_none file f write name is = cc (write, is)
+
+-- says nothing of its readers
+pub untouched_unnamed : {R : Type 0} (old new : List (Name × R)) (f : Failure) → length old ≡ length new → NamesNone f → AreUntouched old new f
+untouched_unnamed [] [] f same none = tt
+untouched_unnamed [] (y ∷ ys) f same none = absurd (omega (arith, same))
+untouched_unnamed (x ∷ xs) [] f same none = absurd (omega (arith, same))
+untouched_unnamed (x ∷ xs) (y ∷ ys) f same none = (λ is. absurd (none x.0 is), untouched_unnamed xs ys f (omega (arith, same)) none)
+
+-- a run that writes lines as it goes on names no input, where none is named by what stops it
+pub runs_on_unnamed : (P : Failure → Type 0) (S : List ℕ → Failure → Type 0) (A : Answer → Type 0) (old new : Option (List ℕ)) (r : Result ℕ Failure)
+    → ((f : Failure) → P f → NamesNone f) → ((lines : List ℕ) (f : Failure) → S lines f → NamesNone f) → RunsOn P S A old new r → IfErr r NamesNone
+runs_on_unnamed P S A old new (Ok status) before behind runs = tt
+runs_on_unnamed P S A old new (Err f) before behind runs = by runs.failure
+  where
+    by : (P f × Keeps old new) ⊎ BreaksOffIn S A old new f → NamesNone f
+    by (inl (stopped, keeps)) = before f stopped
+    by (inr (inl (lines, stopped, written))) = behind lines f stopped
+    by (inr (inr (write, begun))) = write_names_none Out f write

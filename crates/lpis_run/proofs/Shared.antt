@@ -4,4 +4,4 @@ pub use Rattle.lpis_run.proofs.CheckLemmas.{IsReport, answer-of-proved, answer-o
 pub use Rattle.lpis_run.proofs.CheckLemmas.{refused-as, refused-more, stopped-in-region, table-more, table-status}
 pub use Rattle.lpis_run.proofs.ReportLemmas.{flat_map-push, text-goes-on}
 pub use Rattle.lpis_run.proofs.RunLemmas.{both_stopped, both_written, breaks_off_more, runs_on_more, runs_on_stopped, runs_on_written, runs_stopped, runs_written}
-pub use Rattle.lpis_run.proofs.RunLemmas.{some_unread}
+pub use Rattle.lpis_run.proofs.RunLemmas.{NamesNone, memory_names_none, runs_on_unnamed, some_unread, untouched_unnamed, write_names_none}

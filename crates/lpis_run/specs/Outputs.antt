@@ -30,31 +30,38 @@ line_alone line status = record { cert = None; line = line; status = status }
 abbrev pub outputs_of : Outcome → Outputs
 outputs_of o = outputs_with (option_map (λ v. v.items) o.cert) o.printed
 
--- a writer got a text where there is one, else nothing
-abbrev pub Gets : Known → Known → Option (List ℕ) → Type 0
-Gets old new text = MatchOption text (Keeps old new) (Appends old new)
+-- a writer itself, and what it holds: where it is the same, no write was asked of it
+abbrev pub Writer : Type 0 → Type 0
+Writer E = E × Known
+
+abbrev pub writer : {E : Type 0} → (E → Known) → E → Writer E
+writer contents e = (e, contents e)
+
+-- it got a text where there is one, else nothing, and is the same
+abbrev pub Gets : {E : Type 0} → Writer E → Writer E → Option (List ℕ) → Type 0
+Gets old new text = MatchOption text (new ≡ old) (Appends old.1 new.1)
 
 -- it got a beginning of a text that there is
-abbrev pub GetsPart : Known → Known → Option (List ℕ) → Type 0
-GetsPart old new text = MatchOption text ⊥ (Begins old new)
+abbrev pub GetsPart : {E : Type 0} → Writer E → Writer E → Option (List ℕ) → Type 0
+GetsPart old new text = MatchOption text ⊥ (Begins old.1 new.1)
 
--- what a run's two writers hold, the certificate's and the other: before, and after
-pub record Held : Type 0 where
-  pub cert : Known
+-- a run's two writers, the certificate's and what the other holds: before, and after
+pub record Held (E : Type 0) : Type 0 where
+  pub cert : Writer E
   pub out : Known
 
-abbrev pub held : Known → Known → Held
+abbrev pub held : {E : Type 0} → Writer E → Known → Held E
 held cert out = record { cert = cert; out = out }
 
 -- the run answered with this status, and wrote the certificate, if there is one, and the line
-pub record Writes (a : Outputs) (status : ℕ) (old new : Held) : Type 0 where
+pub record Writes {E : Type 0} (a : Outputs) (status : ℕ) (old new : Held E) : Type 0 where
   pub status_told : status ≡ a.status
   pub certificate : Gets old.cert new.cert a.cert
   pub line : Appends old.out new.out a.line
 
 -- the run broke off: the certificate's file failed, and the line was not written; or the output
 -- failed, after all of the certificate
-abbrev pub BreaksOff : Outputs → Failure → Held → Held → Type 0
+abbrev pub BreaksOff : {E : Type 0} → Outputs → Failure → Held E → Held E → Type 0
 BreaksOff a failure old new =
     ((failure ≡ Write Cert) × GetsPart old.cert new.cert a.cert × Keeps old.out new.out)
     ⊎ ((failure ≡ Write Out) × Gets old.cert new.cert a.cert × Begins old.out new.out a.line)

@@ -24,12 +24,12 @@ pub record Runs (Stops : Failure → Type 0) (Answers : Answer → Type 0)
       ⊎ ((failure ≡ Write Out) × (a : Answer) × Answers a × Begins old new a.0))
 
 -- a run that writes a certificate, if there is one, and then prints, over what its two outputs hold
-pub record RunsBoth (Stops : Failure → Type 0) (Answers : Outputs → Type 0) (old new : Held)
-    (result : Result ℕ Failure) : Type 0 where
+pub record RunsBoth {E : Type 0} (Stops : Failure → Type 0) (Answers : Outputs → Type 0)
+    (old new : Held E) (result : Result ℕ Failure) : Type 0 where
   -- it ended with the status of an answer, and wrote both
   pub answer : IfOk result (λ status. (a : Outputs) × Answers a × Writes a status old new)
   -- it was stopped, and wrote nothing; or an output failed after a beginning of an answer
-  pub failure : IfErr result (λ failure. (Stops failure × Keeps old.cert new.cert
+  pub failure : IfErr result (λ failure. (Stops failure × (new.cert ≡ old.cert)
       × Keeps old.out new.out) ⊎ ((a : Outputs) × Answers a × BreaksOff a failure old new))
 
 -- how a run that writes lines as it goes on breaks off: it was stopped behind lines, which were
@@ -55,15 +55,15 @@ pub record RunsOn (Stops : Failure → Type 0) (StopsBehind : List ℕ → Failu
 
 -- a run that writes lines as it goes on, and at its end a certificate, if there is one, and the
 -- rest of its answer, over what its two outputs hold
-pub record RunsOnBoth (Stops : Failure → Type 0) (StopsBehind : List ℕ → Failure → Type 0)
-    (Answers : List ℕ → Outputs → Type 0) (old new : Held) (result : Result ℕ Failure)
-    : Type 0 where
+pub record RunsOnBoth {E : Type 0} (Stops : Failure → Type 0)
+    (StopsBehind : List ℕ → Failure → Type 0) (Answers : List ℕ → Outputs → Type 0)
+    (old new : Held E) (result : Result ℕ Failure) : Type 0 where
   -- it ended with the status of an answer: it wrote the lines, and then the rest
   pub answer : IfOk result (λ s. (lines : List ℕ) × (end : Outputs) × Answers lines end
       × (mid : Known) × Appends old.out mid lines × Writes end s (record old { out = mid }) new)
   -- it was stopped, and wrote nothing; or it broke off in its lines, with no certificate yet; or it
   -- wrote the lines of an answer, and an output failed after a beginning of the rest
-  pub failure : IfErr result (λ f. (Stops f × Keeps old.cert new.cert × Keeps old.out new.out)
-      ⊎ (BreaksOffIn StopsBehind (λ a. ⊥) old.out new.out f × Keeps old.cert new.cert)
+  pub failure : IfErr result (λ f. (Stops f × (new.cert ≡ old.cert) × Keeps old.out new.out)
+      ⊎ (BreaksOffIn StopsBehind (λ a. ⊥) old.out new.out f × (new.cert ≡ old.cert))
       ⊎ ((lines : List ℕ) × (end : Outputs) × Answers lines end × (mid : Known)
       × Appends old.out mid lines × BreaksOff end f (record old { out = mid }) new))

@@ -3,7 +3,7 @@
 ghost use Rattle.std.specs.Prelude.{◌≡◌, IfErr, IfOk, None, OnOk, Some};
 ghost use Rattle.lpis_cert.specs.Contents.{cert_text};
 ghost use Rattle.lpis_run.specs.Outputs.{BreaksOff, Gets, GetsPart, Writes, held, outputs_of};
-ghost use Rattle.lpis_run.specs.Outputs.{outputs_with};
+ghost use Rattle.lpis_run.specs.Outputs.{outputs_with, writer};
 ghost use Rattle.lpis_run.specs.declared.failure.Failure.{Failure};
 ghost use Rattle.lpis_run.specs.declared.failure.Name.{Name};
 
@@ -58,10 +58,10 @@ impl Outcome {
 
     /// Writes the certificate's text, if there is one.
     fn write_cert_to<E: Write>(&self, cert_out: &mut E) -> Result<(), Failure>
-        ensures whole { OnOk result (Gets (E.contents cert_out.old) (E.contents cert_out.new)
-            (outputs_of self.now).cert) }
+        ensures whole { OnOk result (Gets (writer E.contents cert_out.old)
+            (writer E.contents cert_out.new) (outputs_of self.now).cert) }
         ensures part { IfErr result (λ failure. (failure ≡ Failure.Write Name.Cert)
-            × GetsPart (E.contents cert_out.old) (E.contents cert_out.new)
+            × GetsPart (writer E.contents cert_out.old) (writer E.contents cert_out.new)
             (outputs_of self.now).cert) }
     {
         match &self.cert {
@@ -71,14 +71,14 @@ impl Outcome {
     }
 
     /// Writes the certificate's text to its file, if there is one, and then what is printed. Where
-    /// there is no text, `cert_out` is not written to at all. Ok is the status.
+    /// there is no text, no write is asked of `cert_out`, which stays the same. Ok is the status.
     pub fn write_to<E: Write, W: Write>(&self, cert_out: &mut E, out: &mut W) -> Result<u8, Failure>
         ensures answer { IfOk result (λ status. Writes (outputs_of self.now) status
-            (held (E.contents cert_out.old) (W.contents out.old))
-            (held (E.contents cert_out.new) (W.contents out.new))) }
+            (held (writer E.contents cert_out.old) (W.contents out.old))
+            (held (writer E.contents cert_out.new) (W.contents out.new))) }
         ensures failure { IfErr result (λ failure. BreaksOff (outputs_of self.now) failure
-            (held (E.contents cert_out.old) (W.contents out.old))
-            (held (E.contents cert_out.new) (W.contents out.new))) }
+            (held (writer E.contents cert_out.old) (W.contents out.old))
+            (held (writer E.contents cert_out.new) (W.contents out.new))) }
     {
         self.write_cert_to(cert_out)?;
         self.printed.write_to(out)

@@ -9,7 +9,7 @@ ghost use Rattle.lpis_run_check.specs.CutRefusals.{cut_refusal_text};
 ghost use Rattle.lpis_run.specs.Failures.{AreUnread, AreUntouched};
 ghost use Rattle.lpis_run.specs.Folders.{tables_by, tables_named};
 ghost use Rattle.lpis_run.specs.Inputs.{tables_of};
-ghost use Rattle.lpis_run.specs.Outputs.{held, outputs_of};
+ghost use Rattle.lpis_run.specs.Outputs.{held, outputs_of, writer};
 ghost use Rattle.lpis_run.specs.Run.{RunsBoth};
 ghost use Rattle.lpis_run.specs.Status.{done, refused};
 
@@ -104,7 +104,7 @@ fn decide<R: Read + Drop>(alloc: Global, tables: &mut Tables<R>) -> Result<Outco
 ///
 /// The tables are read to their ends, in the order in which they stand here, and everything is
 /// decided before anything is written. The certificate is written first, then the line; where there
-/// is no certificate, `cert_out` is not written to at all. Ok is the status: `DONE`, `REFUSED` or
+/// is no certificate, no write is asked of `cert_out`. Ok is the status: `DONE`, `REFUSED` or
 /// `UNREADABLE`. A failed read names the table that failed; the readers behind it are as they were.
 pub fn run_cut<R: Read + Drop, E: Write, W: Write>(
     alloc: Global,
@@ -113,8 +113,9 @@ pub fn run_cut<R: Read + Drop, E: Write, W: Write>(
     out: &mut W,
 ) -> Result<u8, Failure>
     ensures runs { RunsBoth (AreUnread (tables_named (tables_by R.remaining tables.old)))
-        (Cuts (tables_by R.remaining tables.old)) (held (E.contents cert_out.old)
-        (W.contents out.old)) (held (E.contents cert_out.new) (W.contents out.new)) result }
+        (Cuts (tables_by R.remaining tables.old))
+        (held (writer E.contents cert_out.old) (W.contents out.old))
+        (held (writer E.contents cert_out.new) (W.contents out.new)) result }
     ensures untouched { IfErr result
         (AreUntouched (tables_named tables.old) (tables_named tables.new)) }
 {

@@ -1,6 +1,7 @@
 -- The run over the regions of a plan, as that over a country.
-use Rattle.std.proofs.Common.{◌≡◌, ◌≤◌, ◌∙◌, sym, ap, ap₂, subst, arith, inl, inr, IfErr, IfOk, OnOk, ℕ, List, Option, Result, Err, String, length, map}
+use Rattle.std.proofs.Common.{◌≡◌, ◌≤◌, ◌∙◌, ◌∷◌, [], refl, sym, ap, ap₂, subst, arith, inl, inr, IfErr, IfOk, OnOk, ℕ, List, Option, Result, Err, String, length, map}
 use Rattle.std.proofs.lemmas.List.{length-map}
+use Rattle.std.proofs.lemmas.Result.{IfErr-weaker}
 use Rattle.std.specs.String.{string_bytes}
 use Rattle.std.specs.declared.alloc.Global.{Global}
 use Rattle.lpis_points.specs.declared.boxes.Box4.{Box4}
@@ -10,12 +11,13 @@ use Rattle.lpis_tables.specs.declared.class.Class.{Class}
 use Rattle.lpis_tables.specs.declared.fault.TableFault.{TableFault}
 use Rattle.lpis_release.specs.Release.{Contents}
 use Rattle.lpis_run.specs.CheckAnswer.{Answer, IsTableAnswer}
-use Rattle.lpis_run.proofs.Shared.{runs_on_more, runs_on_stopped, runs_on_written, table-more, table-status}
-use Rattle.lpis_run.specs.Failures.{AreUnread}
+use Rattle.lpis_run.proofs.Shared.{NamesNone, memory_names_none, runs_on_more, runs_on_stopped, runs_on_unnamed, runs_on_written, table-more, table-status, untouched_unnamed}
+use Rattle.lpis_run.specs.Failures.{AreUnread, AreUntouched}
 use Rattle.lpis_run.specs.Folders.{top_named}
 use Rattle.lpis_run.specs.Streams.{Begins, Known}
 use Rattle.lpis_run.specs.declared.folder.Top.{Top}
 use Rattle.lpis_run.specs.declared.failure.Failure.TheVariants.{Write}
+use Rattle.lpis_run.specs.declared.failure.Name.{Name}
 use Rattle.lpis_run.specs.declared.failure.Name.TheVariants.{Out}
 use Rattle.std.specs.Io.KnownBytes.{Appends}
 use Rattle.lpis_run.specs.declared.detail.Detail.{Detail}
@@ -23,8 +25,8 @@ use Rattle.lpis_run.specs.Status.{done}
 use Rattle.lpis_country.specs.Plans.{IsPlan, PlanParts}
 use Rattle.lpis_country.specs.Tree.{folders}
 use Rattle.lpis_run.specs.declared.failure.Failure.{Failure}
-use Rattle.lpis_run_country.specs.CountryAnswer.{AnswersCountry, IsCountryAnswer, IsRegionsAnswer, setting_of}
-use Rattle.lpis_run_country.specs.CountryFailures.{StopsCountry, StopsRegions}
+use Rattle.lpis_run_country.specs.CountryAnswer.{AnswersCountry, IsCountryAnswer, IsRegionsAnswer, Setting, setting_of}
+use Rattle.lpis_run_country.specs.CountryFailures.{IsReadOf, IsStoppedBefore, StopsCountry, StopsRegions}
 use Rattle.lpis_run_country.specs.CountryRun.{RunsCountry}
 use Rattle.lpis_run.specs.Run.{OfRead}
 use Rattle.lpis_run_country.specs.Regions.{AreCountryRead, CountryInputs, IsCountry, Texts}
@@ -137,3 +139,28 @@ read_run texts detail given x old new r read =
 pub stopped_before : (texts : List ℕ → Texts) (detail : Detail) (given : Top Known) (out : Known) (f : Failure) → AreUnread (top_named given) f → RunsCountry texts detail given out out (Err f)
 stopped_before texts detail given out f unread = runs_on_stopped (AreUnread (top_named given)) (λ lines g. OfRead AreCountryRead given (λ y. StopsCountry texts detail y lines g))
     (λ a. OfRead AreCountryRead given (λ y. AnswersCountry texts detail y a)) out f unread
+
+-- ---- readers behind the one that a failure names
+-- a file of a region is named with the region
+pub read_of_names_none : (file : Name) (name : List ℕ) (f : Failure) → IsReadOf file name f → NamesNone f
+read_of_names_none file name f (region, called, of) top is = cc (of, is)
+
+before_names_none : (texts : List ℕ → Texts) (left : List (List ℕ)) (f : Failure) → IsStoppedBefore texts left f → NamesNone f
+before_names_none texts [] f memory = memory_names_none f memory
+before_names_none texts (name ∷ left) f (inl memory) = memory_names_none f memory
+before_names_none texts (name ∷ left) f (inr (file, unread, of)) = read_of_names_none file name f of
+
+-- what stops a run over regions names no file at the top
+pub regions_name_none : (s : Setting) (lines : List ℕ) (f : Failure) → StopsRegions s lines f → NamesNone f
+regions_name_none s lines f (regions, left, reached, stopped) = before_names_none s.texts left f stopped
+
+-- nor does what stops the run over a country
+pub country_names_none : (texts : List ℕ → Texts) (detail : Detail) (x : CountryInputs) (lines : List ℕ) (f : Failure) → StopsCountry texts detail x lines f → NamesNone f
+country_names_none texts detail x lines f (plan, classes, planned, table, stopped) = regions_name_none (setting_of texts detail plan classes) lines f stopped
+
+-- where they were read, nothing is said of their readers
+pub begun_untouched : {R : Type 0} (old new : Top R) (texts : List ℕ → Texts) (detail : Detail) (x : CountryInputs) (before after : Option (List ℕ)) (r : Result ℕ Failure)
+    → RunsBegun texts detail x before after r → IfErr r (AreUntouched (top_named old) (top_named new))
+begun_untouched old new texts detail x before after r run =
+    IfErr-weaker r NamesNone _ (λ f none. untouched_unnamed (top_named old) (top_named new) f refl none)
+    (runs_on_unnamed (λ f. ⊥) (StopsCountry texts detail x) (AnswersCountry texts detail x) before after r (λ f no. absurd no) (country_names_none texts detail x) run)

@@ -5,7 +5,7 @@ ghost use Rattle.std.specs.String.{string_bytes};
 ghost use Rattle.lpis_run.specs.Stops.{IsRefusedAs};
 ghost use Rattle.lpis_tables.specs.Classes.{classes_table};
 ghost use Rattle.lpis_tables.specs.Faults.{rows_of};
-ghost use Rattle.lpis_run.specs.Failures.{AreUnread};
+ghost use Rattle.lpis_run.specs.Failures.{AreUnread, AreUntouched};
 ghost use Rattle.lpis_run.specs.Folders.{top_by, top_named};
 ghost use Rattle.lpis_run.specs.Inputs.{top_of};
 ghost use Rattle.lpis_run_country.specs.Beginning.{IsBegun, IsPlanned, IsUnbegun};
@@ -16,7 +16,7 @@ ghost use Rattle.lpis_run_country.specs.private.Beginning.{IsPlanRefusal};
 use crate::refusals::refuse_plan;
 use lpis_country::{Plan, PlanFault, read_plan};
 use lpis_points::Box4;
-use lpis_run::{Answer, Failure, Name, Stop, Top, read_named};
+use lpis_run::{Answer, Failure, Name, Stop, Top, read_lent};
 use lpis_tables::{Class, Classes, TableFault, read_classes};
 use std::alloc::Global;
 use std::io::Read;
@@ -73,14 +73,15 @@ impl Begun {
     }
 }
 
-/// All bytes of the two files, which are read in this order.
-pub fn read_top<R: Read + Drop>(alloc: Global, top: Top<R>) -> Result<Top<Vec<u8>>, Failure>
-    ensures bytes { IfOk result (λ b. AreCountryRead (top_of b) (top_by R.remaining top)) }
-    ensures failure { IfErr result (AreUnread (top_named (top_by R.remaining top))) }
+/// All bytes of the two files, which are read in this order. Where one is not read, the one behind
+/// it is as it was.
+pub fn read_top<R: Read + Drop>(alloc: Global, top: &mut Top<R>) -> Result<Top<Vec<u8>>, Failure>
+    ensures bytes { IfOk result (λ b. AreCountryRead (top_of b) (top_by R.remaining top.old)) }
+    ensures failure { IfErr result (AreUnread (top_named (top_by R.remaining top.old))) }
+    ensures untouched { IfErr result (AreUntouched (top_named top.old) (top_named top.new)) }
 {
-    let Top { plan, classes } = top;
-    let plan = read_named(alloc, plan, Name::Country)?;
-    let classes = read_named(alloc, classes, Name::Classes)?;
+    let plan = read_lent(alloc, &mut top.plan, Name::Country)?;
+    let classes = read_lent(alloc, &mut top.classes, Name::Classes)?;
     Ok(Top { plan, classes })
 }
 

@@ -1,7 +1,8 @@
 //! The run over the regions of a country.
 
 ghost use Rattle.std.specs.Prelude.{IfErr, IfOk, List, ℕ};
-ghost use Rattle.lpis_run.specs.Folders.{top_by};
+ghost use Rattle.lpis_run.specs.Failures.{AreUntouched};
+ghost use Rattle.lpis_run.specs.Folders.{top_by, top_named};
 ghost use Rattle.lpis_run.specs.declared.detail.Detail.{Detail};
 ghost use Rattle.lpis_run_country.specs.CountryRun.{RunsCountry};
 ghost use Rattle.lpis_run_country.specs.Regions.{CountryInputs, Texts};
@@ -68,16 +69,18 @@ fn write_refusal<W: Write>(answer: &Answer, out: &mut W) -> Result<u8, Failure>
 /// Faults come in this order: of the plan, of the classes, of the regions in the order of the plan.
 /// A region is read, checked against its certificate, tested against those before it, and let go
 /// before the next one is read; what is printed of it is written once it has passed. Ok is the
-/// status: `DONE`, `REFUSED` or `UNREADABLE`.
+/// status: `DONE`, `REFUSED` or `UNREADABLE`. A failed read names the file that failed; where it is
+/// one at the top, the readers behind it are as they were.
 pub fn run_country<R: Read + Drop, G: Regions, W: Write>(
     alloc: Global,
-    top: Top<R>,
+    top: &mut Top<R>,
     regions: &G,
     detail: Detail,
     out: &mut W,
 ) -> Result<u8, Failure>
-    ensures { RunsCountry (G.texts regions.now) detail (top_by R.remaining top)
+    ensures runs { RunsCountry (G.texts regions.now) detail (top_by R.remaining top.old)
         (W.contents out.old) (W.contents out.new) result }
+    ensures untouched { IfErr result (AreUntouched (top_named top.old) (top_named top.new)) }
 {
     let top = read_top(alloc, top)?;
     match begin(alloc, top) {

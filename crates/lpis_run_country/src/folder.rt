@@ -4,7 +4,7 @@ ghost use Rattle.std.specs.Prelude.{◌≡◌, ◌<◌, ◌∷◌, [], IfErr, If
 ghost use Rattle.std.specs.Prelude.{map, ℕ};
 ghost use Rattle.std.specs.String.{string_bytes};
 ghost use Rattle.lpis_run.specs.CheckAnswer.{AreRead};
-ghost use Rattle.lpis_run.specs.Failures.{AreUnread};
+ghost use Rattle.lpis_run.specs.Failures.{AreUnread, AreUntouched};
 ghost use Rattle.lpis_run.specs.Folders.{folder_by, folder_named};
 ghost use Rattle.lpis_run.specs.Inputs.{inputs_of};
 ghost use Rattle.lpis_run_country.specs.CountryFailures.{IsStoppedBefore, IsUnopened};
@@ -31,13 +31,18 @@ pub trait Regions {
         ensures failure { IfErr result (IsUnopened (texts self.now name.now)) };
 }
 
-/// All bytes of the files of a folder, whose readers are let go.
-fn read_opened<R: Read + Drop>(alloc: Global, folder: Folder<R>) -> Result<Folder<Vec<u8>>, Failure>
-    ensures bytes { IfOk result (λ i. AreRead (inputs_of i) (folder_by R.remaining folder)) }
-    ensures failure { IfErr result (AreUnread (folder_named (folder_by R.remaining folder))) }
+/// All bytes of the files of a region's folder, which was opened. A failed read names the file that
+/// failed: the readers behind it are as they were.
+fn read_opened<R: Read + Drop>(
+    alloc: Global,
+    folder: &mut Folder<R>,
+) -> Result<Folder<Vec<u8>>, Failure>
+    ensures bytes { IfOk result (λ i. AreRead (inputs_of i) (folder_by R.remaining folder.old)) }
+    ensures failure { IfErr result (AreUnread (folder_named (folder_by R.remaining folder.old))) }
+    ensures untouched { IfErr result
+        (AreUntouched (folder_named folder.old) (folder_named folder.new)) }
 {
-    let mut folder = folder;
-    read_folder(alloc, &mut folder)
+    read_folder(alloc, folder)
 }
 
 /// All bytes of the files of the folder of this name.
@@ -50,8 +55,8 @@ pub(crate) fn read_region_files<G: Regions>(
         (G.texts regions.now name.now).given) }
     ensures failure { IfErr result (IsUnreadFolder (G.texts regions.now name.now)) }
 {
-    let folder = regions.open(name)?;
-    read_opened(alloc, folder)
+    let mut folder = regions.open(name)?;
+    read_opened(alloc, &mut folder)
 }
 
 /// The failure of the region of this number, whose name may be taken out of the list.

@@ -1,5 +1,5 @@
 -- The search through the regions of a plan, as that in a country.
-use Rattle.std.proofs.Common.{◌≡◌, ◌⊎◌, ◌∙◌, ◌∷◌, [], sym, ap, subst, arith, inl, inr, IfErr, IfOk, OnOk, ℕ, List, None, Some, String, Result, Err, length, map}
+use Rattle.std.proofs.Common.{◌≡◌, ◌⊎◌, ◌∙◌, ◌∷◌, [], sym, ap, subst, arith, inl, inr, refl, IfErr, IfOk, OnOk, ℕ, List, None, Some, String, Result, Err, length, map}
 use Rattle.std.proofs.lemmas.List.{append-nil}
 use Rattle.std.specs.Io.KnownBytes.{Appends}
 use Rattle.std.specs.String.{string_bytes}
@@ -10,8 +10,8 @@ use Rattle.lpis_tables.specs.Faults.{rows_of}
 use Rattle.lpis_tables.specs.declared.class.Class.{Class}
 use Rattle.lpis_tables.specs.declared.fault.TableFault.{TableFault}
 use Rattle.lpis_release.specs.Release.{Contents}
-use Rattle.lpis_run.proofs.Shared.{runs_stopped, runs_written, table-more}
-use Rattle.lpis_run.specs.Failures.{AreUnread}
+use Rattle.lpis_run.proofs.Shared.{NamesNone, memory_names_none, runs_stopped, runs_written, table-more, untouched_unnamed}
+use Rattle.lpis_run.specs.Failures.{AreUnread, AreUntouched}
 use Rattle.lpis_run.specs.Folders.{top_named}
 use Rattle.lpis_run.specs.Streams.{Begins, Known}
 use Rattle.lpis_run.specs.declared.folder.Top.{Top}
@@ -35,7 +35,7 @@ use Rattle.lpis_run.specs.declared.failure.Failure.{Failure}
 use Rattle.lpis_run_country.specs.CountryAnswer.{BehindRegions, IsRefusedRegion, Setting, setting_of}
 use Rattle.lpis_run_country.specs.CountryFailures.{StopsCountry}
 use Rattle.lpis_run_country.specs.Regions.{AreCountryRead, AreUnited, Texts}
-use Rattle.lpis_run_country.proofs.Shared.{passed_length, passed_regions, passed_sound, setting_begun, unbegun_no}
+use Rattle.lpis_run_country.proofs.Shared.{country_names_none, passed_length, passed_regions, passed_sound, setting_begun, unbegun_no}
 use Rattle.lpis_places.specs.Points.{points_of}
 use Rattle.lpis_run_locate.specs.LocateAnswer.{ArePointsRead, IsPointsAnswer, points_named}
 use Rattle.lpis_run_locate.specs.declared.points_in.PointsIn.{PointsIn}
@@ -179,3 +179,12 @@ pub answered_run : (texts : List ℕ → Texts) (given : PointsIn (Top Known) Kn
     → ArePointsRead AreCountryRead x given → AnswersLocateCountry texts x (text, status)
     → IfOk r (λ s. s ≡ status) → OnOk r (Appends old new text) → IfErr r (λ f. (f ≡ Write Out) × Begins old new text) → RunsLocateCountry texts given old new r
 answered_run texts given x text status old new r told answer = runs_written _ _ text status old new r (x, told, answer)
+
+-- where the files before the regions were read, nothing is said of their readers
+pub unanswered_untouched : {R : Type 0} (old new : PointsIn (Top R) R) (texts : List ℕ → Texts) (x : LocateCountryInputs) (f : Failure) → IsUnanswered texts x f
+    → AreUntouched (points_named top_named old) (points_named top_named new) f
+unanswered_untouched old new texts x f h = untouched_unnamed (points_named top_named old) (points_named top_named new) f refl (none h)
+  where
+    none : IsUnanswered texts x f → NamesNone f
+    none (inl memory) = memory_names_none f memory
+    none (inr (lines, stopped)) = country_names_none texts Regions x.files lines f stopped

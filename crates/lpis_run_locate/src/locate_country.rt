@@ -1,7 +1,7 @@
 //! The run of `locate-country`, over any readers, folders and writer.
 
 ghost use Rattle.std.specs.Prelude.{IfErr, IfOk};
-ghost use Rattle.lpis_run.specs.Failures.{AreUnread};
+ghost use Rattle.lpis_run.specs.Failures.{AreUnread, AreUntouched};
 ghost use Rattle.lpis_run.specs.Folders.{top_by, top_named};
 ghost use Rattle.lpis_run_country.specs.Regions.{AreCountryRead};
 ghost use Rattle.lpis_run_locate.specs.LocateAnswer.{ArePointsRead, points_by, points_named};
@@ -13,24 +13,26 @@ ghost use Rattle.lpis_run_locate.specs.private.Searching.{IsUnanswered};
 use crate::points_in::PointsIn;
 use crate::search::begin_search;
 use crate::searching::search_regions;
-use lpis_run::{Answer, Failure, Name, Top, read_named};
+use lpis_run::{Answer, Failure, Name, Top, read_lent};
 use lpis_run_country::{Regions, begin, read_top};
 use std::alloc::Global;
 use std::io::{Read, Write};
 
-/// All bytes of the three, which are read in this order.
+/// All bytes of the three, which are read in this order. Where one is not read, those behind it are
+/// as they were.
 fn read_inputs<R: Read + Drop>(
     alloc: Global,
-    asked: PointsIn<Top<R>, R>,
+    asked: &mut PointsIn<Top<R>, R>,
 ) -> Result<PointsIn<Top<Vec<u8>>, Vec<u8>>, Failure>
     ensures bytes { IfOk result (λ b. ArePointsRead AreCountryRead (locate_country_inputs_of b)
-        (points_by (top_by R.remaining) R.remaining asked)) }
+        (points_by (top_by R.remaining) R.remaining asked.old)) }
     ensures failure { IfErr result (AreUnread (points_named top_named
-        (points_by (top_by R.remaining) R.remaining asked))) }
+        (points_by (top_by R.remaining) R.remaining asked.old))) }
+    ensures untouched { IfErr result (AreUntouched (points_named top_named asked.old)
+        (points_named top_named asked.new)) }
 {
-    let PointsIn { files, points } = asked;
-    let files = read_top(alloc, files)?;
-    let points = read_named(alloc, points, Name::Points)?;
+    let files = read_top(alloc, &mut asked.files)?;
+    let points = read_lent(alloc, &mut asked.points, Name::Points)?;
     Ok(PointsIn { files, points })
 }
 
@@ -60,16 +62,19 @@ fn answer_to<G: Regions>(
 /// The points are known before the first region, and each region is read once: it is checked
 /// against its certificate, tested against those before it, searched and let go before the next one
 /// is read. Everything is decided before anything is written. Ok is the status: `DONE`, `REFUSED`
-/// or `UNREADABLE`.
+/// or `UNREADABLE`. A failed read names the file that failed; where it is no region's, the readers
+/// behind it are as they were.
 pub fn run_locate_country<R: Read + Drop, G: Regions, W: Write>(
     alloc: Global,
-    asked: PointsIn<Top<R>, R>,
+    asked: &mut PointsIn<Top<R>, R>,
     regions: &G,
     out: &mut W,
 ) -> Result<u8, Failure>
-    ensures { RunsLocateCountry (G.texts regions.now)
-        (points_by (top_by R.remaining) R.remaining asked) (W.contents out.old)
+    ensures runs { RunsLocateCountry (G.texts regions.now)
+        (points_by (top_by R.remaining) R.remaining asked.old) (W.contents out.old)
         (W.contents out.new) result }
+    ensures untouched { IfErr result (AreUntouched (points_named top_named asked.old)
+        (points_named top_named asked.new)) }
 {
     let inputs = read_inputs(alloc, asked)?;
     let answer = answer_to(alloc, regions, inputs)?;

@@ -118,6 +118,7 @@ IsExactAnswer x before =
 -- how a run ends that fills in blocks, over what its two writers hold before and after: an input
 -- was not read, or memory ran out; or this is an answer to what five readers gave, as far as it is
 -- known, and it was written, or an output failed
-abbrev pub RunsExact : Submission Known → Holdings → Held → Held → Result ℕ Failure → Type 0
+abbrev pub RunsExact : {E : Type 0} → Submission Known → Holdings → Held E → Held E
+    → Result ℕ Failure → Type 0
 RunsExact given before = RunsBoth (AreUnread (submission_named given))
     (λ a. OfRead AreAllRead given (λ x. IsExactAnswer x before a))

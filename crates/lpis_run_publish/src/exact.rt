@@ -16,7 +16,7 @@ ghost use Rattle.lpis_lineage_exact.specs.Asking.{AsksFor, IsChangeTo};
 ghost use Rattle.lpis_register.specs.Holdings.{Holdings, holdings};
 ghost use Rattle.lpis_run.specs.Failures.{AreUntouched};
 ghost use Rattle.lpis_run.specs.Folders.{submission_by, submission_named};
-ghost use Rattle.lpis_run.specs.Outputs.{held, line_alone, outputs_of};
+ghost use Rattle.lpis_run.specs.Outputs.{held, line_alone, outputs_of, writer};
 ghost use Rattle.lpis_run.specs.Status.{done, refused};
 ghost use Rattle.lpis_run_publish.specs.ExactAnswer.{AnswersSubmitted, FillsGroups, HasTextOnlyIfDone};
 ghost use Rattle.lpis_run_publish.specs.ExactAnswer.{IsExactAnswer, RunsExact};
@@ -254,7 +254,7 @@ fn answer_to<S: Alter>(
 /// The certificate is not checked, and the flats that are found are what `publish` will check. All
 /// inputs are read to their ends, in the order in which they stand here, before anything is
 /// decided, and everything is decided before anything is written. The certificate is written first,
-/// then the line; where there is no certificate, `cert_out` is not written to at all. Ok is the
+/// then the line; where there is no certificate, no write is asked of `cert_out`. Ok is the
 /// status: `DONE`, `REFUSED` or `UNREADABLE`. The register stays as it is. A failed read names the
 /// input that failed; the readers behind it are as they were.
 pub fn run_exact<S: Alter, R: Read + Drop, V: Write, W: Write>(
@@ -265,8 +265,8 @@ pub fn run_exact<S: Alter, R: Read + Drop, V: Write, W: Write>(
     out: &mut W,
 ) -> Result<u8, Failure>
     ensures runs { RunsExact (submission_by R.remaining submission.old) register.now.held
-        (held (V.contents cert_out.old) (W.contents out.old))
-        (held (V.contents cert_out.new) (W.contents out.new)) result }
+        (held (writer V.contents cert_out.old) (W.contents out.old))
+        (held (writer V.contents cert_out.new) (W.contents out.new)) result }
     ensures untouched { IfErr result
         (AreUntouched (submission_named submission.old) (submission_named submission.new)) }
 {

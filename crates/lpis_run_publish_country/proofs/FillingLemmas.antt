@@ -14,7 +14,7 @@ use Rattle.lpis_lineage.specs.declared.row.Row.{Row}
 use Rattle.lpis_register.specs.Holdings.{Holdings}
 use Rattle.lpis_run.proofs.Shared.{breaks_off_more}
 use Rattle.lpis_run.specs.CheckAnswer.{Answer}
-use Rattle.lpis_run.specs.Outputs.{BreaksOff, Held, Outputs, Writes, held}
+use Rattle.lpis_run.specs.Outputs.{BreaksOff, Held, Outputs, Writer, Writes, held}
 use Rattle.lpis_run.specs.Failures.{AreUnread}
 use Rattle.lpis_run.specs.Run.{BreaksOffIn, RunsOnBoth}
 use Rattle.lpis_run.specs.Status.{done}
@@ -149,7 +149,7 @@ module _ (given : CountryFiles) (x : PublishCountryInputs) (p : Prepared) (h : I
   }
 
   -- where it was written
-  pub fill_refuses : (file old new : Option (List ℕ)) (status : ℕ) → RegionsEnd (fill_setting given x p h) old new status → status ≢ done
+  pub fill_refuses : {E : Type 0} (file : Writer E) (old new : Option (List ℕ)) (status : ℕ) → RegionsEnd (fill_setting given x p h) old new status → status ≢ done
       → FillsPrepared given x before (held file old) (held file new) (Ok status)
   fill_refuses file old new status (text, answer, written) other = record {
     answer = (
@@ -160,7 +160,7 @@ module _ (given : CountryFiles) (x : PublishCountryInputs) (p : Prepared) (h : I
       known-all old answer.text,
       record {
         status_told = ap (λ (a : Answer). a.1) answer.is;
-        certificate = Keeps-refl file;
+        certificate = refl;
         line = known-rest old new answer.text answer.end.0 (subst (Appends old new) (ap (λ (a : Answer). a.0) answer.is) written);
       },
     );
@@ -169,35 +169,37 @@ module _ (given : CountryFiles) (x : PublishCountryInputs) (p : Prepared) (h : I
 
   -- ---- no end of the regions
   -- a run that broke off so
-  abbrev Broken : (file old new : Option (List ℕ)) → Failure → Type 0
-  Broken file old new f = (BreaksOffIn (StopsFillBehind given x) (λ a. ⊥) old new f × Keeps file file)
+  abbrev Broken : {E : Type 0} (file : Writer E) (old new : Option (List ℕ)) → Failure → Type 0
+  Broken file old new f = (BreaksOffIn (StopsFillBehind given x) (λ a. ⊥) old new f × (file ≡ file))
       ⊎ ((lines : List ℕ) × (end : Outputs) × FillsWhole given x before lines end × (mid : Known) × Appends old mid lines × BreaksOff end f (held file mid) (held file new))
 
   stops-behind : (lines : List ℕ) (f : Failure) → StopsRegions (fill_setting given x p h) lines f → StopsFillBehind given x lines f
   stops-behind lines f stopped = (fill-said given x p h, h.said, stopped)
 
   -- where a beginning of a refusal was written
-  refusal-broken : (file old new : Option (List ℕ)) (f : Failure) (text : List ℕ) (status : ℕ) (answer : IsRegionsAnswer (fill_setting given x p h) (text, status)) → status ≢ done
+  refusal-broken : {E : Type 0} (file : Writer E) (old new : Option (List ℕ)) (f : Failure) (text : List ℕ) (status : ℕ) (answer : IsRegionsAnswer (fill_setting given x p h) (text, status))
+      → status ≢ done
       → (f ≡ Write Out) → Begins old new answer.text ⊎ ((mid : Option (List ℕ)) × Appends old mid answer.text × Begins mid new answer.end.0) → Broken file old new f
   refusal-broken file old new f text status answer other write (inl begins) =
       let stopped = stops-behind answer.text Memory (answer.behind.regions, answer.behind.left, answer.behind.reached, stops-memory given.texts answer.behind.left) in
-      inl (inr (write, (answer.text, inl (Memory, stopped), begins)), Keeps-refl file)
+      inl (inr (write, (answer.text, inl (Memory, stopped), begins)), refl)
   refusal-broken file old new f text status answer other write (inr (mid, written, begins)) =
-      inr (answer.text, refusal_of answer, fills-refusal text status answer other, mid, written, inr (write, Keeps-refl file, begins))
+      inr (answer.text, refusal_of answer, fills-refusal text status answer other, mid, written, inr (write, refl, begins))
 
-  breaks-in-regions : (file old new : Option (List ℕ)) (f : Failure) → RegionsStop (fill_setting given x p h) old new f → Broken file old new f
-  breaks-in-regions file old new f (inl (lines, stopped, written)) = inl (inl (lines, stops-behind lines f stopped, written), Keeps-refl file)
+  breaks-in-regions : {E : Type 0} (file : Writer E) (old new : Option (List ℕ)) (f : Failure) → RegionsStop (fill_setting given x p h) old new f → Broken file old new f
+  breaks-in-regions file old new f (inl (lines, stopped, written)) = inl (inl (lines, stops-behind lines f stopped, written), refl)
   breaks-in-regions file old new f (inr (write, (text, inl (other, stopped), begins))) =
-      inl (inr (write, (text, inl (other, stops-behind text other stopped), begins)), Keeps-refl file)
+      inl (inr (write, (text, inl (other, stops-behind text other stopped), begins)), refl)
   breaks-in-regions file old new f (inr (write, (text, inr (status, (answer, other)), begins))) =
       refusal-broken file old new f text status answer other write (begins-split old new answer.text answer.end.0 text (ap (λ (a : Answer). a.0) answer.is) begins)
 
-  pub fill_stops : (file old new : Option (List ℕ)) (f : Failure) → RegionsStop (fill_setting given x p h) old new f
+  pub fill_stops : {E : Type 0} (file : Writer E) (old new : Option (List ℕ)) (f : Failure) → RegionsStop (fill_setting given x p h) old new f
       → FillsPrepared given x before (held file old) (held file new) (Err f)
   fill_stops file old new f stop = record { answer = tt; failure = inr (breaks-in-regions file old new f stop) }
 
   -- ---- behind the regions, which all passed
-  module _ (regions : List Contents) (lines : List ℕ) (joins : JoinsAll (fill_setting given x p h) regions lines) (file old now : Option (List ℕ)) (written : Appends old now lines) where
+  module _ {E : Type 0} (regions : List Contents) (lines : List ℕ) (joins : JoinsAll (fill_setting given x p h) regions lines) (file : Writer E) (old now : Option (List ℕ))
+      (written : Appends old now lines) where
     fills-all : (o : Outputs) → IsFillOutcome (fill_setting given x p h) h.tables regions before o → FillsWhole given x before lines o
     fills-all o out = record {
       fills = record {
@@ -209,7 +211,7 @@ module _ (given : CountryFiles) (x : PublishCountryInputs) (p : Prepared) (h : I
     }
 
     -- the outcome was written, or a part of it
-    pub fill_writes : (o : Outputs) (cert out : Option (List ℕ)) (r : Result ℕ Failure) → IsFillOutcome (fill_setting given x p h) h.tables regions before o
+    pub fill_writes : (o : Outputs) (cert : Writer E) (out : Option (List ℕ)) (r : Result ℕ Failure) → IsFillOutcome (fill_setting given x p h) h.tables regions before o
         → IfOk r (λ status. Writes o status (held file now) (held cert out)) → IfErr r (λ f. BreaksOff o f (held file now) (held cert out))
         → FillsPrepared given x before (held file old) (held cert out) r
     fill_writes o cert out (Ok status) decided w broken = record { answer = (lines, o, fills-all o decided, now, written, w); failure = tt }
@@ -219,35 +221,35 @@ module _ (given : CountryFiles) (x : PublishCountryInputs) (p : Prepared) (h : I
     pub fill_spent : FillsPrepared given x before (held file old) (held file now) (Err Memory)
     fill_spent =
         let stopped = stops-behind lines Memory (regions, [], all-reached (fill_setting given x p h) regions lines joins, refl) in
-        record { answer = tt; failure = inr (inl (inl (lines, stopped, written), Keeps-refl file)) }
+        record { answer = tt; failure = inr (inl (inl (lines, stopped, written), refl)) }
 
 -- ---- a run that writes a certificate behind its lines
 -- what ends so ends as a run that more stops, and that has more answers
-both-more : (P Q : Failure → Type 0) (S T : List ℕ → Failure → Type 0) (A B : List ℕ → Outputs → Type 0) (old new : Held) (r : Result ℕ Failure) → ((f : Failure) → P f → Q f)
+both-more : {E : Type 0} (P Q : Failure → Type 0) (S T : List ℕ → Failure → Type 0) (A B : List ℕ → Outputs → Type 0) (old new : Held E) (r : Result ℕ Failure) → ((f : Failure) → P f → Q f)
     → ((lines : List ℕ) (f : Failure) → S lines f → T lines f) → ((lines : List ℕ) (end : Outputs) → A lines end → B lines end) → RunsOnBoth P S A old new r → RunsOnBoth Q T B old new r
 both-more P Q S T A B old new (Ok status) before behind answers runs =
     let (lines, end, answer, mid, wrote, rest) = runs.answer in
     record { answer = (lines, end, answers lines end answer, mid, wrote, rest); failure = tt }
 both-more P Q S T A B old new (Err f) before behind answers runs = record { answer = tt; failure = more runs.failure }
   where
-    more : (P f × Keeps old.cert new.cert × Keeps old.out new.out) ⊎ (BreaksOffIn S (λ a. ⊥) old.out new.out f × Keeps old.cert new.cert)
+    more : (P f × (new.cert ≡ old.cert) × Keeps old.out new.out) ⊎ (BreaksOffIn S (λ a. ⊥) old.out new.out f × (new.cert ≡ old.cert))
         ⊎ ((lines : List ℕ) × (end : Outputs) × A lines end × (mid : Known) × Appends old.out mid lines × BreaksOff end f (record old { out = mid }) new)
-        → (Q f × Keeps old.cert new.cert × Keeps old.out new.out) ⊎ (BreaksOffIn T (λ a. ⊥) old.out new.out f × Keeps old.cert new.cert)
+        → (Q f × (new.cert ≡ old.cert) × Keeps old.out new.out) ⊎ (BreaksOffIn T (λ a. ⊥) old.out new.out f × (new.cert ≡ old.cert))
         ⊎ ((lines : List ℕ) × (end : Outputs) × B lines end × (mid : Known) × Appends old.out mid lines × BreaksOff end f (record old { out = mid }) new)
     more (inl (stopped, file, out)) = inl (before f stopped, file, out)
     more (inr (inl (broken, file))) = inr (inl (breaks_off_more S T (λ a. ⊥) (λ a. ⊥) old.out new.out f behind (λ a never. never) broken, file))
     more (inr (inr (lines, end, answer, mid, wrote, rest))) = inr (inr (lines, end, answers lines end answer, mid, wrote, rest))
 
 -- ---- the run
-module _ (given : CountryFiles) (before : Holdings) (file out : Option (List ℕ)) where
+module _ {E : Type 0} (given : CountryFiles) (before : Holdings) (file : Writer E) (out : Option (List ℕ)) where
   -- a file was not read
   pub runs_unread : (f : Failure) → AreUnread (files_named given) f → RunsExactCountry given before (held file out) (held file out) (Err f)
-  runs_unread f unread = record { answer = tt; failure = inl (inl unread, Keeps-refl file, Keeps-refl out) }
+  runs_unread f unread = record { answer = tt; failure = inl (inl unread, refl, Keeps-refl out) }
 
   module _ (x : PublishCountryInputs) (read : AreTopRead x given) where
     -- nor a lineage table
     pub runs_earlier : (f : Failure) → StopsAtLineage given x f → RunsExactCountry given before (held file out) (held file out) (Err f)
-    runs_earlier f stopped = record { answer = tt; failure = inl (inr (x, read, stopped), Keeps-refl file, Keeps-refl out) }
+    runs_earlier f stopped = record { answer = tt; failure = inl (inr (x, read, stopped), refl, Keeps-refl out) }
 
     -- what was read has a fault, whose line was written, or a beginning of it
     pub runs_refused : (new : Option (List ℕ)) (a : Printed) (r : Result ℕ Failure) → IsRefusedBefore given x (a.text.items, a.status) → IfOk r (λ s. s ≡ a.status)
@@ -260,7 +262,7 @@ module _ (given : CountryFiles) (before : Holdings) (file out : Option (List ℕ
         ((x, read, inl (refl, refusal)), λ _. refl),
         out,
         appends-nothing out,
-        record { status_told = same; certificate = Keeps-refl file; line = written },
+        record { status_told = same; certificate = refl; line = written },
       );
       failure = tt;
     }
@@ -272,12 +274,12 @@ module _ (given : CountryFiles) (before : Holdings) (file out : Option (List ℕ
         ((x, read, inl (refl, refusal)), λ _. refl),
         out,
         appends-nothing out,
-        inr (begun.0, Keeps-refl file, begun.1),
+        inr (begun.0, refl, begun.1),
       ));
     }
 
     -- it has none
-    pub runs_prepared : (cert new : Option (List ℕ)) (r : Result ℕ Failure) → FillsPrepared given x before (held file out) (held cert new) r
+    pub runs_prepared : (cert : Writer E) (new : Option (List ℕ)) (r : Result ℕ Failure) → FillsPrepared given x before (held file out) (held cert new) r
         → RunsExactCountry given before (held file out) (held cert new) r
     runs_prepared cert new r h =
         both-more _ _ _ _ _ _ (held file out) (held cert new) r (λ f never. absurd never) (λ lines f why. (x, read, why)) (λ lines end is. ((x, read, inr is.fills), is.no_text)) h

@@ -1,5 +1,6 @@
 mod EndLemmas
 mod FillingLemmas
+mod InputsLemmas
 mod LineageLemmas
 mod PlaceLemmas
 mod PreparingLemmas

@@ -41,7 +41,8 @@ pub record FillsRegions (given : CountryFiles) (x : PublishCountryInputs) (befor
 -- how the run ends, where a register holds this: it is stopped before its regions, or behind lines
 -- of those that passed; or a file before them has a fault, and there are no lines; or it has an
 -- answer to the regions. There is a certificate with the status `done` alone
-abbrev pub RunsExactCountry : CountryFiles → Holdings → Held → Held → Result ℕ Failure → Type 0
+abbrev pub RunsExactCountry : {E : Type 0} → CountryFiles → Holdings → Held E → Held E
+    → Result ℕ Failure → Type 0
 RunsExactCountry given before = RunsOnBoth (StopsBefore given)
     (λ lines f. OfRead AreTopRead given (λ x. (said : CountrySaid) × AreSaid given x said
     × StopsRegions (setting_said given Regions said) lines f))

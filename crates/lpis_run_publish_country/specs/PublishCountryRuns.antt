@@ -17,6 +17,7 @@ use Rattle.lpis_run.specs.declared.failure.Failure.{Failure}
 use Rattle.lpis_run.specs.declared.failure.Failure.TheVariants.{Memory}
 use Rattle.lpis_run.specs.declared.failure.Name.{Name}
 use Rattle.lpis_run.specs.declared.failure.Name.TheVariants.{Cert}
+use Rattle.lpis_run.specs.declared.folder.Top.{Top}
 use Rattle.lpis_run_country.specs.CountryAnswer.{HavePassed}
 use Rattle.lpis_run_country.specs.CountryFailures.{OfPlan, StopsRegions}
 use Rattle.lpis_run_publish.specs.LineageLines.{publish_refusal_text}
@@ -30,12 +31,15 @@ use Rattle.lpis_run_publish_country.specs.PublishCountryAnswer.{union_of}
 
 -- ---- files that are not read
 -- the certificate, where one is named, is read behind the files at the top
-abbrev pub exact_named : Option Known → List (Name × Known)
+abbrev pub exact_named : {T : Type 0} → Option T → List (Name × T)
 exact_named None = []
-exact_named (Some told) = (Cert, told) ∷ []
+exact_named (Some file) = (Cert, file) ∷ []
+
+abbrev pub inputs_named : {T : Type 0} → Top T → Option T → List (Name × T)
+inputs_named top exact = top_named top ++ exact_named exact
 
 abbrev pub files_named : CountryFiles → List (Name × Known)
-files_named given = top_named given.top ++ exact_named given.exact
+files_named given = inputs_named given.top given.exact
 
 -- behind files that have no fault a lineage table was not read; or memory ran out
 abbrev pub StopsAtLineage : CountryFiles → PublishCountryInputs → Failure → Type 0

@@ -1,12 +1,13 @@
 //! The run of `exact-country`, over any register, readers, folders and writers.
 
-ghost use Rattle.std.specs.Prelude.{◌≡◌, ℕ, IfOk, List, None};
+ghost use Rattle.std.specs.Prelude.{◌≡◌, ℕ, IfErr, IfOk, List, None};
 ghost use Rattle.lpis_run_country.specs.CountryAnswer.{Setting};
 ghost use Rattle.lpis_run_country.specs.RegionsOutcome.{IsCountryJoined, JoinsAll};
 ghost use Rattle.lpis_lineage.specs.declared.row.Row.{Row};
 ghost use Rattle.lpis_release.specs.Release.{Contents};
-ghost use Rattle.lpis_run.specs.Folders.{top_by};
-ghost use Rattle.lpis_run.specs.Outputs.{held, outputs_of};
+ghost use Rattle.lpis_run.specs.Failures.{AreUntouched};
+ghost use Rattle.lpis_run.specs.Folders.{top_by, top_named};
+ghost use Rattle.lpis_run.specs.Outputs.{held, outputs_of, writer};
 ghost use Rattle.lpis_run_publish_country.specs.ExactCountryAnswer.{RunsExactCountry};
 ghost use Rattle.lpis_run_publish_country.specs.PublishCountryAnswer.{CountryFiles, country_files};
 ghost use Rattle.lpis_run_publish_country.specs.PublishCountryAnswer.{PublishCountryInputs};
@@ -66,8 +67,8 @@ fn fill_prepared<S: Alter, G: Regions, V: Write, W: Write>(
     ensures { (given : CountryFiles) (x : PublishCountryInputs)
         → given.texts ≡ G.texts regions.now → IsPrepared given x prepared
         → FillsPrepared given x register.now.held
-        (held (V.contents file.old) (W.contents out.old))
-        (held (V.contents file.new) (W.contents out.new)) result }
+        (held (writer V.contents file.old) (W.contents out.old))
+        (held (writer V.contents file.new) (W.contents out.new)) result }
 {
     let Prepared { begun, lineage, .. } = prepared;
     match join_regions(alloc, regions, begun, Detail::Regions, out)? {
@@ -87,20 +88,23 @@ fn fill_prepared<S: Alter, G: Regions, V: Write, W: Write>(
 /// for which no flats are found, or more than a certificate may have.
 ///
 /// The flats that are found are what `publish-country` will check. Where there is no certificate,
-/// `file` is not written to at all. Ok is the status: `DONE`, `REFUSED` or `UNREADABLE`. The
-/// register stays as it is.
+/// no write is asked of `file`. Ok is the status: `DONE`, `REFUSED` or `UNREADABLE`. The register
+/// stays as it is. A failed read names the file that failed; where it is one at the top, the
+/// readers behind it are as they were.
 pub fn run_exact_country<S: Alter, R: Read + Drop, G: Regions, L: Lineages, V: Write, W: Write>(
     alloc: Global,
     register: &Register<S>,
-    top: Top<R>,
+    top: &mut Top<R>,
     regions: &G,
     lineages: &L,
     file: &mut V,
     out: &mut W,
 ) -> Result<u8, Failure>
-    ensures { RunsExactCountry (country_files (top_by R.remaining top) None (G.texts regions.now)
-        (L.lineages lineages.now)) register.now.held (held (V.contents file.old)
-        (W.contents out.old)) (held (V.contents file.new) (W.contents out.new)) result }
+    ensures runs { RunsExactCountry (country_files (top_by R.remaining top.old) None
+        (G.texts regions.now) (L.lineages lineages.now)) register.now.held
+        (held (writer V.contents file.old) (W.contents out.old))
+        (held (writer V.contents file.new) (W.contents out.new)) result }
+    ensures untouched { IfErr result (AreUntouched (top_named top.old) (top_named top.new)) }
 {
     let inputs = read_country(alloc, top)?;
     match prepare(alloc, lineages, inputs) {

@@ -1,8 +1,8 @@
 //! The files of a country that come before its regions.
 
-ghost use Rattle.std.specs.Prelude.{◌≡◌, IfErr, IfOk, None};
+ghost use Rattle.std.specs.Prelude.{◌≡◌, IfErr, IfOk, None, is_some};
 ghost use Rattle.std.specs.Option.{option_map};
-ghost use Rattle.lpis_run.specs.Failures.{AreUnread};
+ghost use Rattle.lpis_run.specs.Failures.{AreUnread, AreUntouched};
 ghost use Rattle.lpis_run.specs.Folders.{top_by, top_named};
 ghost use Rattle.lpis_run.specs.Stops.{IsRefusedAs};
 ghost use Rattle.lpis_run_country.specs.Beginning.{IsBegun};
@@ -11,7 +11,7 @@ ghost use Rattle.lpis_run_publish_country.specs.PublishCountryAnswer.{CountryFil
 ghost use Rattle.lpis_run_publish_country.specs.PublishCountryAnswer.{IsExactTextAnswer};
 ghost use Rattle.lpis_run_publish_country.specs.PublishCountryAnswer.{IsExactRead, IsRefusedBefore};
 ghost use Rattle.lpis_run_publish_country.specs.PublishCountryRuns.{StopsAtLineage, exact_named};
-ghost use Rattle.lpis_run_publish_country.specs.PublishCountryRuns.{files_named};
+ghost use Rattle.lpis_run_publish_country.specs.PublishCountryRuns.{files_named, inputs_named};
 ghost use Rattle.lpis_run_publish_country.specs.private.Preparing.{AreRowsOf, AreTablesRefused};
 ghost use Rattle.lpis_run_publish_country.specs.private.Preparing.{AreTablesUnread, IsPrepared};
 ghost use Rattle.lpis_run_publish_country.specs.private.Preparing.{inputs_of};
@@ -20,7 +20,7 @@ ghost use Rattle.lpis_run_publish_country.specs.private.Unprepared.{IsUnprepared
 use crate::lineage::{CountryLineage, Lineages, read_lineage};
 use crate::unprepared::Unprepared;
 use lpis_cert::Cert;
-use lpis_run::{Failure, Name, Stop, Top, certificate_in, read_named};
+use lpis_run::{Failure, Name, Stop, Top, certificate_in, read_lent};
 use lpis_run_country::{Begun, begin, read_top};
 use std::alloc::Global;
 use std::io::Read;
@@ -46,29 +46,37 @@ pub(crate) struct Prepared {
 }
 
 /// All bytes of the certificate, where one is named.
-fn read_exact<R: Read + Drop>(alloc: Global, exact: Option<R>) -> Result<Option<Vec<u8>>, Failure>
+fn read_exact<R: Read + Drop>(
+    alloc: Global,
+    exact: &mut Option<R>,
+) -> Result<Option<Vec<u8>>, Failure>
     ensures bytes { IfOk result (λ b. IsExactRead (option_map (λ v. v.items) b)
-        (option_map R.remaining exact)) }
-    ensures failure { IfErr result (AreUnread (exact_named (option_map R.remaining exact))) }
+        (option_map R.remaining exact.old)) }
+    ensures failure { IfErr result (AreUnread (exact_named (option_map R.remaining exact.old))) }
+    ensures named { is_some exact.new ≡ is_some exact.old }
 {
     match exact {
-        Some(file) => Ok(Some(read_named(alloc, file, Name::Cert)?)),
+        Some(file) => Ok(Some(read_lent(alloc, file, Name::Cert)?)),
         None => Ok(None),
     }
 }
 
-/// All bytes of the files that are no region's, which are read in this order.
+/// All bytes of the files that are no region's, which are read in this order. Where one is not
+/// read, those behind it are as they were.
 pub(crate) fn read_inputs<R: Read + Drop>(
     alloc: Global,
-    top: Top<R>,
-    exact: Option<R>,
+    top: &mut Top<R>,
+    exact: &mut Option<R>,
 ) -> Result<PublishCountryBytes, Failure>
-    ensures bytes { (given : CountryFiles) → given.top ≡ top_by R.remaining top
-        → given.exact ≡ option_map R.remaining exact
+    ensures bytes { (given : CountryFiles) → given.top ≡ top_by R.remaining top.old
+        → given.exact ≡ option_map R.remaining exact.old
         → IfOk result (λ b. AreTopRead (inputs_of b) given) }
-    ensures failure { (given : CountryFiles) → given.top ≡ top_by R.remaining top
-        → given.exact ≡ option_map R.remaining exact
+    ensures failure { (given : CountryFiles) → given.top ≡ top_by R.remaining top.old
+        → given.exact ≡ option_map R.remaining exact.old
         → IfErr result (AreUnread (files_named given)) }
+    ensures untouched { IfErr result (AreUntouched (inputs_named top.old exact.old)
+        (inputs_named top.new exact.new)) }
+    ensures named { is_some exact.new ≡ is_some exact.old }
 {
     let country = read_top(alloc, top)?;
     let exact = read_exact(alloc, exact)?;
@@ -78,11 +86,12 @@ pub(crate) fn read_inputs<R: Read + Drop>(
 /// All bytes of the plan and of the table of classes, where no certificate is named.
 pub(crate) fn read_country<R: Read + Drop>(
     alloc: Global,
-    top: Top<R>,
+    top: &mut Top<R>,
 ) -> Result<PublishCountryBytes, Failure>
-    ensures bytes { (given : CountryFiles) → given.top ≡ top_by R.remaining top
+    ensures bytes { (given : CountryFiles) → given.top ≡ top_by R.remaining top.old
         → given.exact ≡ None → IfOk result (λ b. AreTopRead (inputs_of b) given) }
-    ensures failure { IfErr result (AreUnread (top_named (top_by R.remaining top))) }
+    ensures failure { IfErr result (AreUnread (top_named (top_by R.remaining top.old))) }
+    ensures untouched { IfErr result (AreUntouched (top_named top.old) (top_named top.new)) }
 {
     let country = read_top(alloc, top)?;
     Ok(PublishCountryBytes {

@@ -1,14 +1,16 @@
 //! The run of `publish-country`, over any register, readers, folders and writer.
 
-ghost use Rattle.std.specs.Prelude.{◌≡◌, List};
+ghost use Rattle.std.specs.Prelude.{◌≡◌, IfErr, List};
 ghost use Rattle.std.specs.Option.{option_map};
 ghost use Rattle.lpis_release.specs.Release.{Contents};
+ghost use Rattle.lpis_run.specs.Failures.{AreUntouched};
 ghost use Rattle.lpis_run.specs.Folders.{top_by};
 ghost use Rattle.lpis_run_publish_country.specs.PublishCountryAnswer.{CountryFiles, CountryRequest};
 ghost use Rattle.lpis_run_publish_country.specs.PublishCountryAnswer.{CountrySaid};
 ghost use Rattle.lpis_run_publish_country.specs.PublishCountryAnswer.{PublishCountryInputs};
 ghost use Rattle.lpis_run_publish_country.specs.PublishCountryAnswer.{country_request};
 ghost use Rattle.lpis_run_publish_country.specs.PublishCountryRuns.{RunsPublishCountry};
+ghost use Rattle.lpis_run_publish_country.specs.PublishCountryRuns.{inputs_named};
 ghost use Rattle.lpis_run_publish_country.specs.private.Deciding.{EndsUnion, IsToPublish};
 ghost use Rattle.lpis_run_publish_country.specs.private.Deciding.{PublishesUnion, RunsEarly};
 ghost use Rattle.lpis_run_publish_country.specs.private.Deciding.{RunsPrepared};
@@ -157,21 +159,25 @@ fn publish_inputs<S: Alter, G: Regions, L: Lineages, W: Write>(
 /// All is decided before the register is written, in one transaction. Ok is the status: `DONE`,
 /// where the union was published and its parcels' shapes are kept, or `REFUSED` or `UNREADABLE`,
 /// where the register is as it was. So it is at each failure but that of the output: then the union
-/// may be published, as `trace` shows.
+/// may be published, as `trace` shows. A failed read names the file that failed; where it is no
+/// region's, the readers behind it are as they were.
 pub fn run_publish_country<S: Alter, R: Read + Drop, G: Regions, L: Lineages, W: Write>(
     alloc: Global,
     register: &mut Register<S>,
     year: u16,
-    top: Top<R>,
-    exact: Option<R>,
+    top: &mut Top<R>,
+    exact: &mut Option<R>,
     regions: &G,
     lineages: &L,
     detail: Detail,
     out: &mut W,
 ) -> Result<u8, Failure>
-    ensures { RunsPublishCountry S.Store (country_request year detail (top_by R.remaining top)
-        (option_map R.remaining exact) (G.texts regions.now) (L.lineages lineages.now)) register.old
-        register.new (W.contents out.old) (W.contents out.new) result }
+    ensures runs { RunsPublishCountry S.Store (country_request year detail
+        (top_by R.remaining top.old) (option_map R.remaining exact.old) (G.texts regions.now)
+        (L.lineages lineages.now)) register.old register.new (W.contents out.old)
+        (W.contents out.new) result }
+    ensures untouched { IfErr result (AreUntouched (inputs_named top.old exact.old)
+        (inputs_named top.new exact.new)) }
 {
     let last = register.current().last_year();
     if year <= last {

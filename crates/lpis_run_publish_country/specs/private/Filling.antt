@@ -42,7 +42,7 @@ pub record FillsWhole (given : CountryFiles) (x : PublishCountryInputs) (before 
   pub no_text : end.status ≢ done → end.cert ≡ None
 
 -- a run over the regions of what the files before them say
-abbrev pub FillsPrepared : CountryFiles → PublishCountryInputs → Holdings → Held → Held
-    → Result ℕ Failure → Type 0
+abbrev pub FillsPrepared : {E : Type 0} → CountryFiles → PublishCountryInputs → Holdings
+    → Held E → Held E → Result ℕ Failure → Type 0
 FillsPrepared given x before =
     RunsOnBoth (λ f. ⊥) (StopsFillBehind given x) (FillsWhole given x before)

@@ -1,19 +1,19 @@
 use Rattle.std.proofs.Common.{inl, refl}
 use Rattle.std.proofs.lemmas.Result.{err_from_is_err_and}
 use Rattle.lpis_run.proofs.Shared.{both_stopped, both_written}
-use Rattle.lpis_run.specs.Outputs.{held, outputs_of}
+use Rattle.lpis_run.specs.Outputs.{held, outputs_of, writer}
 use Rattle.lpis_run_publish.specs.private.Submitting.{submission_of}
 use Rattle.lpis_run_publish.proofs.exact.run_exact.Goals as goal
 
 pub returns-in_err-bytes-clause-runs : goal.returns-in_err-bytes-clause-runs
 returns-in_err-bytes-clause-runs g c =
     let p = err_from_is_err_and c.from_residual.result c.from_residual.ensures.1 in
-    rw (p.1, p.2) (both_stopped _ _ (held (g.V.Write.contents c.args.cert_out.now) (g.W.Write.contents c.args.out.now)) _ c.in_err-bytes.ensures.failure)
+    rw (p.1, p.2) (both_stopped _ _ (held (writer g.V.Write.contents c.args.cert_out.now) (g.W.Write.contents c.args.out.now)) _ c.in_err-bytes.ensures.failure)
 
 pub returns-in_err-outcome-clause-runs : goal.returns-in_err-outcome-clause-runs
 returns-in_err-outcome-clause-runs g c =
     let p = err_from_is_err_and c.from_residual-in_err-outcome.result c.from_residual-in_err-outcome.ensures.1 in
-    rw (p.1, p.2) (both_stopped _ _ (held (g.V.Write.contents c.args.cert_out.now) (g.W.Write.contents c.args.out.now)) _ (inl (inl refl)))
+    rw (p.1, p.2) (both_stopped _ _ (held (writer g.V.Write.contents c.args.cert_out.now) (g.W.Write.contents c.args.out.now)) _ (inl (inl refl)))
 
 pub returns-clause-runs : goal.returns-clause-runs
 returns-clause-runs g c =
