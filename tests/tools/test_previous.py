@@ -16,7 +16,9 @@ from lpis_tools import shapely_there
 if shapely_there.is_there():
     from lpis_helpers import edits
     from lpis_helpers import exact
+    from lpis_tools import noding, previous
     from shapely import wkt
+    import numpy
 PARCELS, EDITS, SEED = 400, 90, 1
 COUNTED = re.compile(r"borders as in .*: (\d+) of its (\d+); this year's rounding has (\d+) of them otherwise, (\d+) by more than half a millimetre")
 SOURCE = 'POLYGON((500000.5 5400000.25,500010.1 5400000.25,500010.1 5400010,500000.5 5400010,500000.5 5400000.25))'
@@ -149,3 +151,23 @@ class TestFolders(Spare):
             out = self.path(f"out{number}")
             ran = tool("prepare", self.land(f"land{number}", SOURCE.replace("500010.1 5400010", f"5000{by} 5400010")), out, "--previous", self.path("last"))
             assert (0, 4 if borders == 4 else 2) == (ran.returncode, int(COUNTED.search(ran.stdout)[1])), ran.stdout
+
+
+@pytest.mark.skipif(not shapely_there.is_there(), reason=shapely_there.LACKING)
+class TestDistance:
+    """No border comes to lie further than a millimetre and a half from where the source has it."""
+
+    @pytest.mark.parametrize("to, is_taken", [((0, 1), True), ((1, -1), True), ((0, 2), False), ((-2, 1), False)])
+    def test_a_corner_is_moved_where_it_is_near_each_border_over_it(self, to, is_taken):
+        corners = noding.Corners(numpy.array([[0, 0], [10, 0], [0, 10]]))
+        lines, edge = numpy.array([[0.4, 0.0, 10.0, 0.0], [0.4, 0.0, 0.0, 10.0]]), numpy.array([0, 0, 1, 1])
+        over = corners.numbers(numpy.array([[0, 0], [10, 0], [0, 0], [0, 10]]))
+        assert previous.near_all({(0, 0): to}, corners, lines, edge, over) == ({(0, 0): to} if is_taken else {})
+
+    @pytest.mark.parametrize("y, wanted", [(1, True), (2, False)])
+    def test_a_way_is_taken_where_it_is_near_the_border(self, y, wanted):
+        points = numpy.array([[0, 0], [5, y], [10, 0]])
+        around = previous.Around(points, numpy.array([[0, 1], [1, 2]]))
+        around.between = lambda first, last: [1]
+        way = previous.Way(around, numpy.array([0.0, 0.0, 10.0, 0.0]), [[0, 0], [10, 0]], [0, 2])
+        assert way.numbers() == ([0, 1, 2] if wanted else [0, 2])

@@ -8,7 +8,7 @@ from lpis_helpers.cells_case import ByCells, Case
 
 if shapely_there.is_there():
     from shapely.affinity import rotate, translate
-    from shapely.geometry import Point, Polygon, box
+    from shapely.geometry import GeometryCollection, LineString, Point, Polygon, box
     from shapely.ops import unary_union
     from lpis_tools import balance, between, conflicts, land as land_module, outcome, rounding, wkb, widths
 
@@ -163,6 +163,13 @@ class TestWidths(Case):
             for turn in (0.0, 31.0, 45.0):
                 turned = translate(rotate(shape, turn, origin=(0, 0)), 3_500_000.123, 5_900_000.456)
                 assert widths.width_of(turned) == pytest.approx(width, rel=0.0002, abs=1e-8)
+
+    def test_a_collection(self):
+        """Lines and points beside polygons, as a difference may have them, count nothing."""
+        square = Polygon([(0, 0), (0.5, 0), (0.5, 3), (0, 3)])
+        shape = GeometryCollection([square, LineString([(5, 0), (900, 0)])])
+        assert widths.is_as_wide(shape, 0.49) and not widths.is_as_wide(shape, 0.51)
+        assert widths.width_of(shape) == pytest.approx(0.5, abs=0.001)
 
     def test_bounds(self):
         """At 5 million metres 0.02 m are as wide as that and 0.0199 are not: bands, discs, lenses, and necks between places."""

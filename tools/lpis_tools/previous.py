@@ -14,7 +14,8 @@ from . import land, outcome, snapping
 from .noding import Corners, Rings, unique_edges
 
 NEAR = 1.0  # millimetres from a corner of the source to the corner of last year that it is
-ASIDE = 1.5  # millimetres from a rounded border to the corners of last year's way between its ends
+ASIDE = 1.5  # millimetres from a border of the source, and from the line between its ends, to the corners of last year's way that it takes
+TINY = 1e-12
 LOOK = 0.5  # millimetres beside this year's rounding: beyond it a border is reported
 AROUND = [(x, y) for x in (-1, 0, 1) for y in (-1, 0, 1) if (x, y) != (0, 0)]
 MOST_STEPS = 1000  # of the search for a way
@@ -64,7 +65,8 @@ class Previous:
     def network(self, edges, corners, edge, corner, say):
         """The network of this year's edges, along these borders where they are the same. Pairs of an edge and a corner are the ways that this year's rounding
         alone gives the edges."""
-        moved = self.moved(corners.points, edges.ends.reshape(-1, 2))
+        lines = edges.ends / snapping.WHOLE
+        moved = near_all(self.moved(corners.points, edges.ends.reshape(-1, 2)), corners, lines, edge, corner)
         both = Corners(numpy.concatenate([corners.points, self.points]))
         same = both.numbers(corners.points)
         number, borders = same.copy(), self.numbered(both)
@@ -74,7 +76,7 @@ class Previous:
         starts, owners, ways, told = numpy.searchsorted(edge, numpy.arange(len(edges.ends) + 1)), owners_of(edges), {}, {}
         for one in others(edge, over, is_moved, borders):
             part = slice(starts[one], starts[one + 1])
-            way = Way(around, corners.points[corner[part]].tolist(), over[part].tolist())
+            way = Way(around, lines[one], corners.points[corner[part]].tolist(), over[part].tolist())
             ways[one] = way.numbers()
             for before, after in way.changes():
                 told.setdefault((before, after), set()).update(owners(one))
@@ -123,6 +125,25 @@ class Previous:
         return f"{told}; this year's rounding has {self.drawn} of them otherwise, {len(self.taken)} by more than half a millimetre (kept, in kept.csv)"
 
 
+def near_all(moved, corners, lines, edge, corner):
+    """Of moved corners those that are near each border of the source that goes over them, by pairs of an edge and a corner."""
+    if not moved:
+        return moved
+    place = numpy.full(len(corners.points), -1)
+    place[corners.numbers(numpy.array([*moved]))] = numpy.arange(len(moved))
+    over = numpy.nonzero(place[corner] >= 0)[0]
+    is_far = apart(lines[edge[over]], numpy.array([*moved.values()])[place[corner[over]]]) > ASIDE
+    far = set(place[corner[over[is_far]]].tolist())
+    return {point: to for number, (point, to) in enumerate(moved.items()) if number not in far}
+
+
+def apart(lines, points):
+    """How far points are from edges, each from its own or all from one, in millimetres."""
+    starts, ways, points = lines[..., :2], lines[..., 2:] - lines[..., :2], points.astype(float)
+    share = ((points - starts) * ways).sum(axis=-1) / numpy.maximum((ways * ways).sum(axis=-1), TINY)
+    return numpy.hypot(*(points - starts - numpy.clip(share, 0.0, 1.0)[..., None] * ways).T)
+
+
 def others(edge, over, is_moved, borders):
     """The edges of whose ways a part is no border of last year's, or a corner was moved, by pairs of an edge and a corner."""
     inner = edge[1:] == edge[:-1]
@@ -151,10 +172,14 @@ class Way:
     """An edge's way over corners, parted at those that last year had, with last year's borders between these. `before` are the corners of this year alone,
     `over` their numbers where they were moved."""
 
-    def __init__(self, around, before, over):
-        self.around, self.before, self.over = around, before, over
+    def __init__(self, around, line, before, over):
+        self.around, self.line, self.before, self.over = around, line, before, over
         stops = [0, *(place for place in range(1, len(over) - 1) if around.has(over[place])), len(over) - 1]
-        self.parts = [(first, last, around.between(over[first], over[last])) for first, last in zip(stops, stops[1:])]
+        self.parts = [(first, last, self.near(around.between(over[first], over[last]))) for first, last in zip(stops, stops[1:])]
+
+    def near(self, between):
+        """The corners between two, where all are near the border of the source."""
+        return between if not between or (apart(self.line, self.around.points[between]) <= ASIDE).all() else None
 
     def over_part(self, first, last, between):
         return [self.over[first], *between, self.over[last]] if between is not None else self.over[first : last + 1]

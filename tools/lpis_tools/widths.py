@@ -41,6 +41,7 @@ def parts_of(shape):
 
 def is_as_wide(shape, width: float) -> bool:
     """Whether a circle of a width fits."""
+    shape = polygons_of(shape)
     area = shape.area
     if area < (1 - DOUBT) * width * width * math.pi / 4:
         return False
@@ -52,7 +53,8 @@ def width_of(shape) -> float:
 
 
 def widest(shape):
-    """The width of a shape, and the middle of a circle that has it; None where nothing has an area."""
+    """The width of a shape, and the middle of a circle that has it; None where nothing has an area. Lines count nothing."""
+    shape = polygons_of(shape)
     area = shape.area
     if area <= 0:
         return 0.0, None
