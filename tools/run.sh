@@ -336,7 +336,7 @@ hand_on() {
 # Runs the program, and puts in `told` what it wrote to standard error and in `status` how it ended. It has the caller's standard input, and
 # file descriptor $1 as its output. TERM, INT and HUP are handed on to it, so that it has ended when this ends; `signal` is then the last of them.
 run_and_hear() {
-  local out=$1 program=$2 in=- child='' heard name
+  local out=$1 program=$2 in=- child='' heard name ended
   shift 2
   told='' signal=''
   { exec {in}<&0; } 2>/dev/null || in=-
@@ -346,10 +346,13 @@ run_and_hear() {
   child=$!
   [[ -z $signal ]] || hand_on "$signal"
   IFS= read -r -d '' -u "$heard" told || true # a signal is handed on at once while this waits
-  while :; do # a signal ends a `wait` too
-    status=0
-    wait "$child" || status=$?
-    kill -0 "$child" 2>/dev/null || break
+  status=127
+  while :; do # a signal ends a `wait` too; once the program has ended its number may be another's
+    ended=0
+    wait "$child" || ended=$?
+    ((ended != 127)) || break
+    status=$ended
+    ((status > 128)) && kill -0 "$child" 2>/dev/null || break
   done
   trap - TERM INT HUP
   exec {heard}<&-
