@@ -56,6 +56,13 @@ near_boxes_meet t u e =
       top = begins_below _ _ (least_in_range u.a.y u.b.y u.c.y u.a.y_in_range u.b.y_in_range u.c.y_in_range) f.1;
     }
 
+rounded_small : (z : ℤ) → IsInRange z → rounded_up z ≤ 4294967295
+rounded_small z h = omega (arith, ints, h.0, h.1)
+
+-- in centimetres, the top of a box has 32 bits
+pub top_small : (t : Triangle) → (extent_of t).top ≤ 4294967295
+top_small t = rounded_small _ (greatest_in_range t.a.y t.b.y t.c.y t.a.y_in_range t.b.y_in_range t.c.y_in_range)
+
 -- ---- boxes that overlap by more than a centimetre
 begins_before : (y z : ℤ) → IsInRange y → IsInRange z → rounded_down y + 1 < rounded_up z → y <ℤ z
 begins_before y z h k l = omega (arith, ints, h.0, k.0)

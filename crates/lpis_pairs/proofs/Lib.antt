@@ -9,5 +9,7 @@ pub mod EventLemmas
 pub mod JoinedLemmas
 pub mod OrderedLemmas
 pub mod FoundLemmas
+pub mod HoldingLemmas
+pub mod HalvingLemmas
 pub mod CountLemmas
 pub mod Shared

@@ -2,3 +2,4 @@
 pub mod Sweeping
 pub mod Strips
 pub mod Overlaps
+pub mod Holding

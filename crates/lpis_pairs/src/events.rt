@@ -1,8 +1,8 @@
 //! The strips that a box meets.
 
-ghost use Rattle.std.specs.Prelude.{◌≡◌, ◌≤◌, ◌<◌, ◌/◌, length, IfOk};
+ghost use Rattle.std.specs.Prelude.{◌≡◌, ◌≤◌, ◌<◌, ◌/◌, length, IfOk, IsPermutation};
 ghost use Rattle.lpis_points.specs.Triangles.{most_triangles};
-ghost use Rattle.lpis_pairs.specs.private.Sweeping.{HasEvents, event};
+ghost use Rattle.lpis_pairs.specs.private.Sweeping.{AreInOrder, HasEvents, event};
 
 use crate::extents::Extent;
 use std::alloc::{AllocError, Global};
@@ -57,4 +57,14 @@ pub fn events_of(alloc: Global, extents: &[Extent], height: u32) -> Result<Vec<E
         }
     }
     Ok(events)
+}
+
+/// The same events, by their keys.
+pub fn in_key_order(events: Vec<Event>) -> Vec<Event>
+    ensures order { AreInOrder result.items }
+    ensures same { IsPermutation events.items result.items }
+{
+    let mut events = events;
+    events.sort_unstable_by_key(|event| event.key);
+    events
 }

@@ -7,6 +7,9 @@
 mod all_pairs;
 mod events;
 mod extents;
+mod halving;
+mod holding;
+mod joining;
 mod near;
 mod order;
 mod overlaps;

@@ -14,6 +14,13 @@ pub trait Taker {
     fn take(&mut self, i: u32, j: u32) -> Result<(), AllocError>
         ensures { OnOk result ((ps : List (ℕ × ℕ)) → is_of self.old ps
             → is_of self.new (ps ++ (i, j) ∷ [])) };
+
+    /// How many pairs were taken.
+    fn taken(&self) -> usize;
+
+    /// Takes all anew.
+    fn clear(&mut self)
+        ensures { is_of self.new [] };
 }
 
 /// The pairs that were taken.
@@ -28,6 +35,14 @@ impl Taker for PairList {
     fn take(&mut self, i: u32, j: u32) -> Result<(), AllocError> {
         self.pairs.push((i, j))?;
         Ok(())
+    }
+
+    fn taken(&self) -> usize {
+        self.pairs.len()
+    }
+
+    fn clear(&mut self) {
+        self.pairs.clear();
     }
 }
 
@@ -52,5 +67,13 @@ impl Taker for PairCount {
                 Err(AllocError)
             }
         }
+    }
+
+    fn taken(&self) -> usize {
+        self.count.unwrap_or(0)
+    }
+
+    fn clear(&mut self) {
+        self.count = Some(0);
     }
 }

@@ -144,3 +144,54 @@ fn the_sources_agree_on_generated_triangles(rt: HostRuntime) -> Result<(), Fail>
     assert!(rt; found > 1000);
     Ok(())
 }
+
+/// A triangle that begins low in x, and in y within a bound.
+fn oblong(seed: &mut u64, spread: u64, width: u64, height: u64) -> Result<Triangle, Fail> {
+    let (x, y) = (next(seed, 10), next(seed, spread));
+    let mut corner = || (
+        x.saturating_add(next(seed, width)),
+        y.saturating_add(next(seed, height)),
+    );
+    triangle(corner(), corner(), corner())
+}
+
+/// One triangle is higher than all others together, which lie above each other: strips are given up.
+#[test]
+fn the_sources_agree_where_boxes_fill_a_strip(rt: HostRuntime) -> Result<(), Fail> {
+    let mut seed = 20_261_201;
+    let mut found = 0;
+    for (spread, width, height) in [
+        (3000, 900_000, 1),
+        (30_000, 900_000, 300),
+        (9, 900_000, 1),
+        (3000, 40, 400),
+    ] {
+        let mut triangles = Vec::new(rt.alloc());
+        triangles.push(triangle((-LIMIT, -LIMIT), (-LIMIT, LIMIT), (20, 0))?)?;
+        for _ in 0..300 {
+            triangles.push(oblong(&mut seed, spread, width, height)?)?;
+        }
+        found = found.max(agreed(&rt, rt.alloc(), &triangles)?.len());
+    }
+    assert!(rt; found > 1000);
+    Ok(())
+}
+
+/// Boxes of several sizes, of which many are equal or touch.
+#[test]
+fn the_sources_agree_on_boxes_of_several_sizes(rt: HostRuntime) -> Result<(), Fail> {
+    let mut seed = 20_261_202;
+    let mut found = 0;
+    for (wide, high) in [(5, 5), (1, 9), (9, 1)] {
+        let mut triangles = Vec::new(rt.alloc());
+        for class in 0..5 {
+            for _ in 0..60 {
+                let size = 1 << (class * 7);
+                triangles.push(oblong(&mut seed, 4000, wide * 1000 + 20, high * size + 1)?)?;
+            }
+        }
+        found = found.max(agreed(&rt, rt.alloc(), &triangles)?.len());
+    }
+    assert!(rt; found > 1000);
+    Ok(())
+}

@@ -42,14 +42,51 @@ abbrev pub width_of : Option Triangle → ℕ
 width_of None = 0
 width_of (Some t) = (extent_of t).right - (extent_of t).left
 
--- of two events, in whose strip one of them starts, and the second of which begins less than the
--- width of the first behind it, the near pair is listed
-abbrev pub Joins : List Triangle → List Event → List (ℕ × ℕ) → ℕ → ℕ → Type 0
-Joins ts es ps k m =
-    (e f : Event) → slice_get es k ≡ Some e → slice_get es m ≡ Some f
+-- where two triangles are a near pair, in whichever order, it is listed
+abbrev pub IsTaken : List Triangle → List (ℕ × ℕ) → ℕ → ℕ → Type 0
+IsTaken ts ps i j = (IsNear ts i j → Contains ps (i, j)) × (IsNear ts j i → Contains ps (j, i))
+
+-- of an event and the one at m, in whose strip one of them starts, and the second of which begins
+-- less than the width of the first behind it, the near pair is listed
+abbrev pub Joins : List Triangle → Event → List Event → List (ℕ × ℕ) → ℕ → Type 0
+Joins ts e es ps m =
+    (f : Event) → slice_get es m ≡ Some f
     → f.key - e.key < width_of (slice_get ts e.index) → (e.starts || f.starts) ≡ true
-    → (IsNear ts e.index f.index → Contains ps (e.index, f.index))
-    × (IsNear ts f.index e.index → Contains ps (f.index, e.index))
+    → IsTaken ts ps e.index f.index
+
+-- each event is joined with those behind it
+abbrev pub JoinsAll : List Triangle → List Event → List (ℕ × ℕ) → Type 0
+JoinsAll ts es ps = (k m : ℕ) (e : Event) → k < m → slice_get es k ≡ Some e → Joins ts e es ps m
+
+-- of an event and the one at m, if it is so far behind it or farther, and less than the width of
+-- the first, the near pair is listed
+abbrev pub JoinsFar : List Triangle → Event → List Event → ℕ → List (ℕ × ℕ) → ℕ → Type 0
+JoinsFar ts e fs gap ps m =
+    (f : Event) → slice_get fs m ≡ Some f → e.key + gap ≤ f.key
+    → f.key - e.key < width_of (slice_get ts e.index) → (e.starts || f.starts) ≡ true
+    → IsTaken ts ps e.index f.index
+
+-- each event is joined with those of another list
+abbrev pub JoinsAcross : List Triangle → List Event → List Event → ℕ → List (ℕ × ℕ) → Type 0
+JoinsAcross ts es fs gap ps =
+    (k : ℕ) (e : Event) → slice_get es k ≡ Some e → (m : ℕ) → JoinsFar ts e fs gap ps m
+
+-- the events of two lists are joined: those at one key but once
+abbrev pub JoinsBoth : List Triangle → List Event → List Event → List (ℕ × ℕ) → Type 0
+JoinsBoth ts es fs ps = JoinsAcross ts es fs 0 ps × JoinsAcross ts fs es 1 ps
+
+-- each near pair is listed
+abbrev pub FindsNear : List Triangle → List (ℕ × ℕ) → Type 0
+FindsNear ts ps = (i j : ℕ) → IsNear ts i j → Contains ps (i, j)
+
+-- the events from a place on have this key, or a greater one
+abbrev pub AreBehind : ℕ → List Event → ℕ → Type 0
+AreBehind key es from = (m : ℕ) (f : Event) → from ≤ m → slice_get es m ≡ Some f → key ≤ f.key
+
+-- and those before it have not
+pub record StartsAt (es : List Event) (key from : ℕ) : Type 0 where
+  pub behind : AreBehind key es from
+  pub before : (m : ℕ) (f : Event) → slice_get es m ≡ Some f → key ≤ f.key → from ≤ m
 
 -- each listed pair is near
 abbrev pub AreNear : List Triangle → List (ℕ × ℕ) → Type 0

@@ -1,6 +1,6 @@
 use Rattle.std.proofs.Common.{ℕ, List, map}
 use Rattle.lpis_pairs.proofs.JoinedLemmas.{JoinsBelow}
-use Rattle.lpis_pairs.proofs.sweep.join.Given as goal
+use Rattle.lpis_pairs.proofs.joining.join.Given as goal
 
 abbrev pub invariant-loop-at : goal.invariant-loop-at
 invariant-loop-at g l = (ps : List (ℕ × ℕ)) → g.S.Taker.is_of l.fn.taker ps

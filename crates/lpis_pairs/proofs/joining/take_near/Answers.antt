@@ -1,7 +1,7 @@
 use Rattle.std.proofs.Common.{◌≡◌, ℕ, ◌<◌, Bool, true, false, ◌++◌, ◌∷◌, [], arith, map}
 use Rattle.std.proofs.lemmas.List.Elements.{Contains-push}
 use Rattle.lpis_pairs.proofs.JoinedLemmas.{grows_by, grows_by_nothing}
-use Rattle.lpis_pairs.proofs.sweep.take_near.Goals as goal
+use Rattle.lpis_pairs.proofs.joining.take_near.Goals as goal
 
 clash : (b : Bool) → b ≡ false → b ≡ true → ⊥
 clash b e f = cc

@@ -1,0 +1,7 @@
+use Rattle.std.proofs.Common.{ℕ, List, map}
+use Rattle.lpis_pairs.proofs.JoinedLemmas.{AcrossBelow}
+use Rattle.lpis_pairs.proofs.halving.join_across.Given as goal
+
+abbrev pub invariant-loop-at : goal.invariant-loop-at
+invariant-loop-at g l = (ps : List (ℕ × ℕ)) → g.S.Taker.is_of l.fn.taker ps
+    → (qs : List (ℕ × ℕ)) × g.S.Taker.is_of l.taker qs × AcrossBelow (map g.T.HasTriangle.triangle l.triangles) l.events l.others l.gap ps qs l.at
