@@ -9,8 +9,10 @@ mod check;
 mod cut;
 mod cut_line;
 mod laws;
+mod tables_check;
 
 pub use area::run_area;
 pub use check::run_check;
 pub use cut::run_cut;
 pub use laws::{a_check_has_one_answer, a_sum_of_areas_is_printed};
+pub use tables_check::run_check_tables;
