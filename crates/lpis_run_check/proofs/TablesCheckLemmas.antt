@@ -24,7 +24,7 @@ fault-is-no-yes r c a (inr p) same = let no = sym (ap (λ (b : Answer). b.1) p.2
 
 -- nor is the line of a release that gets none
 pub uncut-is-no-yes : (r : Contents) (a : Answer) → IsUncut r a → a.1 ≢ done
-uncut-is-no-yes r a p same = let no = sym (ap (λ (b : Answer). b.1) p.2.1) ∙ same in cc
+uncut-is-no-yes r a p same = let no = sym (ap (λ (b : Answer). b.1) p.2) ∙ same in cc
 
 -- ---- of tables
 -- of a release that is theirs
@@ -34,7 +34,7 @@ answer-of-release t r a said is =
 
 -- what it is proved of is theirs
 pub proved-of-release : (t : Tables (List ℕ)) (r : Contents) → release_in t ≡ Ok r → IsSoundMap r × ((c : Cert) × IsGood r c) → AreProved t
-proved-of-release t r said is = (r, record { tables = said; sound = is.0; certificate = is.1.0; good = is.1.1 })
+proved-of-release t r said is = record { release = r; tables = said; sound = is.0; certificate = is.1.0; good = is.1.1 }
 
 -- the line of their first fault answers
 pub answer-of-fault : (t : Tables (List ℕ)) (a : Answer) → IsTableAnswer (λ _ _. ⊥) (release_in t) a → IsTablesAnswer t a

@@ -30,16 +30,13 @@ IsMadeAnswer r a = (c : Cert) × IsCheckAnswer r c (λ b. b ≡ (report_text r, 
 abbrev pub IsTablesAnswer : Tables (List ℕ) → Answer → Type 0
 IsTablesAnswer t = IsTableAnswer (λ r a. IsUncut r a ⊎ IsMadeAnswer r a) (release_in t)
 
--- this release is that of the tables, a sound map, and a certificate is good for it
-pub record AreProvedOf (t : Tables (List ℕ)) (release : Contents) : Type 0 where
+-- the tables are those of a release that is a sound map, and a certificate is good for it
+pub record AreProved (t : Tables (List ℕ)) : Type 0 where
+  pub release : Contents
   pub tables : release_in t ≡ Ok release
   pub sound : IsSoundMap release
   pub certificate : Cert
   pub good : IsGood release certificate
-
--- the tables are those of a release for which this holds
-abbrev pub AreProved : Tables (List ℕ) → Type 0
-AreProved t = (release : Contents) × AreProvedOf t release
 
 -- a run that checks tables alone: this is an answer to what three readers reported, as far as it is
 -- known; a yes comes only for a release that is a sound map, with a certificate that is good for it
