@@ -1,5 +1,5 @@
-//! The runs of `area`, `check` and `cut`, over readers and writers; `check` with a certificate that it
-//! is handed, or with one that it makes.
+//! The runs of `area`, `check` and `cut`, over readers and writers; of `check` with a certificate
+//! that it is handed, and with one that it makes.
 //!
 //! The layer above may cite: text and status of each are the answer's definition.
 //! Begin at `specs/CheckRun.antt`, then `src/check.rt`.
