@@ -12,7 +12,7 @@ SOURCES = TOP / "crates" / "lpis_command_line" / "src"
 WORDS = """\
 # Which words of a command line are files: a line for each command, with its words in order. dev/crates --write makes it; tests/program/test_files.py holds it against the program.
 #
-#     NAME       a file that is read, by the name that a failure has for it; >NAME is one that is written
+#     NAME       a file that is read, by the name that a failure has for it; >NAME is one that is written; [NAME], at the end, one that is read where it is named
 #     FOLDER/    a folder, whose files stand in a line of their own, in the order in which they are opened; * is each region
 #     register   a register
 #     -          no file; -.. is one word or more that are none, at the end
@@ -43,7 +43,7 @@ def words_text():
 def shown(argument):
     """An argument as the manual's synopsis has it."""
     word, takes, kind, _ = argument
-    plain = {"Word": word.upper(), "Year": word.upper(), "Words": f"{word.upper()} .."}
+    plain = {"Word": word.upper(), "Year": word.upper(), "Words": f"{word.upper()} ..", "WordIfAny": f".Op Ar {word.upper()}"}
     return plain.get(takes) or f".Op Fl Fl {word}" + (" Ar FILE" if "=" in kind else "")
 
 

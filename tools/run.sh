@@ -70,7 +70,7 @@ row_of() {
   while read -ra line; do
     [[ ${line[0]-} == "$1" ]] || continue
     for word in "${line[@]:1}"; do
-      if [[ $word == --* ]]; then options+=("$word"); else row+=("$word"); fi
+      if [[ $word == --* ]]; then options+=("$word"); else row+=("${word//[][]/}"); fi
     done
   done <"${BASH_SOURCE[0]%/*}/words.txt"
 }

@@ -43,6 +43,7 @@ CUT = [
 ]
 # Two parcels that share a strip of a metre, each of one piece; no edge keeps the two triangles of the pair line apart.
 STRIP = "POLYGON((9 0,20 0,20 10,9 10,9 0))"
+STRIPS = (f'parcel,wkt\nA,"{SQUARE}"\nB,"{STRIP}"\n', f'piece,parcel,class,wkt\na,A,G,"{SQUARE}"\nb,B,G,"{STRIP}"\n')
 STRIP_CERT = """lpis-cert 1
 piece a 2 0
 t 0 0 1000 0 1000 1000
@@ -82,11 +83,15 @@ def test_area_of_a_text_that_is_cut_off(length, tmp_path):
     assert line.startswith("refused 38 area row 1 wkt ")
 
 
+def tables_of(parcels, pieces):
+    """The tables of parcels and of pieces, all of the parcel A."""
+    rows = "".join(f'p{number},A,{name},"{text}"\n' for number, (name, text) in enumerate(pieces))
+    return "parcel,wkt\n" + "".join(f'A,"{text}"\n' for text in parcels), f"piece,parcel,class,wkt\n{rows}"
+
+
 @pytest.mark.parametrize("parcels, pieces, line, eligible", CUT, ids=short)
 def test_cut(parcels, pieces, line, eligible, tmp_path):
-    rows = "".join(f'p{number},A,{name},"{text}"\n' for number, (name, text) in enumerate(pieces))
-    release, certificate = tmp_path / "release", tmp_path / "cert.txt"
-    write(release, "parcel,wkt\n" + "".join(f'A,"{text}"\n' for text in parcels), f"piece,parcel,class,wkt\n{rows}", CLASSES)
+    release, certificate = write(tmp_path / "release", *tables_of(parcels, pieces), CLASSES), tmp_path / "cert.txt"
     [found] = lpis("cut", release, certificate)
     assert (found[: len(line)], certificate.exists()) == (line, eligible is not None)
     if eligible:
@@ -95,7 +100,7 @@ def test_cut(parcels, pieces, line, eligible, tmp_path):
 
 
 def strips(folder):
-    return write(folder / "release", f'parcel,wkt\nA,"{SQUARE}"\nB,"{STRIP}"\n', f'piece,parcel,class,wkt\na,A,G,"{SQUARE}"\nb,B,G,"{STRIP}"\n', CLASSES)
+    return write(folder / "release", *STRIPS, CLASSES)
 
 
 def test_cut_of_a_strip(tmp_path):

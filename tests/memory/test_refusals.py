@@ -117,6 +117,10 @@ def check(release, own=False):
     return Command(f"check of {release}", ["check", EXAMPLES / release, cert], [] if own else [certificate(release)])
 
 
+def check_alone(release):
+    return Command(f"check of {release}, without a certificate", ["check", EXAMPLES / release])
+
+
 def pointed(folder):
     """Three points, of which two are in the square, and one in a table that is refused."""
     (folder / "points.csv").write_text("point,x,y\na,2.5,5\nb,7.5,5\nc,10,5\n")
@@ -185,6 +189,7 @@ COMMANDS = [
     *map(cut, ["square", "pasture", "holes", "junctions", "members", "sweep", "years/2024", "bowtie", "gap", "overlap"]),
     *map(check, ["square", "pasture", "holes", "junctions", "members"]),
     check("older", own=True),
+    *map(check_alone, ["square", "pasture", "gap", "bowtie"]),
     Command("check of overlap, without pair lines", ["check", EXAMPLES / "overlap", "cert.txt"], [overlapping]),
     *map(locate, ["points.csv", "bad.csv"]),
     *map(locate_country, ["points.csv", "bad.csv"]),

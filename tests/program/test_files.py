@@ -24,9 +24,9 @@ FOLDERS = {head: rest for head, *rest in ROWS if head.endswith("/")}
 
 
 def words_of(command):
-    """The names of the words that the program wants of a command; those of options are in brackets, and none of them."""
+    """The names of the words that the program wants of a command, or takes, in brackets as [OPTIONS] are, which are none of them."""
     usage = re.search(r"(?m)^Usage: .*$", lpis(command, "--help")[1])
-    return re.findall(r"<(\w+)>", usage[0]) if usage else []
+    return re.findall(r"[<[]([a-z]+)[]>]", usage[0]) if usage else []
 
 
 def make_land(folder):
@@ -51,7 +51,7 @@ class Case:
     def __init__(self, top, command):
         self.top, self.words, self.reads, self.writes = top, [command], [], []
         names = words_of(command)
-        for number, kind in enumerate(COMMANDS[command]):
+        for number, kind in enumerate(word.strip("[]") for word in COMMANDS[command]):
             path = top / f"{number}"
             path.mkdir()
             if kind.startswith("--"):

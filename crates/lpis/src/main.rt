@@ -17,7 +17,7 @@ use lpis_command_line::{Job, NamedFile, Request, matches_of, request_of, usage_e
 use lpis_register::Register;
 use lpis_register_file::open_file;
 use lpis_run::{Failure, Folder, Submission, Tables, print_failure, status_of};
-use lpis_run_check::{run_area, run_check, run_cut};
+use lpis_run_check::{run_area, run_check, run_check_tables, run_cut};
 use lpis_run_locate::{PointsIn, run_locate};
 use lpis_run_publish::{refuse_register, run_exact, run_publish, run_trace};
 use opening::{open, open_folder, open_submission, open_tables};
@@ -96,6 +96,7 @@ fn perform(rt: &HostRuntime, request: &Request<'_>) -> Result<u8, Failure> {
         Request::Area { table } => measure(rt, table),
         Request::Cut { tables, cert } => cut(rt, tables, cert),
         Request::Check { release } => check(rt, release),
+        Request::CheckTables { tables } => check_tables(rt, tables),
         Request::Country { country, detail } => check_country(rt, country, *detail),
         Request::Locate { release, points } => locate(rt, release, points),
         Request::LocateCountry { country, points } => locate_in_country(rt, country, points),
@@ -121,6 +122,12 @@ fn cut(rt: &HostRuntime, tables: &Tables<NamedFile<'_>>, cert: &str) -> Result<u
 fn check(rt: &HostRuntime, release: &Folder<NamedFile<'_>>) -> Result<u8, Failure> {
     let mut folder = open_folder(rt, release)?;
     run_check(rt.alloc(), &mut folder, &mut rt.stdout())
+}
+
+/// Checks the release of these tables against a certificate that is made of it.
+fn check_tables(rt: &HostRuntime, tables: &Tables<NamedFile<'_>>) -> Result<u8, Failure> {
+    let mut tables = open_tables(rt, tables)?;
+    run_check_tables(rt.alloc(), &mut tables, &mut rt.stdout())
 }
 
 /// Finds the points of this table in a release, which is checked against its certificate first.

@@ -15,7 +15,7 @@ use Rattle.lpis_command_line.specs.Words.{Finds, HasWord, IsDetail, IsRelease, I
 use Rattle.lpis_command_line.specs.declared.commands.Job.{Job}
 use Rattle.lpis_command_line.specs.declared.commands.Job.TheVariants.{Exact, ExactCountry, Publish, PublishCountry, Trace}
 use Rattle.lpis_command_line.specs.declared.commands.Request.{Request}
-use Rattle.lpis_command_line.specs.declared.commands.Request.TheVariants.{Area, Check, Country, Cut, InRegister, Locate, LocateCountry}
+use Rattle.lpis_command_line.specs.declared.commands.Request.TheVariants.{Area, Check, CheckTables, Country, Cut, InRegister, Locate, LocateCountry}
 use Rattle.lpis_command_line.specs.declared.files.CountryFolder.{CountryFolder}
 use Rattle.lpis_command_line.specs.declared.files.NamedFile.{NamedFile}
 use Rattle.lpis_command_line.specs.private.Found.{IsInRegister}
@@ -48,8 +48,9 @@ no-cut rows none (InRegister db job) h = no-job rows (codes "cut") (differ _ _ r
 no-cut rows none other h = differ _ _ refl h.0
 
 -- no other request is `check`
-pub no-check : (rows : List Row) → ((f : Folder NamedFile) → IsRelease f rows → ⊥) → (r : Request) → IsRequestNamed r (codes "check") rows → ⊥
-no-check rows none (Check release) h = none release h.1
+pub no-check : (rows : List Row) → ((t : Tables NamedFile) → HasWord (codes "dir") (λ dir. AreTablesIn dir t) rows → ⊥) → (r : Request) → IsRequestNamed r (codes "check") rows → ⊥
+no-check rows none (Check release) h = none release.tables h.1.0
+no-check rows none (CheckTables tables) h = none tables h.1
 no-check rows none (InRegister db job) h = no-job rows (codes "check") (differ _ _ refl) (differ _ _ refl) (differ _ _ refl) (differ _ _ refl) (differ _ _ refl) job h.1
 no-check rows none other h = differ _ _ refl h.0
 
@@ -114,6 +115,7 @@ in-register rows name a b c d e f None h = only
     only (Area table) p = a p.0
     only (Cut tables cert) p = b p.0
     only (Check release) p = c p.0
+    only (CheckTables tables) p = c p.0
     only (Country country detail) p = d p.0
     only (Locate release points) p = e p.0
     only (LocateCountry country points) p = f p.0

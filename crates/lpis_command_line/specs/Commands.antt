@@ -13,13 +13,18 @@ use Rattle.lpis_command_line.specs.declared.commands.Job.TheVariants.{Exact, Exa
 use Rattle.lpis_command_line.specs.declared.commands.Job.TheVariants.{Publish, PublishCountry}
 use Rattle.lpis_command_line.specs.declared.commands.Job.TheVariants.{Trace}
 use Rattle.lpis_command_line.specs.declared.commands.Request.{Request}
-use Rattle.lpis_command_line.specs.declared.commands.Request.TheVariants.{Area, Cut, Check, Country}
+use Rattle.lpis_command_line.specs.declared.commands.Request.TheVariants.{Area, Cut, Check}
+use Rattle.lpis_command_line.specs.declared.commands.Request.TheVariants.{CheckTables, Country}
 use Rattle.lpis_command_line.specs.declared.commands.Request.TheVariants.{InRegister, Locate}
 use Rattle.lpis_command_line.specs.declared.commands.Request.TheVariants.{LocateCountry}
 
 -- a required argument of one word
 abbrev pub word_rule : Text → Rule
 word_rule id = record (new_rule id) { required = true; action = Some Set }
+
+-- so is one that may be left out
+abbrev pub word_rule_if_any : Text → Rule
+word_rule_if_any id = record (new_rule id) { action = Some Set }
 
 -- a command by its name and its arguments, in their order
 abbrev pub command : Text → List Rule → App
@@ -39,7 +44,7 @@ commands =
     { long = Some (codes "exact"); action = Some Set; value_names = 1 } in
     command (codes "area") (word_rule (codes "file") ∷ [])
     ∷ command (codes "cut") (dir ∷ cert ∷ [])
-    ∷ command (codes "check") (dir ∷ cert ∷ [])
+    ∷ command (codes "check") (dir ∷ word_rule_if_any (codes "cert") ∷ [])
     ∷ command (codes "country") (dir ∷ parcels ∷ [])
     ∷ command (codes "locate") (dir ∷ cert ∷ word_rule (codes "points") ∷ [])
     ∷ command (codes "locate-country") (dir ∷ word_rule (codes "points") ∷ [])
@@ -82,6 +87,9 @@ IsRequestNamed (Cut tables cert) name rows = (name ≡ codes "cut")
     × HasWord (codes "dir") (λ dir. AreTablesIn dir tables) rows
     × (first_of (codes "cert") rows ≡ Some cert.now)
 IsRequestNamed (Check release) name rows = (name ≡ codes "check") × IsRelease release rows
+IsRequestNamed (CheckTables tables) name rows = (name ≡ codes "check")
+    × HasWord (codes "dir") (λ dir. AreTablesIn dir tables) rows
+    × (first_of (codes "cert") rows ≡ None)
 IsRequestNamed (Country country detail) name rows = (name ≡ codes "country")
     × HasWord (codes "dir") (λ dir. IsCountryIn dir country) rows × IsDetail detail rows
 IsRequestNamed (Locate release points) name rows = (name ≡ codes "locate")

@@ -9,6 +9,8 @@
 pub(crate) enum Takes {
     /// One word, which has to be there.
     Word,
+    /// One word, which may be left out.
+    WordIfAny,
     /// One word or more.
     Words,
     /// One word, a year's.
@@ -83,6 +85,13 @@ pub(crate) const CERT: Argument = Argument {
     id: "cert",
     takes: Takes::Word,
     text: "A certificate of triangles for the release",
+};
+
+/// `[cert]`: a certificate.
+pub(crate) const CERT_IF_ANY: Argument = Argument {
+    id: "cert",
+    takes: Takes::WordIfAny,
+    text: "A certificate of triangles for the release; where none is named, one is made",
 };
 
 /// `>cert`: a certificate.

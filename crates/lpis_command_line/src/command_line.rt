@@ -24,6 +24,7 @@ fn arg_of<'a>(alloc: Global, argument: &Argument) -> Arg<'a>
     let arg = Arg::new(alloc, id);
     match argument.takes {
         Takes::Word => arg.required(true).action(ArgAction::Set),
+        Takes::WordIfAny => arg.action(ArgAction::Set),
         Takes::Words => arg.required(true).action(ArgAction::Append),
         Takes::Year => arg
             .required(true)

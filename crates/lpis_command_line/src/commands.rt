@@ -7,10 +7,10 @@ ghost use Rattle.lpis_command_line.specs.Words.{Finds};
 ghost use Rattle.lpis_command_line.specs.private.Found.{IsInRegister};
 
 use crate::arguments::{
-    AREA, BLOCKS_WRITTEN, CERT, CERT_WRITTEN, COUNTRY, EXACT, FLATS_WRITTEN, IDENTIFIERS, Line,
-    PARCELS, POINTS, REGISTER, RELEASE, SUBMISSION, SUBMISSIONS, YEAR,
+    AREA, BLOCKS_WRITTEN, CERT, CERT_IF_ANY, CERT_WRITTEN, COUNTRY, EXACT, FLATS_WRITTEN,
+    IDENTIFIERS, Line, PARCELS, POINTS, REGISTER, RELEASE, SUBMISSION, SUBMISSIONS, YEAR,
 };
-use crate::files::{CountryFolder, NamedFile};
+use crate::files::{CountryFolder, NamedFile, file_at};
 use crate::words::{
     country_of, detail_of, exact_of, file_of, release_of, submission_of, tables_of, word_of,
     words_of, year_of,
@@ -33,7 +33,7 @@ pub(crate) const COMMANDS: [Line; 11] = [
     Line {
         name: "check",
         about: "Checks a release against a certificate, and prints its report",
-        arguments: &[RELEASE, CERT],
+        arguments: &[RELEASE, CERT_IF_ANY],
     },
     Line {
         name: "country",
@@ -93,6 +93,10 @@ pub enum Request<'a> {
     /// The check of a release against a certificate.
     Check {
         release: Folder<NamedFile<'a>>,
+    },
+    /// The check of a release against a certificate that is made of it and let go again.
+    CheckTables {
+        tables: Tables<NamedFile<'a>>,
     },
     /// The check of a country, region by region, and what is printed.
     Country {
@@ -169,13 +173,20 @@ fn cut_asked<'a>(matches: &ArgMatches<'a>) -> Option<Request<'a>>
     Some(Request::Cut { tables, cert })
 }
 
-/// `check` with its words.
+/// `check` with its words, of which the certificate may be left out.
 fn check_asked<'a>(matches: &ArgMatches<'a>) -> Option<Request<'a>>
     ensures { Finds (λ r. IsRequestNamed r (codes "check")
         (rows_of (found_of matches.now))) result }
 {
-    let release = release_of(matches)?;
-    Some(Request::Check { release })
+    let tables = tables_of(matches)?;
+    match word_of(matches, "cert") {
+        Some(path) => {
+            let cert = file_at(path, Name::Cert);
+            let release = Folder { tables, cert };
+            Some(Request::Check { release })
+        }
+        None => Some(Request::CheckTables { tables }),
+    }
 }
 
 /// `country` with its words.

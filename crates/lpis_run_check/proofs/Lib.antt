@@ -1,1 +1,2 @@
 pub mod OneAnswerLemmas
+pub mod TablesCheckLemmas

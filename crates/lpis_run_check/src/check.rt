@@ -17,7 +17,7 @@ use std::alloc::{AllocError, Global};
 use std::io::{Read, Write};
 
 /// The answer to a release that is a sound map.
-fn say_done(alloc: Global, release: &Release) -> Result<Answer, AllocError>
+pub(crate) fn say_done(alloc: Global, release: &Release) -> Result<Answer, AllocError>
     requires { IsSoundMap release.now }
     ensures { IfOk result (λ a. (a.text.items ≡ report_text release.now) × (a.status ≡ done)) }
 {

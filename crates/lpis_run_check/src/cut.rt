@@ -22,7 +22,7 @@ use std::alloc::{AllocError, Global};
 use std::io::{Read, Write};
 
 /// The line of a release that gets no certificate.
-fn refuse_release(alloc: Global, refusal: &Refusal) -> Result<Answer, AllocError>
+pub(crate) fn refuse_release(alloc: Global, refusal: &Refusal) -> Result<Answer, AllocError>
     ensures { IfOk result (λ a. (a.text.items ≡ cut_refusal_text refusal.now)
         × (a.status ≡ refused)) }
 {

@@ -5,7 +5,7 @@ use Rattle.clap.specs.declared.builder.ArgAction.TheVariants.{Append, Set, SetTr
 use Rattle.clap.specs.declared.builder.value_parser.ValueParser.TheVariants.{Unsigned}
 use Rattle.clap.specs.declared.builder.command.Command.{Command}
 use Rattle.clap.specs.declared.builder.command.Command.TheViews.{out-Command}
-use Rattle.lpis_command_line.specs.Commands.{word_rule}
+use Rattle.lpis_command_line.specs.Commands.{word_rule, word_rule_if_any}
 use Rattle.lpis_command_line.specs.declared.arguments.Argument.{Argument}
 use Rattle.lpis_command_line.specs.declared.arguments.Line.{Line}
 use Rattle.lpis_command_line.specs.declared.arguments.Takes.{Takes}
@@ -34,6 +34,7 @@ option_rule id = record (new_rule id) { long = Some id; action = Some Set; value
 -- the rule of an argument
 abbrev pub rule_taking : Takes → Text → Rule
 rule_taking takes.Word id = word_rule id
+rule_taking takes.WordIfAny id = word_rule_if_any id
 rule_taking takes.Words id = words_rule id
 rule_taking takes.Year id = year_rule id
 rule_taking takes.Nothing id = flag_rule id
