@@ -92,6 +92,7 @@ function drawingOf(land, focus, place, words) {
     pieces: frame.layer(land.pieces, { classes: land.pieces.map(piece => numbers.get(piece.landClass)) }),
     old: frame.layer(focus, { kinds: focus.map((_, number) => [number, 'fault']), words: focus.map(shape => shape.kind) }),
     tiles: frame.layer([]),
+    findings: frame.layer([]),
     classes, colours: MAP.colours, unit: frame.unit, whole, first: whole, near: near && frame.box(near),
     marks: places.map(([x, y]) => [...frame.at(x, y), words]), cells: { side: 1, counts: [] },
   };

@@ -62,6 +62,7 @@ _lpis_country() {
     *) _lpis_options '--parcels --lpis --quiet --help' -d ;;
   esac
 }
+_lpis_check() { _lpis_options '--out --accept --accept-from --between --classes --epsg --name --identifiers --previous --quiet --lpis --version --help'; }
 _lpis_explain() { _lpis_options '--cert --register --area --points --svg --geojson --epsg --status --name --codes --version --help'; }
 _lpis_faults() { _lpis_options '--html --epsg --lpis --version --help'; }
 _lpis_lineage() { _lpis_options '--register --check --rows --workers --quiet --help'; }
@@ -70,6 +71,7 @@ _lpis_report() { _lpis_options '--json --html --diff --jump --changes --accept-f
 _lpis_year() { _lpis_options '--new --year-anyway --register-anyway --audit --source --previous --jump --accept-from --verify --lpis --help'; }
 
 complete -o filenames -F _lpis lpis
+complete -o filenames -F _lpis_check lpis-check
 complete -o filenames -F _lpis_country lpis-country
 complete -o filenames -F _lpis_explain lpis-explain
 complete -o filenames -F _lpis_faults lpis-faults

@@ -66,8 +66,8 @@ def test_each_kind_of_fault(release):
     inner = {names for code, names in found if code in ("41", "43") and ("c6" in names or names == "inner")}
     assert len(inner) == 1, found
     assert {(code, names) for code, names in found if names not in inner} == WANTED
-    places = {f["properties"]["names"]: f["geometry"] for f in features}
-    assert 49.999 <= places["left right"]["coordinates"][0] <= 50
+    overlap = next(f["properties"] for f in features if f["properties"]["names"] == "left right")
+    assert 49.999 <= overlap["x"] <= 50
 
 
 def test_a_header_that_is_refused_is_the_one_fault(release):

@@ -102,6 +102,8 @@ class TestAlgorithms(Kept):
         wanted = sorted(feature["properties"]["code"] for feature in json.loads(read(out))["features"] if feature["geometry"])
         rows = [row["code"] for name in "pla" for row in layer(self.path(f"{name}.gpkg"))]
         assert (wanted, int(told.splitlines()[-1].split()[1])) == (sorted(rows), found["COUNT"])
+        (overlap,) = layer(self.path("a.gpkg"))
+        assert ("overlap", 3.0, 1) == (overlap["kind"], overlap["area_m2"], overlap["row"])
 
     def test_two_years(self):
         assert "published 2024" == self.run_it("publish", REGISTER=self.base, YEAR=2024, DIR=self.path("2024"), NEW="true")["VERDICT"]
@@ -173,6 +175,18 @@ class TestAlgorithms(Kept):
         rows = layer(self.path("findings.gpkg"))
         assert (1, [], {"shape", "stranger", "overlap", "gap"}) == (found["STATUS"], layer(self.path("nothing.gpkg")), {row["kind"] for row in rows} & {"shape", "stranger", "overlap", "gap"})
         assert all(row["geom"] for row in rows if row["kind"] in ("overlap", "gap")), rows
+        assert all(isinstance(row["area_m2"], float) for row in rows if row["kind"] in ("overlap", "gap")), rows
+
+    def test_findings_have_their_land(self):
+        """Before anything is accepted each conflict is a polygon with width and area, in the system of the source."""
+        source = dirty.make(self.path("conflicts.gpkg"), ["null", "wide"])
+        Path(self.path("shares.csv")).write_text("class,percent\nGRASS,100\nTREES,30\n", encoding="ascii")
+        found = self.run_it("preparerelease", PARCELS=f"{source}|layername=parcels", COVERS=f"{source}|layername=covers", CLASSES=self.path("shares.csv"), OUT=self.path("conflicts"),
+                            PARCEL_ID="parcel", PIECE_ID="piece", PIECE_PARCEL="parcel", PIECE_CLASS="class", LAND=self.path("polygons of findings.gpkg"))
+        rows = {row["kind"]: row for row in layer(self.path("polygons of findings.gpkg"))}
+        assert (1, {"overlap", "gap"}, 25832) == (found["STATUS"], set(rows), system(self.path("polygons of findings.gpkg")))
+        assert (0.2, 50.0) == (round(rows["overlap"]["area_m2"], 3), round(rows["gap"]["area_m2"], 3))
+        assert (0.02, 5.0, 1) == (round(rows["overlap"]["width_m"], 3), round(rows["gap"]["width_m"], 3), rows["gap"]["stops"])
 
     def points(self, name, points, number=25832):
         package = dirty.Package(self.path(name), number)

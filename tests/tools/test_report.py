@@ -335,6 +335,19 @@ class TestReports(Spare):
         assert (found["colours"], found["name"]) == ([page.FILLS[0], page.FILLS[1]], "parcel P12345\npiece P12345.2 W")
 
     @pytest.mark.skipif(not BUILT, reason="the program is not built")
+    def test_a_release_that_cut_refused(self):
+        """Without a certificate, since the cut was refused, the report has the faults as polygons; where the cut is not refused, the certificate is missing."""
+        self.program = BUILT
+        os.remove(self.path("cert.txt"))
+        run, told = self.report(folder=os.path.join(TOP, "examples", "overlap"))
+        assert (run.returncode, run.stdout.splitlines()[0], told["status"]) == (1, "refused 41 parcels west east at 50020 23980 1", 1), run.stderr
+        assert "faults 1\n  overlap west east (parcels 1), 3.000 m\u00b2, 0.100 m wide, at 50.020 23.980: 41: two parcels" in run.stdout
+        assert (told["faults"][0]["width_m"], told["faults"][0]["area_m2"], told["faults"][0]["row"]) == (pytest.approx(0.1, abs=0.001), 3.0, 1)
+        assert (self.shapes()["findings"]["names"], "answer of lpis cut" in self.html()) == (["overlap west east"], True)
+        run, told = self.report()
+        assert (run.returncode, told["answer"], told["faults"]) == (3, "failed read cert", []), run.stderr
+
+    @pytest.mark.skipif(not BUILT, reason="the program is not built")
     def test_of_the_program(self):
         cert = self.path("cert.txt")
         for folder in ("square", "overlap"):
@@ -346,7 +359,7 @@ class TestReports(Spare):
                 assert (run.returncode, told["answer"], told["area"], told["eligible"]) == (0, "yes", "100.0000000", "68.500000000"), run.stderr
             else:
                 assert (run.returncode, told["status"] in (1, 2), "faults" in told) == (told["status"], True, True), run.stderr
-                assert len(self.shapes()["marks"]) > 0
+                assert self.shapes()["findings"]["count"] > 0
         out = self.path("faults.html")
         ended_with(1, tool("faults", os.path.join(TOP, "examples", "overlap"), self.path("f.geojson"), "--html", out, "--lpis", BUILT))
-        assert "</i>faults: " in Path(out).read_text(encoding="utf-8")
+        assert "</i>stops: 1</span>" in Path(out).read_text(encoding="utf-8")

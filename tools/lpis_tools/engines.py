@@ -123,8 +123,8 @@ def faults_of(command, folder, refused, say):
         for feature in found:
             told = feature["properties"]
             names = told["line"] if told["where"] == "" or " row " not in told["line"] else (told["code"], told["names"])
-            if names not in lines:
-                lines.add(names)
+            if (names, told["kind"]) not in lines:
+                lines.add((names, told["kind"]))
                 told["region"] = region
                 features.append(feature)
     return features

@@ -1,9 +1,9 @@
-"""Finds all faults of a release by calling `lpis cut` on parts of it, and reports each as a point with its line, code and identifiers."""
+"""Finds all faults of a release by calling `lpis cut` on parts of it, and reports each as its polygons, or as a point, with its line, code and identifiers."""
 
 import itertools
 import sys
 
-from . import codes, cutting, polygons, rows
+from . import codes, cutting, polygons, rows, shapely_there
 
 MOST_PAIRS = 1_000_000  # parcels in heaps have as many as the square of their number
 
@@ -50,23 +50,62 @@ def faults_of_shapes(command, release):
     return faults
 
 
-def feature(code, line, where, names, place, exact):
-    """A fault as a point, or without one. 38 comes with the code of the text's fault."""
+def feature(code, line, names, row, place, exact):
+    """A fault as a point, or without one. 38 comes with the code of the text's fault. `row` is its table, the number of the row there and its line in the file."""
     inner = line.split(" wkt ")[1].split()[0] if code == "38" and " wkt " in line else ""
-    geometry = place and {"type": "Point", "coordinates": [float(place[0]) / 1000, float(place[1]) / 1000]}
-    return {"type": "Feature", "geometry": geometry,
-            "properties": {"code": f"{code} {inner}".strip(), "line": line, "where": where, "names": " ".join(names), "place": exact, "meaning": codes.CODES[inner or code][0]}}
+    x, y = (float(value) / 1000 for value in place) if place else (None, None)
+    table, number, file_line = row
+    where = f"{table}.csv row {number}, line {file_line}" if table else ""
+    return {"type": "Feature", "geometry": {"type": "Point", "coordinates": [x, y]} if place else None,
+            "properties": {"code": f"{code} {inner}".strip(), "kind": kind_of(code), "line": line, "where": where, "table": table, "row": number, "file_line": file_line,
+                           "names": " ".join(names), "place": exact, "x": x, "y": y, "width_m": None, "area_m2": None, "meaning": codes.CODES[inner or code][0]}}
+
+
+KINDS = {"33": "identifier", "34": "doubled", "35": "stranger", "36": "class", "37": "bare", "38": "shape", "40": "invalid", "41": "overlap", "42": "overlap", "43": "gap", "44": "gap"}
+
+
+def kind_of(code):
+    """What tools/prepare calls the finding of a code, where its land is not known."""
+    return KINDS.get(code, "table")
+
+
+def shown(feature, places):
+    """A fault as its polygons, one feature for each kind: a parcel may have a gap, and pieces that leave it. The point where nothing has an area."""
+    for place in places:
+        geometry = {"type": "MultiPolygon", "coordinates": place.members}
+        yield {**feature, "geometry": geometry, "properties": {**feature["properties"], "kind": place.kind, "width_m": place.width and round(place.width, 6), "area_m2": round(place.area, 6)}}
+    if not places:
+        yield feature
+
+
+def places_there():
+    """What finds the polygons of a fault; without Shapely nothing does."""
+    if not shapely_there.is_there():
+        print("faults: points in place of polygons, since Shapely is not there", file=sys.stderr)
+        return lambda *_: []
+    from .fault_places import places_of
+
+    return places_of
 
 
 def features_of(release, faults):
-    features = [feature(fault.code, fault.line, f"{fault.table}.csv row {fault.row}, line {fault.file_line}", fault.names, None, "none")
-                for fault in release.faults]
+    """Faults of rows, then those of shapes: each its polygons, or the point."""
+    features, places_of = [], places_there() if release.faults or faults else None
+    for fault in release.faults:
+        point = fault.members[0][0][0] if fault.members else None
+        one = feature(fault.code, fault.line, fault.names, (fault.table, fault.row, fault.file_line), point, "a corner" if point else "none")
+        features += shown(one, places_of(fault.code, [fault.members], []))
+    pieces = {parcel.name: [members for _, members in parcel.pieces] for parcel in release.parcels} if faults else {}
     for fault in faults:
-        name = fault.names[0]
-        shape, where = release.shape_of(fault.kind, name)
-        place, exact = (fault.place, "reported") if fault.place else (shape[0][0][0] if shape else None, "a corner")
-        features.append(feature(fault.code, fault.line(), where, fault.names, place, exact))
+        shapes, rows_there = zip(*(release.shape_of(fault.kind, name) for name in fault.names))
+        place, exact = (fault.place, "reported") if fault.place else (shapes[0][0][0][0] if shapes[0] else None, "a corner")
+        features += shown(feature(fault.code, fault.line(), fault.names, rows_there[0], place, exact), places_of(fault.code, shapes, pieces.get(fault.names[0], [])))
     return features
+
+
+def count_of(features):
+    """How many faults there are: one may have several places."""
+    return len({one["properties"]["line"] for one in features})
 
 
 def find(command, folder):

@@ -2,6 +2,7 @@
 // The map of a page, of what `data.map` has: drawn on a canvas, moved by dragging and enlarged by the wheel. A shape is found by its name.
 
 const FEW = 256; // shapes between two looks at the clock
+const SEEN = 14; // pixels: a smaller finding has a mark around it
 const TINY = 1.3, SMALL = 3; // pixels: a smaller shape is a dot; a smaller parcel has no border
 
 // Shapes: whole numbers, five bits a letter, each point as its step from the one before; or unpacked already.
@@ -63,9 +64,10 @@ class Chart {
 
   /** Takes what `data` has now. */
   load() {
-    for (const name of ['parcels', 'pieces', 'old', 'tiles']) this[name] = unpacked(data.map[name]);
+    for (const name of ['parcels', 'pieces', 'old', 'tiles', 'findings']) this[name] = unpacked(data.map[name]);
     this.ground = null; // what is drawn, and of which view
     this.chosen = null;
+    this.visited = -1; // the finding that was shown last
     this.fit(data.map.first);
   }
 
@@ -212,6 +214,7 @@ class Chart {
     this.drawKinds(context, view, parcels, []);
     this.drawKinds(context, view, this.old, [6, 4]);
     this.drawTiles(context, view);
+    this.drawFindings(context, view);
     this.canvas.dataset.drawn = `parcels ${drawn.parcels} pieces ${drawn.pieces}`;
   }
 
@@ -230,6 +233,45 @@ class Chart {
       }
     });
     context.setLineDash([]);
+  }
+
+  /** The findings, those that stop above the others; each can be seen, however small it is. */
+  drawFindings(context, view) {
+    const { findings } = this;
+    for (let i = findings.count - 1; i >= 0; i--) {
+      if (!this.isSeen(findings, i, view)) continue;
+      const colour = data.map.colours[findings.kinds[i][1]];
+      context.beginPath();
+      this.trace(context, view, findings, i);
+      context.globalAlpha = 0.35; context.fillStyle = colour; context.fill('evenodd'); context.globalAlpha = 1;
+      this.stroke(context, colour, 2);
+      if (this.size(findings, i, view) >= SEEN) continue;
+      const [x, y] = this.middle(findings, i, view);
+      context.beginPath();
+      context.arc(x, y, 6.5, 0, 7);
+      this.stroke(context, 'white', 5);
+      this.stroke(context, colour, 2.5);
+    }
+  }
+
+  /** The pixel in the middle of a shape's box. */
+  middle({ boxes }, i, view) {
+    return [((boxes[4 * i] + boxes[4 * i + 2]) / 2 - view.x) * view.scale, ((boxes[4 * i + 1] + boxes[4 * i + 3]) / 2 - view.y) * view.scale];
+  }
+
+  /** Whether a place is in a finding, or in the mark around it. */
+  isOnFinding(i, x, y, pixelX, pixelY) {
+    const [middleX, middleY] = this.middle(this.findings, i, this.view);
+    return isInside(this.findings, i, x, y) || this.size(this.findings, i, this.view) < SEEN && Math.hypot(middleX - pixelX, middleY - pixelY) < 9;
+  }
+
+  /** Shows the next finding, or by -1 the one before. */
+  visit(step) {
+    if (!this.findings.count) return;
+    this.visited = (this.visited + step + this.findings.count) % this.findings.count;
+    this.go('findings', this.visited);
+    const [x, y] = this.middle(this.findings, this.visited, this.view);
+    this.name(x, y);
   }
 
   drawCells(context, view) {
@@ -262,6 +304,12 @@ class Chart {
     data.map.marks.forEach(([markX, markY, text]) => {
       if (words.length < 4 && Math.hypot(markX - x, markY - y) * view.scale < 8) words.push(text);
     });
+    for (let i = 0, found = 0; i < this.findings.count && found < 4; i++) {
+      if (!this.isOnFinding(i, x, y, pixelX, pixelY)) continue;
+      found++;
+      words.push(`${this.findings.kinds[i][1]}: ${this.findings.names[i]}, ${this.findings.words[i]}`);
+      shapes.push([this.findings, i]);
+    }
     for (const [name, layer] of [['parcel', this.parcels], ['piece', this.pieces], ['', this.old], ['region', this.tiles]]) {
       for (let i = 0, found = 0; i < layer.count && found < 4; i++) {
         if (!isInside(layer, i, x, y)) continue;
@@ -290,8 +338,10 @@ class Chart {
       this.fit([x - half, y - half, 2 * half, 2 * half]);
     } else {
       const layer = this[name], [left, top, right, low] = layer.boxes.subarray(4 * i, 4 * i + 4);
+      const wide = name === 'findings' ? 1000 / data.map.unit : 0, width = Math.max(right - left, wide), height = Math.max(low - top, wide); // at least a metre
       this.chosen = [layer, i];
-      this.fit([left, top, right - left, low - top], 0.6);
+      if (name === 'findings') this.visited = i;
+      this.fit([(left + right - width) / 2, (top + low - height) / 2, width, height], 0.6);
     }
     this.label.hidden = true;
     document.querySelector('.frame').scrollIntoView({ block: 'nearest' });
@@ -330,6 +380,16 @@ function listen(map) {
   document.querySelectorAll('[data-zoom]').forEach(button => button.addEventListener('click', () => map.zoom(Number(button.dataset.zoom))));
   document.querySelectorAll('[data-show]').forEach(button => button.addEventListener('click', () => map.fit(data.map[button.dataset.show])));
   window.addEventListener('resize', () => { map.measure(); map.show(); });
+  canvas.addEventListener('keydown', event => {
+    const step = 60, done = {
+      ArrowLeft: () => map.move(step, 0), ArrowRight: () => map.move(-step, 0), ArrowUp: () => map.move(0, step), ArrowDown: () => map.move(0, -step),
+      '+': () => map.zoom(1.5), '=': () => map.zoom(1.5), '-': () => map.zoom(1 / 1.5), 0: () => map.fit(data.map.first), n: () => map.visit(1), p: () => map.visit(-1),
+    }[event.key];
+    if (!done || event.ctrlKey || event.metaKey || event.altKey) return;
+    event.preventDefault();
+    map.label.hidden = true;
+    done();
+  });
 }
 
 // Search: what is called so, then what begins so, then what has it inside, in any case.

@@ -11,7 +11,7 @@ document.querySelectorAll('table.sorted').forEach((table, number) => {
   const line = i => {
     const row = document.createElement('tr');
     row.dataset.row = i;
-    if (keys[i]) row.className = 'row';
+    if (keys[i]) { row.className = 'row'; row.tabIndex = 0; }
     rows[i].forEach((text, column) => {
       const cell = row.insertCell();
       cell.textContent = text;
@@ -39,6 +39,13 @@ document.querySelectorAll('table.sorted').forEach((table, number) => {
     const row = event.target.closest('tr.row');
     if (row && map) map.go(...keys[row.dataset.row]);
   });
+});
+
+// A row and a head do by Enter and by the space bar what they do by a click.
+document.addEventListener('keydown', event => {
+  if ((event.key !== 'Enter' && event.key !== ' ') || !event.target.matches('tr.row, table.sorted th')) return;
+  event.preventDefault();
+  event.target.click();
 });
 
 const canvas = document.querySelector('canvas.map');

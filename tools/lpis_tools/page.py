@@ -21,10 +21,13 @@ FAR = 2_000_000_000  # steps of the map's unit
 LETTERS = string.digits + string.ascii_letters + "-_"
 FILLS = ["#a6cee3", "#b2df8a", "#fdbf6f", "#cab2d6", "#ffff99", "#fb9a99", "#8dd3c7", "#d9d9d9", "#bebada", "#fccde5", "#ccebc5", "#ffed6f"]
 COLOURS = {"parcel": "#333333", "chosen": "#0000ff", "fault": "#d00000", "new": "#0b6e4f", "changed": "#b06500", "moved": "#7b3294", "gone": "#777777", "region": "#222222",
+           "stops": "#d00000", "accepted": "#b06500", "told": "#2166ac",
            "cells": [f"rgb({230 - 20 * n},{240 - 11 * n},255)" for n in range(10)]}
-WORDS = {"parcel": "border of a parcel", "chosen": "chosen by a click", "fault": "fault", "new": "new", "changed": "of another area", "moved": "moved, with its identifier",
-         "gone": "gone, as it was", "region": "border of a region"}
-LAYERS = ("parcels", "pieces", "old", "tiles")
+WORDS = {"parcel": "border of a parcel", "chosen": "chosen by a click", "new": "new", "changed": "of another area", "moved": "moved, with its identifier",
+         "gone": "gone, as it was", "region": "border of a region", "stops": "stops", "accepted": "accepted", "told": "told"}
+LAYERS = ("parcels", "pieces", "old", "tiles", "findings")
+KINDS = ("new", "changed", "moved", "gone", "stops", "accepted", "told")
+MOVED = "Map. Arrow keys move it, + and - enlarge and shrink it, 0 shows the whole, n and p go to the next and the previous finding."
 
 
 def escaped(text):
@@ -42,6 +45,7 @@ class Table:
     keys: list = field(default_factory=list)
     heads: dict = field(default_factory=dict)  # what stands in a column's head in place of its sum
     is_mixed: bool = False  # its rows are of several kinds, so that no column has a sum
+    is_lead: bool = False  # it stands right below the map
 
     def key(self, number):
         return self.keys[number] if number < len(self.keys) else None
@@ -84,11 +88,11 @@ class Steps(dict):
 class Map:
     """Layers and marks in one frame of whole numbers, north above."""
 
-    def __init__(self, parcels=None, pieces=None, old=None, tiles=None, marks=(), cells=None, strays=()):
+    def __init__(self, parcels=None, pieces=None, old=None, tiles=None, marks=(), cells=None, strays=(), findings=None, of_mark="faults"):
         """Lengths in millimetres. Marks are (x, y, words), cells the side of a square and (column, row from the north, count), strays names of parcels that the
-        first view leaves out."""
-        self.layers = {name: layer or Layer() for name, layer in zip(LAYERS, (parcels, pieces, old, tiles))}
-        self.marks, self.note, self.strays = list(marks), "", set(strays)
+        first view leaves out. `of_mark` says in the legend what a mark is."""
+        self.layers = {name: layer or Layer() for name, layer in zip(LAYERS, (parcels, pieces, old, tiles, findings))}
+        self.marks, self.note, self.strays, self.of_mark = list(marks), "", set(strays), of_mark
         pieces = self.layers["pieces"]
         self.fills = fills_of(sorted(set(pieces.classes or [])))
         points = sum(len(ring) for members in pieces.shapes for member in members for ring in member)
@@ -101,8 +105,17 @@ class Map:
         self.unit = int(max(right - left, self.top - low) // FAR) + 1
         self.whole = self.frame((left, low, right, self.top))
         near = [shape for name, shape in zip(self.layers["parcels"].names, self.layers["parcels"].shapes) if name not in self.strays]
+        near += self.beside(polygons.box(near))
         self.first = self.frame(polygons.box(near or shapes) or (0, 0, 1, 1))
         self.cells = cells or (1, [])
+
+    def beside(self, box):
+        """Pieces and findings no farther from a box than half its size: the first view has them too."""
+        if box is None:
+            return []
+        about = max(box[2] - box[0], box[3] - box[1]) / 2
+        shapes = [*self.layers["pieces"].shapes, *self.layers["findings"].shapes, *([[[mark[:2]]]] for mark in self.marks)]
+        return [shape for shape in shapes if box[0] - about <= shape[0][0][0][0] <= box[2] + about and box[1] - about <= shape[0][0][0][1] <= box[3] + about]
 
     def at(self, x, y):
         return (x - self.left) / self.unit, (self.top - y) / self.unit
@@ -147,21 +160,21 @@ class Map:
         there = [(fill, name or "(no class)") for name, fill in self.fills.items() if self.layers["pieces"].names]
         there += [(COLOURS["parcel"], WORDS["parcel"])] * bool(self.layers["parcels"].names)
         kinds = [kind for layer in self.layers.values() for _, kind in layer.kinds]
-        there += [(COLOURS[kind], f"{WORDS[kind]}: {kinds.count(kind)}") for kind in ("new", "changed", "moved", "gone") if kind in kinds]
+        there += [(COLOURS[kind], f"{WORDS[kind]}: {kinds.count(kind)}") for kind in KINDS if kind in kinds]
         there += [(COLOURS["region"], WORDS["region"])] * bool(self.layers["tiles"].names)
         if self.cells[1]:
             most = max(count for _, _, count in self.cells[1])
             there += [(COLOURS["cells"][0], "a few parcels"), (COLOURS["cells"][9], f"{printing.counted(most, 'parcel')} in a square of {self.cells[0] / 1000:.0f} m")]
-        there += [(COLOURS["fault"], f"{WORDS['fault']}s: {len(self.marks)}")] * bool(self.marks)
+        there += [(COLOURS["fault"], f"{self.of_mark}: {len(self.marks)}")] * bool(self.marks)
         there.append((COLOURS["chosen"], WORDS["chosen"]))
         return "".join(f'<span><i style="background:{fill}"></i>{escaped(words)}</span>' for fill, words in there)
 
     def text(self):
         is_far = any(self.whole[side] > 1.5 * self.first[side] for side in (2, 3))
         stray = '<button data-show="whole">with what lies far away</button>' if is_far else ""
-        return (f'<div class="frame"><div class="bar"><button data-zoom="2">+</button><button data-zoom="0.5">&minus;</button><button data-show="first">whole</button>{stray}'
+        return (f'<div class="frame"><div class="bar"><button data-zoom="2" aria-label="enlarge the map">+</button><button data-zoom="0.5" aria-label="shrink the map">&minus;</button><button data-show="first">whole</button>{stray}'
                 f'<input id="search" type="search" placeholder="search an identifier" aria-label="search an identifier"><span id="found"></span></div>'
-                f'<canvas class="map"></canvas><div id="name" hidden></div></div><p>{escaped(self.note)}</p><p class="legend">{self.legend()}</p>')
+                f'<canvas class="map" tabindex="0" role="application" aria-label="{MOVED}"></canvas><div id="name" hidden></div></div><p>{escaped(self.note)}</p><p class="legend">{self.legend()}</p>')
 
 
 def fills_of(names):
@@ -180,11 +193,11 @@ def table_text(table, number):
         areas = [Decimal(row[column]) for row in table.rows if row[column] not in ("", None)] if is_number and not table.is_mixed and name.endswith("m\u00b2") else []
         more = table.heads.get(column) or (f"in all {hectares(sum(areas))}" if areas else "")
         more = f"<small>{escaped(more)}</small>" if more else ""
-        heads.append(f'<th{" class=number" if is_number else ""}>{escaped(name.lstrip("#"))}{more}</th>')
+        heads.append(f'<th scope=col tabindex=0{" class=number" if is_number else ""}>{escaped(name.lstrip("#"))}{more}</th>')
     lines = []
     for row_number, row in enumerate(table.rows[:FIRST_ROWS]):
         cells = "".join(f'<td{" class=number" if name.startswith("#") else ""}>{escaped(cell)}</td>' for cell, name in zip(row, table.columns))
-        lines.append(f'<tr data-row="{row_number}"{" class=row" if table.key(row_number) else ""}>{cells}</tr>')
+        lines.append(f'<tr data-row="{row_number}"{" class=row tabindex=0" if table.key(row_number) else ""}>{cells}</tr>')
     rest = len(table.rows) - len(lines)
     return (f"<h2>{escaped(table.title)}</h2><div class=scroll><table class=sorted><thead><tr>{''.join(heads)}</tr></thead><tbody>\n" + "\n".join(lines)
             + f'\n</tbody></table></div><p id="more{number}"{"" if rest else " hidden"}><button>{rest} more</button></p>')
@@ -201,11 +214,15 @@ def data_text(chart, tables):
     return json.dumps(data, ensure_ascii=False, separators=(",", ":"), default=str).replace("<", "\\u003c")
 
 
-def page(title, answer, is_yes, facts, chart, tables):
-    """The whole page. `facts` are pairs of words, `answer` the line of lpis."""
+def page(title, answer, is_yes, facts, chart, tables, lead=()):
+    """The whole page. `facts` are pairs of words, `answer` the line of lpis, `lead` lines below it. The map is first, with the tables that lead."""
     rows = "".join(f"<tr><td>{escaped(name)}</td><td>{escaped(value)}</td></tr>" for name, value in facts)
     verdict = f'<p class="{"yes" if is_yes else "no"}">{escaped(answer)}</p>' if answer else ""
+    verdict += "".join(f"<p class=lead>{escaped(words)}</p>" for words in lead)
+    tables = sorted(tables, key=lambda table: not table.is_lead)
+    texts = [table_text(table, number) for number, table in enumerate(tables)]
+    above, below = ([text for text, table in zip(texts, tables) if table.is_lead == is_above] for is_above in (True, False))
     return (f'<!DOCTYPE html>\n<html lang="en"><head><meta charset="utf-8"><meta name="viewport" content="width=device-width, initial-scale=1"><title>{escaped(title)}</title>'
-            f'<style>{beside("page.css")}</style></head><body>\n<h1>{escaped(title)}</h1>{verdict}\n<table class=facts>{rows}</table>\n{"<h2>Map</h2>" + chart.text() if chart else ""}\n'
-            + "\n".join(table_text(table, number) for number, table in enumerate(tables))
+            f'<style>{beside("page.css")}</style></head><body>\n<h1>{escaped(title)}</h1>{verdict}\n{"<h2>Map</h2>" + chart.text() if chart else ""}\n'
+            + "\n".join([*above, f"<h2>Facts</h2><table class=facts>{rows}</table>", *below])
             + f'\n<script id="data" type="application/json">{data_text(chart, tables)}</script>\n<script>{beside("map.js")}{beside("page.js")}</script></body></html>\n')

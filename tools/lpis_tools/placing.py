@@ -1,6 +1,7 @@
 """Files that take their place together: afterwards all of them are the new ones, or all are those that stood there.
 
-    placing.put(made, out, names)     files of `made`, a folder in `out` whose name begins with a dot, take their place
+    placing.put(made, out, names)     files of `made`, a folder in `out` whose name begins with a dot, take their place;
+                                      those of `gone` leave theirs at once
     placing.end(out)                  ends what a run that was killed had begun there
 
 The new files are on the disk before the journal is. With the journal it is decided: the old files go aside, then the
@@ -33,8 +34,8 @@ PARTLY = "some files are in their place in {}, and others not; the next run on i
 class Move:
     """Files on their way from a folder to that in which it lies; where each one is tells how far they have come."""
 
-    def __init__(self, out: str, made: str, names: list[str]):
-        self.out, self.made, self.names = out, os.path.join(out, made), names
+    def __init__(self, out: str, made: str, names: list[str], gone: Iterable[str] = ()):
+        self.out, self.made, self.names, self.gone = out, os.path.join(out, made), names, list(gone)
 
     def paths(self, name: str) -> tuple[str, ...]:
         """Where a file is new, where it is put, and where that goes that stood there."""
@@ -42,6 +43,8 @@ class Move:
 
     def make_ready(self) -> None:
         """Gives the new files the modes of those that stand, and has the disk write them. No folder is replaced."""
+        for name in self.gone:
+            os.makedirs(os.path.dirname(self.paths(name)[2]), exist_ok=True)
         for name in self.names:
             new, place, old = self.paths(name)
             if os.path.isdir(place) and not os.path.islink(place):
@@ -62,6 +65,9 @@ class Move:
         for new, place, old in map(self.paths, self.names):
             if os.path.lexists(new) and os.path.lexists(place):
                 os.replace(place, old)
+        for _, place, old in map(self.paths, self.gone):
+            if os.path.lexists(place):
+                os.replace(place, old)
         for new, place, _ in map(self.paths, self.names):
             if os.path.lexists(new):
                 os.replace(new, place)
@@ -73,6 +79,9 @@ class Move:
         for new, place, old in map(self.paths, self.names):
             if not os.path.lexists(new):
                 os.replace(place, new)
+            if os.path.lexists(old):
+                os.replace(old, place)
+        for _, place, old in map(self.paths, self.gone):
             if os.path.lexists(old):
                 os.replace(old, place)
 
@@ -93,14 +102,15 @@ class Move:
         return [name for name in self.names if not any(map(os.path.lexists, self.paths(name)[:2]))]
 
 
-def put(made: str, out: str, names: Iterable[str], then: str = "") -> None:
-    """Puts files in their place, all or none. `then` is what a signal tells that comes from then on."""
-    names = list(names)
+def put(made: str, out: str, names: Iterable[str], then: str = "", gone: Iterable[str] = ()) -> None:
+    """Puts files in their place, all or none; files of the names in `gone` go, where they are there. `then` is what a
+    signal tells that comes from then on."""
+    names, gone = list(names), [name for name in gone if os.path.lexists(os.path.join(out, name))]
     with ending.held():
-        if len(names) == 1:
+        if len(names) == 1 and not gone:
             files.settle(os.path.join(made, names[0]), os.path.join(out, names[0]))
-        elif names:
-            together(Move(out, os.path.relpath(made, out), names))
+        elif names or gone:
+            together(Move(out, os.path.relpath(made, out), names, gone))
         if then:
             ending.tell(then)
 
@@ -125,7 +135,7 @@ def begun(move: Move) -> tuple[str, int]:
         handle = os.open(name, os.O_RDWR | os.O_CLOEXEC)
         with contextlib.suppress(OSError):  # a file system without locks
             fcntl.flock(handle, fcntl.LOCK_EX | fcntl.LOCK_NB)
-        os.write(handle, json.dumps([os.path.relpath(move.made, move.out), move.names]).encode())
+        os.write(handle, json.dumps([os.path.relpath(move.made, move.out), move.names, move.gone]).encode())
         os.fsync(handle)
     flush(move.out)
     return path, handle
@@ -189,9 +199,9 @@ def told(error: OSError, out: str) -> str:
 def read(file: TextIO, out: str) -> Move:
     """What a journal says. It moves files in its own folder alone, whoever wrote it."""
     try:
-        made, names = json.load(file)
-        move = Move(out, made, names)
-        is_one = all(map(is_inner, [made, *names])) and made.startswith(".")
+        made, names, *more = json.load(file)
+        move = Move(out, made, names, *more)
+        is_one = all(map(is_inner, [made, *names, *move.gone])) and made.startswith(".")
         is_one = is_one and os.path.isdir(move.made) and not os.path.islink(move.made)
     except (ValueError, TypeError, UnicodeError):
         is_one = False

@@ -7,7 +7,7 @@ import os
 from collections import Counter
 from decimal import Decimal
 
-from . import files, origin, page, polygons, registers
+from . import files, finding, found, origin, page, polygons, registers
 from . import report as reports
 from .areas import AREA, both, decimal, hectares
 from .printing import counted
@@ -15,8 +15,8 @@ from .printing import counted
 MOST_STRAYS = 20  # that are named
 
 
-def chart_of(land, marks, old=None, kinds=None):
-    """The map of a release. `old` has shapes of an older one, `kinds` what became of parcels."""
+def chart_of(land, marks, old=None, kinds=None, findings=None):
+    """The map of a release. `old` has shapes of an older one, `kinds` what became of parcels, `findings` the polygons of what is wrong."""
     kinds = kinds or {}
     parcels, pieces = page.Layer(), page.Layer(classes=[])
     for name, members in land.parcels.items():
@@ -24,7 +24,7 @@ def chart_of(land, marks, old=None, kinds=None):
     for name, _, land_class, members in land.pieces:
         pieces.add(name, members)
         pieces.classes.append(land_class)
-    return page.Map(parcels, pieces, old, marks=marks, strays=reports.strays(land))
+    return page.Map(parcels, pieces, old, marks=marks, strays=reports.strays(land), findings=findings)
 
 
 def numbers_of(land):
@@ -32,54 +32,31 @@ def numbers_of(land):
     return {name: ("parcels", number) for number, name in enumerate(land.parcels)}
 
 
-def marks_of(features):
-    """Points of GeoJSON, in metres, as marks in millimetres; and the numbers of the marks of the features."""
-    marks, numbers = [], []
-    for one in features:
-        numbers.append(len(marks) if one["geometry"] else None)
-        if one["geometry"]:
-            x, y = one["geometry"]["coordinates"]
-            marks.append((x * 1000, y * 1000, f"{one['properties']['code']} {one['properties']['names']}: {one['properties']['meaning']}"))
-    return marks, numbers
-
-
-def faults_table(features, numbers, land):
-    parcels, owner = numbers_of(land), {piece[0]: piece[1] for piece in land.pieces}
-    rows, keys = [], []
-    for one, number in zip(features, numbers):
-        words = one["properties"]
-        place = "{:.4f} {:.4f}".format(*one["geometry"]["coordinates"]) if one["geometry"] else ""
-        rows.append([words["code"], words["names"], words["where"], place, words["meaning"]])
-        of_parcel = next((parcels[found] for name in words["names"].split() for found in (name, owner.get(name)) if found in parcels), None)
-        keys.append(of_parcel or (("marks", number) if number is not None else None))
-    return page.Table("Faults", ["code", "identifiers", "row", "place", "meaning"], rows, keys)
-
-
 def write_faults(path, folder, features):
     """The page of `tools/faults`."""
-    land = reports.read(folder)
-    marks, numbers = marks_of(features)
+    land, picture = reports.read(folder), found.Picture(found.of_features(features))
     facts = [("release", os.path.abspath(folder)), ("made", datetime.datetime.now(datetime.timezone.utc).strftime("%Y-%m-%d %H:%M UTC")),
-             ("parcels", len(land.parcels)), ("pieces", len(land.pieces)), ("faults", len(features))]
+             ("parcels", len(land.parcels)), ("pieces", len(land.pieces)), ("faults", finding.count_of(features))]
     title = f"Faults of {os.path.basename(os.path.abspath(folder))}"
-    answer = counted(len(features), "fault") if features else "no faults"
-    write(path, page.page(title, answer, not features, facts, chart_of(land, marks), [faults_table(features, numbers, land)]))
+    answer = counted(finding.count_of(features), "fault") if features else "no faults"
+    write(path, page.page(title, answer, not features, facts, chart_of(land, picture.marks, findings=picture.layer), picture.tables()))
 
 
-def write_release(path, report):
-    """The page of a report."""
+def write_release(path, report, title="", lead=()):
+    """The page of a report, with its findings: faults of the release, and what was found before its tables were made."""
     facts, land = report.facts, report.land
-    marks, numbers = marks_of(report.features)
-    if not marks and "place" in facts.get("refusal", {}):
-        marks = [(*(float(value) * 1000 for value in facts["refusal"]["place"]), facts["refusal"]["line"])]
+    findings = found.of_package(os.path.join(report.folder, found.PACKAGE), is_settled=True)
+    picture = found.Picture([*found.of_features(report.features), *findings])
+    marks = picture.marks
+    if not report.features and "place" in facts.get("refusal", {}):
+        marks = [*marks, (*(float(value) * 1000 for value in facts["refusal"]["place"]), facts["refusal"]["line"])]
     old, kinds = older(report)
-    tables = [faults_table(report.features, numbers, land)] if report.features else []
-    tables.append(classes_table(facts["classes"]))
+    tables = [*picture.tables(), classes_table(facts["classes"])]
     tables += origin_tables(facts["origin"])
     tables += difference_tables(report, old)
     tables.append(parcels_table(report))
-    title = f"Release {os.path.basename(facts['folder'])}"
-    write(path, page.page(title, facts["answer"], facts["answer"] == "yes", facts_of(facts), chart_of(land, marks, old, kinds), tables))
+    chart = chart_of(land, marks, old, kinds, picture.layer)
+    write(path, page.page(title or f"Release {os.path.basename(facts['folder'])}", facts["answer"], facts["answer"] == "yes", facts_of(facts), chart, tables, lead))
 
 
 def write(path, text):
@@ -91,7 +68,7 @@ def facts_of(facts):
     """The head of the page."""
     made = facts["program"]
     name = " ".join(filter(None, [made["version"], made["commit"] and f"commit {made['commit']}", made["kit"]])) or made["path"]
-    rows = [*(("before the tables", words) for words in origin.lines(facts["origin"])), ("made", facts["date"]), ("release", facts["folder"]), ("answer of lpis check", f"{facts['answer']} (status {facts['status']})"), ("program", name),
+    rows = [*(("before the tables", words) for words in origin.lines(facts["origin"])), ("made", facts["date"]), ("release", facts["folder"]), (f"answer of lpis {'check' if 'certificate' in facts['files'] else 'cut'}", f"{facts['answer']} (status {facts['status']})"), ("program", name),
             ("sha256 of the program", made["sha256"]), *((f"sha256 of {name}", f"{file['sha256']} ({file['bytes']} bytes)") for name, file in facts["files"].items()),
             ("parcels", facts["parcels"]), ("pieces", facts["pieces"]), ("area", both(facts["area"])), ("eligible area", both(facts["eligible"]))]
     if facts["extent"]:

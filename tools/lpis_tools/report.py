@@ -6,6 +6,7 @@ from __future__ import annotations
 import contextlib
 import datetime
 import os
+import tempfile
 from dataclasses import dataclass, field
 
 from . import codes, differences, ending, explaining, ledger, origin, polygons, program, registers
@@ -15,6 +16,7 @@ from .tables import Table, path_of, shown
 from .trouble import Trouble
 
 TABLES = ("parcels", "covers", "classes")
+LACKING = "failed read cert"
 MOST_DIGITS = 9  # of a percentage that is shown; more are refused as it is
 
 
@@ -114,13 +116,15 @@ def report_lines(text):
 
 @dataclass
 class Report:
-    """What is known of a release: `facts` is what the JSON has, `parcels` the areas that lpis printed, `features` the faults."""
+    """What is known of a release in a folder: `facts` is what the JSON has, `parcels` the areas that lpis printed, `features` the faults."""
 
     facts: dict
     land: Land
     parcels: dict
     before: Land | None = None
     features: list = field(default_factory=list)
+    folder: str = ""
+    text: str = ""  # what lpis printed
 
 
 def of_program(command):
@@ -146,11 +150,21 @@ def files_of(folder, cert):
     return digests({**paths, **origin.paths(folder)})
 
 
+def checked(command, folder, cert):
+    """What `lpis check` says; of a release that has no certificate, since `lpis cut` refuses it, what that says."""
+    run = ending.run(program.call(command, "check", folder, cert), capture_output=True, text=True, check=False)
+    if os.path.lexists(cert) or answer_of(run) != LACKING:
+        return run
+    with tempfile.TemporaryDirectory() as spare:
+        cut = ending.run(program.call(command, "cut", folder, os.path.join(spare, "cert.txt")), capture_output=True, text=True, check=False)
+    return cut if cut.returncode in (1, 2) else run
+
+
 def make(command, folder, cert, old=None, register=None):
-    """Runs `lpis check`, and reports what is known of a release."""
+    """Runs `lpis check`, or `lpis cut` where it refuses to make the certificate, and reports what is known of a release."""
     began = datetime.datetime.now(datetime.timezone.utc)
     files = files_of(folder, cert)
-    run = ending.run(program.call(command, "check", folder, cert), capture_output=True, text=True, check=False)
+    run = checked(command, folder, cert)
     if files_of(folder, cert) != files:
         raise Trouble("a table or the certificate changed while it was read: make the report again")
     answer, land = answer_of(run), read(folder)
@@ -169,7 +183,7 @@ def make(command, folder, cert, old=None, register=None):
     before = read(old) if old is not None else None
     if before is not None:
         facts["difference"] = {"old": os.path.abspath(old), **differences.difference(before, land, folder)}
-    return Report(facts, land, parcels, before)
+    return Report(facts, land, parcels, before, folder=folder, text=run.stdout)
 
 
 def refusal_of(line, folder, cert):

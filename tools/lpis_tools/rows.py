@@ -12,6 +12,7 @@ from .tables import COLUMNS, KEYS, Table, path_of, shown
 NAMES = ("parcels", "covers", "classes")
 MOST_ROWS = 200_000
 ROWS_A_CALL = 50_000
+NO_ROW = ("", None, None)
 MOST_FAULTS = 1_000  # of one table: where a whole column is wrong, listing more would take an hour
 
 
@@ -23,6 +24,7 @@ class RowFault:
     row: int
     file_line: int
     names: list
+    members: list | None = None  # of its shape, where that can be read
 
 
 @dataclass
@@ -30,12 +32,12 @@ class Release:
     faults: list = field(default_factory=list)
     parcels: list = field(default_factory=list)
     incomplete: set = field(default_factory=set)  # parcels of which a piece's row is faulty
-    shapes: dict = field(default_factory=dict)  # (parcel or piece, identifier) to (members, where)
+    shapes: dict = field(default_factory=dict)  # (parcel or piece, identifier) to (members, (table, row, line of the file))
     is_sound: bool = False
     is_cut_off: bool = False  # more faults of rows than are looked for: shapes are not looked at
 
     def shape_of(self, kind, name):
-        return self.shapes.get((kind.rstrip("s"), name), (None, ""))
+        return self.shapes.get((kind.rstrip("s"), name), (None, NO_ROW))
 
 
 def read_release(command, folder, shower):
@@ -66,7 +68,8 @@ def read_release(command, folder, shower):
 def add(release, bad, table, row, code, line=None):
     record = table.record(row)
     names = [shown(table.field(record, name)) for name in COLUMNS[table.name] if name not in ("wkt", "percent", "eligible", "class")]
-    release.faults.append(RowFault(code, line or f"refused {code} {table.name} row {row}", table.name, row, table.line(row), names))
+    members = polygons.read(table.field(record, "wkt")) if "wkt" in COLUMNS[table.name] else None
+    release.faults.append(RowFault(code, line or f"refused {code} {table.name} row {row}", table.name, row, table.line(row), names, members or None))
     bad.add(row)
 
 
@@ -122,7 +125,7 @@ def join(tables, release, bad):
             add(release, bad["covers"], covers, row, "36")
         members = members_of(covers, record)
         pieces.setdefault(parcel, []).append((shown(piece), members))
-        release.shapes["piece", shown(piece)] = members, f"covers.csv row {row}, line {covers.line(row)}"
+        release.shapes["piece", shown(piece)] = members, ("covers", row, covers.line(row))
     for row, record in parcels.rows():
         if row in bad["parcels"]:
             continue
@@ -131,7 +134,7 @@ def join(tables, release, bad):
             add(release, bad["parcels"], parcels, row, "37")
         members = members_of(parcels, record)
         release.parcels.append(cutting.Parcel(shown(name), members, pieces.get(name, [])))
-        release.shapes["parcel", shown(name)] = members, f"parcels.csv row {row}, line {parcels.line(row)}"
+        release.shapes["parcel", shown(name)] = members, ("parcels", row, parcels.line(row))
 
 
 def members_of(table, record):

@@ -20,6 +20,6 @@ def tool(name: str) -> NoReturn:
     os.execv(sys.executable, [sys.executable, str(home() / name), *sys.argv[1:]])
 
 
-country, explain, faults, lineage, prepare, report, year = (
-    functools.partial(tool, name) for name in ("country", "explain", "faults", "lineage", "prepare", "report", "year")
+check, country, explain, faults, lineage, prepare, report, year = (
+    functools.partial(tool, name) for name in ("check", "country", "explain", "faults", "lineage", "prepare", "report", "year")
 )

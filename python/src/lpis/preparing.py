@@ -15,7 +15,8 @@ from typing import Any, Iterable, Mapping
 from . import tree
 from .answers import frame_of
 from .refusals import Failed
-from .tables import SHAPE, Table, rows_of, text_of, written
+from .shapes import texts_of
+from .tables import SHAPE, Table, columns_in, written
 from .tables import table as data_of
 
 TABLES = ("parcels", "covers", "classes")
@@ -128,8 +129,10 @@ def with_system(table: Any, name: str) -> bytes:
         if system and system.why:
             raise Failed(f"{name}: it is in {system} ({system.why}): transform it to a system in metres, such as EPSG:25832")
         return data_of(table, name)
-    texts = ({**row, SHAPE: text_of(row.get(SHAPE))} for row in rows_of(table, name))
-    return written(({**row, SHAPE: f"SRID={epsg};{row[SHAPE]}" if row[SHAPE] else ""} for row in texts), name)
+    columns = columns_in(table, name)
+    texts = texts_of(columns.values[columns.names.index(SHAPE)]) if SHAPE in columns.names else []
+    marked = [f"SRID={epsg};{text}" if text else "" for text in texts]
+    return written(columns._replace(values=[marked if column == SHAPE else values for column, values in zip(columns.names, columns.values)]), name)
 
 
 def read(folder: Path, is_written: bool, said: str) -> Prepared:

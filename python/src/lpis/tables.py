@@ -4,7 +4,7 @@ A table is one of
 
 - a path, of a file that `lpis` reads
 - bytes of such a file
-- anything with `__geo_interface__` that is a collection of features: a GeoPandas frame, a collection of fiona, a dictionary of GeoJSON. What a feature has
+- a GeoPandas frame, or anything with `__geo_interface__` that is a collection of features: a collection of fiona, a dictionary of GeoJSON. What a feature has
   beside its shape are the columns
 - rows: features, mappings of columns, or shapes alone; a shape is in the column `geometry` or `wkt`, as anything with `__geo_interface__` (Shapely),
   a dictionary of GeoJSON, or well-known text
@@ -21,14 +21,16 @@ proved code reads what is written, and refuses it where it is finer than a milli
 from __future__ import annotations
 
 import csv
+import functools
 import io
 import os
+import sys
 from collections import Counter
-from decimal import Decimal
 from pathlib import Path
-from typing import Any, Iterable, Iterator, Mapping, Union
+from typing import Any, Iterable, Iterator, Mapping, NamedTuple, Union
 
 from . import tree
+from .shapes import is_of_shapely, texts_of
 
 Table = Union[str, "os.PathLike[str]", bytes, bytearray, memoryview, Mapping[Any, Any], Iterable[Any], Any]
 SHAPE, GEOMETRY, PERCENT = "wkt", "geometry", "percent"
@@ -54,27 +56,72 @@ def table(source: Table, name: str) -> bytes:
         return bytes(source)
     if isinstance(source, (str, os.PathLike)):
         return Path(source).read_bytes()
-    return written(rows_of(source, name), name)
+    return written(columns_in(source, name), name)
+
+
+class Columns(NamedTuple):
+    """The columns of a table that are known, each with the values of all rows. What is missing is None."""
+
+    names: list[str]
+    values: list[list[Any]]
+    rows: int
+
+
+def columns_in(source: Any, name: str) -> Columns:
+    """The columns of what is no file."""
+    look_at_frame(source, name)
+    geometry = geometry_of(source)
+    return columns_of_rows(rows_of(source, name), name) if geometry is None else columns_of_frame(source, geometry, name)
 
 
 def rows_of(source: Any, name: str) -> Iterator[dict[str, Any]]:
-    """The rows of what is no file."""
-    look_at_frame(source, name)
-    if hasattr(source, "to_dict") and not hasattr(source, "__geo_interface__"):
-        source = records_in(source) if hasattr(source, "columns") else items_of(source, name)
-    found = getattr(source, "__geo_interface__", source)
-    if not isinstance(found, Mapping):
-        rows = found
-    elif found.get("type") == "FeatureCollection":
-        rows = found["features"]
-    elif is_shape(found) or found.get("type") == "Feature":
-        rows = [found]
-    elif name == "classes":
-        rows = ({"class": key, "percent": value} for key, value in found.items())
-    else:
-        raise TypeError(f"{name}: a mapping is no table, unless it is GeoJSON; write its rows as a list")
-    for number, item in enumerate(rows, 1):
+    """The rows of what is no file, and no frame of GeoPandas."""
+    for number, item in enumerate(items_in(source, name), 1):
         yield row_of(item, f"{name} row {number}")
+
+
+def items_in(source: Any, name: str) -> Any:
+    """What stands for each row of a source: a feature, a mapping of columns, or a shape."""
+    if is_of_shapely(source):
+        return [source]
+    found = getattr(source, "__geo_interface__", None)
+    if found is None and hasattr(source, "to_dict"):
+        return records_in(source) if hasattr(source, "columns") else items_of(source, name)
+    return items_of_interface(source if found is None else found, name)
+
+
+def items_of_interface(found: Any, name: str) -> Any:
+    """The rows of a dictionary of GeoJSON, of classes, or of what is walked through."""
+    if not isinstance(found, Mapping):
+        return found
+    if found.get("type") == "FeatureCollection":
+        return found["features"]
+    if is_shape(found) or found.get("type") == "Feature":
+        return [found]
+    if name == "classes":
+        return ({"class": key, "percent": value} for key, value in found.items())
+    raise TypeError(f"{name}: a mapping is no table, unless it is GeoJSON; write its rows as a list")
+
+
+def geometry_of(source: Any) -> Any:
+    """The shapes of a frame or a series of GeoPandas, as a series; None of anything else. `__geo_interface__` of such a frame writes all of it out."""
+    library = sys.modules.get("geopandas")
+    if library is None or not isinstance(source, (library.GeoDataFrame, library.GeoSeries)):
+        return None
+    found = getattr(source, "geometry", None)
+    return found if isinstance(found, library.GeoSeries) else None
+
+
+def columns_of_frame(source: Any, geometry: Any, name: str) -> Columns:
+    """The columns of a frame or series of GeoPandas, as those of the features that it gives: a shape with nothing in it is none."""
+    keys = [key for key in source.columns if key != geometry.name] if hasattr(source, "columns") else []
+    if len(geometry):
+        row_of({"type": "Feature", "properties": dict.fromkeys(keys)}, f"{name} row 1")
+    found = {key: called(key) for key in keys if called(key) in known_columns(name)}
+    names, values = list(found.values()), [source[key].astype(object).tolist() for key in found]
+    if SHAPE in known_columns(name):
+        names, values = [*names, SHAPE], [*values, [shape if shape else None for shape in geometry.to_numpy().tolist()]]
+    return Columns(names, values, len(geometry))
 
 
 def look_at_frame(source: Any, name: str) -> None:
@@ -84,7 +131,8 @@ def look_at_frame(source: Any, name: str) -> None:
     there = [str(column) for column in source.columns]
     if len(set(source.columns)) < len(there):
         raise ValueError(f"{name}: two columns of the frame have one name")
-    known = {called(column) for column in there} | ({SHAPE} if hasattr(source, "__geo_interface__") else set())
+    has_shapes = geometry_of(source) is not None or hasattr(source, "__geo_interface__")
+    known = {called(column) for column in there} | ({SHAPE} if has_shapes else set())
     for wanted in HEADERS[name]:
         if not known & {wanted, *INSTEAD.get(wanted, ())}:
             raise ValueError(f"{name}: the frame has no column {wanted}: there are {', '.join(there) or 'none'}")
@@ -104,6 +152,7 @@ def is_shape(found: Any) -> bool:
     return isinstance(found, Mapping) and "type" in found and ("coordinates" in found or "geometries" in found)
 
 
+@functools.lru_cache(maxsize=1000, typed=True)
 def called(key: Any) -> str:
     """The name of a column as it is compared."""
     return str(key).strip().lower()
@@ -111,6 +160,8 @@ def called(key: Any) -> str:
 
 def row_of(item: Any, place: str) -> dict[str, Any]:
     """The columns of a row, its shape as `wkt`."""
+    if is_of_shapely(item):
+        return {SHAPE: item}
     found = getattr(item, "__geo_interface__", item)
     if not isinstance(found, Mapping):
         raise TypeError(f"{place}: {found!r:.60} is no row of a table")
@@ -127,31 +178,50 @@ def row_of(item: Any, place: str) -> dict[str, Any]:
     return {**row, SHAPE: found.get("geometry")} if is_feature else row
 
 
-def written(rows: Iterable[dict[str, Any]], name: str) -> bytes:
-    """The table of rows, with those of its columns that some of them have. A column that one row has twice stands twice, and is refused."""
-    every, known = list(rows), tree.module("tables").COLUMNS[name]
-    columns: list[str] = []
-    for keys in dict.fromkeys(tuple(row) for row in every):
+def known_columns(name: str) -> list[str]:
+    """The columns that a table of this kind may have."""
+    return list(tree.module("tables").COLUMNS[name])
+
+
+def columns_of_rows(rows: Iterable[dict[str, Any]], name: str) -> Columns:
+    """The columns that some rows have. One that a row has twice stands twice, and is refused."""
+    every, known = list(rows), known_columns(name)
+    names: list[str] = []
+    different = list(dict.fromkeys(tuple(row) for row in every))
+    for keys in different:
         there = [column for column in map(called, keys) if column in known]
-        columns += (Counter(there) - Counter(columns)).elements()
+        names += (Counter(there) - Counter(names)).elements()
+    orders = {keys: order_of(keys, names) for keys in different}
+    found = [orders[tuple(row)] for row in every]
+    return Columns(names, [[row.get(order[place]) for row, order in zip(every, found)] for place in range(len(names))], len(every))
+
+
+def written(columns: Columns, name: str) -> bytes:
+    """The table of some columns."""
     text = io.StringIO(newline="")
     writer = tree.module("cells").Writer(text)
-    writer.writerow(columns if every else HEADERS[name])
-    writer.writerows(fields_of(row, columns) for row in every)
+    writer.writerow(columns.names if columns.rows else HEADERS[name])
+    writer.writerows(zip(*map(fields_of, columns.names, columns.values)) if columns.names else ([] for _ in range(columns.rows)))
     return text.getvalue().encode("utf-8", "backslashreplace")
 
 
-def fields_of(row: dict[str, Any], columns: list[str]) -> list[str]:
-    """The fields of a row in the order of columns; empty where it has none."""
-    found: dict[str, list[str]] = {}
-    for key, value in row.items():
-        if (column := called(key)) in columns:
-            found.setdefault(column, []).append(text_of(value) if column == SHAPE else field(value, column))
-    return [found[column].pop(0) if found.get(column) else "" for column in columns]
+def fields_of(column: str, values: list[Any]) -> list[str]:
+    """The fields of a column."""
+    return texts_of(values) if column == SHAPE else [field(value, column) for value in values]
+
+
+def order_of(keys: tuple[Any, ...], columns: list[str]) -> list[Any]:
+    """Which of a row's keys each column is: the first of a name in the first column of that name, and so on; None where it has no more."""
+    found: dict[str, list[Any]] = {}
+    for key in keys:
+        found.setdefault(called(key), []).append(key)
+    return [found[column].pop(0) if found.get(column) else None for column in columns]
 
 
 def field(value: Any, column: str) -> str:
     """A field's text. What is missing has none; a whole number of a column of whole numbers has no point, but 1.0 percent, which may be the whole, and is refused."""
+    if type(value) is str:
+        return value
     value = value.item() if hasattr(value, "item") else value
     if is_missing(value):
         return ""
@@ -167,33 +237,6 @@ def is_missing(value: Any) -> bool:
         return value is None or bool(value != value)
     except TypeError:
         return True
-
-
-def text_of(shape: Any) -> str:
-    """The well-known text of a shape; of what is no polygon its kind, which is refused."""
-    if shape is None or isinstance(shape, str):
-        return shape or ""
-    found = getattr(shape, "__geo_interface__", shape)
-    kind = str(found.get("type", "")).upper() if isinstance(found, Mapping) else str(found)
-    depth = {"POLYGON": 2, "MULTIPOLYGON": 3}.get(kind)
-    return kind if depth is None else f"{kind} {nested(found['coordinates'], depth)}"
-
-
-def nested(parts: Any, depth: int) -> str:
-    """Brackets about points, members or rings."""
-    if len(parts) == 0:
-        return "EMPTY"
-    if depth == 0:
-        return " ".join(map(number, parts))
-    return f"({','.join(nested(part, depth - 1) for part in parts)})"
-
-
-def number(value: Any) -> str:
-    """The shortest decimals that give the same number, without an exponent."""
-    if not isinstance(value, (float, int)) and hasattr(value, "item"):
-        value = value.item()
-    word = float.__repr__(value) if isinstance(value, float) else str(value)
-    return format(Decimal(word), "f") if ("e" in word or "E" in word) and isinstance(value, (float, Decimal)) else word
 
 
 def records_of(data: bytes) -> list[list[str]]:

@@ -13,7 +13,8 @@ from .layers import LINES, POINTS, POLYGONS, TEXT, NUMBER, WHOLE, Styled, featur
 
 TABLES = ("parcels.csv", "covers.csv", "classes.csv")
 YES, REFUSED, UNREADABLE = 0, 1, 2
-FAULT_COLUMNS = [("code", TEXT), ("names", TEXT), ("meaning", TEXT), ("place", TEXT), ("line", TEXT)]
+FAULT_COLUMNS = [("code", TEXT), ("kind", TEXT), ("names", TEXT), ("width_m", NUMBER), ("area_m2", NUMBER), ("table", TEXT), ("row", WHOLE), ("meaning", TEXT), ("place", TEXT),
+                 ("line", TEXT)]
 SHAPE_COLUMNS = [("kind", TEXT), ("name", TEXT), ("line", TEXT)]
 # Of each kind of shape the form of its output, and what a parameter calls it.
 KINDS = {"POINTS": (POINTS, QgsProcessing.TypeVectorPoint), "LINES": (LINES, QgsProcessing.TypeVectorLine), "POLYGONS": (POLYGONS, QgsProcessing.TypeVectorPolygon)}
@@ -32,8 +33,18 @@ def by_kind(features, columns):
         name = next(name for name, (form, _) in KINDS.items() if shape.type() == QgsWkbTypes.geometryType(form))
         if name != "POINTS":
             shape.convertToMultiType()
-        rows[name].append(([str(properties.get(column) or "") for column, _ in columns], shape))
+        rows[name].append((values_of(properties, columns), shape))
     return rows
+
+
+def values_of(properties, columns):
+    """The values of columns: texts as texts, and numbers as numbers, or none."""
+    return [str(properties.get(column) or "") if form == TEXT else number_of(properties.get(column)) for column, form in columns]
+
+
+def number_of(value):
+    """A number of JSON or of a table; None where there is none."""
+    return None if value in (None, "") else int(value) if isinstance(value, bool) else float(value) if isinstance(value, str) else value
 
 
 class Folder(Styled):
@@ -117,7 +128,7 @@ def report_rows(folder, lines):
 
 class FindFaults(Folder):
     NAME, TITLE = "allfaults", "All faults of a release"
-    HELP = "Each row's first fault, each parcel's first fault with its pieces, each two parcels that overlap: as points, lines and polygons, styled by their code. Nothing here is part of a yes."
+    HELP = "Each row's first fault, each parcel's first fault with its pieces, each two parcels that overlap: each as the polygon of the overlap, of the gap or of what is outside of its parcel, with width and area, or as a point where nothing has an area; styled by their code. Nothing here is part of a yes."
     STYLED = {"POINTS": styles.faults, "LINES": styles.faults, "POLYGONS": styles.faults}
 
     def initAlgorithm(self, configuration=None):

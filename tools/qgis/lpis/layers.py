@@ -102,13 +102,29 @@ def zoom(layers):
 
 
 def system_of(folder):
-    """The system that the report beside the tables of a folder names."""
+    """The system that the report beside the tables of a folder names, or its findings where there is no report yet."""
     try:
         with open(os.path.join(folder, "report.geojson"), encoding="utf-8", errors="replace") as file:
             found = re.search(r"EPSG::(\d+)", file.read(400))
     except OSError:
         found = None
-    return QgsCoordinateReferenceSystem(f"EPSG:{found[1]}") if found else QgsCoordinateReferenceSystem()
+    if found:
+        return QgsCoordinateReferenceSystem(f"EPSG:{found[1]}")
+    package = ogr.Open(os.path.join(folder, "findings.gpkg")) if os.path.isfile(os.path.join(folder, "findings.gpkg")) else None
+    system = package.GetLayer(0).GetSpatialRef() if package and package.GetLayerCount() else None
+    number = system.GetAuthorityCode(None) if system else None
+    return QgsCoordinateReferenceSystem(f"EPSG:{number}") if number else QgsCoordinateReferenceSystem()
+
+
+def findings_of(path):
+    """The rows of all layers of findings.gpkg that have polygons: properties and shape."""
+    package = ogr.Open(path) if os.path.isfile(path) else None
+    for layer in (package.GetLayer(number) for number in range(package.GetLayerCount())) if package else ():
+        for feature in layer:
+            if feature.GetGeometryRef() is not None:
+                shape = QgsGeometry()
+                shape.fromWkb(bytes(feature.GetGeometryRef().ExportToWkb()))
+                yield feature.items(), shape
 
 
 def shape_of(text):

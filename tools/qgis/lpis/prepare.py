@@ -10,14 +10,15 @@ from qgis.core import (
 )
 
 from . import places, styles
-from .check import Folder, by_kind
-from .layers import POINTS, POLYGONS, TEXT, features_of, rows_of, system_of
+from .check import Folder, by_kind, values_of
+from .layers import NUMBER, POINTS, POLYGONS, TEXT, WHOLE, features_of, findings_of, rows_of, system_of
 
 LOOK = 1
 LAYERS = ("report", "kept", "between")  # what a run writes for QGIS; the last two only where there is something
 COLUMNS = {"PARCELS": {"parcel": "PARCEL_ID"}, "COVERS": {"piece": "PIECE_ID", "parcel": "PIECE_PARCEL", "class": "PIECE_CLASS"}}
-REPORT_COLUMNS = [(name, TEXT) for name in ("kind", "layer", "row", "identifiers", "width_m", "area_m2", "stops", "words")]
-FOUND_COLUMNS = [(name, TEXT) for name in ("kind", "layer", "row", "identifier", "area_m2", "words", "done")]
+REPORT_COLUMNS = [("kind", TEXT), ("layer", TEXT), ("row", TEXT), ("identifiers", TEXT), ("width_m", NUMBER), ("area_m2", NUMBER), ("stops", WHOLE), ("words", TEXT)]
+LAND_COLUMNS = [*REPORT_COLUMNS, ("done", TEXT)]
+FOUND_COLUMNS = [("kind", TEXT), ("layer", TEXT), ("row", TEXT), ("identifier", TEXT), ("area_m2", NUMBER), ("words", TEXT), ("done", TEXT)]
 
 
 def stamp(path):
@@ -32,8 +33,9 @@ def place_of(row):
 class PrepareRelease(Folder):
     NAME, TITLE = "preparerelease", "Prepare a release"
     HELP = ("From a layer of parcels and one of land cover to the tables of a release: all is tested first and each finding is named. What would change or lose land stops, unless "
-            "'accept' is set. The findings are points, where they have a place; what was settled is layers too.")
-    STYLED = {"FINDINGS": styles.found, "REPORT_POINTS": styles.report, "REPORT_LINES": styles.report, "REPORT_POLYGONS": styles.report, "BETWEEN": styles.between}
+            "'accept' is set. The findings are points, where they have a place, and polygons of the land that they are about: the overlap, the gap, what is outside of its parcel, with width "
+            "and area, also before anything is accepted. What was settled is layers too.")
+    STYLED = {"FINDINGS": styles.found, "LAND": styles.land, "REPORT_POINTS": styles.report, "REPORT_LINES": styles.report, "REPORT_POLYGONS": styles.report, "BETWEEN": styles.between}
 
     def initAlgorithm(self, configuration=None):
         polygons = [QgsProcessing.TypeVectorAnyGeometry]
@@ -52,6 +54,7 @@ class PrepareRelease(Folder):
         self.addParameter(QgsProcessingParameterBoolean("ACCEPT", "Accept: mend or leave out what is wrong, and name it", False))
         self.addParameter(QgsProcessingParameterFolderDestination("OUT", "Folder of the release"))
         self.addParameter(QgsProcessingParameterFeatureSink("FINDINGS", "Findings", QgsProcessing.TypeVectorPoint, optional=True, createByDefault=True))
+        self.addParameter(QgsProcessingParameterFeatureSink("LAND", "Findings: their land", QgsProcessing.TypeVectorPolygon, optional=True, createByDefault=True))
         self.add_shapes("Report", "REPORT_")
         self.addParameter(QgsProcessingParameterFeatureSink("BETWEEN", "Land between parcels that nobody has", QgsProcessing.TypeVectorPolygon, optional=True, createByDefault=True))
         self.addOutput(QgsProcessingOutputNumber("STATUS", "Status"))
@@ -67,10 +70,11 @@ class PrepareRelease(Folder):
                 self.export(parameters, context, layer, package, number == 0)
             ran = places.done(places.run([places.tool("prepare"), *self.options(parameters, context), "--", package, out], feedback), "tools/prepare", (LOOK,))
         place = parameters, context
-        rows = [([row[name] for name, _ in FOUND_COLUMNS], place_of(row)) for row in rows_of(os.path.join(out, "prepared.csv"))]
+        rows = [(values_of(row, FOUND_COLUMNS), place_of(row)) for row in rows_of(os.path.join(out, "prepared.csv"))]
+        land = [(values_of(row, LAND_COLUMNS), shape) for row, shape in findings_of(os.path.join(out, "findings.gpkg"))]
         *reports, between = [path if stamp(path) != old else "" for path, old in before.items()]
         gaps = by_kind(features_of(between) if os.path.exists(between) else (), REPORT_COLUMNS)["POLYGONS"]
-        self.written = {"FINDINGS": self.fill("FINDINGS", place, FOUND_COLUMNS, POINTS, rows), "BETWEEN": self.fill("BETWEEN", place, REPORT_COLUMNS, POLYGONS, gaps),
+        self.written = {"FINDINGS": self.fill("FINDINGS", place, FOUND_COLUMNS, POINTS, rows), "LAND": self.fill("LAND", place, LAND_COLUMNS, POLYGONS, land), "BETWEEN": self.fill("BETWEEN", place, REPORT_COLUMNS, POLYGONS, gaps),
                         **self.fill_shapes(place, reports, REPORT_COLUMNS, "REPORT_")}
         return {**self.written, "OUT": out, "STATUS": ran.status, "SUMMARY": "\n".join(ran.lines)}
 

@@ -53,6 +53,7 @@ def by_value(field, colour_of, words_of, name):
 
 
 parcels, fault, report = in_one_colour(SOUND, "parcel"), in_one_colour(FAULT, "name"), in_one_colour(FAULT, "identifiers")
+land = by_value("kind", lambda number, _: COLOURS[number % len(COLOURS)], lambda feature: feature["kind"], "identifiers")
 between, found, located = in_one_colour(GAP, "identifiers"), in_one_colour(OTHER, "identifier"), in_one_colour(POINT, "parcel")
 faults = by_value("code", lambda number, _: COLOURS[number % len(COLOURS)], lambda feature: f"{feature['code']}: {feature['meaning']}", "names")
 lineage = by_value("kind", lambda _, kind: KINDS.get(kind, OTHER), lambda feature: feature["kind"] or "not clear", "old")
