@@ -120,6 +120,66 @@ def test_plans_that_are_read(text, names, country):
     assert lpis("country", country) == [*lines, "yes"]
 
 
+STRIPS, LAST = 150, 149
+LONG = f"((-3 0,-2 0,-2 {STRIPS},-3 {STRIPS},-3 0))"
+LONG_TURNED = f"((-2 0,-2 {STRIPS},-3 {STRIPS},-3 0,-2 0))"
+
+
+def strip(place, parcels):
+    """The texts of a region of parcels of one piece each: identifier, shape, and the box of its two triangles in metres."""
+    rows = [(f'{name},"POLYGON{shape}"', f'p{name},{name},G,"POLYGON{shape}"') for name, shape, _ in parcels]
+    lines = ["lpis-cert 2"]
+    for name, _, box in parcels:
+        x, y, right, top = (1000 * side for side in box)
+        lines += [f"piece p{name} 2 0", f"t {x} {y} {right} {y} {right} {top}", f"t {x} {y} {right} {top} {x} {top}"]
+    lines += [f"parcel {name} 0" for name, *_ in parcels] + [f"pairs {len(parcels)}"] + [f"s {2 * k} {2 * k + 1} 2" for k in range(len(parcels))] + ["end"]
+    tables = (["parcel,wkt"] + [row for row, _ in rows], ["piece,parcel,class,wkt"] + [row for _, row in rows])
+    region(place, ["\n".join(lines_of) + "\n" for lines_of in tables] + [CLASSES, "\n".join(lines) + "\n"])
+
+
+def square(name, x, y, width=1):
+    return name, f"(({x} {y},{x + width} {y},{x + width} {y + 1},{x} {y + 1},{x} {y}))", (x, y, x + width, y + 1)
+
+
+def strips(low, high):
+    if high - low == 1:
+        return f"x 0\nregion w{low}\nregion e{low}\n"
+    middle = (low + high) // 2
+    return f"y {1000 * middle}\n{strips(low, middle)}{strips(middle, high)}"
+
+
+@pytest.fixture(scope="module")
+def long_country(tmp_path_factory):
+    """Strips of a metre, in each a parcel that lies in the western and the eastern region, and one that lies in all western ones."""
+    folder = tmp_path_factory.mktemp("long")
+    (folder / "classes.csv").write_text(CLASSES, encoding="ascii")
+    plan(folder, "lpis-country 1\n" + strips(0, STRIPS))
+    for i in range(STRIPS):
+        strip(folder / f"w{i}", [("L", LONG, (-3, 0, -2, STRIPS)), square(f"P{i}", -1, i, 2)])
+        strip(folder / f"e{i}", [square(f"P{i}", -1, i, 2)])
+    return folder
+
+
+# The name of a parcel more in the east of a strip, or the shape that the long one has in the last western region; and the last line.
+LET_GO = [
+    (None, LONG, "yes"), ((LAST, "P0"), LONG, f"refused 93 parcel P0 region e{LAST}"), ((LAST, "P148"), LONG, f"refused 93 parcel P148 region e{LAST}"),
+    ((LAST, "L"), LONG, f"refused 93 parcel L region e{LAST}"), ((120, "L"), LONG, "refused 94 parcel L region e120"),
+    ((100, "P3"), LONG, "refused 93 parcel P3 region e100"), (None, LONG_TURNED, f"refused 94 parcel L region w{LAST}"), (None, None, f"refused 95 parcel L region w{LAST}"),
+]
+
+
+@pytest.mark.parametrize("more, shape, line", LET_GO, ids=short)
+def test_rows_that_are_let_go(more, shape, line, long_country, tmp_path):
+    """Many parcels are kept for later regions, and let go: the faults are those of any country."""
+    folder = shutil.copytree(long_country, tmp_path / "country")
+    if more:
+        place, name = more
+        strip(folder / f"e{place}", [square(f"P{place}", -1, place, 2), square(name, 5, place)])
+    long = [("L", shape, (-3, 0, -2, STRIPS))] if shape else []
+    strip(folder / f"w{LAST}", long + [square(f"P{LAST}", -1, LAST, 2)])
+    assert lpis("country", folder)[-1] == line
+
+
 @pytest.fixture(scope="module")
 def published(tmp_path_factory):
     """A folder with the country, its first year in a register, and B called D."""

@@ -73,7 +73,7 @@ elsewhere-is-first tiles n ids kept r k f e g = told-alike (tested_row tiles n i
     (ap (λ (b : Bool). seam_fault_if (not b) (At Elsewhere k.id n) ++ more) e ∙ ap (λ (x : SeamFault). x ∷ more) (sym g)) (inr (more, refl))
   where
     more : List SeamFault
-    more = cond (has_id ids k.id) (known_faults n r k (row_named kept k.id)) (fresh_faults tiles n k)
+    more = cond (has_id ids k.id) (known_faults tiles n r k (row_named kept k.id)) (fresh_faults tiles n k)
 
 not-not : (b : Bool) → not (not b) ≡ b
 not-not true = refl

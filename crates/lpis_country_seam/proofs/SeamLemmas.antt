@@ -18,8 +18,8 @@ use Rattle.lpis_country_seam.specs.declared.seam.OpenSeam.{OpenSeam}
 use Rattle.lpis_country_seam.specs.declared.fault.SeamCode.TheVariants.{Lacks}
 use Rattle.lpis_country_seam.specs.declared.fault.SeamFault.TheVariants.{At, Classes}
 use Rattle.lpis_country_seam.specs.Faults.{is_lacking, seam_row_faults, seam_class_faults, seam_fault_if, seam_faults}
-use Rattle.lpis_country_seam.specs.Open.{AreJoined, IsSeamOf, awaited_rows}
-use Rattle.lpis_country_seam.specs.private.Kept.{at_places, new_rows, rows_reaching, with_rows}
+use Rattle.lpis_country_seam.specs.Open.{AreJoined, HaveAwaited, IsSeamOf}
+use Rattle.lpis_country_seam.specs.private.Kept.{AreThinned, at_places, new_rows, with_rows}
 use Rattle.lpis_country_seam.specs.private.Stepping.{IsKeptNext, tested}
 use Rattle.lpis_country_seam.specs.private.Testing.{is_fresh, tested_kept, tested_row}
 use Rattle.lpis_country_seam.proofs.IdLemmas.{ids-next}
@@ -82,13 +82,13 @@ joined-more tiles ks done r h g e = record {
 
 -- ---- what a step tests
 rows-tested : (tiles ts : List Box4) (n m : ℕ) (ids : List (List ℕ)) (kept : List KeptRow) (u r : Contents) → ts ≡ tiles → m ≡ n
-    → ((id : List ℕ) → has_id ids id ≡ has_id (parcel_ids u.parcels) id) → kept ≡ awaited_rows tiles n u → IsDistinct same_id (parcel_ids u.parcels)
+    → ((id : List ℕ) → has_id ids id ≡ has_id (parcel_ids u.parcels) id) → HaveAwaited tiles n u kept → IsDistinct same_id (parcel_ids u.parcels)
     → flat_map (tested_row ts m ids kept r) r.parcels ≡ flat_map (seam_row_faults tiles n u r) r.parcels
 rows-tested tiles ts n m ids kept u r e f i h d =
     ap₂ (λ (a : List Box4) (b : ℕ). flat_map (tested_row a b ids kept r) r.parcels) e f
     ∙ rows-same (tested_row tiles n ids kept r) (seam_row_faults tiles n u r) (row-same tiles n ids kept u r i h d) r.parcels
 
-kept-tested : (tiles ts : List Box4) (n m : ℕ) (kept : List KeptRow) (u r : Contents) → ts ≡ tiles → m ≡ n → kept ≡ awaited_rows tiles n u
+kept-tested : (tiles ts : List Box4) (n m : ℕ) (kept : List KeptRow) (u r : Contents) → ts ≡ tiles → m ≡ n → HaveAwaited tiles n u kept
     → tested_kept ts m kept r ≡ map (λ (k : Parcel). At Lacks k.id n) (filter (is_lacking tiles n r) u.parcels)
 kept-tested tiles ts n m kept u r e f h = ap₂ (λ (a : List Box4) (b : ℕ). tested_kept a b kept r) e f ∙ kept-same tiles n kept u r h
 
@@ -111,11 +111,8 @@ pub seam-places : (tiles : List Box4) (ks : List Class) (done : List Contents) (
     → map (slice_get r.parcels) places ≡ map Some (new_parcels (country_of ks done) r)
 seam-places tiles ks done s r places h e = e ∙ ap (map Some) (fresh-new tiles ks done s r h)
 
-kept-so : (tiles ts : List Box4) (n m : ℕ) (kept next : List KeptRow) (r : Contents) (news : List Parcel) → ts ≡ tiles → m ≡ n
-    → next ≡ with_rows (with_rows [] (rows_reaching (drop (m + 1) ts) kept)) (new_rows (drop (m + 1) ts) r news)
-    → next ≡ with_rows (with_rows [] (rows_reaching (drop (suc n) tiles) kept)) (new_rows (drop (suc n) tiles) r news)
-kept-so tiles ts n m kept next r news e f h =
-    h ∙ ap₂ (λ (a : List Box4) (b : ℕ). with_rows (with_rows [] (rows_reaching (drop b a) kept)) (new_rows (drop b a) r news)) e (one-more m n f)
+next-later-tiles : (tiles ts : List Box4) (n m : ℕ) → ts ≡ tiles → m ≡ n → drop (m + 1) ts ≡ drop (suc n) tiles
+next-later-tiles tiles ts n m e f = ap₂ (λ (a : List Box4) (b : ℕ). drop b a) e (one-more m n f)
   where
     one-more : (a b : ℕ) → a ≡ b → a + 1 ≡ suc b
     one-more a b g = omega (arith, g)
@@ -130,13 +127,15 @@ seam-goes-on tiles ks done s next r places h k e p g = record {
   number = k.number ∙ ap (λ (n : ℕ). n + 1) h.number ∙ sym (length-append done (r ∷ []));
   ids_are = λ q. k.ids q ∙ ap (λ (b : Bool). b || has_id (parcel_ids r.parcels) q) (h.ids_are q) ∙ sym (ids-next u r q)
       ∙ ap (λ (w : Contents). has_id (parcel_ids w.parcels) q) (sym (country_snoc ks done r));
-  rows_are = kept-next tiles (length done) u r s.kept next.kept (at_places r.parcels places) region.distinct (region_grows u r region g).distinct
+  rows_are = subst (λ (n : ℕ). HaveAwaited tiles n (country_of ks (done ++ r ∷ [])) next.kept) (more (length done) ∙ sym (length-append done (r ∷ [])))
+      (subst (λ (w : Contents). HaveAwaited tiles (suc (length done)) w next.kept) (sym (country_snoc ks done r))
+      (kept-next tiles (length done) u r s.kept k.still next.kept (at_places r.parcels places) region.distinct (region_grows u r region g).distinct
       (All-weaker (IsAmong u.parcels) (λ (x : Parcel). pieces_named (with_region u r) x.id ≡ pieces_named u x.id) (λ x a. old_pieces u r x a) u.parcels (All-contains_itself u.parcels))
       (All-weaker (IsAmong (new_parcels u r)) (λ (x : Parcel). pieces_named (with_region u r) x.id ≡ pieces_named r x.id) (λ x a. fresh_pieces u r x region a) (new_parcels u r)
       (All-contains_itself (new_parcels u r)))
       h.rows_are (parcels-at-places r.parcels places (filter (is_fresh s.ids) r.parcels) p ∙ fresh-new tiles ks done s r h)
-      (kept-so tiles s.tiles.items (length done) s.next s.kept next.kept r (at_places r.parcels places) h.tiles_are h.number k.rows)
-      ∙ ap₂ (λ (n : ℕ) (w : Contents). awaited_rows tiles n w) (more (length done) ∙ sym (length-append done (r ∷ []))) (sym (country_snoc ks done r));
+      (subst (λ (ts : List Box4). AreThinned ts s.kept k.still) later k.thinned)
+      (k.rows ∙ ap (λ (ts : List Box4). with_rows k.still (new_rows ts r (at_places r.parcels places))) later)));
   joined = joined-more tiles ks done r h.joined g (sym (seam-tested tiles ks done s r h) ∙ e);
 }
   where
@@ -145,6 +144,9 @@ seam-goes-on tiles ks done s next r places h k e p g = record {
 
     region : IsRegion u
     region = country_is_region ks done h.joined.regions_are
+
+    later : drop (s.next + 1) s.tiles.items ≡ drop (suc (length done)) tiles
+    later = next-later-tiles tiles s.tiles.items (length done) s.next h.tiles_are h.number
 
     more : (n : ℕ) → suc n ≡ n + 1
     more n = omega arith

@@ -12,7 +12,7 @@ use Rattle.lpis_country_seam.specs.declared.fault.SeamCode.TheVariants.{Elsewher
 use Rattle.lpis_country_seam.specs.declared.fault.SeamFault.{SeamFault}
 use Rattle.lpis_country_seam.specs.declared.fault.SeamFault.TheVariants.{At}
 use Rattle.lpis_country_seam.specs.Faults.{earlier_faults, is_double, is_lacking, seam_row_faults, reaches_later, reaches_own, seam_fault_if}
-use Rattle.lpis_country_seam.specs.Open.{awaited_rows}
+use Rattle.lpis_country_seam.specs.Open.{HaveAwaited}
 use Rattle.lpis_country_seam.specs.private.Kept.{row_in}
 use Rattle.lpis_country_seam.specs.private.Testing.{fresh_faults, known_faults, row_named, tested_kept, tested_row}
 use Rattle.lpis_country_seam.proofs.ListLemmas.{Differ, not-both, has-found, is_of, none-found}
@@ -40,24 +40,36 @@ kept-row u q id (p ∷ ps) d = by (q p) (same_id id p.id) refl refl (kept-row u 
     by false false e f h = h
 
 -- ---- one row
-known-same : (tiles : List Box4) (n : ℕ) (u r : Contents) (k p : Parcel) (b : Bool) → reaches_later tiles n p ≡ b
-    → known_faults n r k (cond b (Some (row_in u p)) None) ≡ cond b (seam_fault_if (not (is_double u p r k)) (At Differs k.id n)) (At Reused k.id n ∷ [])
-known-same tiles n u r k p true e = refl
-known-same tiles n u r k p false e = refl
+abbrev Awaits : List Box4 → ℕ → (Parcel → Bool) → Type 0
+Awaits tiles n q = (k : Parcel) → reaches_later tiles n k ≡ true → q k ≡ true
 
-by-parcel : (tiles : List Box4) (n : ℕ) (u r : Contents) (k : Parcel) (b : Bool) (o : Option KeptRow) (f : Option Parcel) → b ≡ is_some f → o ≡ kept_of u (reaches_later tiles n) f
-    → cond b (known_faults n r k o) (fresh_faults tiles n k) ≡ earlier_faults tiles n u r k f
-by-parcel tiles n u r k b o None e h = ap (λ (t : Bool). cond t (known_faults n r k o) (fresh_faults tiles n k)) e
-by-parcel tiles n u r k b o (Some p) e h = ap (λ (t : Bool). cond t (known_faults n r k o) (fresh_faults tiles n k)) e ∙ ap (known_faults n r k) h
-    ∙ known-same tiles n u r k p (reaches_later tiles n p) refl
+-- a parcel that is not kept meets no later tile
+unawaited : (tiles : List Box4) (n : ℕ) (q : Parcel → Bool) → Awaits tiles n q → (p : Parcel) → q p ≡ false → reaches_later tiles n p ≡ false
+unawaited tiles n q a p e = by (reaches_later tiles n p) refl
+  where
+    by : (b : Bool) → reaches_later tiles n p ≡ b → reaches_later tiles n p ≡ false
+    by true f = absurd (not-both (q p) (a p f) e)
+    by false f = f
+
+known-same : (tiles : List Box4) (n : ℕ) (q : Parcel → Bool) → Awaits tiles n q → (u r : Contents) (k p : Parcel) (b : Bool) → q p ≡ b
+    → known_faults tiles n r k (cond b (Some (row_in u p)) None)
+    ≡ cond (reaches_later tiles n p) (seam_fault_if (not (is_double u p r k)) (At Differs k.id n)) (At Reused k.id n ∷ [])
+known-same tiles n q a u r k p true e = refl
+known-same tiles n q a u r k p false e = sym (ap (λ (t : Bool). cond t (seam_fault_if (not (is_double u p r k)) (At Differs k.id n)) (At Reused k.id n ∷ [])) (unawaited tiles n q a p e))
+
+by-parcel : (tiles : List Box4) (n : ℕ) (q : Parcel → Bool) → Awaits tiles n q → (u r : Contents) (k : Parcel) (b : Bool) (o : Option KeptRow) (f : Option Parcel) → b ≡ is_some f → o ≡ kept_of u q f
+    → cond b (known_faults tiles n r k o) (fresh_faults tiles n k) ≡ earlier_faults tiles n u r k f
+by-parcel tiles n q a u r k b o None e h = ap (λ (t : Bool). cond t (known_faults tiles n r k o) (fresh_faults tiles n k)) e
+by-parcel tiles n q a u r k b o (Some p) e h = ap (λ (t : Bool). cond t (known_faults tiles n r k o) (fresh_faults tiles n k)) e ∙ ap (known_faults tiles n r k) h
+    ∙ known-same tiles n q a u r k p (q p) refl
 
 -- a row has the same faults by what is kept as by the whole country before it
 pub row-same : (tiles : List Box4) (n : ℕ) (ids : List (List ℕ)) (kept : List KeptRow) (u r : Contents) → ((id : List ℕ) → has_id ids id ≡ has_id (parcel_ids u.parcels) id)
-    → kept ≡ awaited_rows tiles n u → IsDistinct same_id (parcel_ids u.parcels)
+    → HaveAwaited tiles n u kept → IsDistinct same_id (parcel_ids u.parcels)
     → (k : Parcel) → tested_row tiles n ids kept r k ≡ seam_row_faults tiles n u r k
 row-same tiles n ids kept u r i h d k = ap (λ (fs : List SeamFault). seam_fault_if (not (reaches_own tiles n k)) (At Elsewhere k.id n) ++ fs)
-    (by-parcel tiles n u r k (has_id ids k.id) (row_named kept k.id) (parcel_named u k.id) (i k.id ∙ has-found k.id u.parcels)
-    (ap (λ (rows : List KeptRow). row_named rows k.id) h ∙ kept-row u (reaches_later tiles n) k.id u.parcels d))
+    (by-parcel tiles n h.is_kept h.awaited u r k (has_id ids k.id) (row_named kept k.id) (parcel_named u k.id) (i k.id ∙ has-found k.id u.parcels)
+    (ap (λ (rows : List KeptRow). row_named rows k.id) h.are ∙ kept-row u h.is_kept k.id u.parcels d))
 
 -- all rows
 pub rows-same : {A : Type 0} (f g : A → List SeamFault) → ((x : A) → f x ≡ g x) → (xs : List A) → flat_map f xs ≡ flat_map g xs
@@ -75,13 +87,13 @@ lack-own tiles n r k e = by (reaches_own tiles n k) refl
 abbrev lack_at : ℕ → Parcel → SeamFault
 lack_at n k = At Lacks k.id n
 
-lacking-same : (tiles : List Box4) (n : ℕ) (u r : Contents) (ps : List Parcel)
-    → tested_kept tiles n (map (row_in u) (filter (reaches_later tiles n) ps)) r ≡ map (lack_at n) (filter (is_lacking tiles n r) ps)
-lacking-same tiles n u r [] = refl
-lacking-same tiles n u r (p ∷ ps) = by (reaches_later tiles n p) refl (lacking-same tiles n u r ps)
+lacking-same : (tiles : List Box4) (n : ℕ) (q : Parcel → Bool) → Awaits tiles n q → (u r : Contents) (ps : List Parcel)
+    → tested_kept tiles n (map (row_in u) (filter q ps)) r ≡ map (lack_at n) (filter (is_lacking tiles n r) ps)
+lacking-same tiles n q a u r [] = refl
+lacking-same tiles n q a u r (p ∷ ps) = by (q p) refl (lacking-same tiles n q a u r ps)
   where
     rest : List KeptRow
-    rest = map (row_in u) (filter (reaches_later tiles n) ps)
+    rest = map (row_in u) (filter q ps)
 
     own : (b : Bool) → tested_kept tiles n rest r ≡ map (lack_at n) (filter (is_lacking tiles n r) ps)
         → map (λ (o : KeptRow). lack_at n o.parcel) (cond b (row_in u p ∷ filter (λ (o : KeptRow). is_lacking tiles n r o.parcel) rest) (filter (λ (o : KeptRow). is_lacking tiles n r o.parcel) rest))
@@ -89,12 +101,12 @@ lacking-same tiles n u r (p ∷ ps) = by (reaches_later tiles n p) refl (lacking
     own true h = ap (λ (fs : List SeamFault). lack_at n p ∷ fs) h
     own false h = h
 
-    by : (b : Bool) → reaches_later tiles n p ≡ b → tested_kept tiles n rest r ≡ map (lack_at n) (filter (is_lacking tiles n r) ps)
-        → tested_kept tiles n (map (row_in u) (cond b (p ∷ filter (reaches_later tiles n) ps) (filter (reaches_later tiles n) ps))) r ≡ map (lack_at n) (filter (is_lacking tiles n r) (p ∷ ps))
+    by : (b : Bool) → q p ≡ b → tested_kept tiles n rest r ≡ map (lack_at n) (filter (is_lacking tiles n r) ps)
+        → tested_kept tiles n (map (row_in u) (cond b (p ∷ filter q ps) (filter q ps))) r ≡ map (lack_at n) (filter (is_lacking tiles n r) (p ∷ ps))
     by true e h = own (is_lacking tiles n r p) h
-    by false e h = h ∙ sym (ap (λ (t : Bool). map (lack_at n) (cond t (p ∷ filter (is_lacking tiles n r) ps) (filter (is_lacking tiles n r) ps))) (lack-own tiles n r p e))
+    by false e h = h ∙ sym (ap (λ (t : Bool). map (lack_at n) (cond t (p ∷ filter (is_lacking tiles n r) ps) (filter (is_lacking tiles n r) ps))) (lack-own tiles n r p (unawaited tiles n q a p e)))
 
 -- the faults of the kept rows that a region lacks are those of the country's parcels that it lacks
-pub kept-same : (tiles : List Box4) (n : ℕ) (kept : List KeptRow) (u r : Contents) → kept ≡ awaited_rows tiles n u
+pub kept-same : (tiles : List Box4) (n : ℕ) (kept : List KeptRow) (u r : Contents) → HaveAwaited tiles n u kept
     → tested_kept tiles n kept r ≡ map (λ (k : Parcel). At Lacks k.id n) (filter (is_lacking tiles n r) u.parcels)
-kept-same tiles n kept u r h = ap (λ (rows : List KeptRow). tested_kept tiles n rows r) h ∙ lacking-same tiles n u r u.parcels
+kept-same tiles n kept u r h = ap (λ (rows : List KeptRow). tested_kept tiles n rows r) h.are ∙ lacking-same tiles n h.is_kept h.awaited u r u.parcels

@@ -3,8 +3,8 @@
 ghost use Rattle.std.specs.Prelude.{◌≡◌, ◌||◌, [], ℕ, List, IfOk, OnOk, option_to_list, slice_get};
 ghost use Rattle.lpis_tables.specs.Ids.{has_id};
 ghost use Rattle.lpis_release.specs.Release.{parcel_ids};
-ghost use Rattle.lpis_country_seam.specs.private.Kept.{at_places, new_rows, rows_reaching};
-ghost use Rattle.lpis_country_seam.specs.private.Kept.{with_rows};
+ghost use Rattle.lpis_country_seam.specs.private.Kept.{AreThinned, at_places, new_rows};
+ghost use Rattle.lpis_country_seam.specs.private.Kept.{rows_reaching, with_rows};
 
 use crate::identifiers::Identifiers;
 use crate::kept::{KeptRow, KeptRows};
@@ -14,11 +14,7 @@ use lpis_release::{Parcel, Release};
 use std::alloc::{AllocError, Global};
 
 /// Those of the rows that reach one of these tiles.
-pub(crate) fn still_kept(
-    alloc: Global,
-    tiles: &[Box4],
-    kept: KeptRows,
-) -> Result<KeptRows, AllocError>
+fn still_kept(alloc: Global, tiles: &[Box4], kept: KeptRows) -> Result<KeptRows, AllocError>
     ensures { IfOk result (λ rows. rows ≡ with_rows [] (rows_reaching tiles.now kept)) }
 {
     let mut rows = KeptRows::new(alloc);
@@ -27,7 +23,19 @@ pub(crate) fn still_kept(
             rows = rows.with(row)?;
         }
     }
-    Ok(rows)
+    Ok(rows.settled())
+}
+
+/// The rows; where they are many, without those that reach none of these tiles. So a row is looked
+/// at again only after as many others came in.
+pub(crate) fn thinned(alloc: Global, tiles: &[Box4], kept: KeptRows) -> Result<KeptRows, AllocError>
+    ensures { IfOk result (AreThinned tiles.now kept) }
+{
+    if kept.is_full() {
+        still_kept(alloc, tiles, kept)
+    } else {
+        Ok(kept)
+    }
 }
 
 /// The rows with that of the parcel of a region at a place, if it reaches one of these tiles.

@@ -14,7 +14,7 @@ ghost use Rattle.lpis_country_seam.specs.private.Testing.{is_fresh};
 use crate::classes::check_classes;
 use crate::fault::SeamFault;
 use crate::identifiers::Identifiers;
-use crate::keeping::{add_ids, still_kept, with_new};
+use crate::keeping::{add_ids, thinned, with_new};
 use crate::kept::KeptRows;
 use crate::testing::{Known, check_parcels};
 use lpis_country::is_region;
@@ -33,7 +33,7 @@ pub struct OpenSeam {
     classes: Vec<Class>,
     /// The identifiers of the parcels so far.
     ids: Identifiers,
-    /// The rows that later regions have to have too.
+    /// The rows that later regions have to have too, and some that no later one has to have.
     kept: KeptRows,
     /// The number of the next region.
     next: usize,
@@ -79,7 +79,7 @@ impl OpenSeam {
     {
         let later = &self.tiles[self.next + 1..];
         let kept = mem::replace(&mut self.kept, KeptRows::new(alloc));
-        let rows = still_kept(alloc, later, kept)?;
+        let rows = thinned(alloc, later, kept)?;
         let rows = with_new(alloc, later, release, places, rows)?;
         add_ids(&mut self.ids, release.parcels())?;
         self.kept = rows;

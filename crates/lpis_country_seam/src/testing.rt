@@ -1,19 +1,24 @@
 //! The tests of the next region.
 
 ghost use Rattle.std.specs.Prelude.{◌++◌, ◌∷◌, [], OnOk, cond};
-ghost use Rattle.std.specs.Prelude.{◌≡◌, ◌≤◌, not, IfOk, filter, flat_map, length, map, Some};
+ghost use Rattle.std.specs.Prelude.{◌≡◌, ◌≤◌, not, IfOk, drop, filter, flat_map, length, map, Some};
 ghost use Rattle.std.specs.Prelude.{slice_get};
+ghost use Rattle.std.specs.List.{list_any};
 ghost use Rattle.lpis_tables.specs.Ids.{has_id};
+ghost use Rattle.lpis_release.specs.declared.parcel.Parcel.{Parcel};
+ghost use Rattle.lpis_country.specs.Polygons.{box_of_members};
+ghost use Rattle.lpis_country.specs.Tiling.{reaches};
 ghost use Rattle.lpis_country_seam.specs.declared.fault.SeamFault.TheVariants.{At};
 ghost use Rattle.lpis_country_seam.specs.Faults.{ReportsSeam, is_lacking as lacking, reaches_own};
 ghost use Rattle.lpis_country_seam.specs.private.Testing.{fresh_faults, is_kept_row_of};
-ghost use Rattle.lpis_country_seam.specs.private.Testing.{known_faults, tested_kept, tested_row};
-ghost use Rattle.lpis_country_seam.specs.private.Testing.{is_fresh, row_named};
+ghost use Rattle.lpis_country_seam.specs.private.Testing.{is_fresh, known_faults, row_faults};
+ghost use Rattle.lpis_country_seam.specs.private.Testing.{row_named, tested_kept, tested_row};
 
 use crate::fault::{SeamCode, SeamFault};
 use crate::identifiers::Identifiers;
 use crate::kept::{KeptRow, KeptRows};
-use crate::tiles::{first_reached, reaches_tile};
+use crate::tiles::{first_reached, reaches_any, reaches_tile};
+use lpis_country::meets;
 use lpis_points::Box4;
 use lpis_release::{Parcel, Release, are_pieces_of, is_same_polygon};
 use lpis_tables::Id;
@@ -45,25 +50,44 @@ fn is_row_of(row: &KeptRow, release: &Release, parcel: &Parcel) -> bool
         && are_pieces_of(row.pieces.as_slice(), release, &parcel.id)
 }
 
+/// Whether a kept row's box meets the tile of a number or one after it.
+fn is_awaited(tiles: &[Box4], n: usize, row: &KeptRow) -> bool
+    requires { n ≤ length tiles.now }
+    ensures { result ≡ list_any (reaches row.now.parcel) (drop n tiles.now) }
+{
+    reaches_any(&tiles[n..], &row.parcel)
+}
+
 /// Tests a parcel that was there by the kept row of its identifier.
-fn check_known(
-    kept: &KeptRows,
+fn check_by_row(
+    tiles: &[Box4],
     n: usize,
     release: &Release,
     parcel: &Parcel,
+    row: &KeptRow,
 ) -> Result<(), SeamFault>
-    ensures { ReportsSeam
-        (known_faults n release.now parcel.now (row_named kept.now parcel.now.id)) result }
+    requires { n ≤ length tiles.now }
+    ensures { ReportsSeam (row_faults tiles.now n release.now parcel.now row.now) result }
 {
-    match kept.get(&parcel.id) {
-        Some(row) => {
-            if is_row_of(row, release, parcel) {
-                Ok(())
-            } else {
-                Err(fault_at(SeamCode::Differs, &parcel.id, n)?)
-            }
-        }
-        None => Err(fault_at(SeamCode::Reused, &parcel.id, n)?),
+    if !is_awaited(tiles, n, row) {
+        return Err(fault_at(SeamCode::Reused, &parcel.id, n)?);
+    }
+    if is_row_of(row, release, parcel) {
+        Ok(())
+    } else {
+        Err(fault_at(SeamCode::Differs, &parcel.id, n)?)
+    }
+}
+
+/// Tests a parcel that was there by the kept row of its identifier, if there is one.
+fn check_known(known: &Known<'_>, release: &Release, parcel: &Parcel) -> Result<(), SeamFault>
+    requires { known.now.n ≤ length known.now.tiles.now }
+    ensures { ReportsSeam (known_faults known.now.tiles.now known.now.n release.now parcel.now
+        (row_named known.now.kept.now parcel.now.id)) result }
+{
+    match known.kept.get(&parcel.id) {
+        Some(row) => check_by_row(known.tiles, known.n, release, parcel, row),
+        None => Err(fault_at(SeamCode::Reused, &parcel.id, known.n)?),
     }
 }
 
@@ -99,7 +123,7 @@ fn check_row(known: &Known<'_>, release: &Release, parcel: &Parcel) -> Result<bo
         return Err(fault_at(SeamCode::Elsewhere, &parcel.id, known.n)?);
     }
     if known.ids.contains(&parcel.id) {
-        check_known(known.kept, known.n, release, parcel)?;
+        check_known(known, release, parcel)?;
         Ok(false)
     } else {
         check_fresh(known.tiles, known.n, parcel)?;
@@ -137,11 +161,23 @@ fn check_rows(alloc: Global, known: &Known<'_>, release: &Release) -> Result<Vec
     Ok(places)
 }
 
-/// Whether a region lacks a parcel whose box meets its tile.
-fn is_lacking(tiles: &[Box4], n: usize, release: &Release, parcel: &Parcel) -> bool
+/// Whether a box meets the tile of a number.
+fn meets_number(tiles: &[Box4], n: usize, b: &Box4) -> bool
+    ensures { (parcel : Parcel) → box_of_members parcel.polygon ≡ b.now
+        → result ≡ reaches_own tiles.now n parcel }
+{
+    match tiles.get(n) {
+        Some(tile) => meets(tile, b),
+        None => false,
+    }
+}
+
+/// Whether a region lacks a parcel, which has this box, and whose box meets its tile.
+fn is_lacking(tiles: &[Box4], n: usize, release: &Release, parcel: &Parcel, b: &Box4) -> bool
+    requires { box_of_members parcel.now.polygon ≡ b.now }
     ensures { result ≡ lacking tiles.now n release.now parcel.now }
 {
-    reaches_number(tiles, n, parcel) && release.parcel(&parcel.id).is_none()
+    meets_number(tiles, n, b) && release.parcel(&parcel.id).is_none()
 }
 
 /// Looks for a kept row that a region lacks.
@@ -149,9 +185,12 @@ fn check_kept(known: &Known<'_>, release: &Release) -> Result<(), SeamFault>
     ensures { ReportsSeam (tested_kept known.now.tiles.now known.now.n known.now.kept.now
         release.now) result }
 {
-    for row in known.kept.as_slice() {
-        if is_lacking(known.tiles, known.n, release, &row.parcel) {
-            return Err(fault_at(SeamCode::Lacks, &row.parcel.id, known.n)?);
+    let rows = known.kept.as_slice();
+    let boxes = known.kept.boxes();
+    for k in 0..rows.len() {
+        let parcel = &rows[k].parcel;
+        if is_lacking(known.tiles, known.n, release, parcel, &boxes[k]) {
+            return Err(fault_at(SeamCode::Lacks, &parcel.id, known.n)?);
         }
     }
     Ok(())

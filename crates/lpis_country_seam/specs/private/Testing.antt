@@ -1,12 +1,13 @@
 -- The faults of a region by what is kept of those before it.
 use Rattle.std.specs.Prelude.{◌++◌, ◌∷◌, ◌&&◌, Bool, not, cond, ℕ, List, [], map, filter}
-use Rattle.std.specs.Prelude.{take, Option, Some, None}
-use Rattle.std.specs.List.{find}
+use Rattle.std.specs.Prelude.{drop, take, Option, Some, None}
+use Rattle.std.specs.List.{find, list_any}
 use Rattle.lpis_points.specs.declared.boxes.Box4.{Box4}
 use Rattle.lpis_tables.specs.Ids.{has_id, same_id}
 use Rattle.lpis_release.specs.declared.parcel.Parcel.{Parcel}
 use Rattle.lpis_release.specs.Release.{Contents, pieces_named}
 use Rattle.lpis_release.specs.Equality.{same_pieces, same_polygon}
+use Rattle.lpis_country.specs.Tiling.{reaches}
 use Rattle.lpis_country_seam.specs.declared.kept.KeptRow.{KeptRow}
 use Rattle.lpis_country_seam.specs.declared.fault.SeamCode.TheVariants.{Elsewhere, Reused}
 use Rattle.lpis_country_seam.specs.declared.fault.SeamCode.TheVariants.{Differs, Lacks}
@@ -23,10 +24,15 @@ is_kept_row_of o r k = same_polygon o.parcel.polygon k.polygon
 abbrev pub row_named : List KeptRow → List ℕ → Option KeptRow
 row_named kept id = find (λ (o : KeptRow). same_id id o.parcel.id) kept
 
--- a parcel that was there, by the kept row of its identifier
-abbrev pub known_faults : ℕ → Contents → Parcel → Option KeptRow → List SeamFault
-known_faults n r k (Some o) = seam_fault_if (not (is_kept_row_of o r k)) (At Differs k.id n)
-known_faults n r k None = At Reused k.id n ∷ []
+-- a parcel that was there, by a kept row of its identifier
+abbrev pub row_faults : List Box4 → ℕ → Contents → Parcel → KeptRow → List SeamFault
+row_faults tiles n r k o = cond (list_any (reaches o.parcel) (drop n tiles))
+    (seam_fault_if (not (is_kept_row_of o r k)) (At Differs k.id n)) (At Reused k.id n ∷ [])
+
+-- by that row, if there is one
+abbrev pub known_faults : List Box4 → ℕ → Contents → Parcel → Option KeptRow → List SeamFault
+known_faults tiles n r k (Some o) = row_faults tiles n r k o
+known_faults tiles n r k None = At Reused k.id n ∷ []
 
 -- a parcel that was not
 abbrev pub fresh_faults : List Box4 → ℕ → Parcel → List SeamFault
@@ -37,7 +43,7 @@ abbrev pub tested_row : List Box4 → ℕ → List (List ℕ) → List KeptRow �
     → List SeamFault
 tested_row tiles n ids kept r k =
     seam_fault_if (not (reaches_own tiles n k)) (At Elsewhere k.id n)
-    ++ cond (has_id ids k.id) (known_faults n r k (row_named kept k.id))
+    ++ cond (has_id ids k.id) (known_faults tiles n r k (row_named kept k.id))
     (fresh_faults tiles n k)
 
 -- the faults of kept rows that the region lacks
