@@ -182,12 +182,12 @@ fn the_sources_agree_where_boxes_fill_a_strip(rt: HostRuntime) -> Result<(), Fai
 fn the_sources_agree_on_boxes_of_several_sizes(rt: HostRuntime) -> Result<(), Fail> {
     let mut seed = 20_261_202;
     let mut found = 0;
-    for (wide, high) in [(5, 5), (1, 9), (9, 1)] {
+    for (wide, high) in [(5020, 5), (1020, 9), (9020, 1)] {
         let mut triangles = Vec::new(rt.alloc());
-        for class in 0..5 {
+        for size in [1_u64, 128, 16_384, 2_097_152, 268_435_456] {
+            let tall = size.saturating_mul(high).saturating_add(1);
             for _ in 0..60 {
-                let size = 1 << (class * 7);
-                triangles.push(oblong(&mut seed, 4000, wide * 1000 + 20, high * size + 1)?)?;
+                triangles.push(oblong(&mut seed, 4000, wide, tall)?)?;
             }
         }
         found = found.max(agreed(&rt, rt.alloc(), &triangles)?.len());
