@@ -3,9 +3,12 @@
 #
 #     run_program FOLDER WORD..     FOLDER has the program `lpis` and `facts`, what was known when it was built
 #
+# --explain, which the program does not get, puts a refusal into words on standard error, as does a standard error that is a terminal.
 # A program that cannot start on this system ends with status 70, in one line, before anything else: a loader that misses its C library ends
 # with 1, which would read as refused by the gate. On standard error: that a register is not there or is none, before the program runs; behind `failed ..`, which file was meant and what is
 # wrong with it.
+
+. "${BASH_SOURCE[0]%/*}/explained.sh"
 
 NEEDS='Linux on x86-64 with glibc 2.34 or later (Debian 12, Ubuntu 22.04, RHEL 9)'
 
@@ -151,7 +154,7 @@ trouble_of_place() {
   elif [[ -L $1 && ! -e $1 && $2 == read ]]; then
     echo "it is a link to $(readlink -- "$1"), which is missing"
   elif [[ ! -e $1 && ! -d $folder ]]; then
-    [[ -e $folder ]] && echo "$folder is not a folder" || echo "it is missing, and so is the folder $folder"
+    [[ -e $folder ]] && echo "$folder is not a folder$(what_reads "$folder")" || echo "it is missing, and so is the folder $folder"
   elif [[ ! -e $1 && ! -x $folder ]]; then
     echo "there is no permission to enter the folder $folder"
   fi
@@ -365,16 +368,24 @@ say_facts() {
 }
 
 run_program() {
-  local home_of_program=$1 program=$1/lpis status told signal out
+  local home_of_program=$1 program=$1/lpis status told signal out explain refused='' said
   shift
+  take_explain "$@"
+  set -- "${said[@]}"
   # The C library would keep a freed block for itself where it is smaller than the largest freed before: of a cut that is a fifth more memory at its peak.
   export MALLOC_MMAP_THRESHOLD_=${MALLOC_MMAP_THRESHOLD_-131072}
   look "$home_of_program"
   warn_of_register "$@"
   # The program's standard output is the caller's own; its standard error, of a few lines, is passed on as it is.
   { exec {out}>&1; } 2>/dev/null || exec "$program" "$@" # standard output is closed
-  run_and_hear "$out" "$program" "$@"
+  if is_explained "$out"; then
+    run_and_keep "$out" "$program" "$@"
+  else
+    run_and_hear "$out" "$program" "$@"
+  fi
   printf '%s' "$told" >&2 || true
+  [[ -z $refused ]] || say_refusal "$refused" "$@"
+  [[ $status -ne 2 || -z $told ]] || say_packages "$@"
   [[ $status -ne 0 || $# -ne 1 || ($1 != --version && $1 != -V) ]] || say_facts "$home_of_program"
   [[ $status -ne 0 ]] || say_origin "$@"
   [[ $status -ne 3 ]] || say_cause "${told%$'\n'}" "$out" "$@"

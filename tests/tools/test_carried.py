@@ -128,7 +128,8 @@ class TestChoice(Case):
             assert last.replace("PROGRAM", place) in told[0]
             self.check_tools(NEEDS)
             shutil.copytree(self.top / "program", installed / "program", dirs_exist_ok=True)
-            shutil.copy(self.top / "tools" / "run.sh", installed)
+            for name in ("run.sh", "explained.sh"):
+                shutil.copy(self.top / "tools" / name, installed)
             shutil.copy(self.top / "tools" / "installed", installed / "lpis")
             ended = self.call(installed / "lpis", "area", "x")
             assert (ended.returncode, ended.stdout, ended.stderr.count("\n"), NEEDS in ended.stderr) == (70, "", 1, True), ended.stderr

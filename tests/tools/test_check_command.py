@@ -217,6 +217,36 @@ exit 1
         assert ran.stdout.splitlines()[-1] == "no: lpis refuses the tables, 1 fault"
         assert len(data_of(read(self.out, "index.html"))["map"]["marks"]) == 1
 
+    def test_a_year_of_a_source(self):
+        """tools/year takes the source itself, with words of tools/check behind it; a later year wants its lineage."""
+        base, more = self.path("register.db"), ["--lpis", shlex.quote(BUILT)]
+        write("class,percent\nGRASS,100\nTREES,30\n", self.path("shares.csv"))
+        self.clean(classes=())
+        ended_with(1, tool("year", base, 2025, self.land, "--new", *more, cwd=self.folder))
+        assert not os.path.exists(base)
+        ran = ended_with(0, tool("year", base, 2025, f"{self.land} --classes {self.path('shares.csv')}", "--new", *more, cwd=self.folder))
+        assert "\nyes\n" in ran.stdout and "published 2025, in land-2025/published-2025.txt" in ran.stdout
+        assert "<h2>Map</h2>" in read(self.folder, "land-2025", "report-2025.html")
+        words = [f"{self.land} --classes shares.csv --out next", "--previous", "land-2025", *more]
+        ran = ended_with(1, tool("year", base, 2026, *words, cwd=self.folder))
+        assert "next has a yes, and no lineage.csv: tools/lineage --register " in ran.stderr
+        write("old,new\n", self.folder, "next", "lineage.csv")
+        assert "published 2026" in ended_with(0, tool("year", base, 2026, *words, cwd=self.folder)).stdout
+        assert "is not there" in ended_with(64, tool("year", base, 2027, "none", *more, cwd=self.folder)).stderr
+
+    def test_a_country(self):
+        """A source of more rows than a release has goes by tools/country, to a yes or to its page."""
+        python = shapely_there.python()
+        script = f"import sys; sys.path.insert(0, {TOOLS!r}); from lpis_tools import checking_country, words; checking_country.MOST_ROWS = 3; import runpy; runpy.run_path({os.path.join(TOOLS, 'check')!r}, run_name='__main__')"
+        words = [python, "-B", "-c", script, "--lpis", shlex.quote(BUILT), "--out", self.out]
+        ran = ended_with(0, run(*words, self.clean()))
+        assert ran.stdout.splitlines()[-1] == "yes" and "country regions 1 parcels 4 pieces 8 area 400.0000000" in ran.stdout
+        assert os.path.isfile(self.path("out", "country.txt")) and "border of a region" in read(self.out, "index.html")
+        dirty.put(self.land, *dirty.rows_of(["wide", "null"]))
+        ran = ended_with(1, run(*words, self.land))
+        assert ran.stdout.splitlines()[-1] == "no: 3 findings stop (1 gap, 1 overlap, 1 shape)", ran.stdout
+        assert data_of(read(self.out, "index.html"))["map"]["findings"]["count"] == 2
+
     def test_words_that_are_not_known(self):
         ended_with(64, checked(self.clean(), "--accept", "nonsense"))
         ended_with(64, run(os.path.join(TOOLS, "check")))

@@ -9,23 +9,22 @@ import datetime
 import filecmp
 import io
 import os
-import re
 import shlex
 import sys
 from dataclasses import dataclass, field
 from typing import Callable, Iterator
 
-from . import conflicts, cutting, files, finding, found, installed, land, origin, page, placing, prepared, recipe, release_page, remedies, report
+from . import checking_country, checking_names, conflicts, cutting, files, finding, found, installed, land, origin, page, placing, prepared, recipe, release_page, remedies, report
 from .printing import counted
 from .trouble import Trouble
 
 YES, STOPPED, UNREADABLE = 0, 1, 2
+COUNTRY = -1  # of an answer: the source has more rows than a release
 PAGE, CERT, REPORT = "index.html", "cert.txt", "report.txt"
 MADE = (PAGE, CERT, REPORT, found.PACKAGE, "parcels.csv", "covers.csv", "prepared.csv", "identifiers.csv", "report.csv",
         "report.geojson", "balance.csv", "between.geojson", "kept.csv", "kept.geojson")  # what this tool makes and takes away
 GIVEN = ("classes.csv", "lineage.csv", "identifiers.csv")  # what somebody may have put into the folder before
 MARK = "<!-- lpis-check -->"  # the page's last line: the folder is one that this tool made
-MOST_TOLD = 5  # findings of a kind on the terminal
 ROUNDED = ".rounded"
 
 
@@ -62,8 +61,7 @@ class Answer:
 
 def place_of(source: str) -> str:
     """The folder that a source has where none is named, in the folder where the tool runs."""
-    stem = os.path.splitext(os.path.basename(source.rstrip("/")))[0]
-    return f"{re.sub('[^A-Za-z0-9._-]+', '_', stem).strip('_-.') or 'land'}-check"
+    return f"{checking_names.stem_of(source)}-check"
 
 
 def look_at_place(out: str) -> None:
@@ -73,11 +71,11 @@ def look_at_place(out: str) -> None:
     if not os.path.isdir(out):
         raise Trouble(f"{out} is there, and no folder: name another by --out")
     there = [name for name in sorted(os.listdir(out)) if not name.startswith(".")]
-    published = [name for name in there if name.startswith("published-")]
+    published = [name for name in there if name.startswith("published-") or name == "years"]
     if published:
         raise Trouble(f"{out} has a year that was published ({published[0]}): name another folder by --out")
     others = [name for name in there if name not in GIVEN]
-    if others and not is_own(os.path.join(out, PAGE)):
+    if others and not is_own(os.path.join(out, PAGE)) and not os.path.exists(os.path.join(out, checking_country.OWN)):
         raise Trouble(f"{out} is there, and tools/check did not make it (it has {others[0]}): name another folder by --out")
 
 
@@ -99,7 +97,7 @@ class Check:
         self.spare = files.folder(self.out, ".check-")
         self.made = os.path.join(self.spare, "made")
         os.mkdir(self.made)
-        self.title = f"Check of {os.path.basename(words.land.rstrip('/')) or words.land}"
+        self.title = title_of(words.land)
 
     def inner(self, name: str) -> str:
         return os.path.join(self.made, name)
@@ -119,6 +117,8 @@ class Check:
                 self.move_rounded(self.made, self.out)
                 self.explain_unreadable(trouble)
                 return Answer(UNREADABLE, f"{self.words.land} cannot be read")
+            if any(one.kind == "rows" for one in run.work.findings):
+                return Answer(COUNTRY, "")
             answer = self.stopped(run) if status else self.certified(run)
         self.put()
         return answer
@@ -152,7 +152,7 @@ class Check:
         found.add_to(self.inner(found.PACKAGE), made.features, run.work.epsg)
         lead = [*made.facts["refusal"]["words"], self.what_next()]
         self.write_page(lambda path: release_page.write_release(path, made, self.title, lead))
-        lines = [made.facts["answer"], *made.facts["refusal"]["words"], *picture.lines(MOST_TOLD), self.where()]
+        lines = [made.facts["answer"], *made.facts["refusal"]["words"], *picture.lines(found.MOST_TOLD), self.where()]
         return Answer(STOPPED, f"no: lpis refuses the tables, {counted(max(1, finding.count_of(made.features)), 'fault')}", lines)
 
     def without_classes(self, run: Source) -> found.Found:
@@ -167,13 +167,11 @@ class Check:
         """Of a source that stops: what stops, in words and as a picture."""
         findings = found.of_package(self.inner(found.PACKAGE), is_settled=bool(more))
         picture = found.Picture([*more, *findings])
-        count = len(picture.stopping)
-        last = f"no: {counted(count, 'finding')} {'stops' if count == 1 else 'stop'} ({picture.counts()})"
+        last = picture.last_line()
         for name in ("parcels.csv", "covers.csv", REPORT, CERT):
             files.remove(self.inner(name))
         self.write_page(lambda path: self.write_stopped(path, run, picture, last))
-        todo = dict.fromkeys(f"{one.kind}: {one.todo}" for one in picture.stopping if one.todo)
-        return Answer(STOPPED, last, [*picture.lines(MOST_TOLD), "what to do", *(f"  {words}" for words in todo), self.where()])
+        return Answer(STOPPED, last, [*picture.lines(found.MOST_TOLD), *picture.todo(), self.where()])
 
     def write_stopped(self, path: str, run: Source, picture: found.Picture, last: str) -> None:
         layers, made = run.work.layers, datetime.datetime.now(datetime.timezone.utc).strftime("%Y-%m-%d %H:%M UTC")
@@ -239,8 +237,11 @@ def run(command: list, words: argparse.Namespace, names: dict, say: Callable) ->
         placing.end(words.out)
     look_at_place(words.out)
     os.makedirs(words.out, exist_ok=True)
+    again = f"tools/check {shlex.join(sys.argv[1:])}"
+    if checking_country.rows_of(words.land, names) > checking_country.MOST_ROWS:
+        return of_country(command, words, say, again)
     files.alone(words.out)
-    check = Check(command, words, names, say, f"tools/check {shlex.join(sys.argv[1:])}")
+    check = Check(command, words, names, say, again)
     try:
         answer = check.go()
     finally:
@@ -248,6 +249,21 @@ def run(command: list, words: argparse.Namespace, names: dict, say: Callable) ->
         if is_new:
             with contextlib.suppress(OSError):  # it is not empty: something stands there
                 os.rmdir(words.out)
+    if answer.status == COUNTRY:
+        return of_country(command, words, say, again)
     for line in [*answer.lines, answer.last]:
         print(line)
     return answer.status
+
+
+def of_country(command: list, words: argparse.Namespace, say: Callable, again: str) -> int:
+    """What has more rows than a release goes by regions."""
+    say(f"{words.land} has more than {checking_country.MOST_ROWS} rows: it goes by regions, as a country")
+    os.makedirs(words.out, exist_ok=True)
+    status, lines = checking_country.Country(command, words, say, again, title_of(words.land)).go()
+    print(*lines, sep="\n")
+    return status
+
+
+def title_of(source: str) -> str:
+    return f"Check of {os.path.basename(source.rstrip('/')) or source}"

@@ -9,7 +9,7 @@ import subprocess
 from collections import Counter
 from dataclasses import dataclass, field
 
-from . import country_changes, differences, ending, origin, page, program, progress, registers, release_page, report, streams, tiles, watching
+from . import country_changes, differences, ending, found, origin, page, program, progress, registers, release_page, report, streams, tiles, watching
 from .areas import AREA, both, decimal, hectares
 from .explaining import Explained
 from .printing import counted
@@ -129,7 +129,7 @@ def lines(country):
             *([f"register {registers.in_words(facts['register'])}"] if "register" in facts else [])]
 
 
-def chart_of(country):
+def chart_of(country, findings=None):
     boxes = [region.box for region in country.regions.values() if region.box]
     whole = (min(b[0] for b in boxes), min(b[1] for b in boxes), max(b[2] for b in boxes), max(b[3] for b in boxes)) if boxes else (0, 0, 1, 1)
     layer = page.Layer(words=[])
@@ -143,7 +143,7 @@ def chart_of(country):
     side = max(whole[2] - whole[0], whole[3] - whole[1]) // CELLS + 1
     counts = Counter(((x - whole[0]) // side, (whole[3] - y) // side) for region in country.regions.values() for x, y in region.corners)
     marks = [(*map(float, country.place), country.facts["answer"])] if country.place else []
-    return page.Map(tiles=layer, marks=marks, cells=(side, [(x, y, count) for (x, y), count in sorted(counts.items())]))
+    return page.Map(tiles=layer, marks=marks, findings=findings, cells=(side, [(x, y, count) for (x, y), count in sorted(counts.items())]))
 
 
 def write(path, country):
@@ -161,5 +161,6 @@ def write(path, country):
     regions = page.Table("Regions (a parcel that meets several tiles counts in each of them, and once in the country)",
                          ["region", "#parcels", "#pieces", "#area m\u00b2", "#eligible m\u00b2", *(f"#{key}" for key in KEYS[4:])], rows, [("tiles", number) for number in range(len(rows))], heads, is_mixed=True)
     files = page.Table("Files", ["file", "#bytes", "sha256"], [[name, file["bytes"], file["sha256"]] for name, file in facts["files"].items()])
+    picture = found.Picture(found.of_package(os.path.join(facts["folder"], found.PACKAGE), is_settled=True))
     title = f"Country {os.path.basename(facts['folder'])}"
-    release_page.write(path, page.page(title, facts["answer"], facts["answer"] == "yes", head, chart_of(country), [regions, *release_page.origin_tables(facts["origin"]), *release_page.changes_tables(facts), files]))
+    release_page.write(path, page.page(title, facts["answer"], facts["answer"] == "yes", head, chart_of(country, picture.layer), [*picture.tables(), regions, *release_page.origin_tables(facts["origin"]), *release_page.changes_tables(facts), files]))

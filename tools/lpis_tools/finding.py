@@ -1,6 +1,7 @@
 """Finds all faults of a release by calling `lpis cut` on parts of it, and reports each as its polygons, or as a point, with its line, code and identifiers."""
 
 import itertools
+import os
 import sys
 
 from . import codes, cutting, polygons, rows, shapely_there
@@ -110,6 +111,7 @@ def count_of(features):
 
 def find(command, folder):
     """The release of a folder, and its faults as features of GeoJSON."""
+    os.scandir(folder).close()  # one that is none is an OSError, which says so
     release = rows.read_release(command, folder, shower)
     faults = [] if release.is_sound or release.is_cut_off else faults_of_shapes(command, release)
     return release, features_of(release, faults)

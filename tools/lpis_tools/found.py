@@ -16,11 +16,13 @@ from dataclasses import dataclass
 from typing import Iterable, Iterator
 
 from . import codes, databases, geopackage, page, remedies, wkb
+from .printing import counted
 
 PACKAGE = "findings.gpkg"
 PLACE = "place without a polygon"
+MOST_TOLD = 5  # findings of a kind on the terminal
 MOST = 10_000  # on a page; the GeoPackage has all
-COLUMNS = ["", "kind", "layer", "row", "identifiers", "#area m\u00b2", "#width m", "words", "what to do"]
+COLUMNS = ["", "kind", "layer", "row", "identifiers", "#area m\u00b2", "#width m", "words", "what to do, or was done"]
 WIDTH = re.compile(r"^[0-9.]+ m wide: ")  # before the words of a conflict; it has a column of its own
 STOPS, ACCEPTED, TOLD = "stops", "accepted", "told"
 
@@ -155,6 +157,15 @@ class Picture:
         rows = [[kind, layer, len(some), some[0].names, some[0].words, some[0].todo] for (kind, layer), some in sorted(groups.items())]
         columns = ["kind", "layer", "#rows", "the first", "words", "done"]
         return page.Table("Told, and mended without asking", columns, rows, is_mixed=True)
+
+    def todo(self) -> list[str]:
+        """What to do, for each kind that stops."""
+        told = dict.fromkeys(f"  {one.kind}: {one.todo}" for one in self.stopping if one.todo)
+        return ["what to do", *told] if told else []
+
+    def last_line(self) -> str:
+        count = len(self.stopping)
+        return f"no: {counted(count, 'finding')} {'stops' if count == 1 else 'stop'} ({self.counts()})"
 
     def lines(self, most: int) -> Iterator[str]:
         """What stops, in words: so many of each kind, the largest first."""

@@ -15,7 +15,7 @@ from .printing import counted
 MOST_STRAYS = 20  # that are named
 
 
-def chart_of(land, marks, old=None, kinds=None, findings=None):
+def chart_of(land, marks, old=None, kinds=None, findings=None, of_mark="faults"):
     """The map of a release. `old` has shapes of an older one, `kinds` what became of parcels, `findings` the polygons of what is wrong."""
     kinds = kinds or {}
     parcels, pieces = page.Layer(), page.Layer(classes=[])
@@ -24,7 +24,7 @@ def chart_of(land, marks, old=None, kinds=None, findings=None):
     for name, _, land_class, members in land.pieces:
         pieces.add(name, members)
         pieces.classes.append(land_class)
-    return page.Map(parcels, pieces, old, marks=marks, strays=reports.strays(land), findings=findings)
+    return page.Map(parcels, pieces, old, marks=marks, strays=reports.strays(land), findings=findings, of_mark=of_mark)
 
 
 def numbers_of(land):
@@ -55,7 +55,7 @@ def write_release(path, report, title="", lead=()):
     tables += origin_tables(facts["origin"])
     tables += difference_tables(report, old)
     tables.append(parcels_table(report))
-    chart = chart_of(land, marks, old, kinds, picture.layer)
+    chart = chart_of(land, marks, old, kinds, picture.layer, found.PLACE if facts["answer"] == "yes" else "faults")
     write(path, page.page(title or f"Release {os.path.basename(facts['folder'])}", facts["answer"], facts["answer"] == "yes", facts_of(facts), chart, tables, lead))
 
 

@@ -21,6 +21,8 @@ COLUMNS = {
 }
 INSTEAD = {"percent": "eligible"}  # the column that is read where there is none of the first name
 FREE = {"exact"}  # columns that a table may lack
+START = 72  # bytes by which a file is known
+PACKAGES = (b"GPKG", b"GP10", b"GP11")  # what a GeoPackage has at byte 68
 KEYS = {"parcels": "parcel", "covers": "piece", "classes": "class"}
 MARK = b"\xef\xbb\xbf"
 LETTERS = frozenset(b"ABCDEFGHIJKLMNOPQRSTUVWXYZabcdefghijklmnopqrstuvwxyz0123456789._:/-")
@@ -53,7 +55,7 @@ class Table:
         self.path, self.name = path, name
         unforeseen.at(path)
         with open(path, "rb") as file:
-            self.start = file.read(64)
+            self.start = file.read(START)
             file.seek(0)
             data = file.read()
         if data.startswith(MARK):
@@ -112,7 +114,7 @@ def kind_of_file(start):
     """What a file is, by its first bytes, where it cannot be a table."""
     for head, what in (
         (b"", "empty"), (b"\xff\xfe", "UTF-16"), (b"\xfe\xff", "UTF-16"), (b"\x1f\x8b", "compressed by gzip"),
-        (b"PK\x03\x04", "a zip archive or a spreadsheet"), (b"SQLite format 3", "an SQLite database or a GeoPackage"),
+        (b"PK\x03\x04", "a zip archive or a spreadsheet"), (b"SQLite format 3", "a GeoPackage: tools/check reads it" if start[68:72] in PACKAGES else "an SQLite database, and no table"),
         (b"%PDF", "a PDF"), (b"{", "JSON"), (b"<", "XML or HTML"),
     ):
         if start == head if not head else start.startswith(head):

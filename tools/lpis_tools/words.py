@@ -9,7 +9,7 @@ import sqlite3
 import subprocess
 import sys
 
-from . import databases, ending, installed, placing, printing, program, unforeseen
+from . import databases, ending, installed, placing, printing, program, tables, unforeseen
 from .printing import readable
 from .trouble import Trouble
 
@@ -117,11 +117,24 @@ def told(name, error, troubles):
         say(name, f"{readable(str(unforeseen.PLACE.file or 'a database'))} cannot be read: {databases.why(error)}")
         return TROUBLE
     if isinstance(error, troubles):
-        for reason in getattr(error, "reasons", [error]):
+        for reason in [in_place_of_a_folder(error)] if isinstance(error, NotADirectoryError) else getattr(error, "reasons", [error]):
             say(name, installed.here(str(reason)))
         return getattr(error, "status", TROUBLE)
     say(name, unforeseen.sentence(name, error))
     return unforeseen.STATUS
+
+
+def in_place_of_a_folder(error):
+    """What a file is that was handed over in place of a folder of tables."""
+    path = os.fspath(error.filename or "")
+    while path and not os.path.isfile(path):
+        path = os.path.dirname(path)
+    try:
+        with open(path, "rb") as file:
+            kind = tables.kind_of_file(file.read(tables.START))
+    except OSError:
+        return error
+    return f"{readable(path)} is {kind or 'a file'}, and no folder of tables" if "tools/check" not in (kind or "") else f"{readable(path)} is {kind}"
 
 
 def say(name, words):
