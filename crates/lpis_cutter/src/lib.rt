@@ -10,6 +10,7 @@ mod exact;
 mod fans;
 mod fault;
 mod near;
+mod nested;
 mod numbered;
 mod ordering;
 mod parts;
