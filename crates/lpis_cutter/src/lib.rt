@@ -19,6 +19,9 @@ mod searching;
 mod separating;
 mod separator;
 mod telling;
+mod uncut;
+mod uneven;
+mod unseparated;
 
 pub use cutting::cut;
 pub use exact::exact_flats;
