@@ -39,7 +39,7 @@ CUT = [
     ([SQUARE], [("G", HOLE), ("W", IN_IT)], "triangles ", "96.000000000"), ([CORNERS], [("G", CORNERS)], "triangles 4 pairs 2", "200.000000000"),
     ([TOUCHING], [("G", TOUCHING)], "triangles ", "94.000000000"), ([], [], "triangles 0 pairs 0", "0.000000000"),
     ([SQUARE], [("G", LEFT), ("W", OTHER_RIGHT)], "refused 43 parcel A at ", None), ([SQUARE], [("G", LEFT)], "refused 43 parcel A at ", None),
-    ([BOW_TIE], [("G", BOW_TIE)], "refused 40 piece p0", None),
+    ([BOW_TIE], [("G", BOW_TIE)], "refused 40 piece p0", None), ([SQUARE], [("G", LEFT), ("G", BOW_TIE), ("G", BOW_TIE)], "refused 40 piece p1", None),
 ]
 # Two parcels that share a strip of a metre, each of one piece; no edge keeps the two triangles of the pair line apart.
 STRIP = "POLYGON((9 0,20 0,20 10,9 10,9 0))"

@@ -1,4 +1,5 @@
 pub mod Common
 pub mod UnsoundLemmas
-pub mod CountingLemmas
 pub mod PieceLemmas
+pub mod StandingLemmas
+pub mod UnevenLemmas

@@ -1,7 +1,7 @@
 -- A release of which a point is reported is not sound everywhere.
 use Rattle.std.proofs.Common.{◌≡◌, ℕ, zero, suc, pos, ◌<ℤ◌, Bool, true, false, cond, List, [], ◌∷◌, Some, Result, Ok, Err, IfErr, inl, inr, ◌⊎◌, ◌↔◌, filter, ap, sym, refl, ◌∙◌, subst, arith, All}
 use Rattle.std.proofs.Common.{slice_get, Any}
-use Rattle.lpis_cutter.proofs.Common.{rational_of, Piece, pieces_named, IsInPiece}
+use Rattle.lpis_cutter.proofs.Common.{rational_of, Piece, IsInPiece}
 use Rattle.std.specs.Prelude.{Contains as IsAmong}
 use Rattle.std.proofs.lemmas.Int.{ints}
 use Rattle.std.specs.List.{IsDistinct}
@@ -11,7 +11,7 @@ use Rattle.lpis_points.specs.declared.rational.RatPoint.{RatPoint}
 use Rattle.lpis_points.specs.Plane.{RationalPoint}
 use Rattle.lpis_release.specs.declared.parcel.Parcel.{Parcel}
 use Rattle.lpis_tables.specs.Ids.{same_id}
-use Rattle.lpis_release.specs.Release.{Contents, names_parcel, parcel_ids}
+use Rattle.lpis_release.specs.Release.{Contents, names_parcel, parcel_ids, pieces_named}
 use Rattle.lpis_cert.specs.declared.cert.Cert.{Cert}
 use Rattle.lpis_cutter.specs.declared.parts.ReleaseCut.{ReleaseCut}
 use Rattle.lpis_checker.specs.GoodCertificate.{IsGood}

@@ -1,28 +1,35 @@
 -- What a refusal says of a release.
-use Rattle.std.specs.Prelude.{◌≡◌, ◌≢◌, ◌≤◌, ℕ, List, Option, Some, None, All, Any, ◌⊎◌, ⊤}
+use Rattle.std.specs.Prelude.{◌≡◌, ◌≢◌, ◌≤◌, ◌<◌, ℕ, ◌+◌, List, [], ◌++◌, length, take, slice_get}
+use Rattle.std.specs.Prelude.{Option, Some, None, IfSome, All, Any, ◌⊎◌, ⊤, false, sum_by}
 use Rattle.std.specs.Prelude.{Contains as IsAmong}
 use Rattle.lpis_memory.specs.Memory.{UnlessMemory}
 use Rattle.lpis_points.specs.declared.triangle.Triangle.{Triangle}
 use Rattle.lpis_points.specs.Plane.{RationalPoint, same_point}
-use Rattle.lpis_points.specs.Triangles.{IsCounterClockwise}
+use Rattle.lpis_points.specs.Triangles.{IsCounterClockwise, IsFlat, are_apart}
 use Rattle.lpis_points.specs.RatPoints.{rational_of}
 use Rattle.lpis_points.specs.Chain.{SameNet}
 use Rattle.lpis_rings.specs.declared.polygon.Member.{Member}
 use Rattle.lpis_rings.specs.Edges.{edges_of}
+use Rattle.lpis_rings.specs.Map.{edges_of_triangles}
 use Rattle.lpis_tables.specs.declared.piece.Piece.{Piece}
 use Rattle.lpis_release.specs.declared.parcel.Parcel.{Parcel}
 use Rattle.lpis_release.specs.Release.{Contents, pieces_named}
-use Rattle.lpis_edge_sums.specs.Making.{HasCorners, corners_of, edges_of_all}
+use Rattle.lpis_edge_sums.specs.Making.{EdgesCancel, FlatsHaveCorners, HaveCorners}
+use Rattle.lpis_edge_sums.specs.Making.{corners_of}
+use Rattle.lpis_cert.specs.declared.cert.Cert.{Cert}
+use Rattle.lpis_cert.specs.declared.part.PiecePart.{PiecePart}
 use Rattle.lpis_cert.specs.Limits.{last_edge}
+use Rattle.lpis_checker.specs.FirstFault.{HoldBelow}
 use Rattle.lpis_checker.specs.GoodCertificate.{LineSeparates, polygons_of}
 use Rattle.lpis_checker.specs.SoundMap.{IsInParcel, IsInPiece}
+use Rattle.lpis_checker.specs.declared.condition.Condition.TheVariants.{NearPairs}
 use Rattle.lpis_cutter.specs.declared.fault.Refusal.{Refusal}
 use Rattle.lpis_cutter.specs.declared.fault.Refusal.TheVariants.{NoCut, ParcelsOverlap}
 use Rattle.lpis_cutter.specs.declared.fault.Refusal.TheVariants.{PiecesOverlap, NoSeparator}
 use Rattle.lpis_cutter.specs.declared.fault.Refusal.TheVariants.{Disagreement, NoFlats}
 use Rattle.lpis_cutter.specs.declared.fault.CutFault.{CutFault}
 use Rattle.lpis_cutter.specs.declared.fault.CutFault.TheVariants.{Memory, Refused}
-use Rattle.lpis_cutter.specs.Fans.{AreFewFans}
+use Rattle.lpis_cutter.specs.Fans.{AreFewFans, IsFan}
 
 -- a piece of the release has the identifier
 pub record IsPiece (r : Contents) (id : List ℕ) (x : Piece) : Type 0 where
@@ -68,41 +75,95 @@ pub record Disagrees (r : Contents) (id : List ℕ) (p : RationalPoint) : Type 0
   pub is_x : IsParcel r id x
   pub parted : (IsInParcel p x × IsUncovered r p id) ⊎ ((IsInParcel p x → ⊥) × IsCovered r p id)
 
--- the parcel's edges have other net counts than the edges of its pieces
-pub record IsUneven (r : Contents) (id : List ℕ) : Type 0 where
+-- ---- 40: the first piece without a cut
+-- triangles and flats on a polygon's own corners, of which the edges are those of the polygon
+pub record AreCutOf (members : List Member) (triangles flats : List Triangle) : Type 0 where
+  pub some : 0 < length triangles
+  pub turned : All IsCounterClockwise triangles
+  pub flat : All IsFlat flats
+  pub corners : HaveCorners (corners_of members) (triangles ++ flats)
+  pub edges : SameNet same_point (edges_of members)
+      (edges_of_triangles triangles ++ edges_of_triangles flats)
+
+-- a piece is cut by such, or by the triangles round its first point
+abbrev pub HasCut : Piece → Type 0
+HasCut x = ((triangles : List Triangle) × (flats : List Triangle)
+    × AreCutOf x.polygon triangles flats) ⊎ IsFan x.polygon
+
+-- each piece before this one has a cut. It or one before it is no fan, or they have more points
+-- together than a certificate has triangles
+pub record IsFirstUncut (r : Contents) (id : List ℕ) : Type 0 where
+  pub index : ℕ
+  pub x : Piece
+  pub at : slice_get r.pieces index ≡ Some x
+  pub named : x.id ≡ id
+  pub before : (k : ℕ) → k < index → IfSome (slice_get r.pieces k) HasCut
+  pub uncut : AreFewFans (take (index + 1) r.pieces) → ⊥
+
+-- ---- 44: the first parcel that its pieces do not make up
+-- flats add corners on a parcel's edges and those of its pieces, so that these make it up
+pub record AreFlatsOf (r : Contents) (x : Parcel) (flats : List Triangle) : Type 0 where
+  pub flat : All IsFlat flats
+  pub corners : FlatsHaveCorners x.polygon (polygons_of (pieces_named r x.id)) flats
+  pub cancel : EdgesCancel x.polygon (polygons_of (pieces_named r x.id)) flats
+
+-- a parcel's edges have the net counts of those of its pieces
+abbrev pub IsEven : Contents → Parcel → Type 0
+IsEven r x = EdgesCancel x.polygon (polygons_of (pieces_named r x.id)) []
+
+-- they have, or there are such flats
+abbrev pub IsMadeUp : Contents → Parcel → Type 0
+IsMadeUp r x = IsEven r x ⊎ ((flats : List Triangle) × AreFlatsOf r x flats)
+
+-- its edges have other net counts than those of its pieces; each parcel before it is made up
+pub record IsFirstUneven (r : Contents) (id : List ℕ) : Type 0 where
+  pub index : ℕ
   pub x : Parcel
-  pub is_x : IsParcel r id x
-  pub uneven : SameNet same_point (edges_of x.polygon)
-      (edges_of_all (polygons_of (pieces_named r id))) → ⊥
+  pub at : slice_get r.parcels index ≡ Some x
+  pub named : x.id ≡ id
+  pub before : (k : ℕ) → k < index → IfSome (slice_get r.parcels k) (IsMadeUp r)
+  pub uneven : IsEven r x → ⊥
 
--- a counter-clockwise triangle with its corners on a polygon's rings
-abbrev pub IsOn : List Member → Triangle → Type 0
-IsOn members t = IsCounterClockwise t × HasCorners (corners_of members) t
-
--- no edge of two triangles keeps them apart
+-- ---- 42: two triangles that no edge keeps apart
 abbrev pub NoEdgeSeparates : Triangle → Triangle → Type 0
 NoEdgeSeparates s t = (k : ℕ) → k ≤ last_edge → LineSeparates k s t → ⊥
 
--- two pieces have triangles on their own corners that no edge keeps apart
+-- the triangle of a number stands in the part with an identifier: so many are in the parts before,
+-- and so many before it in its own
+pub record StandsAt (parts : List PiecePart) (number : ℕ) (id : List ℕ) (t : Triangle)
+    : Type 0 where
+  pub index : ℕ
+  pub part : PiecePart
+  pub place : ℕ
+  pub at : slice_get parts index ≡ Some part
+  pub named : part.id ≡ id
+  pub there : slice_get part.triangles place ≡ Some t
+  pub numbered :
+      number ≡ sum_by (λ (p : PiecePart). length p.triangles) (take index parts) + place
+
+-- parts that pass the check of parts have two triangles, of two numbers, whose boxes overlap and
+-- that no edge keeps apart; the pieces are those of their parts
 pub record AreUnseparated (r : Contents) (first second : List ℕ) : Type 0 where
-  pub x : Piece
-  pub y : Piece
-  pub is_x : IsPiece r first x
-  pub is_y : IsPiece r second y
+  pub cert : Cert
+  pub parts : HoldBelow r cert NearPairs
+  pub i : ℕ
+  pub j : ℕ
   pub s : Triangle
   pub t : Triangle
-  pub on_x : IsOn x.polygon s
-  pub on_y : IsOn y.polygon t
+  pub two : i < j
+  pub of_first : StandsAt cert.pieces i first s
+  pub of_second : StandsAt cert.pieces j second t
+  pub near : are_apart s t ≡ false
   pub none : NoEdgeSeparates s t
 
--- what a refusal says
+-- ---- what a refusal says
 abbrev pub RefusalReports : Contents → Refusal → Type 0
-RefusalReports r (NoCut piece) = ((x : Piece) × IsPiece r piece x) × (AreFewFans r → ⊥)
+RefusalReports r (NoCut piece) = IsFirstUncut r piece
 RefusalReports r (ParcelsOverlap first second at) = ParcelsShare r first second (rational_of at)
 RefusalReports r (PiecesOverlap first second at) = PiecesShare r first second (rational_of at)
 RefusalReports r (NoSeparator first second) = AreUnseparated r first second
 RefusalReports r (Disagreement parcel at) = Disagrees r parcel (rational_of at)
-RefusalReports r (NoFlats parcel) = IsUneven r parcel
+RefusalReports r (NoFlats parcel) = IsFirstUneven r parcel
 
 -- what a fault reports: a refusal
 abbrev pub refusal_reported : CutFault → Option Refusal

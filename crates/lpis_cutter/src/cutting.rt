@@ -1,54 +1,69 @@
 //! A certificate for a release, or what it is refused for.
 
-ghost use Rattle.std.specs.Prelude.{◌≡◌, ◌≤◌, ◌+◌, IfErr, IfOk, IfSome, MatchOption, length};
-ghost use Rattle.lpis_rings.specs.Polygon.{points_of};
+ghost use Rattle.std.specs.Prelude.{◌≤◌, ◌+◌, ◌<◌, IfErr, IfNone, IfOk, IfSome, length};
 ghost use Rattle.lpis_cert.specs.declared.cert.Cert.{Cert};
 ghost use Rattle.lpis_cert.specs.Limits.{most_flats};
 ghost use Rattle.lpis_checker.specs.GoodCertificate.{IsGood};
 ghost use Rattle.lpis_checker.specs.SoundMap.{IsSoundEverywhere};
-ghost use Rattle.lpis_cutter.specs.declared.fault.Refusal.TheVariants.{NoCut};
 ghost use Rattle.lpis_cutter.specs.Fans.{IsFan};
 ghost use Rattle.lpis_cutter.specs.Refusals.{HasPoint, RefusesRightly};
-ghost use Rattle.lpis_cutter.specs.private.Cutting.{IsTooMany, ReportsIfAny};
+ghost use Rattle.lpis_cutter.specs.private.Cutting.{Fits, HasFew, HasFewAt, IsTooMany};
+ghost use Rattle.lpis_cutter.specs.private.Cutting.{IsUncutAt, ReportsIfAny};
 
 use crate::exact::add_edges;
 use crate::fault::{CutFault, Refusal};
 use crate::near::near_pairs;
 use crate::numbered::Numbered;
-use crate::parts::{Parts, ReleaseCut, cut_of_release, no_parts, with_parcel, with_piece};
+use crate::parts::{
+    Parts, ReleaseCut, cut_of_release, is_room_for, no_parts, with_parcel, with_piece,
+};
 use crate::pieces::{Cutter, cut_of};
 use crate::searching::{Budget, find_disagreement};
 use crate::separating::{Separated, early_overlap, separate};
-use crate::telling::unevenness;
+use crate::uncut::{refusal_of_piece, uncut_piece};
+use crate::uneven::uneven_parcel;
+use crate::unseparated::unseparated;
 use lpis_cert::{GREATEST_COUNT, MOST_FLATS, PairLine};
 use lpis_checker::laws::a_good_certificate_shows_a_sound_map;
+use lpis_cutter_mesh::Cut;
 use lpis_cutter_residue::Net;
 use lpis_points::Triangle;
 use lpis_release::{Parcel, Release, pieces_of};
 use lpis_tables::Piece;
 use std::alloc::{AllocError, Global};
 
-/// The parts with a piece more; `None` where it has no cut, or a limit would be passed.
-fn add_piece(cutter: &mut Cutter, parts: Parts, piece: &Piece) -> Result<Option<Parts>, AllocError>
-    ensures triangles { IfOk result (λ o. IsFan piece.now.polygon
-        → MatchOption o (IsTooMany piece.now.polygon parts.triangles parts.flats)
-        (λ more. more.triangles ≤ parts.triangles + points_of piece.now.polygon)) }
-    ensures flats { IfOk result (λ o. IsFan piece.now.polygon
-        → MatchOption o (IsTooMany piece.now.polygon parts.triangles parts.flats)
-        (λ more. more.flats ≤ parts.flats + points_of piece.now.polygon)) }
+/// The cut of a piece, where one is found that leaves the parts within the limits.
+fn cut_that_fits(
+    cutter: &mut Cutter,
+    parts: &Parts,
+    piece: &Piece,
+) -> Result<Option<Cut>, AllocError>
+    ensures none { IfOk result (λ o. IfNone o (IsFan piece.now.polygon
+        → IsTooMany piece.now.polygon parts.now.triangles parts.now.flats)) }
+    ensures fits { IfOk result (λ o. IfSome o (Fits parts.now.triangles parts.now.flats)) }
+    ensures few { IfOk result (λ o. IfSome o (λ cut. IsFan piece.now.polygon
+        → HasFew piece.now.polygon cut)) }
 {
     match cut_of(cutter, &piece.polygon)? {
-        Some(cut) => with_piece(parts, &cut),
-        None => Ok(None),
+        Some(cut) if is_room_for(parts, &cut) => Ok(Some(cut)),
+        _ => Ok(None),
     }
 }
 
-/// What is reported of a piece that is not cut.
-fn no_cut(piece: &Piece) -> Result<Refusal, AllocError>
-    ensures { IfOk result (λ refusal. refusal ≡ NoCut piece.now.id) }
+/// The cut of the piece at an index, where one is found that leaves the parts within the limits.
+fn next_cut(
+    cutter: &mut Cutter,
+    release: &Release,
+    parts: &Parts,
+    index: usize,
+) -> Result<Option<Cut>, AllocError>
+    requires within { index < length release.now.pieces }
+    ensures none { IfOk result (λ o. IfNone o (IsUncutAt release.now index
+        parts.now.triangles parts.now.flats)) }
+    ensures fits { IfOk result (λ o. IfSome o (Fits parts.now.triangles parts.now.flats)) }
+    ensures few { IfOk result (λ o. IfSome o (HasFewAt release.now index)) }
 {
-    let piece = piece.id.copy()?;
-    Ok(Refusal::NoCut { piece })
+    cut_that_fits(cutter, parts, &release.pieces()[index])
 }
 
 /// The parts of all pieces.
@@ -56,23 +71,16 @@ fn cut_pieces(cutter: &mut Cutter, alloc: Global, release: &Release) -> Result<P
     ensures { IfErr result (RefusesRightly release.now) }
 {
     let mut parts = no_parts(alloc);
-    for piece in release.pieces() {
-        match add_piece(cutter, parts, piece)? {
-            Some(more) => parts = more,
-            None => return Err(CutFault::Refused(no_cut(piece)?)),
+    for index in 0..release.pieces().len() {
+        match next_cut(cutter, release, &parts, index)? {
+            Some(cut) => parts = with_piece(parts, &cut)?,
+            None => {
+                let refusal = refusal_of_piece(alloc, release, &parts, index)?;
+                return Err(CutFault::Refused(refusal));
+            }
         }
     }
     Ok(parts)
-}
-
-/// A refusal of a parcel that shows no point of a fault: one of its residual edges is counted anew.
-fn refuse_parcel(release: &Release, index: usize, net: &Net) -> Result<Option<Refusal>, AllocError>
-    ensures { IfOk result (ReportsIfAny release.now) }
-{
-    match net.edge_left() {
-        Some((a, b)) => unevenness(release, index, a, b),
-        None => Ok(None),
-    }
 }
 
 /// What cuts a release.
@@ -126,57 +134,43 @@ fn flats_that_fit(net: &Net, alloc: Global, flats: u64) -> Result<Option<Vec<Tri
     Ok(Some(own))
 }
 
-/// The parts with a parcel more.
-fn add_parcel(
-    alloc: Global,
-    tools: &mut Tools,
-    release: &Release,
-    index: usize,
-    parts: Parts,
-) -> Result<Parts, CutFault>
-    ensures { IfErr result (RefusesRightly release.now) }
-{
+/// The parts with the parcel that was loaded, and whether its flats make up what is left of it.
+fn add_parcel(alloc: Global, net: &Net, parts: Parts) -> Result<(Parts, bool), AllocError> {
     let flats = parts.flats;
-    let own = match flats_that_fit(&tools.net, alloc, flats)? {
-        Some(own) => own,
-        None => match refuse_parcel(release, index, &tools.net)? {
-            Some(refusal) => return Err(CutFault::Refused(refusal)),
-            None => Vec::new(alloc),
-        },
-    };
-    Ok(with_parcel(parts, &own)?)
+    match flats_that_fit(net, alloc, flats)? {
+        Some(own) => Ok((with_parcel(parts, &own)?, net.is_flat())),
+        None => Ok((with_parcel(parts, &[])?, false)),
+    }
 }
 
-/// Parts of all pieces and parcels, and a parcel that is refused where no point is found later.
+/// Parts of all pieces and parcels, and whether flats make up what is left of each parcel.
 #[derive(Drop)]
 struct Filled {
     parts: Parts,
-    kept: Option<Refusal>,
+    is_flat: bool,
 }
 
-/// The parts of all parcels. The first with residual edges is kept, where they show no point.
+/// The parts of all parcels, or a point of one.
 fn fill_parcels(
     alloc: Global,
     tools: &mut Tools,
     release: &Release,
     parts: Parts,
 ) -> Result<Filled, CutFault>
-    ensures ok { IfOk result (λ filled. ReportsIfAny release.now filled.kept) }
-    ensures err { IfErr result (RefusesRightly release.now) }
+    ensures { IfErr result (RefusesRightly release.now) }
 {
     let mut parts = parts;
-    let mut kept = None;
+    let mut is_flat = true;
     for (index, parcel) in release.parcels().iter().enumerate() {
         load_parcel(&mut tools.net, release, parcel)?;
         if let Some(refusal) = find_fault(tools, release, index)? {
             return Err(CutFault::Refused(refusal));
         }
-        if kept.is_none() && !tools.net.is_flat() {
-            kept = refuse_parcel(release, index, &tools.net)?;
-        }
-        parts = add_parcel(alloc, tools, release, index, parts)?;
+        let (more, has_flats) = add_parcel(alloc, &tools.net, parts)?;
+        parts = more;
+        is_flat = is_flat && has_flats;
     }
-    Ok(Filled { parts, kept })
+    Ok(Filled { parts, is_flat })
 }
 
 /// The separators of the near pairs of all triangles, or an overlap that was found.
@@ -186,8 +180,7 @@ fn separators(
     release: &Release,
     parts: &Parts,
 ) -> Result<Separated, AllocError>
-    ensures found { IfOk result (λ s. ReportsIfAny release.now s.found) }
-    ensures kept { IfOk result (λ s. ReportsIfAny release.now s.kept) }
+    ensures { IfOk result (λ s. ReportsIfAny release.now s.found) }
 {
     let numbered = Numbered::of(alloc, parts)?;
     let mut budget = budget.renewed();
@@ -196,12 +189,54 @@ fn separators(
         return Ok(Separated {
             lines: Vec::new(alloc),
             found,
-            kept: None,
+            unseparated: None,
         });
     }
     let mut budget = budget.renewed();
     let near = near_pairs(alloc, &parts.list)?;
     separate(alloc, &mut budget, release, &numbered, &near)
+}
+
+/// What is refused of a release of which no point of a fault was found: a piece, a parcel, or two
+/// triangles without a separator.
+fn refusal_without_point(
+    alloc: Global,
+    release: &Release,
+    parts: &Parts,
+    is_flat: bool,
+    pair: Option<(u32, u32)>,
+) -> Result<Option<Refusal>, AllocError>
+    ensures { IfOk result (ReportsIfAny release.now) }
+{
+    if !is_flat {
+        let found = uneven_parcel(alloc, release, parts)?;
+        if found.is_some() {
+            return Ok(found);
+        }
+    }
+    match pair {
+        Some((i, j)) => unseparated_pair(alloc, release, parts, i, j),
+        None => Ok(None),
+    }
+}
+
+/// A piece without a cut, or else that the triangles of two numbers have no separator.
+fn unseparated_pair(
+    alloc: Global,
+    release: &Release,
+    parts: &Parts,
+    i: u32,
+    j: u32,
+) -> Result<Option<Refusal>, AllocError>
+    ensures { IfOk result (ReportsIfAny release.now) }
+{
+    let found = uncut_piece(alloc, release, parts)?;
+    if found.is_some() {
+        return Ok(found);
+    }
+    let copy = parts.copy(alloc)?;
+    let cert = finish(alloc, release, copy, Vec::new(alloc))?.into_cert()?;
+    unseparated(alloc, release, &cert, i as usize, j as usize)
 }
 
 /// These parts with the separators of their near pairs.
@@ -211,22 +246,18 @@ fn join(
     release: &Release,
     filled: Filled,
 ) -> Result<ReleaseCut, CutFault>
-    requires kept { ReportsIfAny release.now filled.kept }
     ensures { IfErr result (RefusesRightly release.now) }
 {
-    let Filled { parts, kept } = filled;
+    let Filled { parts, is_flat } = filled;
     let Separated {
         lines,
         found,
-        kept: later,
+        unseparated: pair,
     } = separators(alloc, budget, release, &parts)?;
     if let Some(refusal) = found {
         return Err(CutFault::Refused(refusal));
     }
-    if let Some(refusal) = kept {
-        return Err(CutFault::Refused(refusal));
-    }
-    if let Some(refusal) = later {
+    if let Some(refusal) = refusal_without_point(alloc, release, &parts, is_flat, pair)? {
         return Err(CutFault::Refused(refusal));
     }
     Ok(finish(alloc, release, parts, lines)?)
@@ -265,10 +296,14 @@ fn cut_release(alloc: Global, release: &Release) -> Result<ReleaseCut, CutFault>
 /// what it is refused for. Nothing is promised of the certificate, which is to be checked.
 ///
 /// A refusal says of the release what its variant says. Pieces that cannot be cut are refused
-/// first, in order; then the first fault of which a point is found; then what shows no point.
-/// Pieces that are fans, with at most 2,000,000 points together, are all cut, and a parcel is
-/// refused without a point only where its edges have other net counts than those of its pieces. A
-/// release of which a point is reported is not sound, so that no certificate is good for it.
+/// first, in order; then the first fault of which a point is found; then what shows no point: the
+/// first parcel that its pieces do not make up, and two triangles that no edge keeps apart.
+///
+/// The piece that is named is the first without a cut, and never comes where it and those before it
+/// are fans with at most 2,000,000 points together. The parcel is the first whose pieces do not
+/// make it up, and its edges have other net counts than theirs. The triangles are two of parts that
+/// pass `check_parts`. A release of which a point is reported is not sound, so that no certificate
+/// is good for it.
 pub fn cut(alloc: Global, release: &Release) -> Result<ReleaseCut, CutFault>
     ensures tells { IfErr result (RefusesRightly release.now) }
     ensures unsound { IfErr result (λ e. HasPoint e → IsSoundEverywhere release.now → ⊥) }

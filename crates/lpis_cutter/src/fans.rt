@@ -5,7 +5,7 @@ ghost use Rattle.std.specs.Prelude.{length};
 ghost use Rattle.lpis_points.specs.Plane.{orient as orient_spec};
 ghost use Rattle.lpis_rings.specs.Edges.{edges_of};
 ghost use Rattle.lpis_rings.specs.Polygon.{points_of};
-ghost use Rattle.lpis_cutter.specs.Fans.{IsFan, IsOneRing, SeesAll};
+ghost use Rattle.lpis_cutter.specs.Fans.{IsFan, IsOneRing, SeesAll, SeesAt};
 
 use lpis_points::{Point, Triangle, orient};
 use lpis_rings::{Polygon, edges};
@@ -24,7 +24,7 @@ fn edges_in(alloc: Global, polygon: &Polygon) -> Result<Vec<(Point, Point)>, All
 
 /// Whether a polygon is one ring.
 fn is_one_ring(polygon: &Polygon) -> bool
-    ensures { IsOneRing polygon.now → IsTrue result }
+    ensures { IsTrue result ↔ IsOneRing polygon.now }
 {
     match polygon.members() {
         [only] => only.holes.as_slice().is_empty(),
@@ -41,17 +41,16 @@ fn is_left(a: Point, b: Point, point: Point) -> bool
 
 /// Whether the point from which the first edge goes is strictly left of the edge at an index.
 fn sees(list: &[(Point, Point)], k: usize) -> bool
-    ensures { SeesAll list.now → 0 < k → k + 1 < length list.now → IsTrue result }
+    requires { k < length list.now }
+    ensures { IsTrue result ↔ SeesAt list.now k }
 {
-    let (Some(first), Some(edge)) = (list.first(), list.get(k)) else {
-        return true;
-    };
+    let (first, edge) = (list[0], list[k]);
     is_left(edge.0, edge.1, first.0)
 }
 
 /// Whether that point is strictly left of every edge but the first and the last.
 fn sees_all(list: &[(Point, Point)]) -> bool
-    ensures { SeesAll list.now → IsTrue result }
+    ensures { IsTrue result ↔ SeesAll list.now }
 {
     for k in 1..list.len().saturating_sub(1) {
         if !sees(list, k) {
@@ -59,6 +58,31 @@ fn sees_all(list: &[(Point, Point)]) -> bool
         }
     }
     true
+}
+
+/// The edges of a polygon that is a fan; None where it is none.
+fn edges_of_fan(alloc: Global, polygon: &Polygon) -> Result<Option<Vec<(Point, Point)>>, AllocError>
+    ensures { IfOk result (λ o. MatchOption o (IsFan polygon.now → ⊥)
+        (λ list. IsFan polygon.now × (list.items ≡ edges_of polygon.now))) }
+{
+    if !is_one_ring(polygon) {
+        return Ok(None);
+    }
+    let list = edges_in(alloc, polygon)?;
+    if !sees_all(&list) {
+        return Ok(None);
+    }
+    Ok(Some(list))
+}
+
+/// Whether a polygon is a fan.
+pub(crate) fn is_fan(alloc: Global, polygon: &Polygon) -> Result<bool, AllocError>
+    ensures { IfOk result (λ b. IsTrue b ↔ IsFan polygon.now) }
+{
+    match edges_of_fan(alloc, polygon)? {
+        Some(_list) => Ok(true),
+        None => Ok(false),
+    }
 }
 
 /// The triangles from the first point to every edge but the first and the last.
@@ -84,12 +108,8 @@ pub(crate) fn fan_of(alloc: Global, polygon: &Polygon) -> Result<Option<Vec<Tria
     ensures { IfOk result (λ o. IsFan polygon.now
         → MatchOption o ⊥ (λ triangles. length triangles.items ≤ points_of polygon.now)) }
 {
-    if !is_one_ring(polygon) {
-        return Ok(None);
+    match edges_of_fan(alloc, polygon)? {
+        Some(list) => Ok(Some(triangles_of(alloc, &list)?)),
+        None => Ok(None),
     }
-    let list = edges_in(alloc, polygon)?;
-    if !sees_all(&list) {
-        return Ok(None);
-    }
-    Ok(Some(triangles_of(alloc, &list)?))
 }

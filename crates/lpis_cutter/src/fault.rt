@@ -12,21 +12,21 @@ use thiserror::Error;
 /// What a release is refused for. Each names pieces or parcels of the release by their identifiers.
 #[derive(Debug, Drop)]
 pub enum Refusal {
-    /// No cut of this piece was found, or it would make more triangles or flats than a certificate
-    /// has.
+    /// This is the first piece of which no cut was found, or whose cut would make more triangles or
+    /// flats than a certificate has.
     NoCut { piece: Id },
     /// Two different parcels contain the point.
     ParcelsOverlap { first: Id, second: Id, at: RatPoint },
     /// Two different pieces contain the point.
     PiecesOverlap { first: Id, second: Id, at: RatPoint },
-    /// A triangle of the first piece and one of the second have no separating edge, and no point of
-    /// both was found; or they make one pair more than a certificate has.
+    /// A triangle of the first piece and one of the second have no separating edge, in parts that
+    /// are right, and no point of both was found.
     NoSeparator { first: Id, second: Id },
     /// The parcel contains the point and none of its pieces does, or one of its pieces does and the
     /// parcel does not.
     Disagreement { parcel: Id, at: RatPoint },
-    /// The parcel's edges have other net counts than its pieces' edges, and no flats were found
-    /// that make up the difference, or more than a certificate has.
+    /// This is the first parcel whose edges have other net counts than its pieces' edges, and for
+    /// which no flats were found that make up the difference, or more than a certificate has.
     NoFlats { parcel: Id },
 }
 

@@ -10,6 +10,7 @@ mod exact;
 mod fans;
 mod fault;
 mod near;
+mod nested;
 mod numbered;
 mod ordering;
 mod parts;
@@ -18,6 +19,9 @@ mod searching;
 mod separating;
 mod separator;
 mod telling;
+mod uncut;
+mod uneven;
+mod unseparated;
 
 pub use cutting::cut;
 pub use exact::exact_flats;

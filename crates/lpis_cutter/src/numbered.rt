@@ -1,7 +1,5 @@
 //! The triangles of all pieces by their numbers.
 
-ghost use Rattle.std.specs.Prelude.{◌≡◌, IfSome, Some, slice_get};
-
 use crate::parts::Parts;
 use lpis_points::Triangle;
 use std::alloc::{AllocError, Global};
@@ -38,10 +36,7 @@ impl<'a> Numbered<'a> {
     }
 
     /// Two triangles, behind the indices of their pieces.
-    pub(crate) fn pair(&self, i: u32, j: u32) -> Option<((usize, usize), &Triangle, &Triangle)>
-        ensures { IfSome result (λ pair. (slice_get self.now.owners.items i ≡ Some pair.0.0)
-            × (slice_get self.now.owners.items j ≡ Some pair.0.1)) }
-    {
+    pub(crate) fn pair(&self, i: u32, j: u32) -> Option<((usize, usize), &Triangle, &Triangle)> {
         let first = *self.owners.get(i as usize)?;
         let second = *self.owners.get(j as usize)?;
         let pieces = (first as usize, second as usize);

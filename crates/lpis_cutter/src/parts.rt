@@ -1,7 +1,6 @@
 //! The parts of a certificate that is being made.
 
-ghost use Rattle.std.specs.Prelude.{◌≡◌, ◌≤◌, ◌<◌, ◌+◌, ◌⊎◌, IfOk, IfSome, IfNone, length, sum_by};
-ghost use Rattle.std.specs.Prelude.{OnOk};
+ghost use Rattle.std.specs.Prelude.{◌≡◌, ◌≤◌, ◌↔◌, ◌+◌, IfOk, IsTrue, length, sum_by};
 ghost use Rattle.lpis_cert.specs.Limits.{most_flats, greatest_count};
 ghost use Rattle.lpis_points.specs.Triangles.{most_triangles};
 
@@ -53,15 +52,25 @@ pub(crate) fn no_parts(alloc: Global) -> Parts
     }
 }
 
-/// The parts with one piece more; `None` where a limit of a certificate would be passed.
-pub(crate) fn with_piece(parts: Parts, cut: &Cut) -> Result<Option<Parts>, AllocError>
-    ensures triangles { IfOk result (λ o. IfSome o
-        (λ more. more.triangles ≡ parts.triangles + length cut.now.triangles.items)) }
-    ensures flats { IfOk result
-        (λ o. IfSome o (λ more. more.flats ≡ parts.flats + length cut.now.flats.items)) }
-    ensures none { IfOk result
-        (λ o. IfNone o ((most_triangles < parts.triangles + length cut.now.triangles.items)
-        ⊎ (most_flats < parts.flats + length cut.now.flats.items))) }
+/// Whether a piece more leaves the parts within the limits of a certificate.
+pub(crate) fn is_room_for(parts: &Parts, cut: &Cut) -> bool
+    ensures { IsTrue result
+        ↔ ((parts.now.triangles + length cut.now.triangles.items ≤ most_triangles)
+        × (parts.now.flats + length cut.now.flats.items ≤ most_flats)) }
+{
+    let triangles = cut.triangles.len() as u64;
+    let flats = cut.flats.len() as u64;
+    triangles <= MOST_TRIANGLES - parts.triangles && flats <= MOST_FLATS - parts.flats
+}
+
+/// The parts with one piece more.
+pub(crate) fn with_piece(parts: Parts, cut: &Cut) -> Result<Parts, AllocError>
+    requires triangles { parts.triangles + length cut.now.triangles.items ≤ most_triangles }
+    requires flats { parts.flats + length cut.now.flats.items ≤ most_flats }
+    ensures triangles { IfOk result (λ more. more.triangles
+        ≡ parts.triangles + length cut.now.triangles.items) }
+    ensures flats { IfOk result (λ more. more.flats
+        ≡ parts.flats + length cut.now.flats.items) }
 {
     let Parts {
         mut list,
@@ -73,23 +82,20 @@ pub(crate) fn with_piece(parts: Parts, cut: &Cut) -> Result<Option<Parts>, Alloc
     } = parts;
     let more_triangles = cut.triangles.len() as u64;
     let more_flats = cut.flats.len() as u64;
-    if more_triangles > MOST_TRIANGLES - triangles || more_flats > MOST_FLATS - flats {
-        return Ok(None);
-    }
     list.extend_from_slice(&cut.triangles)?;
     flat_list.extend_from_slice(&cut.flats)?;
     pieces.push(Counts {
         triangles: cut.triangles.len(),
         flats: cut.flats.len(),
     })?;
-    Ok(Some(Parts {
+    Ok(Parts {
         list,
         flat_list,
         pieces,
         parcels,
         triangles: triangles + more_triangles,
         flats: flats + more_flats,
-    }))
+    })
 }
 
 /// The parts with one parcel more.
@@ -118,6 +124,81 @@ pub(crate) fn with_parcel(parts: Parts, own: &[Triangle]) -> Result<Parts, Alloc
         triangles,
         flats: flats + more,
     })
+}
+
+impl Parts {
+    /// What goes over the triangles and flats of pieces, in their order.
+    pub(crate) fn of_pieces(&self) -> Walk<'_> {
+        Walk {
+            counts: &self.pieces,
+            triangles: &self.list,
+            flats: &self.flat_list,
+        }
+    }
+
+    /// What goes over the flats of parcels, in their order.
+    pub(crate) fn of_parcels(&self) -> Walk<'_> {
+        let mut before: usize = 0;
+        for own in &self.pieces {
+            before = before.saturating_add(own.flats);
+        }
+        Walk {
+            counts: &self.parcels,
+            triangles: &[],
+            flats: self.flat_list.get(before..).unwrap_or(&[]),
+        }
+    }
+
+    /// The same parts in memory of their own.
+    pub(crate) fn copy(&self, alloc: Global) -> Result<Parts, AllocError> {
+        let mut list = Vec::with_capacity(alloc, self.list.len())?;
+        list.extend_from_slice(&self.list)?;
+        let mut flat_list = Vec::with_capacity(alloc, self.flat_list.len())?;
+        flat_list.extend_from_slice(&self.flat_list)?;
+        let mut pieces = Vec::with_capacity(alloc, self.pieces.len())?;
+        pieces.extend_from_slice(&self.pieces)?;
+        let mut parcels = Vec::with_capacity(alloc, self.parcels.len())?;
+        parcels.extend_from_slice(&self.parcels)?;
+        Ok(Parts {
+            list,
+            flat_list,
+            pieces,
+            parcels,
+            triangles: self.triangles,
+            flats: self.flats,
+        })
+    }
+}
+
+/// What goes over the parts of pieces or of parcels.
+#[derive(Clone, Copy, Debug)]
+pub(crate) struct Walk<'a> {
+    counts: &'a [Counts],
+    triangles: &'a [Triangle],
+    flats: &'a [Triangle],
+}
+
+/// The first items of a list, and those behind them.
+fn parted(items: &[Triangle], count: usize) -> (&[Triangle], &[Triangle]) {
+    match items.split_at_checked(count) {
+        Some(both) => both,
+        None => (items, &[]),
+    }
+}
+
+impl<'a> Walk<'a> {
+    /// The triangles and flats of the next one.
+    pub(crate) fn next_part(&mut self) -> (&'a [Triangle], &'a [Triangle]) {
+        let Some((own, rest)) = self.counts.split_first() else {
+            return (&[], &[]);
+        };
+        self.counts = rest;
+        let (triangles, later) = parted(self.triangles, own.triangles);
+        self.triangles = later;
+        let (flats, later_flats) = parted(self.flats, own.flats);
+        self.flats = later_flats;
+        (triangles, flats)
+    }
 }
 
 /// Takes so many items from the end of a list.

@@ -1,13 +1,12 @@
 //! Edges that separate near triangles, and overlaps where none does.
 
-ghost use Rattle.std.specs.Prelude.{IfOk, IfSome};
-ghost use Rattle.lpis_cutter.specs.private.Cutting.{NamesOwners, ReportsIfAny};
+ghost use Rattle.std.specs.Prelude.{IfOk};
+ghost use Rattle.lpis_cutter.specs.private.Cutting.{ReportsIfAny};
 
 use crate::fault::Refusal;
 use crate::numbered::Numbered;
 use crate::searching::{Budget, find_overlap};
 use crate::separator::separator;
-use crate::telling::no_separator;
 use lpis_cert::PairLine;
 use lpis_points::{Triangle, apart, box_of};
 use lpis_release::Release;
@@ -119,54 +118,18 @@ pub(crate) fn early_overlap(
     Ok(None)
 }
 
-/// The separators of near pairs; an overlap that was found; and a pair without a separator that is
-/// refused where nothing else is.
+/// The separators of near pairs; an overlap that was found; and the first pair without a separator.
 #[derive(Drop)]
 pub(crate) struct Separated {
     pub(crate) lines: Vec<PairLine>,
     pub(crate) found: Option<Refusal>,
-    pub(crate) kept: Option<Refusal>,
+    pub(crate) unseparated: Option<(u32, u32)>,
 }
 
 /// The separator of a near pair.
 fn line_of(numbered: &Numbered<'_>, i: u32, j: u32) -> Option<PairLine> {
     let k = separator(numbered.triangle(i)?, numbered.triangle(j)?)?;
     Some(PairLine { i, j, k })
-}
-
-/// That the triangles of a pair have no separator, by their pieces.
-fn unseparated(
-    alloc: Global,
-    release: &Release,
-    numbered: &Numbered<'_>,
-    i: u32,
-    j: u32,
-) -> Result<Option<Refusal>, AllocError>
-    ensures says { IfOk result (ReportsIfAny release.now) }
-    ensures named { IfOk result (λ o. IfSome o (NamesOwners release.now numbered.now i j)) }
-{
-    match numbered.pair(i, j) {
-        Some((pieces, s, t)) => no_separator(alloc, release, pieces, s, t),
-        None => Ok(None),
-    }
-}
-
-/// What is kept, or else that the triangles of a pair have no separator.
-fn first_unseparated(
-    alloc: Global,
-    release: &Release,
-    numbered: &Numbered<'_>,
-    kept: Option<Refusal>,
-    i: u32,
-    j: u32,
-) -> Result<Option<Refusal>, AllocError>
-    requires { ReportsIfAny release.now kept }
-    ensures { IfOk result (ReportsIfAny release.now) }
-{
-    match kept {
-        Some(refusal) => Ok(Some(refusal)),
-        None => unseparated(alloc, release, numbered, i, j),
-    }
 }
 
 /// The separators of near pairs. Where there is none a point is looked for; without a point the
@@ -178,28 +141,31 @@ pub(crate) fn separate(
     numbered: &Numbered<'_>,
     near: &[(u32, u32)],
 ) -> Result<Separated, AllocError>
-    ensures found { IfOk result (λ s. ReportsIfAny release.now s.found) }
-    ensures kept { IfOk result (λ s. ReportsIfAny release.now s.kept) }
+    ensures { IfOk result (λ s. ReportsIfAny release.now s.found) }
 {
     let mut lines = Vec::with_capacity(alloc, near.len())?;
-    let mut kept = None;
+    let mut unseparated = None;
     for (i, j) in near {
         if let Some(line) = line_of(numbered, *i, *j) {
             lines.push(line)?;
             continue;
         }
-        kept = first_unseparated(alloc, release, numbered, kept, *i, *j)?;
+        unseparated = unseparated.or(Some((*i, *j)));
         if !budget.search() {
             break;
         }
         let found = overlap_of(alloc, budget, release, numbered, *i, *j)?;
         if found.is_some() {
-            return Ok(Separated { lines, found, kept });
+            return Ok(Separated {
+                lines,
+                found,
+                unseparated,
+            });
         }
     }
     Ok(Separated {
         lines,
         found: None,
-        kept,
+        unseparated,
     })
 }

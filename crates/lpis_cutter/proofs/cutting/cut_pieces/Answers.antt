@@ -1,21 +1,22 @@
-use Rattle.lpis_cutter.proofs.PieceLemmas.{fan_at, points_bound_grows, no_cut_says}
+use Rattle.std.proofs.Common.{length}
+use Rattle.lpis_cutter.specs.private.Cutting.{HasFewAt, IsUncutAt}
+use Rattle.lpis_cutter.proofs.PieceLemmas.{no_few_fans, points_bound_grows}
 use Rattle.lpis_cutter.proofs.cutting.cut_pieces.Goals as goal
 
-pub returns-in-None : goal.returns-in-None
-returns-in-None c =
-    rw c.in_ok-no_cut-in-None.ensures (no_cut_says c.args.release.now c.pieces-piece-items.result.now
-    c.loop-piece.piece-index c.piece-item.result c.loop-piece.parts.triangles c.loop-piece.parts.flats
-    c.pieces-piece-items.ensures.pieces c.loop-piece-test.true c.piece-item.is c.loop-piece.invariant.triangles
-    c.loop-piece.invariant.flats (rw c.in-None.is at c.in_ok-more.ensures.triangles))
+pub refusal_of_piece-requires-clause-uncut : goal.refusal_of_piece-requires-clause-uncut
+refusal_of_piece-requires-clause-uncut c =
+    let u : IsUncutAt c.args.release.now c.loop-index.index c.loop-index.parts.triangles c.loop-index.parts.flats = rw c.in-None.is at c.in_ok-cut.ensures.none in
+    no_few_fans c.args.release.now.pieces c.loop-index.index u.0 c.loop-index.parts.triangles c.loop-index.parts.flats
+    u.1 c.loop-index.invariant.triangles c.loop-index.invariant.flats u.2
 
-pub loop-piece-preserved : goal.loop-piece-preserved
-loop-piece-preserved c =
-    let xs = c.pieces-piece-items.result.now in
-    let i = c.loop-piece.piece-index in
-    let x = c.piece-item.result in
+pub loop-index-preserved : goal.loop-index-preserved
+loop-index-preserved c =
+    let few : HasFewAt c.args.release.now c.loop-index.index c.in-Some.cut = rw c.in-Some.is at c.in_ok-cut.ensures.few in
     record {
-      triangles = λ fans. points_bound_grows xs i x c.loop-piece.parts.triangles c.in-Some.more.triangles c.loop-piece-test.true c.piece-item.is (c.loop-piece.invariant.triangles fans)
-          ((rw c.in-Some.is at c.in_ok-more.ensures.triangles) (fan_at c.args.release.now.pieces xs i x c.pieces-piece-items.ensures.pieces c.loop-piece-test.true c.piece-item.is fans));
-      flats = λ fans. points_bound_grows xs i x c.loop-piece.parts.flats c.in-Some.more.flats c.loop-piece-test.true c.piece-item.is (c.loop-piece.invariant.flats fans)
-          ((rw c.in-Some.is at c.in_ok-more.ensures.flats) (fan_at c.args.release.now.pieces xs i x c.pieces-piece-items.ensures.pieces c.loop-piece-test.true c.piece-item.is fans));
+      triangles = points_bound_grows c.args.release.now.pieces c.loop-index.index few.0 c.loop-index.parts.triangles
+          (length c.in-Some.cut.triangles.items) c.in_ok-parts-in-Some.parts.triangles few.1
+          c.loop-index.invariant.triangles (λ fan. (few.2 fan).0) c.in_ok-parts-in-Some.ensures.triangles;
+      flats = points_bound_grows c.args.release.now.pieces c.loop-index.index few.0 c.loop-index.parts.flats
+          (length c.in-Some.cut.flats.items) c.in_ok-parts-in-Some.parts.flats few.1
+          c.loop-index.invariant.flats (λ fan. (few.2 fan).1) c.in_ok-parts-in-Some.ensures.flats;
     }

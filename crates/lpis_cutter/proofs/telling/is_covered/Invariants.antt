@@ -1,5 +1,6 @@
 use Rattle.std.proofs.Common.{All, Any}
-use Rattle.lpis_cutter.proofs.Common.{rational_of, pieces_named, IsInPiece, Piece}
+use Rattle.lpis_cutter.proofs.Common.{rational_of, IsInPiece, Piece}
+use Rattle.lpis_release.specs.Release.{pieces_named}
 use Rattle.lpis_cutter.proofs.telling.is_covered.Given as goal
 
 abbrev pub invariant-loop-piece : goal.invariant-loop-piece
