@@ -42,6 +42,15 @@ plus-progress-requires c =
     (c.totals_at-totals.ensures news (same_places c.args.release.now c.as_slice-in-Ok.result.now c.in-Ok.places.items news c.as_slice-in-Ok.ensures.value
     (c.in-Ok.ensures.new ready.setting.tiles ready.setting.classes ready.before ready.at.seam))) c.parcels.ensures.few ready.room
 
+pub gather-requires : goal.gather-requires
+gather-requires c =
+    let ready = c.requires.ready in
+    let news = new_parcels (country_of ready.setting.classes ready.before) c.args.release.now in (
+      news,
+      same_places c.args.release.now c.as_slice-in-Ok-2.result.now c.in-Ok.places.items news c.as_slice-in-Ok-2.ensures.value
+          (c.in-Ok.ensures.new ready.setting.tiles ready.setting.classes ready.before ready.at.seam),
+    )
+
 pub returns-in_ok-gather-in-Ok-clause-follows : goal.returns-in_ok-gather-in-Ok-clause-follows
 returns-in_ok-gather-in-Ok-clause-follows c = λ texts before at.
     let s = setting_at texts c.args.detail c.args.names.now c.args.progress.now in
