@@ -82,6 +82,16 @@ def pytest_collection_modifyitems(config, items):
     if waiting:
         items[:] = [item for item in items if item not in set(waiting)]
         config.hook.pytest_deselected(items=waiting)
+        if hasattr(config, "workeroutput"):
+            config.workeroutput["waiting"] = len(waiting)
+
+
+@pytest.hookimpl(optionalhook=True)
+def pytest_testnodedown(node):
+    """Counts what waits for --long once: each process has looked at all tests."""
+    waiting = getattr(node, "workeroutput", {}).get("waiting", 0)
+    if not node.config.pluginmanager.getplugin("terminalreporter").stats.get("deselected"):
+        node.config.hook.pytest_deselected(items=[node] * waiting)
 
 
 def processor():
