@@ -11,6 +11,7 @@ import tempfile
 import pytest
 from lpis_helpers import places, starter
 from lpis_helpers.starts import STARTS
+from lpis_tools import shapely_there
 
 # Modules whose tests take longest: they begin first, and short ones fill the cores at the end.
 LONGEST = ("test_transcripts", "test_lands", "test_country", "test_country_cut", "test_unusual", "test_explain")
@@ -48,21 +49,24 @@ def pytest_addoption(parser):
 
 
 def pytest_configure(config):
-    """Each start of a tool by a test finds the modules compiled, in a folder that goes away: the tools write no bytecode beside their sources."""
+    """What a test starts finds its modules compiled, in a folder that goes away, and compiles what is not there yet: nothing is written beside sources, and the
+    tools write no bytecode at all."""
     at_work, config.compiled = getattr(config, "workerinput", None), None
+    if "PYTHONPYCACHEPREFIX" not in os.environ:
+        config.compiled = at_work["compiled"] if at_work else compiled()
+        if at_work or not config.getoption("numprocesses", None):
+            os.environ["PYTHONPYCACHEPREFIX"] = config.compiled
     if "PYTHONPYCACHEPREFIX" in os.environ:
-        return
-    config.compiled = at_work["compiled"] if at_work else compiled()
-    if at_work or not config.getoption("numprocesses", None):
-        os.environ["PYTHONPYCACHEPREFIX"] = config.compiled
+        os.environ.pop("PYTHONDONTWRITEBYTECODE", None)
 
 
 def compiled():
-    """A folder with the bytecode of what the tools load."""
+    """A folder with the bytecode of what the tools load, by each Python that they may start in."""
     folder = tempfile.mkdtemp(prefix="lpis-compiled-")
     os.chmod(folder, 0o755)
     surroundings = {name: value for name, value in os.environ.items() if name != "PYTHONDONTWRITEBYTECODE"}
-    subprocess.run(["python3", starter.__file__], env={**surroundings, "PYTHONPYCACHEPREFIX": folder}, check=False)
+    for python in {os.path.realpath(path) for path in (shutil.which("python3"), shapely_there.python()) if path}:
+        subprocess.run([python, starter.__file__], env={**surroundings, "PYTHONPYCACHEPREFIX": folder}, check=False)
     return folder
 
 
