@@ -14,7 +14,7 @@ from lpis_helpers.starts import STARTS
 from lpis_tools import shapely_there
 
 # Modules whose tests take longest: they begin first, and short ones fill the cores at the end.
-LONGEST = ("test_transcripts", "test_lands", "test_country", "test_country_cut", "test_unusual", "test_explain")
+LONGEST = ("test_country_cells", "test_package", "test_lands", "test_country_prepare", "test_guests", "test_far", "test_compare", "test_placing", "test_nation", "test_wheel")
 # Those of which each test goes to whatever process is free; of all others a module, or a class, is run by one.
 SPREAD = ("test_refusals", "test_prefixes", "test_audited_releases", "test_audited_years")
 MOST = 15  # seconds of a processor of a test that is not marked `long`, with all that it was the first to want
