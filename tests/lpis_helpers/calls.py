@@ -9,11 +9,15 @@ import tempfile
 from pathlib import Path
 
 from lpis_helpers.places import BUILT, TOOLS
+from lpis_helpers.starts import SHEBANG, STARTS
+from lpis_tools import shapely_there
+
+CAPTURED = {"capture_output": True, "text": True, "check": False}
 
 
 def run(*words, **more):
     """A run, with what it printed."""
-    return subprocess.run([str(word) for word in words], **{"capture_output": True, "text": True, "check": False, **more})
+    return subprocess.run([str(word) for word in words], **{**CAPTURED, **more})
 
 
 def done(*words, **more):
@@ -34,8 +38,19 @@ def lpis(*words, **more):
 
 
 def tool(name, *words, **more):
-    """A run of a script of tools/."""
-    return run(os.path.join(TOOLS, name), *words, **more)
+    """A run of a script of tools/, as `run` has it; its Python has loaded already what the tools load, wherever that makes no difference."""
+    path, more = os.path.join(TOOLS, name), {**CAPTURED, **more}
+    return STARTS.run([path, *words], **more) if STARTS.can(path, more) else run(path, *words, **more)
+
+
+def with_shapely(text, *words):
+    """A run of a text of Python, which has to end well, in a Python that has Shapely."""
+    with tempfile.TemporaryDirectory() as folder:
+        script = Path(folder, "text")
+        script.write_bytes(SHEBANG + text.encode())
+        python = shapely_there.python()
+        is_forked = os.path.realpath(shutil.which("python3") or "") == os.path.realpath(python) and STARTS.can(script, CAPTURED)
+        return ended_with(0, STARTS.run([script, *words], **CAPTURED) if is_forked else run(python, script, *words))
 
 
 def records(*path):

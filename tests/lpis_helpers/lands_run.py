@@ -2,23 +2,19 @@
 this process: it only has loaded what every run loads, and forks, so that a run does not begin with a second of imports."""
 
 import atexit
-import gc
-import importlib
 import io
 import os
 import resource
-import runpy
 import select
 import signal
 import sys
 import tempfile
-import traceback
 from dataclasses import dataclass
 from pathlib import Path
 
+from lpis_helpers import starter
 from lpis_helpers.places import TOOLS
 
-PRELOADED = ["numpy", "shapely.geometry", "shapely.ops", "shapely.strtree", "shapely.validation", "shapely.prepared", "pyproj", "sqlite3", "csv", "json", "tempfile"]
 # What a run may take, by the points of its source: seconds of a processor, and megabytes beyond those of a process that has loaded all.
 SECONDS, SECONDS_EACH = 10.0, 0.001
 ROOM, ROOM_EACH = 500_000_000, 4_000
@@ -34,19 +30,6 @@ class Run:
     told: str
     seconds: float
     peak: int
-
-
-def preload():
-    """Loads what the tools load, so that each run begins at once."""
-    if TOOLS not in sys.path:
-        sys.path.insert(0, TOOLS)
-    for name in [*PRELOADED, *(f"lpis_tools.{file[:-3]}" for file in sorted(os.listdir(os.path.join(TOOLS, "lpis_tools"))) if file.endswith(".py") and file != "__init__.py")]:
-        try:
-            importlib.import_module(name)
-        except ImportError:
-            continue  # a run that needs it will tell
-    gc.collect()
-    gc.freeze()
 
 
 class Runner:
@@ -103,31 +86,7 @@ def in_child(words, out, err, seconds, room):
         resource.setrlimit(resource.RLIMIT_AS, (begun + room, begun + room))
         resource.setrlimit(resource.RLIMIT_CPU, (int(seconds) + 1, int(seconds) + 1))
         resource.setrlimit(resource.RLIMIT_CORE, (0, 0))
-        status = ended(words)
+        sys.argv = words
+        status = starter.ended()
     finally:
-        try:
-            sys.stdout.flush()
-            sys.stderr.flush()
-        finally:
-            os._exit(status)
-
-
-def ended(words):
-    """The status with which Python would end, told as Python would tell it."""
-    sys.argv, status = words, 0
-    try:
-        runpy.run_path(words[0], run_name="__main__")
-    except SystemExit as end:
-        status = end.code
-        if status is not None and not isinstance(status, int):
-            print(status, file=sys.stderr)
-            status = 1
-        status = status or 0
-    except BaseException:
-        status = 1
-        try:
-            sys.excepthook(*sys.exc_info())
-        except BaseException:
-            traceback.print_exc()
-    atexit._run_exitfuncs()
-    return status
+        starter.leave(status)

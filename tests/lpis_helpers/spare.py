@@ -1,4 +1,4 @@
-"""Folders of tests: one for each test of a class, or one for all of them."""
+"""Folders of tests: one for each test of a class, or one for all of them. And cases that wait for `--long`."""
 
 import os
 import tempfile
@@ -19,6 +19,16 @@ def write_script(text, *names):
     """Writes a program that anybody may run."""
     write(text, *names)
     Path(*names).chmod(0o755)
+
+
+def exhaustive(*values):
+    """A case of a test that waits for `--long`."""
+    return pytest.param(*values, marks=pytest.mark.long)
+
+
+def few_at_once(values, few):
+    """Cases of which all but the first few wait for `--long`."""
+    return [*values[:few], *map(exhaustive, values[few:])]
 
 
 class Spare:

@@ -19,8 +19,9 @@ import tempfile
 from pathlib import Path
 
 HERE = Path(__file__).resolve().parent
-sys.path.insert(0, str(HERE.parent.parent / "tools"))
+sys.path[0] = str(HERE.parent)
 sys.dont_write_bytecode = True
+from lpis_helpers import starter
 MOST = 200
 
 
@@ -84,10 +85,12 @@ def forked(module, words, folder, how="", number=0):
 
 
 def trials(tool, start, words, kinds):
+    sys.path.insert(0, starter.TOOLS)
     from lpis_tools import shapely_there
 
     module, found = loaded(tool), []
     shapely_there.go_on_if_there()
+    starter.preload()
     for how in kinds:
         for number in range(1, MOST):
             with tempfile.TemporaryDirectory() as spare:

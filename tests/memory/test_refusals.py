@@ -21,7 +21,7 @@ from lpis_helpers.places import TOP
 from lpis_helpers.registers import VERSION_1, VERSION_2, VERSION_3, WITHOUT_MARKS, made, said
 
 EXAMPLES = pathlib.Path(TOP, "examples")
-SECONDS, MANY, SAMPLE, FEW, SEED = 60, 1_000, 100, 25, 20_261_123
+SECONDS, MANY, SAMPLE, FEW, SEED = 60, 1_000, 100, 12, 20_261_123
 # A file system in memory, where there is one: the register is put on its disk by each publish.
 FAST = "/dev/shm" if os.access("/dev/shm", os.W_OK) else None
 FAILURES = {(3, b"failed memory\n"): "memory", (3, b"failed store\n"): "store"}

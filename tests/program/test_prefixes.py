@@ -18,13 +18,30 @@ from lpis_helpers.calls import lpis
 from lpis_helpers.places import TOP
 
 EXAMPLES = pathlib.Path(TOP, "examples")
+NEAR, STEP = 2, 17  # bytes: about a line's end, and from one beginning to the next
 
 
-def expect_series(whole, answer_of, wanted_of):
-    """Of each beginning the answer is what is wanted."""
-    found = [(length, answer_of(whole[:length]), wanted_of(length)) for length in range(len(whole))]
+@pytest.fixture
+def expect_series(request):
+    """Tests that of each beginning the answer is what is wanted: without --long of those alone that end at a line's end or beside it, and of some others."""
+    is_long = request.config.getoption("long")
+
+    def expect(whole, answer_of, wanted_of):
+        expect_each(whole, [length for length in range(len(whole)) if is_long or is_near_an_end(whole, length) or length % STEP == 0], answer_of, wanted_of)
+
+    return expect
+
+
+def is_near_an_end(whole, length):
+    """Whether a beginning ends within two bytes of a line's end, or of the file's."""
+    return b"\n" in whole[max(0, length - NEAR) : length + NEAR] or min(length, len(whole) - length) <= NEAR
+
+
+def expect_each(whole, lengths, answer_of, wanted_of):
+    """Of beginnings of these lengths the answer is what is wanted."""
+    found = [(length, answer_of(whole[:length]), wanted_of(length)) for length in lengths]
     wrong = [f"{length} bytes: {answer} in place of {wanted}" for length, answer, wanted in found if not (wanted(answer) if callable(wanted) else answer == wanted)]
-    assert found and not wrong, f"{len(wrong)} of {len(whole)} beginnings"
+    assert found and not wrong, f"{len(wrong)} of {len(lengths)} beginnings"
 
 
 def refused(code, whole):
@@ -59,14 +76,14 @@ def certificate_of(release, folder):
 
 
 @pytest.mark.parametrize("release", ["square", "older", "pasture", "holes", "junctions", "members", "sweep", "years/2024", "years/2025"])
-def test_certificates(release, tmp_path):
+def test_certificates(release, tmp_path, expect_series):
     whole = certificate_of(release, tmp_path)
     expect_series(whole, lambda data: lpis("check", EXAMPLES / release, written(tmp_path / "cut.txt", data)), refused("54 cert", whole))
 
 
 @pytest.mark.parametrize("release", ["square", "older"])
 @pytest.mark.parametrize("table", ["parcels.csv", "covers.csv", "classes.csv"])
-def test_tables(release, table, tmp_path):
+def test_tables(release, table, tmp_path, expect_series):
     whole, cut = (EXAMPLES / release / table).read_bytes(), shutil.copytree(EXAMPLES / release, tmp_path / "cut")
     cert = written(tmp_path / "cert.txt", certificate_of(release, tmp_path))
     of_whole = lpis("check", EXAMPLES / release, cert)
@@ -85,7 +102,7 @@ def test_tables(release, table, tmp_path):
     expect_series(whole, answer, wanted)
 
 
-def test_areas(tmp_path):
+def test_areas(tmp_path, expect_series):
     whole = (EXAMPLES / "square.csv").read_bytes()
 
     def wanted(length):
@@ -104,7 +121,7 @@ def marked(lineage):
 
 
 @pytest.mark.parametrize("is_marked", [False, True], ids=["lineage", "marks"])
-def test_lineage(is_marked, tmp_path):
+def test_lineage(is_marked, tmp_path, expect_series):
     """By `exact` and `publish` of the second year."""
     first, cut = EXAMPLES / "years" / "2024", shutil.copytree(EXAMPLES / "years" / "2025", tmp_path / "2025")
     register, cert, blocks, out = (tmp_path / name for name in ("years.db", "cert.txt", "blocks.txt", "out.txt"))
@@ -137,7 +154,7 @@ def years(folder, out, exact, publish, name):
 
 
 @pytest.mark.parametrize("is_for_exact", [False, True])
-def test_blocks(is_for_exact, tmp_path):
+def test_blocks(is_for_exact, tmp_path, expect_series):
     """A certificate with blocks, for `check`, and one that `exact` is to give blocks."""
     first, second = (EXAMPLES / "exact" / year for year in ("2024", "2025"))
     register, plain, cert, out = (tmp_path / name for name in ("years.db", "plain.txt", "cert.txt", "out.txt"))
@@ -167,7 +184,7 @@ def country(tmp_path_factory):
 
 
 @pytest.mark.parametrize("name", ["country.txt", "exact.txt", "west/lineage.csv", "southeast/lineage.csv", "northeast/lineage.csv"])
-def test_countries(name, country, tmp_path):
+def test_countries(name, country, tmp_path, expect_series):
     """By `publish-country`, and by `exact-country`, which does not read the certificate."""
     cut, whole, blocks = shutil.copytree(country / "2025", tmp_path / "2025"), (country / "2025" / name).read_bytes(), (country / "2025" / "exact.txt").read_bytes()
     out = tmp_path / "out.txt"

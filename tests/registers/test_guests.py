@@ -2,6 +2,7 @@
 
 import sqlite3
 
+import pytest
 from lpis_helpers.asking import YEARS, MOVED, SHAPES, expect, lpis, rows, dump, expect_whole, names_of, expect_published, release_of
 from lpis_helpers.registers import LEFT, MARK, MARKS, RIGHT, SPANS, SQUARE, TABLES, TEXT, TEXTS, TWO_YEARS, VERSION_1, VERSION_2, VERSION_3, WITHOUT_MARKS, made
 from lpis_helpers.registers import said
@@ -70,6 +71,17 @@ HIDING = {
     "a row of another table that names no release": ("PRAGMA foreign_keys = OFF; CREATE TABLE flights (flown REFERENCES lpis_release); INSERT INTO flights VALUES (2023)",
                                                      "DELETE FROM flights"),
 }
+
+ALL, KINDS = "all at once", ("new", "moved")
+
+
+OLDER = {"version 1": VERSION_1, "version 2": VERSION_2, "version 3 without marks": WITHOUT_MARKS, "version 3 without texts": VERSION_2 + "UPDATE lpis_format SET version = 3;"}
+
+
+def each_over_one_kind(guests, kinds):
+    """Each guest over registers of each kind; over all but one of them, which take turns, it waits for --long."""
+    return [pytest.param(kind, name, marks=[pytest.mark.long] * (number % len(kinds) != place)) for number, name in enumerate(guests) for place, kind in enumerate(kinds)]
+
 
 OURS = ", ".join(f"'{name}'" for name in MOVED)
 
@@ -159,17 +171,29 @@ def expect_years(name, found, wanted):
         expect(f"{name}: {other[0]}", mine, other)
 
 
-def test_guests(tmp_path):
+@pytest.fixture(scope="module")
+def alone(tmp_path_factory):
+    """Registers of each kind, in a folder, and what every command says over each alone."""
+    folder = tmp_path_factory.mktemp("guests")
+    found = {kind: (base, years_over(folder, kind, copy_of(base, f"{kind} alone"))) for kind, base in bases(folder).items()}
+    return folder, found
+
+
+@pytest.mark.parametrize("kind", KINDS)
+def test_alone(alone, kind):
+    told = alone[1][kind][1]
+    expect(f"{kind}: the years", told[-2][1:], (("G\n", 0), told[-1][2]))
+    expect(f"{kind}: the last year", told[-1][2][0][-1] if len(told[-1][2]) == 2 else told[-1][2], (2028, [("G",)], [(0, "F", "G", True), (1, "C", "G", True)]))
+
+
+@pytest.mark.parametrize("kind, name", [*((kind, ALL) for kind in KINDS), *each_over_one_kind(GUESTS, KINDS)])
+def test_guests(alone, kind, name):
     """Years over registers into whose files others put something: the same answers as over the register alone."""
-    for kind, base in bases(tmp_path).items():
-        alone = years_over(tmp_path, kind, copy_of(base, f"{kind} alone"))
-        expect(f"{kind}: the years", alone[-2][1:], (("G\n", 0), alone[-1][2]))
-        expect(f"{kind}: the last year", alone[-1][2][0][-1] if len(alone[-1][2]) == 2 else alone[-1][2], (2028, [("G",)], [(0, "F", "G", True), (1, "C", "G", True)]))
-        order = names_of(base)
-        for name, script in {**GUESTS, "all at once": ";".join(script for name, script in GUESTS.items() if name in ALL_AT_ONCE)}.items():
-            path = copy_of(base, f"{kind} {name}", script)
-            expect_years(f"{kind}, {name}", years_over(tmp_path, f"{kind}, {name}", path), alone)
-            expect(f"{kind}, {name}: the order of tables", names_of(path)[: len(order)], order)
+    folder, (base, wanted) = alone[0], alone[1][kind]
+    script = GUESTS[name] if name != ALL else ";".join(script for name, script in GUESTS.items() if name in ALL_AT_ONCE)
+    order, path = names_of(base), copy_of(base, f"{kind} {name}", script)
+    expect_years(f"{kind}, {name}", years_over(folder, f"{kind}, {name}", path), wanted)
+    expect(f"{kind}, {name}: the order of tables", names_of(path)[: len(order)], order)
 
 
 def test_texts_with_keys(tmp_path):
@@ -211,26 +235,39 @@ def test_hiding(tmp_path):
             expect(f"{kind}, {name}: taken away", lpis("trace", path, "A"), ("B\nC\n", 0))
 
 
-def test_guests_at_first(tmp_path):
-    """Tables of others that were there before the register's, and registers that are moved or completed with such tables behind."""
-    apart = {name: script for name, script in GUESTS.items() if "lpis_" not in script}
-    older = {name: script for name, script in GUESTS.items() if not any(table in script for table in ("lpis_text", "lpis_mark", "lpis_span"))}
-    new = bases(tmp_path)["new"]
-    alone = years_over(tmp_path, "alone", copy_of(new, "alone"))
-    for name, script in apart.items():
-        path = made(tmp_path / f"first_{name.replace(' ', '_')}.db", script)
-        before = guests_of(path)
-        expect_published(f"{name} at first", path, 2024, *release_of(tmp_path, "square", {"A": SQUARE}, "old,new"), "yes")
-        expect(f"{name} at first: what others put there", guests_of(path) == before, True)
-        expect_published(f"{name} at first", path, 2025, *release_of(tmp_path, "halves", dict(SHAPES), "old,new", "A,B", "A,C"), "lineage A split")
-        expect_years(f"{name} at first", years_over(tmp_path, f"{name} at first", path), alone)
-    for kind, script in {"version 1": VERSION_1, "version 2": VERSION_2, "version 3 without marks": WITHOUT_MARKS,
-                         "version 3 without texts": VERSION_2 + "UPDATE lpis_format SET version = 3;"}.items():
-        alone = years_over(tmp_path, kind, made(tmp_path / f"{kind.replace(' ', '_')}.db", script))
-        for name, guest in older.items():
-            path = made(tmp_path / f"{kind.replace(' ', '_')}_{name.replace(' ', '_')}.db", script, guest)
-            expect_years(f"{kind}, {name}", years_over(tmp_path, f"{kind}, {name}", path), alone)
-            expect(f"{kind}, {name}: the version", rows(path, "SELECT * FROM lpis_format"), [(1, 3)])
+@pytest.mark.parametrize("name", [name for name, script in GUESTS.items() if "lpis_" not in script])
+def test_guests_at_first(alone, name):
+    """Tables of others that were there before the register's."""
+    folder, wanted = alone[0], alone[1]["new"][1]
+    path = made(folder / f"first_{name.replace(' ', '_')}.db", GUESTS[name])
+    before = guests_of(path)
+    expect_published(f"{name} at first", path, 2024, *release_of(folder, "square", {"A": SQUARE}, "old,new"), "yes")
+    expect(f"{name} at first: what others put there", guests_of(path) == before, True)
+    expect_published(f"{name} at first", path, 2025, *release_of(folder, "halves", dict(SHAPES), "old,new", "A,B", "A,C"), "lineage A split")
+    expect_years(f"{name} at first", years_over(folder, f"{name} at first", path), wanted)
+
+
+@pytest.fixture(scope="module")
+def alone_and_older(alone):
+    """What every command says over each older kind of register alone, once it was asked."""
+    return {}
+
+
+OF_OLDER = [name for name, script in GUESTS.items() if not any(table in script for table in ("lpis_text", "lpis_mark", "lpis_span"))]
+
+
+@pytest.mark.parametrize("kind, name", each_over_one_kind(OF_OLDER, OLDER))
+def test_guests_of_older(alone, alone_and_older, kind, name):
+    """Registers that are moved or completed with tables of others behind."""
+    folder = alone[0]
+    if kind not in alone_and_older:
+        alone_and_older[kind] = years_over(folder, kind, made(folder / f"{kind.replace(' ', '_')}.db", OLDER[kind]))
+    path = made(folder / f"{kind.replace(' ', '_')}_{name.replace(' ', '_')}.db", OLDER[kind], GUESTS[name])
+    expect_years(f"{kind}, {name}", years_over(folder, f"{kind}, {name}", path), alone_and_older[kind])
+    expect(f"{kind}, {name}: the version", rows(path, "SELECT * FROM lpis_format"), [(1, 3)])
+
+
+def test_a_table_between(tmp_path):
     between = TABLES[2] + "CREATE TABLE notes (note TEXT); INSERT INTO notes VALUES ('a'); CREATE VIEW v AS SELECT note FROM notes;" + TEXT + MARK
     path = made(tmp_path / "between.db", between, "INSERT INTO lpis_format VALUES (1, 3);", TWO_YEARS, SPANS, TEXTS, MARKS)
     alone = years_over(tmp_path, "version 3", made(tmp_path / "version_3.db", VERSION_3))

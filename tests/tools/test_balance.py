@@ -12,6 +12,7 @@ from pathlib import Path
 
 from lpis_helpers import dirty
 from lpis_helpers import lands_run
+from lpis_helpers import starter
 import pytest
 from lpis_helpers.lands_judge import Judge
 from lpis_helpers.lands_land import KEYS, Land
@@ -63,7 +64,7 @@ def trial(tmp_path_factory):
     """A source that went through tools/prepare, into the folder `accepted`."""
     if not shapely_there.python():
         pytest.skip(shapely_there.LACKING)
-    lands_run.preload()
+    starter.preload()
     folder = tmp_path_factory.mktemp("balance")
     path = str(folder / "land.gpkg")
     land = land_of(dirty.make_large(path, PARCELS, share=0.2) if PARCELS else planted(path, 2))

@@ -11,7 +11,7 @@ import time
 
 import pytest
 from lpis_helpers.places import TOP
-from lpis_helpers.spare import Spare
+from lpis_helpers.spare import Spare, few_at_once
 
 pytestmark = pytest.mark.finds_program
 
@@ -117,22 +117,24 @@ class TestChoice(Case):
             assert (ended.returncode, ended.stdout, len(ended.stderr.splitlines()), wanted in ended.stderr) == (70, "", 1, True), (tool, ended.stderr)
         assert [path for path in sorted(self.top.rglob("*")) if "__pycache__" not in path.parts] == [path for path in before if "__pycache__" not in path.parts]
 
-    def test_a_program_that_cannot_start(self):
+    @pytest.mark.parametrize("name", few_at_once([*ENDS], 2))
+    def test_a_program_that_cannot_start(self, name):
         """The script, the installed one and the tools say what it needs, in a line, before anything else, and never end with 1."""
-        installed = self.top / "place" / "lpis"
-        for name, (text, last) in ENDS.items():
-            self.put("program", text)
-            place = str(self.top / "program" / "lpis")
-            status, out, told = self.answer("publish", "new.db", "2024", "r", "c")
-            assert (status, out, len(told), NEEDS in told[0]) == (70, "", 1, True), told
-            assert last.replace("PROGRAM", place) in told[0]
-            self.check_tools(NEEDS)
-            shutil.copytree(self.top / "program", installed / "program", dirs_exist_ok=True)
-            for name in ("run.sh", "explained.sh"):
-                shutil.copy(self.top / "tools" / name, installed)
-            shutil.copy(self.top / "tools" / "installed", installed / "lpis")
-            ended = self.call(installed / "lpis", "area", "x")
-            assert (ended.returncode, ended.stdout, ended.stderr.count("\n"), NEEDS in ended.stderr) == (70, "", 1, True), ended.stderr
+        installed, (text, last) = self.top / "place" / "lpis", ENDS[name]
+        self.put("program", text)
+        place = str(self.top / "program" / "lpis")
+        status, out, told = self.answer("publish", "new.db", "2024", "r", "c")
+        assert (status, out, len(told), NEEDS in told[0]) == (70, "", 1, True), told
+        assert last.replace("PROGRAM", place) in told[0]
+        self.check_tools(NEEDS)
+        shutil.copytree(self.top / "program", installed / "program", dirs_exist_ok=True)
+        for part in ("run.sh", "explained.sh"):
+            shutil.copy(self.top / "tools" / part, installed)
+        shutil.copy(self.top / "tools" / "installed", installed / "lpis")
+        ended = self.call(installed / "lpis", "area", "x")
+        assert (ended.returncode, ended.stdout, ended.stderr.count("\n"), NEEDS in ended.stderr) == (70, "", 1, True), ended.stderr
+
+    def test_a_program_that_may_not_be_run(self):
         self.put("program", program("carried"))
         (self.top / "program" / "lpis").chmod(0o644)
         assert self.answer("area", "x") == (70, "", [f"lpis: {self.top}/program/lpis may not be run: chmod +x it, on a file system from which programs may run"])

@@ -148,6 +148,12 @@ class TestRuns(Spare):
         write("class,percent\nGRASS,100\nTREES,30\n", self.out, "classes.csv")
         ended_with(0, checked(self.land, "--out", self.out))
 
+    def test_what_is_accepted_is_told_from_what_stops(self):
+        dirty.put(self.land, *dirty.rows_of(["wide", "crossing"]))
+        ended_with(1, checked(self.land, "--out", self.out, "--accept", "invalid,gap"))
+        states = {row[1]: row[0] for row in data_of(read(self.out, "index.html"))["tables"][0]["rows"]}
+        assert (states["overlap"], states["gap"], states["invalid"]) == ("stops", "accepted", "accepted")
+
     def test_a_source_that_is_none(self):
         write("no land\n", self.path("land.txt"))
         for land, words in ((self.path("land.txt"), "cannot read it"), (self.path("none.gpkg"), "No such file")):

@@ -8,7 +8,7 @@ from pathlib import Path
 
 import pytest
 from lpis_helpers.registers import made
-from lpis_helpers.calls import ended_with, records, tool
+from lpis_helpers.calls import ended_with, records, tool, with_shapely
 from lpis_helpers.places import TOOLS
 from lpis_helpers.spare import Spare, read, write
 from lpis_helpers import dirty
@@ -43,7 +43,7 @@ class Case(Spare):
 
     def round(self):
         """Makes the tables."""
-        subprocess.run([shapely_there.python(), "-c", ROUNDS, TOOLS, self.land, self.out], check=True)
+        with_shapely(ROUNDS, TOOLS, self.land, self.out)
         self.put_classes()
 
     def put_classes(self, text="class,percent\nGRASS,100\nTREES,30\n"):
@@ -264,7 +264,7 @@ class TestCompare(Case):
         """The report has a row of each thing, however many there are."""
         code = ("import sys; sys.path.insert(0, sys.argv[1]); from lpis_tools import losses; "
                 "losses.write([losses.Loss('lost', [str(n)], 'gone', area=1.0, layer='covers', rows=[n]) for n in range(100_050)], sys.argv[2])")
-        subprocess.run([shapely_there.python(), "-c", code, TOOLS, self.out], check=True)
+        with_shapely(code, TOOLS, self.out)
         assert len(self.report()) == 100_050
         assert len(json.loads(Path(self.out, "report.geojson").read_text(encoding="utf-8"))["features"]) == 100_050
 
@@ -274,7 +274,7 @@ class TestCompare(Case):
                 "def fails(*_): raise TopologicalError('found non-noded intersection')\n"
                 "try: conflicts.by_geos('the overlap', [('covers', 'A.1', land.Row(7, {}))], fails)\n"
                 "except land.Trouble as trouble: print(trouble)")
-        run = subprocess.run([shapely_there.python(), "-c", code, TOOLS], capture_output=True, text=True, check=True)
+        run = with_shapely(code, TOOLS)
         assert "the overlap of covers A.1 (row 7) cannot be worked out: mend the shape" in run.stdout
 
 
@@ -290,7 +290,7 @@ class TestNames(Case):
         os.makedirs(folder)
         for name, head, row in (("parcels", "parcel,wkt", "A"), ("covers", "piece,parcel,class,wkt", "A.1,A,GRASS")):
             Path(folder, f"{name}.csv").write_text(f'{head}\n{row},"POLYGON((9.1 48.1,9.2 48.1,9.2 48.2,9.1 48.1))"\n', encoding="utf-8")
-        run = subprocess.run([COMPARE, folder, self.out], capture_output=True, text=True, check=False)
+        run = tool("recipes/compare", folder, self.out)
         assert (run.returncode, "reads as degrees" in run.stderr) == (64, True), run.stderr
 
     def test_tables_of_classes(self):

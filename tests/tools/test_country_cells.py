@@ -11,6 +11,7 @@ from lpis_helpers import hard
 from lpis_tools import shapely_there
 from lpis_helpers.cells_case import ByCells, mended, read, write
 from lpis_helpers.lands_parts import boxed, closed, on
+from lpis_helpers.spare import exhaustive
 
 if shapely_there.is_there():
     from lpis_tools import country_prepare, land as land_module, last_year, naming, parts, passes, rounding, snapping, store
@@ -31,7 +32,7 @@ class TestCells(ByCells):
             assert len(list(country_prepare.Run.named(work, names, starts, True))) == passes.STEPS
             base.close()
 
-    @pytest.mark.parametrize("seed, step", enumerate((0.02, 3.0, 30.0)))
+    @pytest.mark.parametrize("seed, step", ((0, 0.02), exhaustive(1, 3.0), (2, 30.0)))
     def test_as_the_whole(self, seed, step):
         land = mended(hard.Land(seed, 30, step))
         whole = self.whole(land)
@@ -43,7 +44,7 @@ class TestCells(ByCells):
                 assert read(made, name) == read(self.folder, "whole", name)
             assert found == whole
 
-    @pytest.mark.parametrize("seed, count, step, width", ((0, 30, 3.0, 0.1), (1, 30, 0.3, 0.1), (2, 30, 30.0, 60.0), (3, 30, 30.0, 60.0), (38, 9, 0.3, 0.1)))
+    @pytest.mark.parametrize("seed, count, step, width", ((0, 30, 3.0, 0.1), exhaustive(1, 30, 0.3, 0.1), exhaustive(2, 30, 30.0, 60.0), (3, 30, 30.0, 60.0), (38, 9, 0.3, 0.1)))
     def test_between(self, seed, count, step, width):
         """Land that nobody has, as in one: faces that many cells have a part of, islands in them, and arms between parcels of two cells."""
         land = mended(hard.Land(seed, count, step))
@@ -91,7 +92,7 @@ class TestCells(ByCells):
         assert ["P0", "P1"] in [names for _, names, *_ in whole]
         assert self.by_cells(land, 1, width=0.2)[1] == whole
 
-    @pytest.mark.parametrize("seed, step", enumerate((0.02, 3.0, 30.0)))
+    @pytest.mark.parametrize("seed, step", ((0, 0.02), exhaustive(1, 3.0), (2, 30.0)))
     def test_last_year(self, seed, step):
         """With last year's corners cells give what the whole gives, and where parcels go more of the others stay as they were than without."""
         land = mended(hard.Land(seed, 30, step))
@@ -108,10 +109,12 @@ class TestCells(ByCells):
         assert stayed >= without, seed
         assert last.counts[1] == len(read(self.folder, "whole", "parcels.csv").splitlines()) - 1
 
-    def test_new_corners(self):
+    @pytest.mark.parametrize("seeds, least", (([0], 10), exhaustive([0, 1, 2, 3], 100)))
+    def test_new_corners(self, seeds, least):
         """With last year's corners, and new ones on straight edges of every third piece, cells give what the whole gives; many of the new corners are in no text."""
         needless = 0
-        for seed, step in enumerate((0.02, 3.0, 30.0, 30.0)):
+        for seed in seeds:
+            step = (0.02, 3.0, 30.0, 30.0)[seed]
             land = mended(hard.Land(seed, 30, step))
             self.whole(land)
             last = last_year.LastYear(self.path("whole"))
@@ -128,7 +131,7 @@ class TestCells(ByCells):
             for most in (200, 60, 1):
                 folder, _ = self.by_cells(land, most, last=last)
                 assert {row.split(",", 3)[0]: row.split(",", 3)[3].strip('"') for row in read(folder, "covers.csv").splitlines()[1:]} == wanted, (seed, most)
-        assert needless > 100
+        assert needless > least
 
     def test_corners_that_moved(self):
         """A corner of last year's beside an end of this year is none; one in its pixel, or two away, is."""
@@ -139,7 +142,7 @@ class TestCells(ByCells):
         far = rounding.numpy.array([[-(2 * 10**10), -(2 * 10**10)], [2 * 10**10, 2 * 10**10]])
         assert snapping.are_beside(far, far + 1).tolist() == [True, True]
 
-    @pytest.mark.parametrize("seed, step", enumerate((3.0, 30.0, 0.3)))
+    @pytest.mark.parametrize("seed, step", ((0, 3.0), exhaustive(1, 30.0), (2, 0.3)))
     def test_large(self, seed, step):
         """Parcels with large boxes, each a cell of its own with the rows beside its shapes alone: here all of them."""
         land = mended(hard.Land(seed, 30, step))

@@ -92,10 +92,12 @@ class TestEngines(Case):
         assert (ended.returncode, ended.stdout.splitlines()[-1]) == (0, f"regions {len(self.regions())} refused 0"), ended.stdout + ended.stderr
         assert (os.path.exists(hit), os.path.exists(os.path.join(self.out, "hit")), read(kept)) == (False, False, "kept\n")
 
+    @pytest.mark.long
     @pytest.mark.skipif(not shutil.which("snakemake"), reason="there is no snakemake")
     def test_snakemake(self):
         self.whole("--snakemake")
 
+    @pytest.mark.long
     @pytest.mark.skipif(not shutil.which("snakemake"), reason="there is no snakemake")
     def test_strange_files_of_snakemake(self):
         """Neither modules nor profiles that lie in the folder are run: not one that the environment names, and not one beside the tool's own."""

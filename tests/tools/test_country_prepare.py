@@ -218,6 +218,7 @@ class TestSources(Case):
             time.sleep(0.05)
         assert workers_of(folder) == []
 
+    @pytest.mark.long
     @pytest.mark.skipif(not shutil.which("snakemake"), reason="there is no snakemake")
     def test_snakemake(self):
         """The same bytes by Snakemake: where a run before was killed, and where the folder has files that would be run if they were taken."""

@@ -6,7 +6,7 @@ import shlex
 import pytest
 from lpis_helpers.calls import ended_with, tool
 from lpis_helpers.places import BUILT
-from lpis_tools import cutting
+from lpis_tools import cutting, shapely_there
 
 
 def square(x, y, width=10.0):
@@ -68,6 +68,27 @@ def test_each_kind_of_fault(release):
     assert {(code, names) for code, names in found if names not in inner} == WANTED
     overlap = next(f["properties"] for f in features if f["properties"]["names"] == "left right")
     assert 49.999 <= overlap["x"] <= 50
+
+
+@pytest.mark.skipif(not shapely_there.python(), reason=shapely_there.LACKING)
+def test_a_fault_has_its_land(release):
+    """The overlap, the gap and what is outside of its parcel with width and area, else the whole shape; what has no shape is no polygon. Numbers are numbers."""
+    with open(release / "parcels.csv", "a", encoding="ascii") as parcels, open(release / "covers.csv", "a", encoding="ascii") as covers:
+        parcels.write(f"wide,{square(170, 0)}\n")
+        covers.write('c13,wide,G,"POLYGON((170.5 0,180.002 0,180.002 10,170.5 10,170.5 0))"\n')
+    ended_with(1, faults(release, release / "out.geojson"))
+    features = json.loads((release / "out.geojson").read_text(encoding="utf-8"))["features"]
+    found = {(told["kind"], told["names"]): (told["area_m2"], told["width_m"]) for told in (f["properties"] for f in features)}
+    sizes = {("overlap", "left right"): (0.01, 0.001), ("gap", "gap"): (0.01, 0.001), ("gap", "wide"): (5.0, 0.5), ("outside", "wide"): (0.02, 0.002)}
+    for key, (area, width) in sizes.items():
+        assert found[key] == (pytest.approx(area, abs=1e-6), pytest.approx(width, rel=0.02)), key
+    for key, area in {("stranger", "c9 stranger"): 100.0, ("class", "c10 class"): 100.0, ("bare", "bare"): 100.0, ("doubled", "sound"): 100.0, ("invalid", "c5"): 50.0}.items():
+        assert found[key] == (pytest.approx(area, abs=1e-6), None), key
+    assert found["shape", "text"] == (None, None)
+    forms = {f["properties"]["names"]: f["geometry"] and f["geometry"]["type"] for f in features}
+    assert (forms["text"], {form for name, form in forms.items() if name != "text"}) == (None, {"MultiPolygon"})
+    rows = {f["properties"]["names"]: (f["properties"]["table"], f["properties"]["row"], f["properties"]["file_line"]) for f in features}
+    assert (rows["bare"], rows["c9 stranger"], rows["left right"]) == (("parcels", 9, 10), ("covers", 9, 10), ("parcels", 3, 4))
 
 
 def test_a_header_that_is_refused_is_the_one_fault(release):

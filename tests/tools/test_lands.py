@@ -1,4 +1,4 @@
-"""Tests the tools by whole lands: 40 generated ones, damaged sources, and each land that once failed, made small. What has to hold is said in
+"""Tests the tools by whole lands: 40 generated ones (12 without --long), damaged sources, and each land that once failed, made small. What has to hold is said in
 lands_trial.py. Wants Shapely."""
 
 import math
@@ -8,12 +8,14 @@ import pytest
 from lpis_tools import shapely_there
 from lpis_helpers import lands_run
 from lpis_helpers import lands_trial
+from lpis_helpers import starter
 from lpis_helpers.lands_land import Land
 from lpis_helpers.lands_parts import boxed
 from lpis_helpers.lands_shapes import Shape
 from lpis_helpers.lands_shrink import Shrinking
+from lpis_helpers.spare import few_at_once
 
-LANDS, MOST, DAMAGED = 40, 200, 40
+LANDS, FEW, MOST, DAMAGED = 40, 12, 200, 40
 # Damaged sources that once ended in a traceback, or never: arcs without a radius, a table without a name, a number for a shape, a view without
 # an end, curves within curves.
 ONCE = (57, 123, 126, 510, 516, 580, 587, 1211, 1527)
@@ -69,7 +71,7 @@ class TestLands:
     @pytest.fixture(autouse=True, scope="class")
     def begin(self, request, tmp_path_factory):
         spare = str(tmp_path_factory.mktemp("lands"))
-        lands_run.preload()
+        starter.preload()
         request.cls.folder, request.cls.runner = os.path.join(spare, "land"), lands_run.Runner(spare)
 
     @pytest.mark.parametrize("name, rows", CASES.items())
@@ -77,7 +79,7 @@ class TestLands:
         for form in ("package", "csv")[: 1 if "90 km" in name else 2]:
             assert lands_trial.of_land(Land.of_rows(*rows, form), self.runner, self.folder) == []
 
-    @pytest.mark.parametrize("number", range(LANDS))
+    @pytest.mark.parametrize("number", few_at_once(range(LANDS), FEW))
     def test_generated(self, number):
         assert lands_trial.of_land(Land(number, MOST), self.runner, self.folder) == []
 

@@ -112,6 +112,7 @@ class TestPackages(Kept):
         done("git", *AUTHOR, "-C", place, "commit", "-q", "--allow-empty", "-am", "changed")
         return done("git", "-C", place, "rev-parse", "--short=12", "HEAD").strip()
 
+    @pytest.mark.long
     @pytest.mark.skipif(not shutil.which("dpkg-deb"), reason="no dpkg (Debian: dpkg)")
     def test_release(self):
         """release/ has the files of the last version alone, as dev/lint wants them; a commit that is not finished changes nothing there."""

@@ -11,7 +11,7 @@ import pytest
 from lpis_helpers import dirty, places
 from lpis_helpers.calls import tool
 from lpis_helpers.country_case import Land
-from lpis_helpers.spare import Spare, write_script
+from lpis_helpers.spare import Spare, exhaustive, write_script
 from lpis_tools import files, placing, shapely_there
 from lpis_tools.trouble import Trouble
 
@@ -71,17 +71,17 @@ class TestPrepare(Spare):
         Path(start, "classes.csv").write_text("class,percent\nGRASS,100\nTREES,40\n", encoding="ascii")
         return f"{start}/now.gpkg", f"{start}/out", "--classes", f"{start}/classes.csv", "--quiet"
 
-    @pytest.mark.parametrize("how", ("TERM,INT", "HUP,KILL", "full,fuller"))
+    @pytest.mark.parametrize("how", ("TERM", "KILL", "full", *map(exhaustive, ("INT", "HUP", "fuller"))))
     def test_each_rename(self, how):
         start = self.start()
         found = trials("prepare", start, how, *self.words(start))
-        assert len(found) > 12
+        assert len(found) > 6
         judge(found, TABLES)
         assert all(trial["then"]["out/notes.csv"] == found[0]["after"]["out/notes.csv"] for trial in found)
 
 
 class TestSplit(Spare):
-    @pytest.mark.parametrize("how", ("TERM", "KILL", "full"))
+    @pytest.mark.parametrize("how", (exhaustive("TERM"), "KILL", "full"))
     def test_each_rename(self, how):
         start = self.path("start")
         for name, count in (("then", 3), ("now", 4)):

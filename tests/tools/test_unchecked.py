@@ -14,7 +14,7 @@ PARTS = ("src", "specs", "proofs")
 SECONDS = 900
 
 
-pytestmark = pytest.mark.skipif(not os.access(RT, os.X_OK), reason="the kit is not there")
+pytestmark = [pytest.mark.long, pytest.mark.skipif(not os.access(RT, os.X_OK), reason="the kit is not there")]
 
 
 def tried(room, crate, name, old, new):

@@ -70,10 +70,11 @@ class Loss:
         """Its polygons as a text, by which a mark of its row is known; nothing where nobody has to mark it."""
         return outlines.text_of(blob) if self.stops() and (blob := self.polygons()) else ""
 
-    def of_layer(self):
+    def of_layer(self, accept):
         """Its values in the columns of findings.gpkg."""
         rows, names = " ".join(map(str, self.rows)), " ".join(self.names)
-        return self.kind, self.layer, rows, names, self.width, self.area, *(self.place() or (None, None)), int(self.stops()), "", self.words
+        done = "accepted" if self.stops() and accept.takes(self) else ""
+        return self.kind, self.layer, rows, names, self.width, self.area, *(self.place() or (None, None)), int(self.stops()), done, self.words
 
     def place(self):
         """A place in it, well within where it is wide enough."""

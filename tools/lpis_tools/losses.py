@@ -63,7 +63,7 @@ def put_layers(losses, out, accept, epsg, found_before):
     with geopackage.anew(os.path.join(out, LAYERS), epsg) as package:
         findings.put(found_before, accept, package)
         for loss in losses:
-            package.add(loss.kind, loss.polygons(), loss.of_layer())
+            package.add(loss.kind, loss.polygons(), loss.of_layer(accept))
 
 
 def write(losses, out, epsg=None):

@@ -12,12 +12,20 @@ from . import checking_names, ending, installed, land, program, yearly
 from .yearly import Stop
 
 
+def split(said: str) -> list[str]:
+    """Words as a shell takes them apart; one where it cannot."""
+    try:
+        return shlex.split(said)
+    except ValueError:
+        return [said]
+
+
 def words_of(said: str) -> list[str]:
-    """The source that is named, and words of `tools/check` behind it; nothing where it is a folder of tables, or is not there."""
+    """The source that is named, and words of `tools/check` behind it; nothing where it is a folder of tables, one of its tables, or not there."""
     if os.path.isdir(said):
         return [said] if land.is_of_another_program(said) else []
-    words = [said] if os.path.exists(said) else shlex.split(said)
-    is_there = words and (os.path.exists(words[0]) or re.match(r"[A-Za-z]{2,}:", words[0]))  # or a database, such as PG:dbname=land
+    words = [said] if os.path.exists(said) else split(said)
+    is_there = words and not words[0].lower().endswith(".csv") and (os.path.exists(words[0]) or re.match(r"[A-Za-z]{2,}:", words[0]))  # or a database, such as PG:dbname=land
     return words if is_there else []
 
 
