@@ -128,7 +128,10 @@ def report_rows(folder, lines):
 
 class FindFaults(Folder):
     NAME, TITLE = "allfaults", "All faults of a release"
-    HELP = "Each row's first fault, each parcel's first fault with its pieces, each two parcels that overlap: each as the polygon of the overlap, of the gap or of what is outside of its parcel, with width and area, or as a point where nothing has an area; styled by their code. Nothing here is part of a yes."
+    HELP = (
+        "Each row's first fault, each parcel's first fault with its pieces, each two parcels that overlap: each as the polygon of the overlap, of the gap "
+        "or of what is outside of its parcel, with width and area, or as a point where nothing has an area; styled by their code. Nothing here is part of a yes."
+    )
     STYLED = {"POINTS": styles.faults, "LINES": styles.faults, "POLYGONS": styles.faults}
 
     def initAlgorithm(self, configuration=None):

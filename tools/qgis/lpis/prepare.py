@@ -74,8 +74,12 @@ class PrepareRelease(Folder):
         land = [(values_of(row, LAND_COLUMNS), shape) for row, shape in findings_of(os.path.join(out, "findings.gpkg"))]
         *reports, between = [path if stamp(path) != old else "" for path, old in before.items()]
         gaps = by_kind(features_of(between) if os.path.exists(between) else (), REPORT_COLUMNS)["POLYGONS"]
-        self.written = {"FINDINGS": self.fill("FINDINGS", place, FOUND_COLUMNS, POINTS, rows), "LAND": self.fill("LAND", place, LAND_COLUMNS, POLYGONS, land), "BETWEEN": self.fill("BETWEEN", place, REPORT_COLUMNS, POLYGONS, gaps),
-                        **self.fill_shapes(place, reports, REPORT_COLUMNS, "REPORT_")}
+        self.written = {
+            "FINDINGS": self.fill("FINDINGS", place, FOUND_COLUMNS, POINTS, rows),
+            "LAND": self.fill("LAND", place, LAND_COLUMNS, POLYGONS, land),
+            "BETWEEN": self.fill("BETWEEN", place, REPORT_COLUMNS, POLYGONS, gaps),
+            **self.fill_shapes(place, reports, REPORT_COLUMNS, "REPORT_"),
+        }
         return {**self.written, "OUT": out, "STATUS": ran.status, "SUMMARY": "\n".join(ran.lines)}
 
     def system(self, parameters, context):
