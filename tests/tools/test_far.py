@@ -6,7 +6,7 @@ import math
 import pytest
 from lpis_helpers import dirty
 from lpis_helpers.calls import ended_with, records, tool
-from lpis_helpers.spare import Spare
+from lpis_helpers.spare import Spare, exhaustive
 from lpis_tools import identifiers, naming, shapely_there
 
 EAST, NORTH = dirty.EAST, dirty.NORTH
@@ -27,8 +27,11 @@ SHAPES = [
 ]
 
 
+# By tools/country two of three wait for --long.
+CASES = [*((["prepare"], *case) for case in SHAPES), *((exhaustive if number % 3 else pytest.param)(["country", "prepare"], *case) for number, case in enumerate(SHAPES))]
+
+
 @pytest.mark.skipif(not shapely_there.python(), reason=shapely_there.LACKING)
-@pytest.mark.parametrize(("kind", "shape"), SHAPES)
 class TestFar(Spare):
     def land(self, shape):
         """Three parcels with a piece each, the second of which has this shape."""
@@ -41,8 +44,8 @@ class TestFar(Spare):
         package.close()
         return self.path("land.gpkg")
 
-    @pytest.mark.parametrize("words", (["prepare"], ["country", "prepare"]))
-    def test_found(self, kind, shape, words):
+    @pytest.mark.parametrize("words, kind, shape", CASES)
+    def test_found(self, words, kind, shape):
         land, out = self.land(shape), self.path("out")
         ended_with(1, tool(*words, land, out))
         run = ended_with(0, tool(*words, land, out, "--accept"))

@@ -142,6 +142,7 @@ class TestPackages(Kept):
         ended = run(self.house / "dev" / "package", "--verify", self.top / "none.tar.gz")
         assert (ended.returncode, "none.tar.gz is not there" in ended.stderr, "prov" in ended.stderr) == (64, True, False), ended.stderr
 
+    @pytest.mark.long
     def test_finished(self):
         """A commit on which the whole test passed, by its log, is packed by its version; one with another commit's log, or another commit's tag, is not."""
         finished = self.dated("finished")

@@ -105,7 +105,10 @@ class Balance:
         self.add_exact(group, column, int(area * UNIT))
 
     def add_exact(self, group, column, parts):
-        self.sums.setdefault(group, dict.fromkeys(COLUMNS, 0))[column] += parts
+        sums = self.sums.get(group)
+        if sums is None:
+            sums = self.sums[group] = dict.fromkeys(COLUMNS, 0)
+        sums[column] += parts
 
     def book(self, row, mended, change):
         """A row that the layers have: its area after all repairs, and the land that it gained by rounding less what it lost; None where it is in no

@@ -25,6 +25,12 @@ class Rings:
     def __init__(self, founds, first=0):
         parts, sizes, owners, holes = [], [], [], []
         for owner, found in enumerate(founds, first):
+            if found and wkb.is_one_ring(found.blob):
+                parts.append(found.blob[wkb.POINTS :])
+                sizes.append(len(parts[-1]) // 16)
+                owners.append(owner)
+                holes.append(False)
+                continue
             for at, count, is_hole in wkb.rings_of(found.blob) if found else ():
                 parts.append(found.blob[at : at + 16 * count])
                 sizes.append(count)

@@ -6,6 +6,7 @@ from __future__ import annotations
 import csv
 import os
 from bisect import bisect_left, bisect_right
+from itertools import islice
 
 import numpy
 from shapely.geometry import Point
@@ -14,13 +15,13 @@ from shapely.prepared import prep
 from . import land, polygons, progress
 from .along import Along, edges_of
 from .conflicts import LEAST, WIDE, Loss, Source, by_geos, polygons_by
-from .snapping import pixel_of
+from .following import are_rounded
 from .widths import ROUNDING, is_as_wide, parts_of, widest
 
 ROUNDED = 0.001  # metres: what a border moves by rounding, at most
 ALONG = 1.5 * ROUNDED  # metres from a border to what lies along it
-PIXEL = 0.75  # millimetres from an edge to a corner that it takes
 TINY = 0.000_001  # square metres: of doubles
+AT_ONCE = 2048  # records
 NAMESAKE = "the tables have fewer rows of its identifier"
 OTHERS = {"parcels": (), "covers": ("parcel", "class")}
 
@@ -80,21 +81,32 @@ class Outcome:
         for row in reversed(self.source.layers[name].rows):
             waiting.setdefault(row[column], []).append(row)
         self.found[name] = 0
-        for record, members, area in progress.each(self.records(name), progress.Quiet.tool, f"comparing {name}", len(self.source.layers[name].rows), "rows"):
-            self.found[name] += 1
-            self.whole.add_table(name, record, area)
-            who = record[column]
-            rows = waiting.get(who)
-            told.add(who)
-            if name == "covers":
-                self.parcel_of[who] = record["parcel"]
-                self.hold(who, members)
-            if rows:
-                self.row(name, column, rows.pop(), record, members, area)
-            else:
-                self.add("added", name, [who], "the tables have it, and the source has not", [], self.valid(name, who, members))
+        every = progress.each(self.records(name), progress.Quiet.tool, f"comparing {name}", len(self.source.layers[name].rows), "rows")
+        records = self.holding(every) if name == "covers" else every
+        while some := list(islice(records, AT_ONCE)):
+            self.found[name] += len(some)
+            told.update(record[column] for record, _, _ in some)
+            self.some(name, column, some, [rows.pop() if (rows := waiting.get(record[column])) else None for record, _, _ in some])
         for who, row in ((who, row) for who, rows in waiting.items() for row in rows):
             self.lose(name, column, row, who in told)
+
+    def some(self, name, column, records, rows):
+        """Some records of a table, each with the row that it comes of, or None."""
+        as_read = [row is not None and id(row) in self.source.shaped and self.whole.is_as_read(row) for row in rows]
+        rounded = iter(are_rounded([(row.found, members) for row, (_, members, _), is_as_read in zip(rows, records, as_read) if is_as_read]))
+        for (record, members, area), row, is_as_read in zip(records, rows, as_read):
+            self.whole.add_table(name, record, area)
+            if row is None:
+                self.add("added", name, [record[column]], "the tables have it, and the source has not", [], self.valid(name, record[column], members))
+            else:
+                self.row(name, column, row, record, members, area, is_as_read and next(rounded))
+
+    def holding(self, records):
+        """Pieces as they come, each of which may hold places in conflict."""
+        for record, members, area in records:
+            self.parcel_of[record["piece"]] = record["parcel"]
+            self.hold(record["piece"], members)
+            yield record, members, area
 
     def hold(self, who, members):
         if self.places.points:
@@ -107,8 +119,8 @@ class Outcome:
         self.source.losses.append(loss)
         return loss
 
-    def row(self, name, column, row, record, members, area):
-        """A row that has a row in the tables."""
+    def row(self, name, column, row, record, members, area, is_rounded):
+        """A row that has a row in the tables, and whether its points alone are rounded there."""
         for other in OTHERS[name]:
             if record[other] != row[other]:
                 words = f"its {other} is {row[other]} in the source and {record[other]} in the tables"
@@ -118,7 +130,7 @@ class Outcome:
             self.add("made", name, [row[column]], f"{row.why or 'it has no shape that can be used'}: it was made of its pieces", [row.number], after)
             self.whole.book(row, after.area, 0.0)
             return
-        if self.whole.is_as_read(row) and is_rounded(row.found.members, members):
+        if is_rounded:
             before = self.whole.area_of(row)
             self.whole.book(row, before, area - before)
             self.least(name, row, column, before, area, members)
@@ -227,55 +239,3 @@ def read_table(folder, name):
                 yield record, members, polygons.doubled(members) / 2_000_000
         except csv.Error as error:
             raise land.Trouble(f"{path} behind line {table.line_num}: {error}") from None
-
-
-def is_rounded(before, after):
-    """Whether polygons in millimetres are others with each point rounded, and with corners more that lie on their edges within a pixel: quick, and only a
-    yes counts. What changed is then no more than the border's length has room for."""
-    rings, ways = [corners_of(ring) for member in before for ring in member], [ring[:-1] for member in after for ring in member]
-    if len(rings) != len(ways) or any(len(corners) < 3 for corners in rings):
-        return False
-    starts = {corners[0][0]: [] for corners in rings}
-    for way in ways:
-        for place, point in enumerate(way):
-            if point in starts:
-                starts[point].append((way, place))
-    return all(any(walks(corners, way, place) for way, place in starts[corners[0][0]]) for corners in rings)
-
-
-def corners_of(ring):
-    """The different corners of a ring one after the other, each rounded and in millimetres as it was."""
-    corners = []
-    for x, y in ring[:-1]:
-        point = pixel_of(x), pixel_of(y)
-        if not corners or corners[-1][0] != point:
-            corners.append((point, (x * 1000, y * 1000)))
-    while len(corners) > 1 and corners[-1][0] == corners[0][0]:
-        corners.pop()
-    return corners
-
-
-def walks(corners, way, place):
-    """Whether a way goes along the corners, from a place in it on and either way round."""
-    turned = way[place:] + way[:place]
-    return goes_along(corners, turned) or goes_along(corners, turned[:1] + turned[:0:-1])
-
-
-def goes_along(corners, way):
-    """Whether a way from the first corner goes over all corners, in order, and else over points beside the edges alone."""
-    at, count = 0, len(corners)
-    for point in [*way[1:], way[0]]:
-        if at == count:
-            return False
-        if point == corners[(at + 1) % count][0]:
-            at += 1
-        elif not is_beside(point, corners[at][1], corners[(at + 1) % count][1]):
-            return False
-    return at == count
-
-
-def is_beside(point, a, b):
-    dx, dy = b[0] - a[0], b[1] - a[1]
-    square = dx * dx + dy * dy
-    along = (point[0] - a[0]) * dx + (point[1] - a[1]) * dy
-    return -PIXEL * square**0.5 <= along <= square + PIXEL * square**0.5 and abs((point[0] - a[0]) * dy - (point[1] - a[1]) * dx) <= PIXEL * square**0.5

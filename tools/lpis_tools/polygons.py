@@ -5,6 +5,7 @@ Everything is whole numbers or fractions: no coordinate is rounded but for drawi
 
 import re
 from fractions import Fraction
+from operator import mul
 
 from .sentences import SENTENCES
 
@@ -15,6 +16,7 @@ DEEPEST = 3  # brackets of a MULTIPOLYGON
 POINT = rb"-?[0-9]{1,15}\.[0-9]{3} -?[0-9]{1,15}\.[0-9]{3}"
 RING = rb"\(" + POINT + rb"(?:," + POINT + rb")*\)"
 BODY = rb"\(" + RING + rb"(?:," + RING + rb")*\)"
+BLANKS = bytes.maketrans(b",", b" ")
 WRITTEN = re.compile(rb"MULTIPOLYGON\(" + BODY + rb"(?:," + BODY + rb")*\)\Z")
 
 
@@ -49,7 +51,7 @@ def read(text):
 
 def ring_of(text):
     """The points of a ring whose numbers have three decimals, as tools write them: quickly."""
-    values = list(map(int, text.replace(b".", b"").replace(b",", b" ").split()))
+    values = list(map(int, text.translate(BLANKS, b".").split()))
     return list(zip(values[0::2], values[1::2]))
 
 
@@ -106,7 +108,8 @@ def extent(members):
 
 
 def doubled_area(ring):
-    return sum(a[0] * b[1] - b[0] * a[1] for a, b in zip(ring, ring[1:]))
+    xs, ys = [x for x, _ in ring], [y for _, y in ring]
+    return sum(map(mul, xs, ys[1:])) - sum(map(mul, xs[1:], ys))
 
 
 def doubled(members):

@@ -6,7 +6,7 @@ from shapely import wkb as shapely_wkb
 from shapely.errors import ShapelyError
 from shapely.validation import explain_validity
 
-from . import land, progress, systems, unforeseen, wkb
+from . import land, progress, systems, unforeseen, validity, wkb
 from .boxes import Boxes
 from .conflicts import doubtful, enclosed_by, is_on_a_map, members_of, polygons_by
 from .findings import NOTES, Finding
@@ -177,7 +177,8 @@ class Preparation:
 
     def make_valid(self, name, rows):
         """Mends shapes that cross themselves: a hole takes land away wherever it lies, and never becomes land. Answers the rows of which something is left."""
-        return [row for row in unforeseen.numbered(name, rows) if row.found and not shapely_wkb.loads(row.found.blob).is_valid and self.mend(name, row)]
+        is_valid = validity.tester()
+        return [row for row in unforeseen.numbered(name, rows) if row.found and not is_valid(row.found.blob) and self.mend(name, row)]
 
     def mend(self, name, row):
         """Whether anything is left of a shape that was mended."""

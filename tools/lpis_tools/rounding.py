@@ -14,7 +14,7 @@ from shapely import wkb as shapely_wkb
 from . import faces, snapping
 from .between import Between
 from .land import BETWEEN
-from .polygons import metres
+from .millimetres import texts_of
 from .trouble import Trouble
 
 warnings.filterwarnings("ignore", module="shapely")
@@ -73,15 +73,16 @@ class Map:
         """The rows of which the rounded map says that they share a face, or do not share one that they should; and land that nobody has, up to a width in metres,
         unless that is None."""
         start, parcels_of, gaps, outsides = len(self.parcels), {}, {}, {}
-        named = {row["parcel"] for row in self.covers}
-        for number, row in enumerate(self.parcels):
-            parcels_of.setdefault(row["parcel"], []).append(number)
+        names, names_of_pieces = [row["parcel"] for row in self.parcels], [row["parcel"] for row in self.covers]
+        named = set(names_of_pieces)
+        for number, name in enumerate(names):
+            parcels_of.setdefault(name, []).append(number)
         for winding in set(self.windings):
             pieces = [who - start for who, times in winding if who >= start and times > 0]
             parcels = {who for who, times in winding if who < start and times > 0}
-            held, there = {self.covers[number]["parcel"] for number in pieces}, {self.parcels[number]["parcel"] for number in parcels}
-            gaps.update((number, None) for number in parcels if self.parcels[number]["parcel"] not in held and self.parcels[number]["parcel"] in named)
-            outsides.update(((number, one), None) for number in pieces for one in parcels_of.get(self.covers[number]["parcel"], ())[:1] if self.covers[number]["parcel"] not in there)
+            held, there = {names_of_pieces[number] for number in pieces}, {names[number] for number in parcels}
+            gaps.update((number, None) for number in parcels if names[number] not in held and names[number] in named)
+            outsides.update(((number, one), None) for number in pieces for one in parcels_of.get(names_of_pieces[number], ())[:1] if names_of_pieces[number] not in there)
         return Conflicts([(self.covers[a], self.covers[b]) for a, b in self.overlaps()], [self.parcels[number] for number in sorted(gaps)],
                          [(self.covers[piece], self.parcels[number]) for piece, number in sorted(outsides)], self.kept(), self.between(between) if between else [])
 
@@ -92,8 +93,9 @@ class Map:
 
     def held(self):
         """The parcel that has each cycle's face, by its piece or else by its own shape; None where nobody has it."""
-        own = [next((self.parcels[who]["parcel"] for who, times in winding if times > 0 and who < len(self.parcels)), None) for winding in self.windings]
-        return [mine if piece == faces.NOBODY else self.covers[piece]["parcel"] for piece, mine in zip(self.pieces.tolist(), own)]
+        count, names = len(self.parcels), [row["parcel"] for row in self.covers]
+        own = [next((self.parcels[who]["parcel"] for who, times in winding if times > 0 and who < count), None) for winding in self.windings]
+        return [mine if piece == faces.NOBODY else names[piece] for piece, mine in zip(self.pieces.tolist(), own)]
 
     def overlaps(self):
         """Each two pieces that share a face, by their numbers: where what they share begins, one of them does."""
@@ -114,7 +116,7 @@ class Map:
     def polygons(self, owners):
         """Each owner that has a face with the text of what it has, by the owners of the faces."""
         if not self.texts:
-            self.texts = [f"{metres(x)} {metres(y)}" for part in numpy.array_split(self.network.points, 100) for x, y in part.tolist()]
+            self.texts = [text for part in numpy.array_split(self.network.points, 100) for text in texts_of(part)]
         before, rings = None, []
         for owner, member, ring in faces.Rings(self.faces, owners).walked():
             if owner != before and rings:
@@ -126,10 +128,10 @@ class Map:
             yield before, self.text(rings)
 
     def text(self, rings):
-        texts = self.texts
+        text_of = self.texts.__getitem__
 
         def written(ring):
-            return "(" + ",".join([texts[corner] for corner in ring]) + "," + texts[ring[0]] + ")"
+            return f"({','.join(map(text_of, ring))},{text_of(ring[0])})"
 
         members = faces.members_of(rings, self.network.points)
         return "MULTIPOLYGON(" + ",".join("(" + ",".join(map(written, member)) + ")" for member in members) + ")"

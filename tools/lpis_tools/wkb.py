@@ -15,6 +15,7 @@ FAR = 100_000_000.0  # metres: no map has places beyond it, and its arcs stay as
 NAMES = {1: "a point", 2: "a line", 4: "points", 5: "lines", 7: "a collection", 8: "an arc", 9: "a curve", 11: "curves", 15: "a surface of polygons", 16: "a net of triangles", 17: "a triangle"}
 HEAD = struct.Struct("<BII")
 COUNT = struct.Struct("<I")
+ONE_RING, POINTS = struct.pack("<IBII", 1, 1, 3, 1), 22  # in a MultiPolygon of one ring what stands behind its fifth byte, and where its points begin
 NO_NOTES = frozenset()
 
 
@@ -53,6 +54,8 @@ class Found:
     def numbers(self):
         """All coordinates, x and y in turn."""
         blob, values = self.blob, []
+        if is_one_ring(blob):
+            return struct.unpack_from(f"<{(len(blob) - POINTS) // 8}d", blob, POINTS)
         for at, count, _ in rings_of(blob):
             values += struct.unpack_from(f"<{2 * count}d", blob, at)
         return values
@@ -66,7 +69,12 @@ class Found:
 
     def count(self):
         """How many points there are."""
-        return sum(count for _, count, _ in rings_of(self.blob))
+        return (len(self.blob) - POINTS) // 16 if is_one_ring(self.blob) else sum(count for _, count, _ in rings_of(self.blob))
+
+
+def is_one_ring(blob):
+    """Whether a MultiPolygon of x and y, as `written` makes it, is one ring: most are."""
+    return blob[5:18] == ONE_RING
 
 
 def rings_of(blob):
@@ -82,6 +90,9 @@ def rings_of(blob):
 
 
 def unpacked(blob):
+    if is_one_ring(blob):
+        values = struct.unpack_from(f"<{(len(blob) - POINTS) // 8}d", blob, POINTS)
+        return [[list(zip(values[0::2], values[1::2]))]]
     at, members = 9, []
     for _ in range(COUNT.unpack_from(blob, 5)[0]):
         rings = []
@@ -97,11 +108,15 @@ def unpacked(blob):
 
 def written(members):
     """Polygons as well-known binary, for Shapely."""
+    return packed([[[number for point in ring for number in point] for ring in member] for member in members])
+
+
+def packed(members):
+    """The same of rings of x and y in turn."""
     parts = [HEAD.pack(1, 6, len(members))]
     for member in members:
         parts.append(HEAD.pack(1, 3, len(member)))
-        for ring in member:
-            parts.append(struct.pack(f"<I{2 * len(ring)}d", len(ring), *(number for point in ring for number in point)))
+        parts += [struct.pack(f"<I{len(ring)}d", len(ring) // 2, *ring) for ring in member]
     return b"".join(parts)
 
 

@@ -4,6 +4,7 @@ library alone: GEOS and GDAL give no offset, drop what they do not know, and rea
 
 from __future__ import annotations
 
+import math
 import re
 
 from . import wkb
@@ -38,13 +39,15 @@ def read(text):
 def plain(text, start):
     """The fast way for a text that the grammar is known to accept."""
     parts = [part.split("(") for part in MEMBER.split(text[text.index("(", start) :])]
-    members = [[way(ring) for ring in part if ring.strip(OUTSIDE)] for part in parts]
-    return wkb.Found(wkb.judge_rings([member for member in members if member]))
+    members = [member for part in parts if (member := [list(map(float, ring.replace(")", " ").replace(",", " ").split())) for ring in part if ring.strip(OUTSIDE)])]
+    if all(is_ring(ring) for member in members for ring in member):
+        return wkb.Found.of_blob(wkb.packed(members))
+    return wkb.Found(wkb.judge_rings([[list(zip(ring[0::2], ring[1::2])) for ring in member] for member in members]))
 
 
-def way(text):
-    numbers = [float(word) for word in text.replace(")", " ").replace(",", " ").split()]
-    return list(zip(numbers[0::2], numbers[1::2]))
+def is_ring(numbers):
+    """Whether x and y in turn are four points or more, of which the last is the first, and numbers."""
+    return len(numbers) >= 8 and numbers[:2] == numbers[-2:] and all(map(math.isfinite, numbers))
 
 
 class Reader:
