@@ -207,7 +207,7 @@ UNTOLD = {
         "two pieces share two slivers",
     ),
     "gaps are settled without a row": Mutant(
-        "conflicts.py", "        find_gap(source, row)\n", "        pass\n", "the parcel loses what none of its pieces has"
+        "conflicts.py", "        find_gap(source, row)\n", "        pass\n", "the parcel loses what no piece of it has"
     ),
     "what lies outside of a parcel is settled without a row": Mutant(
         "conflicts.py", "        find_outside(source, piece, row)\n", "        pass\n", "the parcel grows by it"
