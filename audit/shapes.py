@@ -30,15 +30,17 @@ class Unread(ValueError):
     """Why a shape has no points."""
 
 
-def points_of(ring: Ring, origin: tuple[int, int] = (0, 0)) -> list[Point]:
-    """The points in millimetres from an origin in metres: exact differences, where it is near."""
-    values = ring[0]
-    return [((x - origin[0]) * 1000, (y - origin[1]) * 1000) for x, y in zip(values[::2], values[1::2])]
+def points_of(ring: Ring, unit: int = 1000, origin: tuple[int, int] = (0, 0)) -> list[Point]:
+    """The points in millimetres from an origin in metres: exact differences, where it is near. A ring has values of so
+    many millimetres.
+    """
+    values, left, low = ring[0], origin[0] * 1000 // unit, origin[1] * 1000 // unit
+    return [((x - left) * unit, (y - low) * unit) for x, y in zip(values[::2], values[1::2])]
 
 
-def exact(ring: Ring) -> list[Point]:
+def exact(ring: Ring, unit: int = 1000) -> list[Point]:
     """The points in millimetres, as fractions."""
-    values = [Fraction(value) * 1000 for value in ring[0]]
+    values = [Fraction(value) * unit for value in ring[0]]
     return list(zip(values[::2], values[1::2]))
 
 
@@ -48,9 +50,9 @@ def rings_of(shape: Shape) -> list[Ring]:
 
 def box_of(shape: Shape) -> tuple[float, float, float, float]:
     """In metres; that of no points meets none."""
-    xs = [x for values, _ in rings_of(shape) for x in values[::2]] or [math.inf, -math.inf]
-    ys = [y for values, _ in rings_of(shape) for y in values[1::2]] or [math.inf, -math.inf]
-    return (min(xs), min(ys), max(xs), max(ys)) if xs[0] != math.inf else (math.inf, math.inf, -math.inf, -math.inf)
+    sides = [(min(xs), min(ys), max(xs), max(ys)) for xs, ys in ((way[::2], way[1::2]) for way, _ in rings_of(shape))]
+    left, low, right, high = zip(*sides) if sides else ([math.inf], [math.inf], [-math.inf], [-math.inf])
+    return min(left), min(low), max(right), max(high)
 
 
 # A shape is read as a tree: a word, and what is in it, which is trees or the number of a list of points.

@@ -58,7 +58,7 @@ _lpis_country() {
     prepare) _lpis_options '--accept --accept-from --between --classes --epsg --name --identifiers --previous --tables --workers --snakemake --profile --lineage --parcels --covers --points --anew --quiet --help' ;;
     split) _lpis_options '--lineage --parcels --covers --points --anew --quiet --help' -d ;;
     cut) _lpis_options '--jobs --snakemake --profile --lpis --quiet --help' -d ;;
-    publish) _lpis_options '--lineage --new --year-anyway --register-anyway --previous --jump --accept-from --jobs --snakemake --profile --lpis --quiet --help' ;;
+    publish) _lpis_options '--lineage --source --new --year-anyway --register-anyway --previous --jump --accept-from --jobs --snakemake --profile --lpis --quiet --help' ;;
     *) _lpis_options '--parcels --lpis --quiet --help' -d ;;
   esac
 }

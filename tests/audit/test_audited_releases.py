@@ -21,7 +21,7 @@ from lpis_helpers.places import BUILT, TOP as HOUSE
 
 TOP = Path(HOUSE)
 RELEASES, LEAST = 100, (3, 2, 3, 3)  # of a series; cases of each condition, series by series
-MOST_LINES, MOST_LINES_OF_SOURCE, COLUMNS = 365, 670, 120  # of audit/
+MOST_LINES, MOST_LINES_OF_SOURCE, MOST_LINES_OF_READERS, COLUMNS = 365, 361, 300, 120  # of audit/
 DAMAGES = ["tables"] * 12 + ["wrong"] * 9 + damage.CONDITIONS * 3 + [damage.pair_added, damage.other_edge] * 2 + damage.TEXTS * 7
 EXACT = TOP / "examples" / "exact"
 
@@ -72,11 +72,12 @@ def test_releases(series, least, tmp_path):
 
 
 def test_size():
-    """The second checker is read in an hour, that of a source in another: so many lines that are not blank, none long."""
-    files = sorted((TOP / "audit").glob("*.*"))
-    assert [path.name for path in files] == ["lineage.py", "register.py", "release.py", "shapes.py", "source.py"]
-    for some, most in ((files[:3], MOST_LINES), (files[3:], MOST_LINES_OF_SOURCE)):
-        lines = [line for path in some for line in path.read_text(encoding="utf-8").splitlines()]
+    """The second checker is read in an hour, that of a source in another, and what it reads with in a third: so many lines that are not blank, none long."""
+    files = {path.name: path for path in (TOP / "audit").glob("*.*")}
+    budgets = {("lineage.py", "register.py", "release.py"): MOST_LINES, ("source.py",): MOST_LINES_OF_SOURCE, ("readers.py", "shapes.py"): MOST_LINES_OF_READERS}
+    assert sorted(files) == sorted(name for names in budgets for name in names)
+    for names, most in budgets.items():
+        lines = [line for name in names for line in files[name].read_text(encoding="utf-8").splitlines()]
         assert (sum(line != "" for line in lines) <= most, max(map(len, lines)) <= COLUMNS) == (True, True)
 
 

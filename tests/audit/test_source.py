@@ -267,6 +267,54 @@ def test_a_quick_yes_is_right():
     assert alike > cases / 3
 
 
+def test_a_union_that_geos_does_not_find(monkeypatch):
+    """It gives none of some surfaces that share long borders nearly, as 13 findings of one land did: then each has a hair about it."""
+    tried, found = [], source.unary_union
+
+    def finds_none_at_first(surfaces):
+        tried.append(surfaces)
+        if len(tried) == 1:
+            raise ValueError("No Shapely geometry can be created from null value")
+        return found(surfaces)
+
+    monkeypatch.setattr(source, "unary_union", finds_none_at_first)
+    surfaces = [LineString([(x, 0), (x + 1000, 0)]).buffer(500, cap_style=2) for x in (0, 1000)]
+    both = source.united(surfaces)
+    assert len(tried) == 2 and both.geom_type == "Polygon"
+    assert both.contains(surfaces[0]) and both.buffer(-2 * source.HAIR).within(found(surfaces))
+
+
+def test_the_greatest_change_excuses_nothing(land, tmp_path):
+    """A row of what changed tells the greatest change too, which is rounding: it excuses where it stops alone."""
+    tables = Tables(tmp_path).write()
+    corner = MUTANTS["a corner is moved by two millimetres"]
+    corner.does(tables)
+    (tmp_path / "findings.gpkg").unlink()
+    write_findings(tmp_path / "findings.gpkg", {**TOLD, "changed": ("3", "B1", box(59, -1, 61, 31))})
+    tables.findings("ALTER TABLE changed ADD COLUMN stops INTEGER DEFAULT 0")
+    expect(answered(land, tmp_path), corner.where)
+    tables.findings("UPDATE changed SET stops = 1")
+    assert answered(land, tmp_path) == "yes"
+
+
+def test_country_publish(tmp_path):
+    """`--source` of a country's publication runs it over all regions, before anything is done."""
+    source_of_it, out, register = tmp_path / "source", tmp_path / "country", tmp_path / "register.db"
+    shutil.copytree(f"{places.TOP}/examples/country-years/2024", source_of_it)
+    out.mkdir()
+    shutil.copy(f"{places.TOP}/examples/country-years/country.txt", out)
+    calls.ended_with(0, calls.tool("country", "split", source_of_it, out))
+    wrong = shutil.copytree(source_of_it, tmp_path / "wrong")
+    *rows, last = (wrong / "covers.csv").read_text().splitlines(keepends=True)
+    (wrong / "covers.csv").write_text("".join(rows))
+    words = ["country", "publish", register, "2024", out, "--new", "--year-anyway", "--source"]
+    ended = calls.tool(*words, wrong)
+    assert (ended.returncode, register.exists(), (out / "west" / "cert.txt").exists()) == (1, False, False), ended.stderr
+    assert re.search(f"the second checker says of {wrong} and {out}: no", ended.stderr) and last.split(",")[0] in ended.stderr
+    ended = calls.ended_with(0, calls.tool(*words, source_of_it))
+    assert f"the second checker says of {source_of_it} and {out}: yes\n" in ended.stdout, ended.stderr
+
+
 @pytest.mark.parametrize("tool", ["year", "report"])
 def test_tools(tool, tmp_path):
     """`--source` of tools/year and tools/report runs it. Where it says no the status is 1, and nothing is published."""

@@ -7,7 +7,7 @@ from lpis_helpers.spare import Spare
 from lpis_tools import shapely_there
 
 if shapely_there.is_there():
-    from lpis_tools import conflicts, land, rounding, snapping, wkb
+    from lpis_tools import balance, conflicts, land, outcome, rounding, snapping, wkb
     from lpis_tools.trouble import Trouble
 
 pytestmark = pytest.mark.skipif(not shapely_there.is_there(), reason=shapely_there.LACKING)
@@ -81,6 +81,21 @@ class TestBudgets(Spare):
         unsearched = [loss for loss in told if loss.shape is None]
         assert sorted(name for loss in unsearched for name in loss.names) == ["A", "B"]
         assert all("lie in heaps: land between parcels was not looked for" in loss.words and not loss.stops() for loss in unsearched)
+
+    def test_very_many_spikes(self, monkeypatch):
+        """A comb of teeth half a millimetre wide: the first are told one by one, and all others in one row."""
+        monkeypatch.setattr(outcome, "MOST_SPIKES", 20)
+        teeth = 60
+        top = [(0.0005 * place / 2, 12.0 if place % 2 else 10.0) for place in range(2 * teeth, -1, -1)]
+        ring = [(E + x, N + y) for x, y in [(0.0, 0.0), (0.0005 * teeth, 0.0), *top, (0.0, 0.0)]]
+        layers = {"parcels": land.Layer("parcels", [row(1, "A", ring, False)], is_valid=True), "covers": land.Layer("covers", [row(1, "A", ring, True)], is_valid=True)}
+        rounding.release(layers, self.path("out"), lambda words: None)
+        source = conflicts.Source(layers)
+        outcome.Outcome(source, self.path("out"), balance.Balance(layers)).find()
+        for layer in ("parcels", "covers"):
+            *found, last = [loss for loss in source.losses if loss.kind == "spike" and loss.layer == layer]
+            assert 0 < len(found) <= 20 and last.words.startswith(f"{teeth - 20} more spikes and notches of this row")
+            assert len(last.shape.geoms) == teeth - 20 and last.area == pytest.approx(last.shape.area) and not last.stops()
 
     def test_many_crossings_end_at_once(self):
         """160,000 crossings of 800 strips, in 200 kB: no table, and the words name a row."""

@@ -17,7 +17,7 @@ from . import balance, conflicts, files, land, last_year, outcome, polygons, rou
 from .snapping import REACH
 
 FAR = 2 * REACH  # from a shape, whose borders move
-RULE = "lpis cells 6"  # what another rule gave is not taken
+RULE = "lpis cells 7"  # what another rule gave is not taken
 OWN = "SELECT row.id, is_cover, row.parcel, left, low, right, high FROM row JOIN cell USING (parcel) WHERE cell.number = ? AND is_kept"
 BESIDE = "SELECT id, left, low, right, high FROM box WHERE left <= ? AND right >= ? AND low <= ? AND high >= ?"
 FIELDS = "SELECT id, is_cover, name, parcel, class, area, why, shape, read FROM row JOIN shape USING (id) WHERE id = ? AND is_kept"

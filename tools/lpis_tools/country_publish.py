@@ -5,7 +5,7 @@ import subprocess
 import sys
 from collections import Counter
 
-from . import ending, engines, ledger, origin, program, progress, splitting, tiles, watching, words, year_against_year, yearly
+from . import ending, engines, ledger, origin, program, progress, second, splitting, tiles, watching, words, year_against_year, yearly
 from .country_years import Kept
 from .tables import Table
 from .yearly import Stop
@@ -85,6 +85,9 @@ def publish(command, said, say):
         raise Stop(f"{stop}{kept.left()}", stop.status) from None
     regions = tiles.of_folder(said.folder).folders
     kept.look()
+    if said.source:
+        say(f"asking whether the regions say what {said.source} says")
+        print(second.of_source(said.source, said.folder), flush=True)
     if said.lineage:
         splitting.deal(said.lineage, regions, said.folder, say)
     is_marked = look_at_tables(said.folder, regions)

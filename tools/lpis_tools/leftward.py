@@ -8,7 +8,7 @@ from fractions import Fraction
 
 import numpy
 
-from .noding import WIDE, cells_along, expanded, key_of, parts_of, side_of, size_of_cells
+from .noding import WIDE, expanded, key_of, keys_along, parts_of, side_of, size_of_cells
 
 NONE = -1
 NEAR = 0.01  # millimetres: places on a line that doubles may take for one another
@@ -23,11 +23,10 @@ class Leftward:
         upward = edges[:, 1] <= edges[:, 3]
         self.edges = numpy.where(upward[:, None], edges, edges[:, [2, 3, 0, 1]])
         self.side, self.looked = size_of_cells(edges), 0
-        edge, column, row = cells_along(self.edges, self.side)
-        level = self.edges[edge, 1] == self.edges[edge, 3]
-        edge, column, row = edge[~level], column[~level], row[~level]
-        order = numpy.lexsort((column, row))
-        self.edge, cells = edge[order], key_of(row[order], column[order])
+        steep = numpy.nonzero(self.edges[:, 1] != self.edges[:, 3])[0]
+        edge, cells = keys_along(self.edges[steep][:, [1, 0, 3, 2]], self.side)
+        order = numpy.argsort(cells, kind="stable")
+        self.edge, cells = steep[edge[order]], cells[order]
         self.cells, self.starts = numpy.unique(cells, return_index=True)
         self.counts = numpy.diff(numpy.append(self.starts, len(cells)))
 

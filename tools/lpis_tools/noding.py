@@ -122,6 +122,14 @@ class Corners:
         return numpy.searchsorted(keys, ((points[:, 0] - least[0]) << 32) | (points[:, 1] - least[1]))
 
 
+def summed(keys, counts):
+    """The different keys, in order, and the sum of the counts of each."""
+    order = numpy.argsort(keys, kind="stable")
+    keys = keys[order]
+    starts = numpy.nonzero(numpy.append(numpy.ones(min(1, len(keys)), bool), keys[1:] != keys[:-1]))[0]
+    return keys[starts], numpy.add.reduceat(counts[order], starts, dtype=int) if len(keys) else numpy.zeros(0, int)
+
+
 def size_of_cells(edges, least=1000):
     """The side of a cell in millimetres: about the middle length of an edge."""
     if not len(edges):
@@ -147,6 +155,13 @@ def cells_along(edges, side):
 
 def key_of(column, row):
     return (column << 32) + row
+
+
+def keys_along(edges, side):
+    """The cells that each edge comes within two millimetres of: pairs of an edge's number and a cell's key."""
+    found = [(start, cells_along(edges[start : start + PART], side)) for start in range(0, len(edges), PART)]
+    edge = numpy.concatenate([numpy.zeros(0, int), *(start + cells[0] for start, cells in found)])
+    return edge, numpy.concatenate([numpy.zeros(0, int), *(key_of(*cells[1:]) for _, cells in found)])
 
 
 def ways_of(first, last, edge, along, corner):
@@ -176,11 +191,14 @@ class Network:
         self.first, self.last = keys >> 32, keys & 0xFFFFFFFF
         edge, owner, count = sides
         count = numpy.where(backwards[edge], -count, count)
-        pairs, place = numpy.unique((number[edge] << 32) | owner, return_inverse=True)
-        counts = numpy.bincount(place, count, len(pairs)).astype(int)
+        pairs, counts = summed((number[edge] << 32) | owner, count)
         kept = counts != 0
         self.edge, self.owner, self.count = pairs[kept] >> 32, pairs[kept] & 0xFFFFFFFF, counts[kept]
         self.starts = numpy.searchsorted(self.edge, numpy.arange(len(self.first) + 1))  # of the sides of each edge
+
+    def degrees(self):
+        """How many edges meet at each corner."""
+        return numpy.bincount(self.first, minlength=len(self.points)) + numpy.bincount(self.last, minlength=len(self.points))
 
     def cut(self, say):
         """Cuts edges that were moved by hand wherever they meet others, until nothing changes."""
@@ -218,11 +236,7 @@ class Network:
         """Where edges are to be cut: an edge, and a place in whole millimetres. Only pairs of which one is new are looked at."""
         ends = numpy.hstack([self.points[self.first], self.points[self.last]])
         side = size_of_cells(ends)
-        parts = []
-        for start in range(0, len(ends), PART):
-            edge, column, row = cells_along(ends[start : start + PART], side)
-            parts.append((edge + start, key_of(column, row)))
-        edge, key = map(numpy.concatenate, zip(*parts)) if parts else (numpy.zeros(0, int),) * 2
+        edge, key = keys_along(ends, side)
         wanted = numpy.unique(key[fresh[edge]])
         if not len(wanted):
             return (numpy.zeros(0, int),) * 3

@@ -9,7 +9,7 @@ from bisect import bisect_left, bisect_right
 from itertools import islice
 
 import numpy
-from shapely.geometry import Point
+from shapely.geometry import MultiPolygon, Point
 from shapely.prepared import prep
 
 from . import land, polygons, progress
@@ -22,6 +22,7 @@ ROUNDED = 0.001  # metres: what a border moves by rounding, at most
 ALONG = 1.5 * ROUNDED  # metres from a border to what lies along it
 TINY = 0.000_001  # square metres: of doubles
 AT_ONCE = 2048  # records
+MOST_SPIKES = 1_000  # of a row that are told one by one
 NAMESAKE = "the tables have fewer rows of its identifier"
 OTHERS = {"parcels": (), "covers": ("parcel", "class")}
 
@@ -173,10 +174,14 @@ class Outcome:
     def spikes(self, name, row, column, after, changes):
         """Of what went and what came the parts that are narrow and lead away from the border."""
         parts = [(what, part) for what, found in changes for part in parts_of(found) if 2 * part.area < LEAST * part.length and part.length > 4 * ROUNDED]
-        for (what, part), leads_away in zip(parts, lead_away(after, [part for _, part in parts])):
-            if leads_away and not is_as_wide(part, LEAST):
+        found = [each for each, leads_away in zip(parts, lead_away(after, [part for _, part in parts])) if leads_away]
+        for what, part in found[:MOST_SPIKES]:
+            if not is_as_wide(part, LEAST):
                 words = f"{what} of {part.length / 2:.3f} m, narrower than a millimetre, is not in the tables"
                 self.source.losses.append(Loss("spike", [row[column]], words, part, None, part.area, name, [row.number]))
+        if rest := [part for _, part in found[MOST_SPIKES:]]:
+            words = f"{len(rest)} more spikes and notches of this row are not in the tables: they are told together"
+            self.source.losses.append(Loss("spike", [row[column]], words, MultiPolygon(rest), None, sum(part.area for part in rest), name, [row.number]))
 
     def least(self, name, row, column, before, area, members):
         """Of a row that was rounded alone the change is no more than its border has room for. Its place is one in the row."""

@@ -29,6 +29,10 @@ class Broken(Trouble):
 
 def add_option(parser):
     parser.add_argument("--audit", action="store_true", help="ask the second checker too, and stop where two programs do not agree")
+    add_source(parser)
+
+
+def add_source(parser):
     parser.add_argument("--source", metavar="LAND", help="the source of the tables: ask it whether they say of each point what LAND says; words of audit/source.py stand behind LAND")
 
 

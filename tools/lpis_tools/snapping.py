@@ -71,7 +71,7 @@ class Edges:
         some = (ends[:, :2] != ends[:, 2:]).any(axis=1)
         self.points = pixel(ends[~some, :2])
         self.ends, self.number, backwards = noding.unique_edges(numpy.ascontiguousarray(ends[some]))
-        self.owner, self.sign = owners[some], numpy.where(backwards, -1, 1)
+        self.owner, self.sign = owners[some], numpy.where(backwards, -1, 1).astype(numpy.int8)
         self.is_long = numpy.abs(self.ends[:, 2:] - self.ends[:, :2]).max(axis=1, initial=0) >= LONG
         self.side, self.edge, self.key = self.cells()
 
@@ -85,10 +85,12 @@ class Edges:
         """The side of a cell in millimetres, and pairs of an edge and a cell's key."""
         millimetres = self.ends / WHOLE
         side = noding.size_of_cells(millimetres)
-        found = [(start, noding.cells_along(millimetres[start : start + PART], side)) for start in range(0, len(millimetres), PART)]
-        edge = numpy.concatenate([numpy.zeros(0, int), *(start + cells[0] for start, cells in found)])
-        key = numpy.concatenate([numpy.zeros(0, int), *(key_of(*cells[1:]) for _, cells in found)])
+        edge, key = noding.keys_along(millimetres, side)
         return side, edge, key
+
+    def forget_cells(self):
+        """Gives back the memory of the cells, when nothing is looked for in them any more."""
+        del self.edge, self.key
 
     def kinds(self, *numbers):
         """Parts of a list of edges, or of pairs, each with the kind of number that its products fit: of 64 bits, or of any size."""
@@ -121,6 +123,10 @@ class Edges:
 
     def met(self, hot):
         """The hot pixels that each edge meets, one after the other: pairs of an edge and a corner."""
+        return self.in_order(hot, self.all_met(hot))
+
+    def all_met(self, hot):
+        """The same in any order: each pair as one number."""
         keys, places = key_of(hot.points[:, 0] // self.side, hot.points[:, 1] // self.side), numpy.unique(hot.points[:, 0])
         order = numpy.lexsort((hot.points[:, 0], keys))
         cells, cell = numpy.unique(keys[order], return_inverse=True)
@@ -140,13 +146,14 @@ class Edges:
             for mask, kind in self.kinds(edge) if len(edge) else ():
                 on = meets(self.ends[edge[mask]], hot.points[corner[mask]], kind)
                 met.append((edge[mask][on] << 32) | corner[mask][on])
-        return self.in_order(hot, numpy.unique(numpy.concatenate(met)))
+        return numpy.unique(numpy.concatenate(met))
 
     def in_order(self, hot, met):
         """Pairs of an edge and a corner, along the edges: from pixel to pixel x and y go the edge's way, or stay."""
         edge, corner = met >> 32, met & 0xFFFFFFFF
-        way = numpy.sign(self.ends[:, 2:] - self.ends[:, :2])[edge]
-        place = (way * (hot.points[corner] - hot.points.min(axis=0, initial=0))).sum(axis=1)
+        place, least = numpy.zeros(len(edge), int), hot.points.min(axis=0, initial=0)
+        for axis in (0, 1):
+            place += numpy.sign(self.ends[:, axis + 2] - self.ends[:, axis])[edge] * (hot.points[:, axis] - least[axis])[corner]
         order = numpy.lexsort((place, edge))
         return edge[order], corner[order]
 
@@ -154,9 +161,14 @@ class Edges:
         """The network of the ways that edges take over corners."""
         inner = (edge[1:] == edge[:-1]) & (corner[1:] != corner[:-1])
         counts = numpy.bincount(edge[:-1][inner], minlength=len(self.ends))
+        first, last = corner[:-1][inner], corner[1:][inner]
+        return Network(corners, first, last, self.sides(counts))
+
+    def sides(self, counts):
+        """The sides of the parts of edges, of which each edge has so many."""
         starts = numpy.cumsum(counts) - counts
         side, step = expanded(counts[self.number])
-        return Network(corners, corner[:-1][inner], corner[1:][inner], (starts[self.number[side]] + step, self.owner[side], self.sign[side]))
+        return starts[self.number[side]] + step, self.owner[side], self.sign[side]
 
 
 def side_of(way, points):
@@ -209,11 +221,16 @@ def drawn(edges):
     ends = Corners(edges.pixels())
     hot = Corners(numpy.concatenate([ends.points, edges.crossings()]))
     edge, corner = edges.met(hot)
+    edges.forget_cells()
     network = edges.network(hot, edge, corner)
-    is_kept = numpy.bincount(network.first, minlength=len(hot.points)) + numpy.bincount(network.last, minlength=len(hot.points)) != 2
+    is_kept = network.degrees() != 2
     is_kept[hot.numbers(ends.points)] = True
-    kept = is_kept[corner]
-    return hot, edge[kept], corner[kept], network if kept.all() else edges.network(hot, edge[kept], corner[kept])
+    if not is_kept[corner].all():
+        del network  # there is room for one
+        kept = is_kept[corner]
+        edge, corner = edge[kept], corner[kept]
+        network = edges.network(hot, edge, corner)
+    return hot, edge, corner, network
 
 
 def are_in(points, ends):
@@ -237,8 +254,7 @@ def straightened(edges, then, hot, edge, corner, network):
     """The network without new corners on a border that last year had straight, where this year's source has it straight too. Such a corner is none of `then`, nor beside
     one; two edges of the network meet there, and each end in its pixel lies on an edge that goes through, which the corners of `then` bound on both sides."""
     is_then, is_beside = are_in(hot.points, then)
-    degree = numpy.bincount(network.first, minlength=len(hot.points)) + numpy.bincount(network.last, minlength=len(hot.points))
-    is_free, ends = (degree == 2) & ~is_then & ~is_beside, edges.ends.reshape(-1, 2)
+    is_free, ends = (network.degrees() == 2) & ~is_then & ~is_beside, edges.ends.reshape(-1, 2)
     at = hot.numbers(pixel(ends))
     through = numpy.nonzero(is_free[corner] & (corner != at[::2][edge]) & (corner != at[1::2][edge]))[0]
     order = numpy.argsort(at, kind="stable")
