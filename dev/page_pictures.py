@@ -1,5 +1,5 @@
 """Draws docs/pictures/*.png: the map of the page that tools/check makes of examples/valley, whole and at one of its faults. Wants Shapely and Debian's
-package chromium: imported by dev/pictures."""
+package chromium: imported by dev/pictures. Their bytes are those of one version of Chromium, so no test compares them."""
 
 import base64
 import subprocess
