@@ -94,7 +94,7 @@ def test_empty(header, tmp_path):
 
 
 def test_pictures(tmp_path):
-    """The pictures of README.md and docs/IDEA.md are those that dev/pictures draws."""
+    """The pictures of docs/GUIDE.md and docs/IDEA.md are those that dev/pictures draws."""
     idea_pictures.draw(tmp_path, tmp_path)
     for name in idea_pictures.DRAWINGS:
         assert (tmp_path / f"{name}.svg").read_text() == (TOP / "docs" / f"{name}.svg").read_text(), name

@@ -8,8 +8,9 @@ A transcript (*.md beside this file) is a page with commands and what they print
 
 The line after `$` goes to bash. Then come the lines of standard output, of which none is empty, those of standard error behind `2> `, and the status where it
 is not 0. Lines without indentation are remarks. The commands of one transcript run one after the other in one folder of their own, where `examples` is the
-repository's. The lines of README.md's run through two years are run too, in one shell, by the script ./lpis: of them what goes to standard output counts. A
-command that does not end in ten minutes, which a loaded machine keeps, is stopped, and is one that failed.
+repository's. The lines of README.md are run too, in one shell, by the script ./lpis and the tools, but for those that load, install or test: of them what goes
+to standard output counts. Its land.gpkg is a sound one, and what shows a page counts the maps in it. A command that does not end in ten minutes, which a loaded
+machine keeps, is stopped, and is one that failed.
 """
 
 import contextlib
@@ -20,10 +21,15 @@ import signal
 import subprocess
 
 import pytest
+from lpis_helpers import dirty
 from lpis_helpers.places import BUILT, TOP as HOUSE
+from lpis_tools import shapely_there
 
 HERE, TOP = pathlib.Path(__file__).resolve().parent, pathlib.Path(HOUSE)
 SECONDS = 600  # of one command
+NOT_RUN = ("git clone ", "./test ", "sudo ")  # of README.md
+LAND, PAGE = "tools/check land.gpkg", "xdg-open "
+MAPS = 'xdg-open() { grep -c "<canvas" "$1"; }'
 pytestmark = pytest.mark.finds_program
 
 
@@ -39,15 +45,18 @@ def commands_of(page):
 
 
 def commands_of_readme():
-    """Those of the start that compute something, with what stands behind them as a remark, and those of the run through two years."""
-    page, commands = TOP / "README.md", []
+    """Those that compute or show something: what each gives stands below it, or behind it as a remark where it is installed."""
+    page, heading, commands = TOP / "README.md", "", []
     lines = page.read_text(encoding="utf-8").splitlines()
     for number, command, wanted in commands_of(page):
-        heading = next(line for line in reversed(lines[:number]) if line.startswith("## "))
-        if heading == "## Start" and "./lpis" in command:
-            commands.append((number, command, [command.rpartition("# ")[2]]))
-        elif heading == "## A run through two years":
-            commands.append((number, command, wanted))
+        heading = next(line for line in reversed(lines[:number]) if line.startswith("#"))
+        command, _, remark = (part.strip() for part in command.partition(" # "))
+        if command.startswith(LAND):
+            commands.append((number, f"{command} | tail -n 1", ["yes"]))
+        elif command.startswith(PAGE):
+            commands.append((number, command, ["1"]))
+        elif not f"{command} ".startswith(NOT_RUN):
+            commands.append((number, command, [remark] if heading == "## Install" else wanted))
     return commands
 
 
@@ -56,7 +65,11 @@ README = commands_of_readme()
 
 
 def each(page, commands):
-    return [pytest.param(page, place, wanted, id=f"{page}:{number}: {command}") for place, (number, command, wanted) in enumerate(commands)]
+    lacking = pytest.mark.skipif(not shapely_there.python(), reason=shapely_there.LACKING)
+    return [
+        pytest.param(page, place, wanted, id=f"{page}:{number}: {command}", marks=[lacking] * command.startswith(("tools/check", PAGE)))
+        for place, (number, command, wanted) in enumerate(commands)
+    ]
 
 
 def lines_of(text, mark):
@@ -89,18 +102,20 @@ def given_by(command, folder):
 
 
 def given_by_readme(folder):
-    """What README.md's lines give, in a folder that has the script and the examples. One that does not end is the last."""
-    for name in ("lpis", "examples"):
+    """What README.md's lines give, without blanks at their ends, in a folder that has script, tools and examples. One that does not end is the last."""
+    for name in ("lpis", "tools", "examples"):
         (folder / name).symlink_to(TOP / name)
+    dirty.make(folder / "land.gpkg", [])
     # Behind each command a line, to say that it has ended.
-    script = "\n".join(f"exec 8>&1 >{number}.out\n{command}\nexec >&8 8>&-; echo" for number, command, _ in README)
+    script = "\n".join([MAPS, *(f"exec 8>&1 >{number}.out\n{command}\nexec >&8 8>&-; echo" for number, command, _ in README)])
     with shell(script, folder, env=dict(os.environ, TMPDIR=str(folder), LC_ALL="C"), stderr=subprocess.DEVNULL) as running:
         for number, *_ in README:
             if not select.select([running.stdout], [], [], SECONDS)[0]:
                 yield [f"(no end after {SECONDS} seconds; the lines below it were not run)"]
                 return
             has_ended = os.read(running.stdout.fileno(), 1)
-            yield (folder / f"{number}.out").read_text(encoding="utf-8").splitlines() if has_ended else ["(the shell ended before)"]
+            lines = (folder / f"{number}.out").read_text(encoding="utf-8").splitlines()
+            yield [line.rstrip() for line in lines] if has_ended else ["(the shell ended before)"]
         running.wait()
 
 

@@ -1,5 +1,5 @@
-"""Tests dev/package and what README.md says of installing. The archive is unpacked as another user (where root runs this) in a folder with a space,
-without kit, clone and compiler on the path, and README's lines are run word for word. The package is installed, upgraded and removed by dpkg in a
+"""Tests dev/package and what docs/GUIDE.md says of installing. The archive is unpacked as another user (where root runs this) in a folder with a space,
+without kit, clone and compiler on the path, and the lines of guide and README are run word for word. The package is installed, upgraded and removed by dpkg in a
 folder of its own. Wants the program, built or named by LPIS; dpkg and lintian for the package. It takes a sample: with WHOLE=1
 lintian too, and 20,000 parcels in the release whose publish is stopped."""
 
@@ -17,6 +17,7 @@ import pytest
 from lpis_helpers.calls import done, ended_with, run
 from lpis_helpers.places import BUILT, TOP
 from lpis_helpers.spare import Kept, write_script
+from lpis_tools import shapely_there
 from lpis_helpers import stopping
 from lpis_helpers import tables
 
@@ -61,6 +62,13 @@ def lines_of_readme():
             blocks[-1][-1][1].append(line[4:])
         is_block = line.startswith("    ")
     return blocks
+
+
+def lines_of_install():
+    """The commands of the guide's installation: of the package, and those of the archive."""
+    part = (pathlib.Path(TOP) / "docs" / "GUIDE.md").read_text(encoding="utf-8").split("\n## Install\n")[1].split("\n## ")[0]
+    blocks = re.findall(r"(?m)(?:^    .*\n)+", part)
+    return [[(line[4:], []) for line in block.splitlines()] for block in blocks]
 
 
 def programs_of(path):
@@ -206,7 +214,8 @@ class TestPackages(Kept):
         os.chmod(out, 0o777)
         ended = run("bash", "-c", "\n".join(script), cwd=folder, env={"PATH": PATH, "HOME": str(folder), "LC_ALL": "C.UTF-8", "OUT": str(out), "TMPDIR": str(out)}, **more)
         for number, (command, wanted) in enumerate([line for block in blocks for line in block]):
-            assert (out / str(number)).read_text(encoding="utf-8").splitlines() == wanted, f"{command}\n{ended.stderr}"
+            lines = (out / str(number)).read_text(encoding="utf-8").splitlines()
+            assert [line.rstrip() for line in lines] == wanted, f"{command}\n{ended.stderr}"
         return ended
 
     def test_lines_of_readme_with_the_archive(self):
@@ -214,9 +223,11 @@ class TestPackages(Kept):
         (folder / "release").mkdir(parents=True)
         os.chmod(folder, 0o777)
         shutil.copy(self.archive, folder / "release")
-        (_, area, _), years, _, install = lines_of_readme()
+        valley, (_, area, *_), _, gap, years = lines_of_readme()
+        _, install = lines_of_install()
         version = [("lpis --version | tail -n 4", self.facts())]
-        self.check_lines(folder, [install, [(area[0], ["100.0000000"])], years, version], **OTHER)
+        shown = [valley, gap] if shapely_there.python() else []
+        self.check_lines(folder, [install, [(area[0], ["100.0000000"])], *shown, years, version], **OTHER)
         top = next(path for path in folder.iterdir() if (path / "bin").exists())
         links = re.findall(r"\]\(([^)#]+)\)", (top / "README.md").read_text(encoding="utf-8"))
         assert [link for link in links if not (top / link).exists()] == []
@@ -289,10 +300,10 @@ class TestPackages(Kept):
         done(*dpkg, "-i", self.package)
         assert (os.path.lexists(root / "usr/bin/lpis-older"), (root / "usr/lib/lpis/older").exists()) == (False, False)
         os.chmod(root / "home", 0o777)
-        _, years, install, _ = lines_of_readme()
+        years, (install, _) = lines_of_readme()[-1], lines_of_install()
         copied = [(f"cp -r '{root}/usr/share/doc/lpis/examples' .", []), (f"PATH='{root}/usr/bin':$PATH", []), ("echo mine >mine.txt", [])]
         assert [line for line, _ in install] == ["sudo apt install ./release/lpis_*_amd64.deb"]
-        self.check_lines(root / "home", [copied, [(line.replace("./lpis", "lpis"), wanted) for line, wanted in years]], **OTHER)
+        self.check_lines(root / "home", [copied, [(line.replace("./lpis", "lpis").replace("tools/", "lpis-"), wanted) for line, wanted in years]], **OTHER)
         for tool in sorted((root / "usr" / "bin").iterdir()):
             ended = run(tool, "--help", env={"PATH": PATH, "HOME": "/"})
             assert (ended.returncode, bool(ended.stdout)) == (0, True), f"{tool}: {ended.stderr}"
