@@ -11,11 +11,11 @@ use Rattle.lpis_run.specs.declared.detail.Detail.TheVariants as detail
 use Rattle.lpis_run.specs.declared.failure.Name.TheVariants as named
 use Rattle.lpis_command_line.specs.Commands.{IsJobNamed, IsRequestNamed}
 use Rattle.lpis_command_line.specs.Files.{AreTablesIn, IsCountryIn, IsFile}
-use Rattle.lpis_command_line.specs.Words.{Finds, HasWord, IsDetail, IsRelease, IsSubmission, IsYear}
+use Rattle.lpis_command_line.specs.Words.{ArePointsLast, Finds, HasWord, IsDetail, IsRelease, IsSubmission, IsYear}
 use Rattle.lpis_command_line.specs.declared.commands.Job.{Job}
 use Rattle.lpis_command_line.specs.declared.commands.Job.TheVariants.{Exact, ExactCountry, Publish, PublishCountry, Trace}
 use Rattle.lpis_command_line.specs.declared.commands.Request.{Request}
-use Rattle.lpis_command_line.specs.declared.commands.Request.TheVariants.{Area, Check, CheckTables, Country, Cut, InRegister, Locate, LocateCountry}
+use Rattle.lpis_command_line.specs.declared.commands.Request.TheVariants.{Area, Check, Country, Cut, InRegister, Locate, LocateCountry}
 use Rattle.lpis_command_line.specs.declared.files.CountryFolder.{CountryFolder}
 use Rattle.lpis_command_line.specs.declared.files.NamedFile.{NamedFile}
 use Rattle.lpis_command_line.specs.private.Found.{IsInRegister}
@@ -48,9 +48,8 @@ no-cut rows none (InRegister db job) h = no-job rows (codes "cut") (differ _ _ r
 no-cut rows none other h = differ _ _ refl h.0
 
 -- no other request is `check`
-pub no-check : (rows : List Row) → ((t : Tables NamedFile) → HasWord (codes "dir") (λ dir. AreTablesIn dir t) rows → ⊥) → (r : Request) → IsRequestNamed r (codes "check") rows → ⊥
-no-check rows none (Check release) h = none release.tables h.1.0
-no-check rows none (CheckTables tables) h = none tables h.1
+pub no-check : (rows : List Row) → ((f : Folder NamedFile) → IsRelease f rows → ⊥) → (r : Request) → IsRequestNamed r (codes "check") rows → ⊥
+no-check rows none (Check release) h = none release h.1
 no-check rows none (InRegister db job) h = no-job rows (codes "check") (differ _ _ refl) (differ _ _ refl) (differ _ _ refl) (differ _ _ refl) (differ _ _ refl) job h.1
 no-check rows none other h = differ _ _ refl h.0
 
@@ -62,7 +61,7 @@ no-country rows none (InRegister db job) h = no-job rows (codes "country") (diff
 no-country rows none other h = differ _ _ refl h.0
 
 -- no other request is `locate`
-pub no-locate : (rows : List Row) → ((f : Folder NamedFile) (p : NamedFile) → IsRelease f rows → HasWord (codes "points") (λ path. IsFile named.Points path p) rows → ⊥)
+pub no-locate : (rows : List Row) → ((f : Folder NamedFile) (p : NamedFile) → HasWord (codes "dir") (λ dir. AreTablesIn dir f.tables) rows → ArePointsLast f.cert p rows → ⊥)
     → (r : Request) → IsRequestNamed r (codes "locate") rows → ⊥
 no-locate rows none (Locate f p) h = none f p h.1 h.2
 no-locate rows none (InRegister db job) h = no-job rows (codes "locate") (differ _ _ refl) (differ _ _ refl) (differ _ _ refl) (differ _ _ refl) (differ _ _ refl) job h.1
@@ -115,7 +114,6 @@ in-register rows name a b c d e f None h = only
     only (Area table) p = a p.0
     only (Cut tables cert) p = b p.0
     only (Check release) p = c p.0
-    only (CheckTables tables) p = c p.0
     only (Country country detail) p = d p.0
     only (Locate release points) p = e p.0
     only (LocateCountry country points) p = f p.0

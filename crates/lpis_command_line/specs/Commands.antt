@@ -6,17 +6,16 @@ use Rattle.clap.specs.declared.builder.ArgAction.TheVariants.{Append, Set, SetTr
 use Rattle.clap.specs.declared.builder.value_parser.ValueParser.TheVariants.{Unsigned}
 use Rattle.lpis_run.specs.declared.failure.Name.TheVariants as named
 use Rattle.lpis_command_line.specs.Files.{AreTablesIn, IsCountryIn, IsFile}
-use Rattle.lpis_command_line.specs.Words.{HasWord, IsDetail, IsExact, IsRelease, IsSubmission}
-use Rattle.lpis_command_line.specs.Words.{IsYear}
+use Rattle.lpis_command_line.specs.Words.{ArePointsLast, HasWord, IsCert, IsDetail}
+use Rattle.lpis_command_line.specs.Words.{IsRelease, IsSubmission, IsYear}
 use Rattle.lpis_command_line.specs.declared.commands.Job.{Job}
 use Rattle.lpis_command_line.specs.declared.commands.Job.TheVariants.{Exact, ExactCountry}
 use Rattle.lpis_command_line.specs.declared.commands.Job.TheVariants.{Publish, PublishCountry}
 use Rattle.lpis_command_line.specs.declared.commands.Job.TheVariants.{Trace}
 use Rattle.lpis_command_line.specs.declared.commands.Request.{Request}
 use Rattle.lpis_command_line.specs.declared.commands.Request.TheVariants.{Area, Cut, Check}
-use Rattle.lpis_command_line.specs.declared.commands.Request.TheVariants.{CheckTables, Country}
-use Rattle.lpis_command_line.specs.declared.commands.Request.TheVariants.{InRegister, Locate}
-use Rattle.lpis_command_line.specs.declared.commands.Request.TheVariants.{LocateCountry}
+use Rattle.lpis_command_line.specs.declared.commands.Request.TheVariants.{Country, InRegister}
+use Rattle.lpis_command_line.specs.declared.commands.Request.TheVariants.{Locate, LocateCountry}
 
 -- a required argument of one word
 abbrev pub word_rule : Text → Rule
@@ -35,6 +34,7 @@ abbrev pub commands : List App
 commands =
     let dir = word_rule (codes "dir") in
     let cert = word_rule (codes "cert") in
+    let cert_if_any = word_rule_if_any (codes "cert") in
     let db = word_rule (codes "db") in
     let year = record (word_rule (codes "year")) { parser = Some (Unsigned 1 9999) } in
     let ids = record (new_rule (codes "id")) { required = true; action = Some Append } in
@@ -44,13 +44,14 @@ commands =
     { long = Some (codes "exact"); action = Some Set; value_names = 1 } in
     command (codes "area") (word_rule (codes "file") ∷ [])
     ∷ command (codes "cut") (dir ∷ cert ∷ [])
-    ∷ command (codes "check") (dir ∷ word_rule_if_any (codes "cert") ∷ [])
+    ∷ command (codes "check") (dir ∷ cert_if_any ∷ [])
     ∷ command (codes "country") (dir ∷ parcels ∷ [])
-    ∷ command (codes "locate") (dir ∷ cert ∷ word_rule (codes "points") ∷ [])
+    ∷ command (codes "locate")
+    (dir ∷ word_rule (codes "cert-or-points") ∷ word_rule_if_any (codes "points") ∷ [])
     ∷ command (codes "locate-country") (dir ∷ word_rule (codes "points") ∷ [])
     ∷ command (codes "exact") (db ∷ dir ∷ cert ∷ word_rule (codes "out") ∷ [])
     ∷ command (codes "exact-country") (db ∷ dir ∷ word_rule (codes "file") ∷ [])
-    ∷ command (codes "publish") (db ∷ year ∷ dir ∷ cert ∷ [])
+    ∷ command (codes "publish") (db ∷ year ∷ dir ∷ cert_if_any ∷ [])
     ∷ command (codes "publish-country") (db ∷ year ∷ dir ∷ exact ∷ parcels ∷ [])
     ∷ command (codes "trace") (db ∷ ids ∷ []) ∷ []
 
@@ -75,7 +76,7 @@ IsJobNamed (Publish year submission) name rows =
     (name ≡ codes "publish") × IsYear year rows × IsSubmission submission rows
 IsJobNamed (PublishCountry year country exact detail) name rows = (name ≡ codes "publish-country")
     × IsYear year rows × HasWord (codes "dir") (λ dir. IsCountryIn dir country) rows
-    × IsExact exact rows × IsDetail detail rows
+    × IsCert (codes "exact") exact rows × IsDetail detail rows
 IsJobNamed (Trace ids) name rows =
     (name ≡ codes "trace") × (all_of (codes "id") rows ≡ Some (map (λ w. w.now) ids.now))
 
@@ -87,14 +88,11 @@ IsRequestNamed (Cut tables cert) name rows = (name ≡ codes "cut")
     × HasWord (codes "dir") (λ dir. AreTablesIn dir tables) rows
     × (first_of (codes "cert") rows ≡ Some cert.now)
 IsRequestNamed (Check release) name rows = (name ≡ codes "check") × IsRelease release rows
-IsRequestNamed (CheckTables tables) name rows = (name ≡ codes "check")
-    × HasWord (codes "dir") (λ dir. AreTablesIn dir tables) rows
-    × (first_of (codes "cert") rows ≡ None)
 IsRequestNamed (Country country detail) name rows = (name ≡ codes "country")
     × HasWord (codes "dir") (λ dir. IsCountryIn dir country) rows × IsDetail detail rows
 IsRequestNamed (Locate release points) name rows = (name ≡ codes "locate")
-    × IsRelease release rows
-    × HasWord (codes "points") (λ path. IsFile named.Points path points) rows
+    × HasWord (codes "dir") (λ dir. AreTablesIn dir release.tables) rows
+    × ArePointsLast release.cert points rows
 IsRequestNamed (LocateCountry country points) name rows = (name ≡ codes "locate-country")
     × HasWord (codes "dir") (λ dir. IsCountryIn dir country) rows
     × HasWord (codes "points") (λ path. IsFile named.Points path points) rows

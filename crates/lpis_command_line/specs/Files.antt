@@ -2,9 +2,8 @@
 use Rattle.std.specs.Prelude.{◌≡◌, ◌++◌, codes, option_map, unwrap_or}
 use Rattle.clap.specs.Words.{Text}
 use Rattle.lpis_run.specs.declared.failure.Name.{Name}
-use Rattle.lpis_run.specs.declared.failure.Name.TheVariants.{Parcels, Covers, Classes, Cert}
+use Rattle.lpis_run.specs.declared.failure.Name.TheVariants.{Parcels, Covers, Classes}
 use Rattle.lpis_run.specs.declared.failure.Name.TheVariants.{Country}
-use Rattle.lpis_run.specs.declared.folder.Folder.{Folder}
 use Rattle.lpis_run.specs.declared.folder.Tables.{Tables}
 use Rattle.lpis_command_line.specs.declared.files.CountryFolder.{CountryFolder}
 use Rattle.lpis_command_line.specs.declared.files.NamedFile.{NamedFile}
@@ -26,11 +25,6 @@ abbrev pub AreTablesIn : Text → Tables NamedFile → Type 0
 AreTablesIn folder t = IsFile Parcels (in_folder folder (codes "parcels.csv")) t.parcels
     × IsFile Covers (in_folder folder (codes "covers.csv")) t.covers
     × IsFile Classes (in_folder folder (codes "classes.csv")) t.classes
-
--- the files of the region in a folder
-abbrev pub IsRegionIn : Text → Folder NamedFile → Type 0
-IsRegionIn folder f =
-    AreTablesIn folder f.tables × IsFile Cert (in_folder folder (codes "cert.txt")) f.cert
 
 -- the country in a folder: how it is cut into regions, and the classes of all
 abbrev pub IsCountryIn : Text → CountryFolder → Type 0

@@ -4,7 +4,7 @@ use Rattle.std.specs.Str.Parse.{IsNumeral, digits_value, without_leading_plus}
 use Rattle.clap.specs.Words.{Row, Text, first_of}
 use Rattle.lpis_run.specs.declared.detail.Detail.{Detail}
 use Rattle.lpis_run.specs.declared.detail.Detail.TheVariants.{Parcels, Regions}
-use Rattle.lpis_run.specs.declared.failure.Name.TheVariants.{Cert, Lineage}
+use Rattle.lpis_run.specs.declared.failure.Name.TheVariants.{Cert, Lineage, Points}
 use Rattle.lpis_run.specs.declared.folder.Folder.{Folder}
 use Rattle.lpis_run.specs.declared.folder.Submission.{Submission}
 use Rattle.lpis_command_line.specs.Files.{AreTablesIn, IsFile, in_folder}
@@ -19,10 +19,10 @@ Finds {X} P None = (x : X) → P x → ⊥
 abbrev pub HasWord : Text → (Text → Type 0) → List Row → Type 0
 HasWord id P rows = (word : Text) × (first_of id rows ≡ Some word) × P word
 
--- the certificate is at the path of the option `exact`, if this is there
-abbrev pub IsExact : Option NamedFile → List Row → Type 0
-IsExact None rows = first_of (codes "exact") rows ≡ None
-IsExact (Some i) rows = HasWord (codes "exact") (λ path. IsFile Cert path i) rows
+-- the certificate is at the path of the argument, if this is there
+abbrev pub IsCert : Text → Option NamedFile → List Row → Type 0
+IsCert id None rows = first_of id rows ≡ None
+IsCert id (Some i) rows = HasWord id (λ path. IsFile Cert path i) rows
 
 -- the word is a year's: decimal digits, after a plus or none, of a number from 1 to 9999
 abbrev pub IsYear : ℕ → List Row → Type 0
@@ -34,13 +34,22 @@ abbrev pub IsDetail : Detail → List Row → Type 0
 IsDetail Parcels rows = first_of (codes "parcels") rows ≡ Some (codes "true")
 IsDetail Regions rows = first_of (codes "parcels") rows ≡ Some (codes "false")
 
--- the release in the folder `dir`, with the certificate `cert`
+-- the release in the folder `dir`, with the certificate `cert`, if this is there
 abbrev pub IsRelease : Folder NamedFile → List Row → Type 0
 IsRelease f rows = HasWord (codes "dir") (λ dir. AreTablesIn dir f.tables) rows
-    × HasWord (codes "cert") (λ cert. IsFile Cert cert f.cert) rows
+    × IsCert (codes "cert") f.cert rows
 
--- the same with the lineage table of the folder
+-- that release with its lineage table
 abbrev pub IsSubmission : Submission NamedFile → List Row → Type 0
 IsSubmission s rows =
     IsRelease s.folder rows × HasWord (codes "dir")
     (λ dir. IsFile Lineage (in_folder dir (codes "lineage.csv")) s.lineage) rows
+
+-- of two words, of which the second may be left out: the last is the path of a table of points, and
+-- the one before it that of a certificate
+abbrev pub ArePointsLast : Option NamedFile → NamedFile → List Row → Type 0
+ArePointsLast None points rows = (first_of (codes "points") rows ≡ None)
+    × HasWord (codes "cert-or-points") (λ path. IsFile Points path points) rows
+ArePointsLast (Some cert) points rows =
+    HasWord (codes "cert-or-points") (λ path. IsFile Cert path cert) rows
+    × HasWord (codes "points") (λ path. IsFile Points path points) rows

@@ -64,7 +64,7 @@ pub(crate) const SUBMISSION: Argument = Argument {
     text: "A folder with parcels.csv, covers.csv, classes.csv and lineage.csv",
 };
 
-/// `country/`: country.txt classes.csv */parcels.csv */covers.csv */classes.csv */cert.txt
+/// `country/`: country.txt classes.csv */parcels.csv */covers.csv */classes.csv [*/cert.txt]
 pub(crate) const COUNTRY: Argument = Argument {
     id: "dir",
     takes: Takes::Word,
@@ -72,7 +72,7 @@ pub(crate) const COUNTRY: Argument = Argument {
 };
 
 /// `submissions/`: country.txt classes.csv */lineage.csv */parcels.csv */covers.csv
-/// */classes.csv */cert.txt
+/// */classes.csv [*/cert.txt]
 pub(crate) const SUBMISSIONS: Argument = Argument {
     id: "dir",
     takes: Takes::Word,
@@ -113,6 +113,21 @@ pub(crate) const BLOCKS_WRITTEN: Argument = Argument {
     id: "file",
     takes: Takes::Word,
     text: "The file that the certificate with these blocks is written to",
+};
+
+/// `[cert]`: a certificate.
+pub(crate) const CERT_OR_POINTS: Argument = Argument {
+    id: "cert-or-points",
+    takes: Takes::Word,
+    text: "A certificate of triangles for the release; where none is named, one is made, and this \
+        is the table of points",
+};
+
+/// `points`: a table of points.
+pub(crate) const POINTS_IF_ANY: Argument = Argument {
+    id: "points",
+    takes: Takes::WordIfAny,
+    text: "A table in CSV with the columns `point`, `x` and `y`",
 };
 
 /// `points`: a table of points.

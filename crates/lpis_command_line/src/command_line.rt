@@ -15,6 +15,16 @@ use std::alloc::{AllocError, Global};
 /// The version that `--version` prints.
 const VERSION: &str = "0.4.0";
 
+/// What help has at its end.
+const MORE: &str = "Examples:
+  lpis check release
+  lpis publish register.db 2026 release
+
+Statuses: 0 yes, or done; 1 refused; 2 an input or a command line that cannot be read;
+3 memory, a file or the database failed.
+
+Read on: man lpis, docs/GUIDE.md (a year step by step), docs/FORMATS.md (files and codes).";
+
 /// What `clap` makes of an argument, but for the text that help has for it.
 fn arg_of<'a>(alloc: Global, argument: &Argument) -> Arg<'a>
     ensures rule { rule_of result ≡ rule_of_argument argument.now }
@@ -82,6 +92,7 @@ fn program<'a>(alloc: Global) -> Command<'a>
     Command::new(alloc, "lpis")
         .about("Checks the releases of a Land Parcel Identification System")
         .version(VERSION)
+        .after_help(MORE)
         .subcommand_required(true)
 }
 

@@ -7,13 +7,14 @@ ghost use Rattle.lpis_command_line.specs.Words.{Finds};
 ghost use Rattle.lpis_command_line.specs.private.Found.{IsInRegister};
 
 use crate::arguments::{
-    AREA, BLOCKS_WRITTEN, CERT, CERT_IF_ANY, CERT_WRITTEN, COUNTRY, EXACT, FLATS_WRITTEN,
-    IDENTIFIERS, Line, PARCELS, POINTS, REGISTER, RELEASE, SUBMISSION, SUBMISSIONS, YEAR,
+    AREA, BLOCKS_WRITTEN, CERT, CERT_IF_ANY, CERT_OR_POINTS, CERT_WRITTEN, COUNTRY, EXACT,
+    FLATS_WRITTEN, IDENTIFIERS, Line, PARCELS, POINTS, POINTS_IF_ANY, REGISTER, RELEASE,
+    SUBMISSION, SUBMISSIONS, YEAR,
 };
-use crate::files::{CountryFolder, NamedFile, file_at};
+use crate::files::{CountryFolder, NamedFile};
 use crate::words::{
-    country_of, detail_of, exact_of, file_of, release_of, submission_of, tables_of, word_of,
-    words_of, year_of,
+    cert_of, country_of, detail_of, file_of, points_last, release_of, submission_of, tables_of,
+    word_of, words_of, year_of,
 };
 use clap::ArgMatches;
 use lpis_run::{Detail, Folder, Name, Submission, Tables};
@@ -43,7 +44,7 @@ pub(crate) const COMMANDS: [Line; 11] = [
     Line {
         name: "locate",
         about: "Checks a release, and prints which parcel and piece each point is in",
-        arguments: &[RELEASE, CERT, POINTS],
+        arguments: &[RELEASE, CERT_OR_POINTS, POINTS_IF_ANY],
     },
     Line {
         name: "locate-country",
@@ -63,7 +64,7 @@ pub(crate) const COMMANDS: [Line; 11] = [
     Line {
         name: "publish",
         about: "Checks a release against a certificate, and adds it to a register",
-        arguments: &[REGISTER, YEAR, SUBMISSION, CERT],
+        arguments: &[REGISTER, YEAR, SUBMISSION, CERT_IF_ANY],
     },
     Line {
         name: "publish-country",
@@ -93,10 +94,6 @@ pub enum Request<'a> {
     /// The check of a release against a certificate.
     Check {
         release: Folder<NamedFile<'a>>,
-    },
-    /// The check of a release against a certificate that is made of it and let go again.
-    CheckTables {
-        tables: Tables<NamedFile<'a>>,
     },
     /// The check of a country, region by region, and what is printed.
     Country {
@@ -178,15 +175,8 @@ fn check_asked<'a>(matches: &ArgMatches<'a>) -> Option<Request<'a>>
     ensures { Finds (λ r. IsRequestNamed r (codes "check")
         (rows_of (found_of matches.now))) result }
 {
-    let tables = tables_of(matches)?;
-    match word_of(matches, "cert") {
-        Some(path) => {
-            let cert = file_at(path, Name::Cert);
-            let release = Folder { tables, cert };
-            Some(Request::Check { release })
-        }
-        None => Some(Request::CheckTables { tables }),
-    }
+    let release = release_of(matches)?;
+    Some(Request::Check { release })
 }
 
 /// `country` with its words.
@@ -199,13 +189,14 @@ fn country_asked<'a>(matches: &ArgMatches<'a>) -> Option<Request<'a>>
     Some(Request::Country { country, detail })
 }
 
-/// `locate` with its words.
+/// `locate` with its words, of which the certificate may be left out.
 fn locate_asked<'a>(matches: &ArgMatches<'a>) -> Option<Request<'a>>
     ensures { Finds (λ r. IsRequestNamed r (codes "locate")
         (rows_of (found_of matches.now))) result }
 {
-    let release = release_of(matches)?;
-    let points = file_of(matches, "points", Name::Points)?;
+    let tables = tables_of(matches)?;
+    let (cert, points) = points_last(matches)?;
+    let release = Folder { tables, cert };
     Some(Request::Locate { release, points })
 }
 
@@ -256,7 +247,7 @@ fn publish_country_asked<'a>(matches: &ArgMatches<'a>) -> Option<Job<'a>>
 {
     let year = year_of(matches)?;
     let country = country_of(matches)?;
-    let exact = exact_of(matches);
+    let exact = cert_of(matches, "exact");
     let detail = detail_of(matches)?;
     Some(Job::PublishCountry {
         year,

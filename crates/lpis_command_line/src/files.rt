@@ -3,9 +3,9 @@
 ghost use Rattle.std.specs.Prelude.{◌≡◌, IfOk, codes, string_bytes};
 ghost use Rattle.lpis_run.specs.declared.failure.Name.{Name};
 ghost use Rattle.lpis_command_line.specs.Files.{AreTablesIn, IsCountryIn, IsFile};
-ghost use Rattle.lpis_command_line.specs.Files.{IsRegionIn, in_folder, path_of};
+ghost use Rattle.lpis_command_line.specs.Files.{in_folder, path_of};
 
-use lpis_run::{Folder, Name, Tables, Top};
+use lpis_run::{Name, Tables, Top};
 use std::alloc::{AllocError, Global};
 
 /// A file that a command names.
@@ -71,7 +71,7 @@ fn file_in<'a>(folder: &'a str, path: &'a str, name: Name) -> NamedFile<'a>
 }
 
 /// The tables of the release in a folder.
-pub(crate) fn tables_in(folder: &str) -> Tables<NamedFile<'_>>
+pub fn tables_in(folder: &str) -> Tables<NamedFile<'_>>
     ensures { AreTablesIn folder.now result }
 {
     Tables {
@@ -81,14 +81,11 @@ pub(crate) fn tables_in(folder: &str) -> Tables<NamedFile<'_>>
     }
 }
 
-/// The files of the region in a folder.
-pub fn region_in(folder: &str) -> Folder<NamedFile<'_>>
-    ensures { IsRegionIn folder.now result }
+/// The certificate of the region in a folder.
+pub fn cert_in(folder: &str) -> NamedFile<'_>
+    ensures { IsFile Name.Cert (in_folder folder.now (codes "cert.txt")) result }
 {
-    Folder {
-        tables: tables_in(folder),
-        cert: file_in(folder, "cert.txt", Name::Cert),
-    }
+    file_in(folder, "cert.txt", Name::Cert)
 }
 
 /// The lineage table of the release in a folder.

@@ -13,6 +13,6 @@ mod usage;
 mod words;
 
 pub use commands::{Job, Request};
-pub use files::{CountryFolder, NamedFile, lineage_in, path_in, region_in};
+pub use files::{CountryFolder, NamedFile, cert_in, lineage_in, path_in, tables_in};
 pub use request::{matches_of, request_of};
 pub use usage::usage_ends;

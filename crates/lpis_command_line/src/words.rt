@@ -3,8 +3,8 @@
 ghost use Rattle.std.specs.Prelude.{codes};
 ghost use Rattle.clap.specs.Words.{found_of, rows_of};
 ghost use Rattle.lpis_command_line.specs.Files.{AreTablesIn, IsCountryIn, IsFile};
-ghost use Rattle.lpis_command_line.specs.Words.{Finds, HasWord, IsDetail, IsExact, IsRelease};
-ghost use Rattle.lpis_command_line.specs.Words.{IsSubmission, IsYear};
+ghost use Rattle.lpis_command_line.specs.Words.{ArePointsLast, Finds, HasWord, IsCert, IsDetail};
+ghost use Rattle.lpis_command_line.specs.Words.{IsRelease, IsSubmission, IsYear};
 ghost use Rattle.lpis_command_line.specs.private.Found.{AreWords, IsWord};
 
 use crate::files::{CountryFolder, NamedFile, country_in, file_at, lineage_in, tables_in};
@@ -57,13 +57,30 @@ pub(crate) fn file_of<'a>(matches: &ArgMatches<'a>, id: &str, name: Name) -> Opt
     Some(file_at(path, name))
 }
 
-/// The certificate at the path of an option, if it is there.
-pub(crate) fn exact_of<'a>(matches: &ArgMatches<'a>) -> Option<NamedFile<'a>>
-    ensures { IsExact result (rows_of (found_of matches.now)) }
+/// The certificate at the path of an argument, if this is there.
+pub(crate) fn cert_of<'a>(matches: &ArgMatches<'a>, id: &str) -> Option<NamedFile<'a>>
+    ensures { IsCert id.now result (rows_of (found_of matches.now)) }
 {
-    match word_of(matches, "exact") {
+    match word_of(matches, id) {
         Some(path) => Some(file_at(path, Name::Cert)),
         None => None,
+    }
+}
+
+/// A certificate, if one is named, and a table of points, at the paths of two arguments of which
+/// the second may be left out. The table is the last.
+pub(crate) fn points_last<'a>(
+    matches: &ArgMatches<'a>,
+) -> Option<(Option<NamedFile<'a>>, NamedFile<'a>)>
+    ensures { Finds (λ p. ArePointsLast p.0 p.1 (rows_of (found_of matches.now))) result }
+{
+    let first = word_of(matches, "cert-or-points")?;
+    match word_of(matches, "points") {
+        Some(last) => Some((
+            Some(file_at(first, Name::Cert)),
+            file_at(last, Name::Points),
+        )),
+        None => Some((None, file_at(first, Name::Points))),
     }
 }
 
@@ -76,12 +93,12 @@ pub(crate) fn tables_of<'a>(matches: &ArgMatches<'a>) -> Option<Tables<NamedFile
     Some(tables_in(dir))
 }
 
-/// The release in the folder of the argument `dir`, with its certificate.
+/// The release in the folder of the argument `dir`, with its certificate, if one is named.
 pub(crate) fn release_of<'a>(matches: &ArgMatches<'a>) -> Option<Folder<NamedFile<'a>>>
     ensures { Finds (λ f. IsRelease f (rows_of (found_of matches.now))) result }
 {
     let tables = tables_of(matches)?;
-    let cert = file_of(matches, "cert", Name::Cert)?;
+    let cert = cert_of(matches, "cert");
     Some(Folder { tables, cert })
 }
 

@@ -17,12 +17,15 @@ use Rattle.lpis_release.specs.Release.{Contents, pieces_named}
 use Rattle.lpis_edge_sums.specs.Making.{EdgesCancel, FlatsHaveCorners, HaveCorners}
 use Rattle.lpis_edge_sums.specs.Making.{corners_of}
 use Rattle.lpis_cert.specs.declared.cert.Cert.{Cert}
+use Rattle.lpis_cert.specs.declared.part.PairLine.{PairLine}
 use Rattle.lpis_cert.specs.declared.part.PiecePart.{PiecePart}
 use Rattle.lpis_cert.specs.Limits.{last_edge}
 use Rattle.lpis_checker.specs.FirstFault.{HoldBelow}
-use Rattle.lpis_checker.specs.GoodCertificate.{LineSeparates, polygons_of}
+use Rattle.lpis_checker.specs.GoodCertificate.{LineSeparates, OfTriangles, OnLine, polygons_of}
+use Rattle.lpis_checker.specs.GoodCertificate.{triangles_of}
 use Rattle.lpis_checker.specs.SoundMap.{IsInParcel, IsInPiece}
 use Rattle.lpis_checker.specs.declared.condition.Condition.TheVariants.{NearPairs}
+use Rattle.lpis_checker.specs.declared.condition.LineCondition.TheVariants.{NotApart}
 use Rattle.lpis_cutter.specs.declared.fault.Refusal.{Refusal}
 use Rattle.lpis_cutter.specs.declared.fault.Refusal.TheVariants.{NoCut, ParcelsOverlap}
 use Rattle.lpis_cutter.specs.declared.fault.Refusal.TheVariants.{PiecesOverlap, NoSeparator}
@@ -75,7 +78,7 @@ pub record Disagrees (r : Contents) (id : List ℕ) (p : RationalPoint) : Type 0
   pub is_x : IsParcel r id x
   pub parted : (IsInParcel p x × IsUncovered r p id) ⊎ ((IsInParcel p x → ⊥) × IsCovered r p id)
 
--- ---- 40: the first piece without a cut
+-- ---- 40: a piece before which each has a cut
 -- triangles and flats on a polygon's own corners, of which the edges are those of the polygon
 pub record AreCutOf (members : List Member) (triangles flats : List Triangle) : Type 0 where
   pub some : 0 < length triangles
@@ -100,7 +103,7 @@ pub record IsFirstUncut (r : Contents) (id : List ℕ) : Type 0 where
   pub before : (k : ℕ) → k < index → IfSome (slice_get r.pieces k) HasCut
   pub uncut : AreFewFans (take (index + 1) r.pieces) → ⊥
 
--- ---- 44: the first parcel that its pieces do not make up
+-- ---- 44: a parcel that is not even, before which each is made up
 -- flats add corners on a parcel's edges and those of its pieces, so that these make it up
 pub record AreFlatsOf (r : Contents) (x : Parcel) (flats : List Triangle) : Type 0 where
   pub flat : All IsFlat flats
@@ -124,7 +127,7 @@ pub record IsFirstUneven (r : Contents) (id : List ℕ) : Type 0 where
   pub before : (k : ℕ) → k < index → IfSome (slice_get r.parcels k) (IsMadeUp r)
   pub uneven : IsEven r x → ⊥
 
--- ---- 42: two triangles that no edge keeps apart
+-- ---- 42: two triangles that no edge keeps apart, or more near pairs than a certificate has
 abbrev pub NoEdgeSeparates : Triangle → Triangle → Type 0
 NoEdgeSeparates s t = (k : ℕ) → k ≤ last_edge → LineSeparates k s t → ⊥
 
@@ -156,12 +159,34 @@ pub record AreUnseparated (r : Contents) (first second : List ℕ) : Type 0 wher
   pub near : are_apart s t ≡ false
   pub none : NoEdgeSeparates s t
 
+-- the most near pairs of a certificate that is made
+abbrev pub most_pairs : ℕ
+most_pairs = 32000000
+
+-- a pair line names two triangles that are not apart
+abbrev pub NamesNear : List Triangle → PairLine → Type 0
+NamesNear triangles line = OfTriangles triangles line (OnLine NotApart line)
+
+-- parts that pass the check of parts, by which pair lines ascend, have so many lines and this one
+-- behind them. Each line names near triangles. This one names triangles of the two pieces
+pub record AreTooNear (r : Contents) (first second : List ℕ) : Type 0 where
+  pub cert : Cert
+  pub parts : HoldBelow r cert NearPairs
+  pub near : All (NamesNear (triangles_of cert.pieces)) cert.pairs
+  pub line : PairLine
+  pub behind : slice_get cert.pairs most_pairs ≡ Some line
+  pub s : Triangle
+  pub t : Triangle
+  pub of_first : StandsAt cert.pieces line.i first s
+  pub of_second : StandsAt cert.pieces line.j second t
+
 -- ---- what a refusal says
 abbrev pub RefusalReports : Contents → Refusal → Type 0
 RefusalReports r (NoCut piece) = IsFirstUncut r piece
 RefusalReports r (ParcelsOverlap first second at) = ParcelsShare r first second (rational_of at)
 RefusalReports r (PiecesOverlap first second at) = PiecesShare r first second (rational_of at)
-RefusalReports r (NoSeparator first second) = AreUnseparated r first second
+RefusalReports r (NoSeparator first second) =
+    AreUnseparated r first second ⊎ AreTooNear r first second
 RefusalReports r (Disagreement parcel at) = Disagrees r parcel (rational_of at)
 RefusalReports r (NoFlats parcel) = IsFirstUneven r parcel
 

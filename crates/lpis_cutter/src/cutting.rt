@@ -2,20 +2,21 @@
 
 ghost use Rattle.std.specs.Prelude.{◌≤◌, ◌+◌, ◌<◌, IfErr, IfNone, IfOk, IfSome, length};
 ghost use Rattle.lpis_cert.specs.declared.cert.Cert.{Cert};
-ghost use Rattle.lpis_cert.specs.Limits.{most_flats};
+ghost use Rattle.lpis_cert.specs.Limits.{greatest_count, most_flats};
 ghost use Rattle.lpis_checker.specs.GoodCertificate.{IsGood};
 ghost use Rattle.lpis_checker.specs.SoundMap.{IsSoundEverywhere};
 ghost use Rattle.lpis_cutter.specs.Fans.{IsFan};
-ghost use Rattle.lpis_cutter.specs.Refusals.{HasPoint, RefusesRightly};
+ghost use Rattle.lpis_cutter.specs.Refusals.{HasPoint, RefusesRightly, most_pairs};
 ghost use Rattle.lpis_cutter.specs.private.Cutting.{Fits, HasFew, HasFewAt, IsTooMany};
 ghost use Rattle.lpis_cutter.specs.private.Cutting.{IsUncutAt, ReportsIfAny};
 
+use crate::crowding::{MOST_PAIRS, crowded};
 use crate::exact::add_edges;
 use crate::fault::{CutFault, Refusal};
 use crate::near::near_pairs;
 use crate::numbered::Numbered;
 use crate::parts::{
-    Parts, ReleaseCut, cut_of_release, is_room_for, no_parts, with_parcel, with_piece,
+    Parts, ReleaseCut, cut_of_release, is_room_for, no_parts, trial_cert, with_parcel, with_piece,
 };
 use crate::pieces::{Cutter, cut_of};
 use crate::searching::{Budget, find_disagreement};
@@ -23,7 +24,7 @@ use crate::separating::{Separated, early_overlap, separate};
 use crate::uncut::{refusal_of_piece, uncut_piece};
 use crate::uneven::uneven_parcel;
 use crate::unseparated::unseparated;
-use lpis_cert::{GREATEST_COUNT, MOST_FLATS, PairLine};
+use lpis_cert::{MOST_FLATS, PairLine};
 use lpis_checker::laws::a_good_certificate_shows_a_sound_map;
 use lpis_cutter_mesh::Cut;
 use lpis_cutter_residue::Net;
@@ -220,7 +221,8 @@ fn refusal_without_point(
     }
 }
 
-/// A piece without a cut, or else that the triangles of two numbers have no separator.
+/// A piece of which the parts are no cut, or else that the triangles of two numbers have no
+/// separator.
 fn unseparated_pair(
     alloc: Global,
     release: &Release,
@@ -234,9 +236,49 @@ fn unseparated_pair(
     if found.is_some() {
         return Ok(found);
     }
-    let copy = parts.copy(alloc)?;
-    let cert = finish(alloc, release, copy, Vec::new(alloc))?.into_cert()?;
+    let cert = trial_cert(alloc, release, parts, Vec::new(alloc))?;
     unseparated(alloc, release, &cert, i as usize, j as usize)
+}
+
+/// A piece of which the parts are no cut, or else the pair that stands behind as many pair lines as
+/// a certificate has.
+fn crowded_pair(
+    alloc: Global,
+    release: &Release,
+    parts: &Parts,
+    lines: Vec<PairLine>,
+) -> Result<Option<Refusal>, AllocError>
+    requires { length lines.items ≤ greatest_count }
+    ensures { IfOk result (ReportsIfAny release.now) }
+{
+    let found = uncut_piece(alloc, release, parts)?;
+    if found.is_some() {
+        return Ok(found);
+    }
+    let cert = trial_cert(alloc, release, parts, lines)?;
+    crowded(alloc, release, &cert)
+}
+
+/// The pair lines where they are no more than a certificate has, or none where the parts do not
+/// pass the check of parts, or else the pair behind so many.
+fn lines_that_fit(
+    alloc: Global,
+    release: &Release,
+    parts: &Parts,
+    lines: Vec<PairLine>,
+) -> Result<Vec<PairLine>, CutFault>
+    ensures refused { IfErr result (RefusesRightly release.now) }
+    ensures few { IfOk result (λ v. length v.items ≤ most_pairs) }
+{
+    if lines.len() <= MOST_PAIRS {
+        return Ok(lines);
+    }
+    let mut lines = lines;
+    lines.truncate(MOST_PAIRS + 1);
+    match crowded_pair(alloc, release, parts, lines)? {
+        Some(refusal) => Err(CutFault::Refused(refusal)),
+        None => Ok(Vec::new(alloc)),
+    }
 }
 
 /// These parts with the separators of their near pairs.
@@ -260,19 +302,8 @@ fn join(
     if let Some(refusal) = refusal_without_point(alloc, release, &parts, is_flat, pair)? {
         return Err(CutFault::Refused(refusal));
     }
-    Ok(finish(alloc, release, parts, lines)?)
-}
-
-/// All parts, with as many of the lines as a certificate may have.
-fn finish(
-    alloc: Global,
-    release: &Release,
-    parts: Parts,
-    lines: Vec<PairLine>,
-) -> Result<ReleaseCut, AllocError> {
-    let mut lines = lines;
-    lines.truncate(GREATEST_COUNT as usize);
-    cut_of_release(alloc, release, parts, lines)
+    let few = lines_that_fit(alloc, release, &parts, lines)?;
+    Ok(cut_of_release(alloc, release, parts, few)?)
 }
 
 /// What a release is cut into, or what it is refused for.
@@ -293,17 +324,20 @@ fn cut_release(alloc: Global, release: &Release) -> Result<ReleaseCut, CutFault>
 }
 
 /// Cuts a release: what makes a certificate of triangles on the corners that its pieces have, or
-/// what it is refused for. Nothing is promised of the certificate, which is to be checked.
+/// what it is refused for. Of the certificate no more is promised than that it has no more pair
+/// lines than can be read again; it is to be checked.
 ///
 /// A refusal says of the release what its variant says. Pieces that cannot be cut are refused
-/// first, in order; then the first fault of which a point is found; then what shows no point: the
-/// first parcel that its pieces do not make up, and two triangles that no edge keeps apart.
+/// first, in order; then the first fault of which a point is found; then what shows no point: a
+/// parcel that flats were not found for, two triangles that no edge keeps apart, and more near
+/// pairs than a certificate has.
 ///
-/// The piece that is named is the first without a cut, and never comes where it and those before it
-/// are fans with at most 2,000,000 points together. The parcel is the first whose pieces do not
-/// make it up, and its edges have other net counts than theirs. The triangles are two of parts that
-/// pass `check_parts`. A release of which a point is reported is not sound, so that no certificate
-/// is good for it.
+/// Each piece before the one that is named has a cut, and that one and those before it are not all
+/// fans with at most 2,000,000 points together. The edges of the parcel that is named have other
+/// net counts than those of its pieces, and each parcel before it is made up by its pieces. Two
+/// triangles without an edge are of parts that pass `check_parts`, and so are those of a pair that
+/// stands behind 32,000,000 near ones. A release of which a point is reported is not sound, so that
+/// no certificate is good for it.
 pub fn cut(alloc: Global, release: &Release) -> Result<ReleaseCut, CutFault>
     ensures tells { IfErr result (RefusesRightly release.now) }
     ensures unsound { IfErr result (λ e. HasPoint e → IsSoundEverywhere release.now → ⊥) }

@@ -20,7 +20,8 @@ pub enum Refusal {
     /// Two different pieces contain the point.
     PiecesOverlap { first: Id, second: Id, at: RatPoint },
     /// A triangle of the first piece and one of the second have no separating edge, in parts that
-    /// are right, and no point of both was found.
+    /// are right, and no point of both was found; or they are near, and their pair stands behind as
+    /// many as a certificate has.
     NoSeparator { first: Id, second: Id },
     /// The parcel contains the point and none of its pieces does, or one of its pieces does and the
     /// parcel does not.

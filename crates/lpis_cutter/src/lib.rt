@@ -5,6 +5,7 @@
 //! Begin at `specs/Refusals.antt`, then `src/cutting.rt`.
 #![tactic(auto)]
 
+mod crowding;
 mod cutting;
 mod exact;
 mod fans;

@@ -6,6 +6,7 @@
 //! that one walk from west to east finds overlaps alone. The others go into the two halves of the
 //! room.
 
+use crate::crowding::are_too_many;
 use crate::near::Extent;
 use lpis_points::{Triangle, box_of};
 use std::alloc::{AllocError, Global};
@@ -93,7 +94,7 @@ impl Nest {
     }
 
     /// Adds the pair of two boxes if the first has the lower end of the second between its ends. Of
-    /// two with equal ends the one of the lower number has.
+    /// two with equal ends the one of the lower number has. None is added to too many.
     fn try_pair(
         &self,
         outer: &Boxed,
@@ -101,7 +102,7 @@ impl Nest {
         pairs: &mut Vec<(u32, u32)>,
     ) -> Result<(), AllocError> {
         let is_first = (outer.bottom, outer.number) < (inner.bottom, inner.number);
-        if is_first && inner.bottom < outer.top {
+        if is_first && inner.bottom < outer.top && !are_too_many(pairs) {
             let (i, j) = (outer.number, inner.number);
             pairs.push((i.min(j), i.max(j)))?;
         }
@@ -123,6 +124,9 @@ impl Nest {
             ) else {
                 return Ok(());
             };
+            if are_too_many(pairs) {
+                return Ok(());
+            }
             if *i <= *j {
                 self.join_outer(*i, inners, pairs)?;
                 outers = later_outers;
@@ -268,6 +272,9 @@ pub(crate) fn join_nested(
         let Some(room) = rooms.pop() else {
             return Ok(());
         };
+        if are_too_many(pairs) {
+            return Ok(());
+        }
         nest.join_room(room, &mut rooms, pairs)?;
     }
     Ok(())

@@ -2,6 +2,7 @@
 
 ghost use Rattle.std.specs.Prelude.{◌≡◌, ◌≤◌, ◌↔◌, ◌+◌, IfOk, IsTrue, length, sum_by};
 ghost use Rattle.lpis_cert.specs.Limits.{most_flats, greatest_count};
+ghost use Rattle.lpis_cutter.specs.Refusals.{most_pairs};
 ghost use Rattle.lpis_points.specs.Triangles.{most_triangles};
 
 use lpis_cert::{Cert, MOST_FLATS, MOST_TRIANGLES, PairLine, ParcelPart, PiecePart};
@@ -298,7 +299,25 @@ pub struct ReleaseCut {
     piece_ids: Vec<Id>,
     parcel_ids: Vec<Id>,
     lines: Vec<PairLine>,
-    pub ghost lines_few: { length lines.items ≤ greatest_count },
+    pub ghost lines_few: { length lines.items ≤ most_pairs },
+}
+
+/// The identifiers of a release's pieces.
+fn piece_ids_of(alloc: Global, release: &Release) -> Result<Vec<Id>, AllocError> {
+    let mut ids = Vec::with_capacity(alloc, release.pieces().len())?;
+    for piece in release.pieces() {
+        ids.push(piece.id.copy()?)?;
+    }
+    Ok(ids)
+}
+
+/// Those of its parcels.
+fn parcel_ids_of(alloc: Global, release: &Release) -> Result<Vec<Id>, AllocError> {
+    let mut ids = Vec::with_capacity(alloc, release.parcels().len())?;
+    for parcel in release.parcels() {
+        ids.push(parcel.id.copy()?)?;
+    }
+    Ok(ids)
 }
 
 /// All parts and pair lines, with the identifiers of a release.
@@ -308,16 +327,10 @@ pub(crate) fn cut_of_release(
     parts: Parts,
     lines: Vec<PairLine>,
 ) -> Result<ReleaseCut, AllocError>
-    requires { length lines.items ≤ greatest_count }
+    requires { length lines.items ≤ most_pairs }
 {
-    let mut piece_ids = Vec::with_capacity(alloc, release.pieces().len())?;
-    for piece in release.pieces() {
-        piece_ids.push(piece.id.copy()?)?;
-    }
-    let mut parcel_ids = Vec::with_capacity(alloc, release.parcels().len())?;
-    for parcel in release.parcels() {
-        parcel_ids.push(parcel.id.copy()?)?;
-    }
+    let piece_ids = piece_ids_of(alloc, release)?;
+    let parcel_ids = parcel_ids_of(alloc, release)?;
     Ok(ReleaseCut {
         alloc,
         parts,
@@ -327,9 +340,27 @@ pub(crate) fn cut_of_release(
     })
 }
 
+/// The certificate of a copy of all parts, and of pair lines, with the identifiers of a release.
+pub(crate) fn trial_cert(
+    alloc: Global,
+    release: &Release,
+    parts: &Parts,
+    lines: Vec<PairLine>,
+) -> Result<Cert, AllocError>
+    requires { length lines.items ≤ greatest_count }
+{
+    let mut piece_ids = piece_ids_of(alloc, release)?;
+    let mut parcel_ids = parcel_ids_of(alloc, release)?;
+    let copy = parts.copy(alloc)?;
+    cert_of(alloc, copy, &mut piece_ids, &mut parcel_ids, lines)
+}
+
 impl ReleaseCut {
-    /// The certificate, without exact blocks. Nothing is promised of it, which is to be checked.
-    pub fn into_cert(self) -> Result<Cert, AllocError> {
+    /// The certificate, without exact blocks. It has no more pair lines than leave its text short
+    /// enough to be read. Nothing else is promised of it, which is to be checked.
+    pub fn into_cert(self) -> Result<Cert, AllocError>
+        ensures { IfOk result (λ cert. length cert.pairs ≤ most_pairs) }
+    {
         let ReleaseCut {
             alloc,
             parts,
@@ -350,6 +381,7 @@ fn cert_of(
     lines: Vec<PairLine>,
 ) -> Result<Cert, AllocError>
     requires { length lines.items ≤ greatest_count }
+    ensures { IfOk result (λ cert. cert.pairs ≡ lines.items) }
 {
     let Parts {
         mut list,

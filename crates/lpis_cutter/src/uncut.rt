@@ -1,4 +1,4 @@
-//! The first piece without a cut.
+//! Pieces of which the parts are no cut, and that are no fans.
 
 ghost use Rattle.std.specs.Prelude.{◌≡◌, ◌+◌, ◌<◌, ◌↔◌, All, IfOk, IsFalse, IsTrue, length, take};
 ghost use Rattle.lpis_points.specs.Triangles.{IsCounterClockwise, IsFlat};
@@ -101,7 +101,7 @@ fn first_uncut(
     Ok(None)
 }
 
-/// That the piece at an index is the first without a cut.
+/// That each piece before the one at an index has a cut, while these and that one are not few fans.
 fn no_cut(release: &Release, index: usize) -> Result<Refusal, AllocError>
     requires within { index < length release.now.pieces }
     requires before { HaveCuts release.now index }
@@ -121,7 +121,8 @@ fn no_cut_of_fan(release: &Release, index: usize) -> Result<Refusal, AllocError>
     no_cut(release, index)
 }
 
-/// The first piece without a cut, where the one at an index has none that fits.
+/// The first piece of which the parts are no cut and that is no fan, or else the one at an index,
+/// of which no cut was found that fits.
 pub(crate) fn refusal_of_piece(
     alloc: Global,
     release: &Release,

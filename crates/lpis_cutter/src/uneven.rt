@@ -1,4 +1,4 @@
-//! The first parcel that its pieces do not make up.
+//! Parcels that are not even, and that the flats of their parts do not make up.
 
 ghost use Rattle.std.specs.Prelude.{◌≡◌, ◌↔◌, ◌<◌, IfOk, IsFalse, IsTrue, length};
 ghost use Rattle.lpis_edge_sums.specs.Making.{EdgesCancel, FlatsHaveCorners, polygons};
@@ -32,28 +32,29 @@ fn have_corners(
     alloc: Global,
     release: &Release,
     parcel: &Parcel,
+    parts: &[&Polygon],
     flats: &[Triangle],
 ) -> Result<bool, AllocError>
+    requires { polygons parts.now ≡ polygons_of (pieces_named release.now parcel.now.id) }
     ensures { IfOk result (λ b. IsTrue b ↔ FlatsHaveCorners parcel.now.polygon
         (polygons_of (pieces_named release.now parcel.now.id)) flats.now) }
 {
-    let polygons = polygons_in(alloc, pieces_of(release, &parcel.id))?;
-    flats_have_corners(alloc, &parcel.polygon, polygons.as_slice(), flats)
+    flats_have_corners(alloc, &parcel.polygon, parts, flats)
 }
 
 /// Whether a parcel's edges have the net counts of those of its pieces and of flats.
 fn do_cancel(
-    alloc: Global,
     sum: &mut EdgeSum,
     release: &Release,
     parcel: &Parcel,
+    parts: &[&Polygon],
     flats: &[Triangle],
 ) -> Result<bool, AllocError>
+    requires { polygons parts.now ≡ polygons_of (pieces_named release.now parcel.now.id) }
     ensures { IfOk result (λ b. IsTrue b ↔ EdgesCancel parcel.now.polygon
         (polygons_of (pieces_named release.now parcel.now.id)) flats.now) }
 {
-    let polygons = polygons_in(alloc, pieces_of(release, &parcel.id))?;
-    sum.cancels(&parcel.polygon, polygons.as_slice(), flats)
+    sum.cancels(&parcel.polygon, parts, flats)
 }
 
 /// Whether flats add corners so that pieces make up a parcel.
@@ -62,28 +63,50 @@ fn are_flats_of(
     sum: &mut EdgeSum,
     release: &Release,
     parcel: &Parcel,
+    parts: &[&Polygon],
     flats: &[Triangle],
 ) -> Result<bool, AllocError>
+    requires { polygons parts.now ≡ polygons_of (pieces_named release.now parcel.now.id) }
     ensures { IfOk result (λ b. IsTrue b → AreFlatsOf release.now parcel.now flats.now) }
 {
-    let is_there = have_corners(alloc, release, parcel, flats)?;
-    let cancels = do_cancel(alloc, sum, release, parcel, flats)?;
+    let is_there = have_corners(alloc, release, parcel, parts, flats)?;
+    let cancels = do_cancel(sum, release, parcel, parts, flats)?;
     Ok(cancels && is_there && are_flat(flats))
 }
 
 /// Whether a parcel's edges have the net counts of those of its pieces.
 fn is_even(
+    sum: &mut EdgeSum,
+    release: &Release,
+    parcel: &Parcel,
+    parts: &[&Polygon],
+) -> Result<bool, AllocError>
+    requires { polygons parts.now ≡ polygons_of (pieces_named release.now parcel.now.id) }
+    ensures { IfOk result (λ b. IsTrue b ↔ IsEven release.now parcel.now) }
+{
+    do_cancel(sum, release, parcel, parts, &[])
+}
+
+/// Whether a parcel is made up by the polygons of its pieces, with these flats or without.
+fn do_make_up(
     alloc: Global,
     sum: &mut EdgeSum,
     release: &Release,
     parcel: &Parcel,
+    parts: &[&Polygon],
+    flats: &[Triangle],
 ) -> Result<bool, AllocError>
-    ensures { IfOk result (λ b. IsTrue b ↔ IsEven release.now parcel.now) }
+    requires { polygons parts.now ≡ polygons_of (pieces_named release.now parcel.now.id) }
+    ensures made { IfOk result (λ b. IsTrue b → IsMadeUp release.now parcel.now) }
+    ensures uneven { IfOk result (λ b. IsFalse b → IsEven release.now parcel.now → ⊥) }
 {
-    do_cancel(alloc, sum, release, parcel, &[])
+    if are_flats_of(alloc, sum, release, parcel, parts, flats)? {
+        return Ok(true);
+    }
+    is_even(sum, release, parcel, parts)
 }
 
-/// Whether a parcel is made up by its pieces, with these flats or without.
+/// The same by its pieces.
 fn is_made_up(
     alloc: Global,
     sum: &mut EdgeSum,
@@ -94,10 +117,8 @@ fn is_made_up(
     ensures made { IfOk result (λ b. IsTrue b → IsMadeUp release.now parcel.now) }
     ensures uneven { IfOk result (λ b. IsFalse b → IsEven release.now parcel.now → ⊥) }
 {
-    if are_flats_of(alloc, sum, release, parcel, flats)? {
-        return Ok(true);
-    }
-    is_even(alloc, sum, release, parcel)
+    let polygons = polygons_in(alloc, pieces_of(release, &parcel.id))?;
+    do_make_up(alloc, sum, release, parcel, polygons.as_slice(), flats)
 }
 
 /// The same of the parcel at an index, where there is one.
@@ -117,7 +138,7 @@ fn is_made_up_at(
     }
 }
 
-/// The first parcel that its pieces do not make up, with the flats of its part or without.
+/// The first parcel that is not even, and that the flats of its part do not make up.
 fn first_uneven(
     alloc: Global,
     release: &Release,
@@ -136,7 +157,7 @@ fn first_uneven(
     Ok(None)
 }
 
-/// That the parcel at an index is the first that its pieces do not make up.
+/// That the parcel at an index is not even, while each before it is made up.
 fn no_flats(release: &Release, index: usize) -> Result<Option<Refusal>, AllocError>
     requires within { index < length release.now.parcels }
     requires before { AreMadeUp release.now index }
@@ -147,7 +168,7 @@ fn no_flats(release: &Release, index: usize) -> Result<Option<Refusal>, AllocErr
     Ok(Some(Refusal::NoFlats { parcel }))
 }
 
-/// The first parcel that its pieces do not make up, where there is one.
+/// That of the first parcel that is not even and that the flats of its part do not make up.
 pub(crate) fn uneven_parcel(
     alloc: Global,
     release: &Release,

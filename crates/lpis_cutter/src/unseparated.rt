@@ -97,6 +97,21 @@ fn clash_of(
     clash(release, cert, (i, j), first, second)
 }
 
+/// Whether parts and pair lines pass the check of parts.
+pub(crate) fn do_parts_pass(
+    alloc: Global,
+    release: &Release,
+    cert: &Cert,
+) -> Result<bool, AllocError>
+    ensures { IfOk result (λ b. IsTrue b → HoldBelow release.now cert.now NearPairs) }
+{
+    match check_parts(alloc, release, cert) {
+        Ok(()) => Ok(true),
+        Err(CheckFault::Memory) => Err(AllocError),
+        Err(_fault) => Ok(false),
+    }
+}
+
 /// The same where the parts pass the check of parts. A certificate whose parts do not is written as
 /// it is: the check names what fails.
 pub(crate) fn unseparated(
@@ -108,9 +123,8 @@ pub(crate) fn unseparated(
 ) -> Result<Option<Refusal>, AllocError>
     ensures { IfOk result (ReportsIfAny release.now) }
 {
-    match check_parts(alloc, release, cert) {
-        Ok(()) => clash_of(release, cert, i, j),
-        Err(CheckFault::Memory) => Err(AllocError),
-        Err(_fault) => Ok(None),
+    if do_parts_pass(alloc, release, cert)? {
+        return clash_of(release, cert, i, j);
     }
+    Ok(None)
 }

@@ -35,8 +35,6 @@ pub struct Net {
     /// Those that are left, in the order of their lines.
     net: Vec<NetEdge>,
     ends: Vec<End>,
-    /// The first edge of a line at one of whose points another number of edges ends than begins.
-    left: Option<NetEdge>,
     /// The stretches of these lines along which the edges have a count, between the ends of
     /// edges: no two of them share more than an end.
     rest: Vec<NetEdge>,
@@ -80,7 +78,6 @@ impl Net {
             places: [0; PLACES],
             net: Vec::new(alloc),
             ends: Vec::new(alloc),
-            left: None,
             rest: Vec::new(alloc),
             flats: Vec::new(alloc),
         }
@@ -123,7 +120,6 @@ impl Net {
     /// Sums the edges that were added, and finds flats that make up what is left.
     pub fn settle(&mut self) -> Result<(), AllocError> {
         self.net.clear();
-        self.left = None;
         self.rest.clear();
         self.flats.clear();
         self.edges.retain(|edge| edge.count != 0);
@@ -145,15 +141,6 @@ impl Net {
     /// Whether flats make up all that is left.
     pub fn is_flat(&self) -> bool {
         self.rest.is_empty()
-    }
-
-    /// The ends of an edge that is left, and that no flats make up where there is one.
-    pub fn edge_left(&self) -> Option<(Point, Point)> {
-        let edge = match &self.left {
-            Some(edge) => edge,
-            None => self.net.first()?,
-        };
-        Some((edge.low, edge.high))
     }
 
     /// The flats that make up what is left, as far as flats do.
@@ -218,9 +205,6 @@ impl Net {
     fn take_line(&mut self, from: usize, to: usize) -> Result<(), AllocError> {
         if self.is_even(from, to)? {
             return self.add_flats(from, to);
-        }
-        if self.left.is_none() {
-            self.left = self.net.get(from).copied();
         }
         self.add_stretches()
     }

@@ -1,14 +1,14 @@
 -- Chains over one row more, and over a lawful history.
 use Rattle.std.proofs.Common.{◌≡◌, ◌∙◌, ◌<◌, ◌≤◌, ◌+◌, ◌⊎◌, inl, inr, refl, sym, ap, subst, arith, ℕ, zero, suc, List, [], ◌∷◌, ◌++◌, length, Bool, true, false, Option, None, Some, cond, take, drop}
-use Rattle.std.proofs.Common.{get_or, append_assoc, ◌&&◌, ◌↔◌, filter}
-use Rattle.lpis_lineage.proofs.Common.{list_any, list_any-append, Row, Entry, has_id, same_id, last_live, holds, entry_at, is_row_of, is_this, names_successor, IsLawful, RowsFit, all_rows, Reaches}
+use Rattle.std.proofs.Common.{get_or, append_assoc, ◌&&◌, ◌||◌, ◌↔◌, filter}
+use Rattle.lpis_lineage.proofs.Common.{list_any, list_any-append, Row, Entry, has_id, same_id, last_live, holds, entry_at, is_row_of, is_this, names_successor, IsLawful, RowsFit, all_rows}
 use Rattle.lpis_lineage.proofs.Common.{AreFreshRows}
-use Rattle.lpis_lineage.proofs.Common.{or_left, cases_Bool}
+use Rattle.lpis_lineage.proofs.Common.{cases_Bool}
 use Rattle.std.proofs.lemmas.List.{append-nil, take-append-drop}
 use Rattle.lpis_lineage.specs.Descendants.{IsDescendant, leads, Chain, Here, Step}
 use Rattle.lpis_lineage.proofs.PickingLemmas.{has-filter}
-use Rattle.lpis_lineage.specs.private.Following.{IsFreshRow}
-use Rattle.lpis_lineage.proofs.IdentifierLemmas.{same-exact, same-refl}
+use Rattle.lpis_lineage.specs.private.Following.{IsFreshRow, Reaches}
+use Rattle.lpis_lineage.proofs.IdentifierLemmas.{same-exact, same-refl, same-sym}
 use Rattle.lpis_lineage.proofs.CleanLemmas.{mono, any-left, any-mid, any-last}
 use Rattle.lpis_lineage.proofs.ExtensionLemmas.{entry-get}
 use Rattle.lpis_lineage.proofs.TellingLemmas.{take-at}
@@ -34,10 +34,10 @@ chain-less rows r a _ fresh (Step m c ch l) = next rows r a m c fresh (chain-les
       let none = fresh m t in cc)
 
 -- the row has no successor
-pub reach-none : (ids : List (List ℕ)) (rows : List Row) (r : Row) (id : List ℕ) → Reaches ids rows id → IsFreshRow rows r → r.new ≡ None → Reaches ids (rows ++ r ∷ []) id
-reach-none ids rows r id reach fresh none = record {
+pub reach-none : (test : List ℕ → Bool) (rows : List Row) (r : Row) (id : List ℕ) → Reaches test rows id → IsFreshRow rows r → r.new ≡ None → Reaches test (rows ++ r ∷ []) id
+reach-none test rows r id reach fresh none = record {
   sound = λ q h. chain-more rows r id q (reach.sound q h);
-  whole = λ q ch. elim (chain-less rows r id q fresh ch) as (λ _. has_id ids q ≡ true) [
+  whole = λ q ch. elim (chain-less rows r id q fresh ch) as (λ _. test q ≡ true) [
     | inl x ↦ reach.whole q x
     | inr y ↦ absurd (let t = y.1 in let n = ap (λ (o : Option (List ℕ)). is_this q o) none
         in cc)
@@ -45,35 +45,47 @@ reach-none ids rows r id reach fresh none = record {
 }
 
 -- the row's old identifier is not reached
-pub reach-skip : (ids : List (List ℕ)) (rows : List Row) (r : Row) (id : List ℕ) → Reaches ids rows id → IsFreshRow rows r → has_id ids r.old ≡ false → Reaches ids (rows ++ r ∷ []) id
-reach-skip ids rows r id reach fresh no-old = record {
+pub reach-skip : (test : List ℕ → Bool) (rows : List Row) (r : Row) (id : List ℕ) → Reaches test rows id → IsFreshRow rows r → test r.old ≡ false → Reaches test (rows ++ r ∷ []) id
+reach-skip test rows r id reach fresh no-old = record {
   sound = λ q h. chain-more rows r id q (reach.sound q h);
-  whole = λ q ch. elim (chain-less rows r id q fresh ch) as (λ _. has_id ids q ≡ true) [ inl x ↦ reach.whole q x | inr y ↦ absurd (let t = reach.whole r.old y.0 in cc) ];
+  whole = λ q ch. elim (chain-less rows r id q fresh ch) as (λ _. test q ≡ true) [ inl x ↦ reach.whole q x | inr y ↦ absurd (let t = reach.whole r.old y.0 in cc) ];
 }
 
--- it is, and its successor is added
-pub reach-add : (ids more : List (List ℕ)) (rows : List Row) (r : Row) (id successor : List ℕ) → Reaches ids rows id
-    → IsFreshRow rows r → r.new ≡ Some successor → has_id ids r.old ≡ true
-    → ((q : List ℕ) → has_id more q ≡ cond (same_id successor q) true (has_id ids q)) → Reaches more (rows ++ r ∷ []) id
-reach-add ids more rows r id successor reach fresh some old new = record {
+-- its successor is reached where its old identifier is
+pub reach-join : (test more : List ℕ → Bool) (rows : List Row) (r : Row) (id successor : List ℕ) → Reaches test rows id
+    → IsFreshRow rows r → r.new ≡ Some successor
+    → ((q : List ℕ) → more q ≡ cond (same_id successor q) (test q || test r.old) (test q)) → Reaches more (rows ++ r ∷ []) id
+reach-join test more rows r id successor reach fresh some new = record {
   sound = λ q h. by-test q (same_id successor q) refl (sym (new q) ∙ h);
-  whole = λ q ch. elim (chain-less rows r id q fresh ch) as (λ _. has_id more q ≡ true) [
-    | inl x ↦ new q ∙ keep (same_id successor q) _ (reach.whole q x)
-    | inr y ↦ new q ∙ ap (λ (b : Bool). cond b true (has_id ids q)) (turn q successor (ap (λ (o : Option (List ℕ)). is_this q o) (sym some) ∙ y.1))
+  whole = λ q ch. elim (chain-less rows r id q fresh ch) as (λ _. more q ≡ true) [
+    | inl x ↦ new q ∙ keep (same_id successor q) (test q) (test r.old) (reach.whole q x)
+    | inr y ↦ new q ∙ come (same_id successor q) (test q) (test r.old) (turn q (ap (λ (o : Option (List ℕ)). is_this q o) (sym some) ∙ y.1)) (reach.whole r.old y.0)
   ];
 } where
-  keep : (b c : Bool) → c ≡ true → cond b true c ≡ true
-  keep true c e = refl
-  keep false c e = e
+  keep : (b c d : Bool) → c ≡ true → cond b (c || d) c ≡ true
+  keep true true d e = refl
+  keep false true d e = refl
+  keep b false d e = cc e
 
-  turn : (q successor : List ℕ) → same_id q successor ≡ true → same_id successor q ≡ true
-  turn q successor e = let g : q ≡ successor = same-exact q successor e in let P : List ℕ → Type 0 = λ z. same_id successor z ≡ true in subst P (sym g) (same-refl successor)
+  come : (b c d : Bool) → b ≡ true → d ≡ true → cond b (c || d) c ≡ true
+  come true true d e f = refl
+  come true false d e f = f
+  come false c d e f = cc e
 
-  by-test : (q : List ℕ) (b : Bool) → b ≡ same_id successor q → cond b true (has_id ids q) ≡ true → Chain (rows ++ r ∷ []) id q
-  by-test q true e h =
-      let g : successor ≡ q = same-exact successor q (sym e) in
+  turn : (q : List ℕ) → same_id q successor ≡ true → same_id successor q ≡ true
+  turn q e = same-sym successor q ∙ e
+
+  arrive : (q : List ℕ) → same_id successor q ≡ true → test r.old ≡ true → Chain (rows ++ r ∷ []) id q
+  arrive q e old =
+      let g : successor ≡ q = same-exact successor q e in
       let names-it : is_this q r.new ≡ true = ap (λ (o : Option (List ℕ)). is_this q o) some ∙ ap (λ (z : List ℕ). same_id q z) g ∙ same-refl q in
       Step r.old q (chain-more rows r id r.old (reach.sound r.old old)) (any-mid (leads r.old q) rows r [] (and_from _ _ (same-refl r.old) names-it))
+
+  by-test : (q : List ℕ) (b : Bool) → b ≡ same_id successor q → cond b (test q || test r.old) (test q) ≡ true → Chain (rows ++ r ∷ []) id q
+  by-test q true e h = elim (or_cases (test q) (test r.old) h) as (λ _. Chain (rows ++ r ∷ []) id q) [
+    | inl x ↦ chain-more rows r id q (reach.sound q x)
+    | inr y ↦ arrive q (sym e) y
+  ]
   by-test q false e h = chain-more rows r id q (reach.sound q h)
 
 -- one row further among rows that are fresh
@@ -136,23 +148,22 @@ all-rows-next h i e lt is = sym (all-snoc (take i h) e) ∙ ap all_rows (take-at
   all-snoc (x ∷ h) e = ap (λ (l : List Row). x.rows ++ l) (all-snoc h e) ∙ sym (append_assoc x.rows (all_rows h) e.rows)
 
 -- the start
-pub reach-start : (id copy : List ℕ) → copy ≡ id → Reaches (copy ∷ []) [] id
-reach-start id copy e = record {
-  sound = λ q h. let same-q : same_id q copy ≡ true = (elim (or_cases (same_id q copy) false h) as (λ _. same_id q copy ≡ true) [ inl a ↦ a | inr b ↦ cc b ]) in
-      let g : q ≡ id = same-exact q copy same-q ∙ e in let P : List ℕ → Type 0 = λ z. Chain [] id z in subst P (sym g) Here;
-  whole = λ q ch. or_left _ _ (start q ch);
+pub reach-start : (test : List ℕ → Bool) (id : List ℕ) → ((q : List ℕ) → test q ≡ same_id q id) → Reaches test [] id
+reach-start test id e = record {
+  sound = λ q h. let g : q ≡ id = same-exact q id (sym (e q) ∙ h) in let P : List ℕ → Type 0 = λ z. Chain [] id z in subst P (sym g) Here;
+  whole = λ q ch. e q ∙ start q ch;
 } where
-  start : (q : List ℕ) → Chain [] id q → same_id q copy ≡ true
-  start _ Here = ap (λ (z : List ℕ). same_id id z) e ∙ same-refl id
+  start : (q : List ℕ) → Chain [] id q → same_id q id ≡ true
+  start _ Here = same-refl id
   start _ (Step m c ch l) = cc l
 
 -- the live ones of those reached
-pub live-reached : (h : List Entry) (id : List ℕ) (reached ids found : List (List ℕ)) → Reaches reached (all_rows h) id
-    → ids ≡ last_live h → found ≡ filter (λ k. has_id reached k) ids → (q : List ℕ) → (has_id found q ≡ true)
+pub live-reached : (h : List Entry) (id : List ℕ) (test : List ℕ → Bool) (ids found : List (List ℕ)) → Reaches test (all_rows h) id
+    → ids ≡ last_live h → found ≡ filter test ids → (q : List ℕ) → (has_id found q ≡ true)
     ↔ IsDescendant h id q
-live-reached h id reached ids found reach e f q =
-    let tested : has_id found q ≡ (has_id (last_live h) q && has_id reached q) =
-    ap (λ (l : List (List ℕ)). has_id l q) f ∙ has-filter (λ k. has_id reached k) ids q ∙ ap (λ (l : List (List ℕ)). has_id l q && has_id reached q) e in (
-      λ t. (reach.sound q (and_parts (has_id (last_live h) q) (has_id reached q) (sym tested ∙ t)).1, (and_parts (has_id (last_live h) q) (has_id reached q) (sym tested ∙ t)).0),
+live-reached h id test ids found reach e f q =
+    let tested : has_id found q ≡ (has_id (last_live h) q && test q) =
+    ap (λ (l : List (List ℕ)). has_id l q) f ∙ has-filter test ids q ∙ ap (λ (l : List (List ℕ)). has_id l q && test q) e in (
+      λ t. (reach.sound q (and_parts (has_id (last_live h) q) (test q) (sym tested ∙ t)).1, (and_parts (has_id (last_live h) q) (test q) (sym tested ∙ t)).0),
       λ d. tested ∙ and_from _ _ d.1 (reach.whole q d.0),
     )

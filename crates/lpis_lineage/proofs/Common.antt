@@ -11,7 +11,7 @@ pub use Rattle.lpis_lineage.specs.declared.row.Entry.{Entry}
 pub use Rattle.lpis_lineage.specs.declared.row.Row.{Row}
 pub use Rattle.lpis_lineage.specs.declared.span.Span.{Span}
 pub use Rattle.lpis_lineage.specs.private.Fates.{AreFates}
-pub use Rattle.lpis_lineage.specs.private.Following.{AreFreshRows, Reaches}
+pub use Rattle.lpis_lineage.specs.private.Following.{AreFreshRows}
 pub use Rattle.lpis_lineage.specs.private.Follows.{Follows}
 pub use Rattle.lpis_lineage.specs.private.Keeping.{begun, ended_in, forgotten}
 pub use Rattle.lpis_lineage.specs.private.Seen.{IsSeen}

@@ -8,6 +8,7 @@ pub mod TellingLemmas
 pub mod PickingLemmas
 pub mod AcceptingLemmas
 pub mod ChainLemmas
+pub mod AskerLemmas
 pub mod TallyLemmas
 pub mod SpanLemmas
 pub mod SpanStepLemmas

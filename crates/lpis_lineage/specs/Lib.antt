@@ -12,4 +12,5 @@ pub mod LineageTable
 pub mod ExactGroups
 pub mod ExactLaws
 pub mod Descendants
+pub mod Tracings
 pub mod private

@@ -1,6 +1,6 @@
 //! Sets of identifiers.
 
-ghost use Rattle.std.specs.Prelude.{◌≡◌, not, ℕ, List, IfOk, OnOk, true, cond, [], ◌∷◌};
+ghost use Rattle.std.specs.Prelude.{◌≡◌, not, ℕ, List, IfOk, OnOk, true, cond, []};
 ghost use Rattle.std.specs.List.{All, filter};
 ghost use Rattle.lpis_tables.specs.Ids.{has_id, is_id, same_id};
 ghost use Rattle.lpis_lineage.specs.Order.{IsAscending};
@@ -47,15 +47,6 @@ impl IdSet {
         Ok(IdSet { ids })
     }
 
-    /// The set of one identifier.
-    pub(crate) fn one(alloc: Global, id: &Id) -> Result<IdSet, AllocError>
-        ensures { IfOk result (λ s. s ≡ id.now ∷ []) }
-    {
-        let mut set = BTreeSet::new(alloc);
-        set.insert(id.copy()?)?;
-        Ok(IdSet { ids: set })
-    }
-
     /// Adds an identifier.
     pub(crate) fn add(&mut self, id: Id) -> Result<(), AllocError>
         ensures ok { OnOk result ((q : List ℕ) → has_id self.new q ≡ cond (same_id id q) true
@@ -99,21 +90,6 @@ impl IdSet {
         ensures ascending { IsAscending result }
     {
         self.ids.difference(&other.ids)
-    }
-
-    /// Copies of those identifiers of another set that are in this one, ascending.
-    pub(crate) fn inside(&self, alloc: Global, other: &IdSet) -> Result<Vec<Id>, AllocError>
-        ensures list { IfOk result (λ v. v.items ≡ filter (λ id. has_id self.now id) other.now) }
-        ensures ascending { IfOk result (λ v. IsAscending v.items) }
-    {
-        let mut found = Vec::new(alloc);
-        for id in other.iter() {
-            if self.contains(id) {
-                let copy = id.copy()?;
-                found.push(copy)?;
-            }
-        }
-        Ok(found)
     }
 
     /// Copies of those identifiers of another set that are not in this one, ascending.

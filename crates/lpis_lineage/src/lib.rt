@@ -34,4 +34,4 @@ pub use reading::read_rows;
 pub use row::{Entry, Row};
 pub use span::{Span, live_in};
 pub use step::Step;
-pub use tracing::descendants;
+pub use tracing::{MOST_ASKED, Tracing, descendants};

@@ -1,5 +1,5 @@
 -- What a call of the library hands over for the bytes that it was handed.
-use Rattle.std.specs.Prelude.{◌≡◌, ◌<◌, ◌⊎◌, ℕ, List, MatchOption, [], length}
+use Rattle.std.specs.Prelude.{◌≡◌, ◌<◌, ◌⊎◌, ℕ, List, MatchOption, Some, [], length}
 use Rattle.lpis_release.specs.Release.{release_of}
 use Rattle.lpis_run_check.specs.AreaAnswer.{area_answer}
 use Rattle.lpis_run.specs.CheckAnswer.{Inputs, IsAnswer, IsProved}
@@ -11,7 +11,7 @@ use Rattle.lpis_run.specs.Status.{done}
 abbrev pub inputs : (parcels covers classes cert : List ℕ) → Inputs
 inputs parcels covers classes cert = record {
   tables = record { parcels = parcels; covers = covers; classes = classes };
-  cert = cert;
+  cert = Some cert;
 }
 
 -- the status and the text are the answer to these inputs; a yes comes only for a release that is a

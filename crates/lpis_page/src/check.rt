@@ -26,7 +26,7 @@ fn answer_to(
             covers,
             classes,
         },
-        cert,
+        cert: Some(cert),
     };
     let mut text = Vec::new(alloc);
     let status = run_check(alloc, &mut folder, &mut text)?;

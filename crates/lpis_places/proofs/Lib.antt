@@ -1,6 +1,10 @@
+pub mod ListLemmas
 pub mod SlotLemmas
 pub mod StripLemmas
 pub mod PointsLemmas
+pub mod PartLemmas
 pub mod VisitLemmas
 pub mod BoxLemmas
 pub mod InsideLemmas
+pub mod SpanLemmas
+pub mod SiftLemmas

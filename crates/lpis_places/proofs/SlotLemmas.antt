@@ -1,5 +1,6 @@
 -- Points in strips, and in each by y.
-use Rattle.std.proofs.Common.{◌≡◌, ℕ, ◌+◌, ◌<◌, ◌≤◌, ◌==◌, ◌&&◌, ◌||◌, ℤ, ◌≤ℤ◌, ◌<ℤ◌, int_lt, Bool, true, false, List, [], ◌∷◌, ◌++◌, length, get_or, All, Contains, refl, ◌∙◌, arith}
+use Rattle.std.proofs.Common.{◌≡◌, ℕ, ◌+◌, ◌<◌, ◌≤◌, ◌==◌, ◌&&◌, ◌||◌, ℤ, ◌≤ℤ◌, ◌<ℤ◌, int_lt, Bool, true, false, List}
+use Rattle.std.proofs.Common.{[], ◌∷◌, ◌++◌, length, get_or, All, Contains, refl, ap, cond, slice_get, Some, subst, sym, ◌∙◌, arith}
 use Rattle.std.proofs.Common.{Ordering, IsPermutation, nat_cmp, nat_lt, is_lt, ◌⊎◌, inl, inr}
 use Rattle.std.proofs.lemmas.Bool.{cases_lt}
 use Rattle.std.specs.Cmp.{IsTotalOrder}
@@ -7,12 +8,15 @@ use Rattle.std.specs.Ordering.{int_cmp, ordering_then}
 use Rattle.std.specs.List.Sorted.{IsPartitionPoint, IsPartitionedBy, IsSortedByKey}
 use Rattle.std.proofs.lemmas.Cmp.{int_cmp_total, nat_cmp_total, on_total, then_total}
 use Rattle.std.proofs.lemmas.Int.{ints}
-use Rattle.std.proofs.lemmas.List.Elements.{All-push, Contains-append_left, Contains-append_right}
+use Rattle.std.proofs.lemmas.List.Elements.{All-cons, All-contains, All-nil, All-push, Contains-append_cases, Contains-append_left, Contains-append_right}
 use Rattle.std.proofs.lemmas.List.Sorted.{All-permutation, Contains-permutation, ranks_by, sorted_far}
+use Rattle.std.proofs.lemmas.Option.{same_Some, slice_get-get_or}
+use Rattle.lpis_points.specs.Plane.{RationalPoint}
+use Rattle.lpis_places.specs.Numbers.{parts}
 use Rattle.lpis_places.specs.declared.grid.Grid.{Grid}
 use Rattle.lpis_places.specs.declared.index.Slot.{Slot}
 use Rattle.lpis_places.specs.Points.{Given}
-use Rattle.lpis_places.specs.private.Slots.{AreAscending, HasSlots, IsInOrder, IsOrder, IsSlot, StartsAt, stands_before}
+use Rattle.lpis_places.specs.private.Slots.{ArePut, AreAscending, HasSlots, IsInOrder, IsOrder, IsSlot, StartsAt, stands_before}
 use Rattle.lpis_places.specs.private.Strips.{IsInStrip}
 
 -- ---- the order of slots
@@ -112,3 +116,71 @@ stands_above a b n h o e w = by (stands_before b n h) refl
     by : (t : Bool) → stands_before b n h ≡ t → h ≤ℤ b.spot.y
     by true f = absurd (clash (stands_before a n h) (stands_too a b n h o f) e)
     by false f = not_below b.strip n b.spot.y h w f
+
+-- ---- points
+-- the place of each point is in millionths of a millimetre
+pub all_in_parts : (ps : List Given) (slots : List Slot) → HasSlots ps slots → All (λ (g : Given). g.at.d ≡ parts) ps
+all_in_parts ps slots has i d l =
+    let w = has.all i l in
+    let s = All-contains (IsSlot ps) slots w.0 has.only w.1 in
+    let at : slice_get ps i ≡ Some s.point = subst (λ (n : ℕ). slice_get ps n ≡ Some s.point) w.2 s.at in
+    ap (λ (g : Given). g.at.d) (same_Some (get_or ps i d) s.point (sym (slice_get-get_or ps i d l) ∙ at)) ∙ ap (λ (p : RationalPoint). p.d) s.same
+
+-- ---- halves
+-- those that were put so far
+pub record ArePutSoFar (slots taken low high : List Slot) : Type 0 where
+  pub lows : All (λ (s : Slot). Contains slots s) low
+  pub highs : All (λ (s : Slot). Contains slots s) high
+  pub all : (s : Slot) → Contains taken s → Contains low s ⊎ Contains high s
+
+last_or : (xs : List Slot) (x s : Slot) → Contains (xs ++ x ∷ []) s → Contains xs s ⊎ (x ≡ s)
+last_or xs x s h = by (Contains-append_cases xs (x ∷ []) s h)
+  where
+    by : Contains xs s ⊎ Contains (x ∷ []) s → Contains xs s ⊎ (x ≡ s)
+    by (inl a) = inl a
+    by (inr a) = inr (All-contains (λ (y : Slot). x ≡ y) (x ∷ []) s (All-cons (λ (y : Slot). x ≡ y) x [] refl (All-nil (λ (y : Slot). x ≡ y))) a)
+
+-- none was put
+pub put_none : (slots low high : List Slot) → low ≡ [] → high ≡ [] → ArePutSoFar slots [] low high
+put_none slots low high e f = record {
+  lows = rw e (All-nil (λ (s : Slot). Contains slots s));
+  highs = rw f (All-nil (λ (s : Slot). Contains slots s));
+  all = λ s h. absurd (nothing s h);
+}
+  where
+    nothing : (s : Slot) → Contains [] s → ⊥
+    nothing s h = omega (arith, h.1)
+
+-- one more
+pub put_more : (slots taken low high ls hs : List Slot) (s : Slot) (b : Bool) → Contains slots s → ls ≡ cond b (low ++ s ∷ []) low → hs ≡ cond b high (high ++ s ∷ [])
+    → ArePutSoFar slots taken low high → ArePutSoFar slots (taken ++ s ∷ []) ls hs
+put_more slots taken low high ls hs s true among e f h = rw (e, f) (record {
+  lows = All-push (λ (t : Slot). Contains slots t) low s h.lows among;
+  highs = h.highs;
+  all = λ t w. by t (last_or taken s t w);
+})
+  where
+    by : (t : Slot) → Contains taken t ⊎ (s ≡ t) → Contains (low ++ s ∷ []) t ⊎ Contains high t
+    by t (inr e) = inl (subst (λ (u : Slot). Contains (low ++ s ∷ []) u) e (Contains-append_right low (s ∷ []) s (0, omega arith, refl)))
+    by t (inl w) = still (h.all t w)
+      where
+        still : Contains low t ⊎ Contains high t → Contains (low ++ s ∷ []) t ⊎ Contains high t
+        still (inl a) = inl (Contains-append_left low (s ∷ []) t a)
+        still (inr a) = inr a
+put_more slots taken low high ls hs s false among e f h = rw (e, f) (record {
+  lows = h.lows;
+  highs = All-push (λ (t : Slot). Contains slots t) high s h.highs among;
+  all = λ t w. by t (last_or taken s t w);
+})
+  where
+    by : (t : Slot) → Contains taken t ⊎ (s ≡ t) → Contains low t ⊎ Contains (high ++ s ∷ []) t
+    by t (inr e) = inr (subst (λ (u : Slot). Contains (high ++ s ∷ []) u) e (Contains-append_right high (s ∷ []) s (0, omega arith, refl)))
+    by t (inl w) = still (h.all t w)
+      where
+        still : Contains low t ⊎ Contains high t → Contains low t ⊎ Contains (high ++ s ∷ []) t
+        still (inl a) = inl a
+        still (inr a) = inr (Contains-append_left high (s ∷ []) t a)
+
+-- all were put
+pub put_all : (slots taken low high : List Slot) → taken ≡ slots → ArePutSoFar slots taken low high → ArePut slots low high
+put_all slots taken low high e h = record { lows = h.lows; highs = h.highs; all = λ s w. h.all s (subst (λ (xs : List Slot). Contains xs s) (sym e) w) }

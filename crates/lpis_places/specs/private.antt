@@ -2,5 +2,7 @@
 pub mod Insides
 pub mod Reaches
 pub mod Slots
+pub mod Spans
+pub mod Starts
 pub mod Strips
 pub mod Visits

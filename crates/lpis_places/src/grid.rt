@@ -1,15 +1,12 @@
 //! How the map is cut into strips.
 
-ghost use Rattle.std.specs.Prelude.{◌<◌};
+ghost use Rattle.std.specs.Prelude.{◌<◌, ◌^◌, length};
+ghost use Rattle.lpis_places.specs.private.Starts.{AreRising};
 
-/// Strips of equal width. What is left of the first belongs to it too, and to the last what is
-/// right of it.
-#[derive(Clone, Copy, Debug)]
+/// Strips from left to right, by where each but the first begins, in millionths of a millimetre.
+#[derive(Debug, Drop)]
 pub(crate) struct Grid {
-    /// Where the first strip begins, in millionths of a millimetre.
-    pub left: i64,
-    pub width: u64,
-    /// The number of the last strip. They are counted from 0.
-    pub last: u32,
-    pub ghost wide: { 0 < width },
+    pub starts: Vec<i64>,
+    pub ghost rising: { AreRising starts.items },
+    pub ghost few: { length starts.items < 2 ^ 32 },
 }

@@ -2,6 +2,7 @@
 
 ghost use Rattle.std.specs.Prelude.{◌≡◌, ◌≤◌, All, IfOk, length};
 ghost use Rattle.lpis_tables.specs.Table.{most_rows};
+ghost use Rattle.lpis_places.specs.Numbers.{parts};
 ghost use Rattle.lpis_places.specs.private.Slots.{AreAscending, HasSlots, IsOrder, StartsAt};
 ghost use Rattle.lpis_places.specs.private.Slots.{stands_before};
 ghost use Rattle.lpis_places.specs.private.Strips.{IsInStrip};
@@ -27,6 +28,7 @@ pub(crate) struct Slot {
 /// see their list.
 #[derive(Drop)]
 pub struct Points {
+    alloc: Global,
     given: Vec<GivenPoint>,
     grid: Grid,
     slots: Vec<Slot>,
@@ -91,10 +93,15 @@ impl Points {
         requires { length given.items ≤ most_rows }
         ensures { IfOk result (λ points. points ≡ given.items) }
     {
-        let grid = grid_of(&given);
+        let grid = grid_of(alloc, &given)?;
         let mut slots = slots_of(alloc, &given, &grid)?;
         slots.sort_unstable_by_key(|slot| (slot.strip, slot.spot.y));
-        Ok(Points { given, grid, slots })
+        Ok(Points {
+            alloc,
+            given,
+            grid,
+            slots,
+        })
     }
 
     /// The points in the order of the table's rows.
@@ -105,9 +112,21 @@ impl Points {
     }
 
     /// The strips, and the points in order by strip and y.
-    pub(crate) fn strips(&self) -> (Grid, &[Slot])
-        ensures { IsOrder self.now result.0 result.1.now }
+    pub(crate) fn strips(&self) -> (&Grid, &[Slot])
+        ensures { IsOrder self.now result.0.now result.1.now }
     {
-        (self.grid, &self.slots)
+        (&self.grid, &self.slots)
+    }
+
+    /// Their places are in millionths of a millimetre.
+    pub(crate) fn are_in_parts(&self)
+        ensures { All (λ g. g.at.d ≡ parts) self.now }
+    {
+        let _ = self.strips();
+    }
+
+    /// Where what is made of them is put.
+    pub(crate) fn alloc(&self) -> Global {
+        self.alloc
     }
 }

@@ -12,16 +12,18 @@
 //! | `locate_in` | the same after one release more: its parcel and piece that contain the point |
 #![tactic(auto)]
 
+mod edges;
 mod fault;
 mod given;
 mod grid;
 mod index;
-mod inside;
 mod locating;
 mod numbers;
 mod place;
 mod reach;
 mod reading;
+mod sifting;
+mod spans;
 mod spot;
 mod strips;
 

@@ -3,7 +3,6 @@
 ghost use Rattle.std.specs.Prelude.{◌≡◌, All, IfOk, None, Option, length};
 ghost use Rattle.lpis_places.specs.declared.place.Place.{Place};
 
-use lpis_release::Parcel;
 use lpis_tables::{Id, Piece};
 use std::alloc::{AllocError, Global};
 
@@ -16,12 +15,12 @@ pub struct Place {
 }
 
 impl Place {
-    /// That of a parcel and a piece.
-    pub(crate) fn of(parcel: &Parcel, piece: &Piece) -> Result<Place, AllocError>
-        ensures { IfOk result (λ a. (a.parcel ≡ parcel.now.id) × (a.piece ≡ piece.now.id)
+    /// That of a piece.
+    pub(crate) fn of(piece: &Piece) -> Result<Place, AllocError>
+        ensures { IfOk result (λ a. (a.parcel ≡ piece.now.parcel) × (a.piece ≡ piece.now.id)
             × (a.class ≡ piece.now.class)) }
     {
-        let parcel = parcel.id.copy()?;
+        let parcel = piece.parcel.copy()?;
         let class = piece.class.copy()?;
         let piece = piece.id.copy()?;
         Ok(Place {

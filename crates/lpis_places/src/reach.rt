@@ -18,7 +18,7 @@ pub struct Reach {
 }
 
 /// A coordinate in parts.
-fn scaled(coordinate: i64) -> i128
+pub(crate) fn scaled(coordinate: i64) -> i128
     ensures { result ≡ up coordinate }
 {
     coordinate as i128 * PARTS as i128

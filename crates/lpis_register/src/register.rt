@@ -1,8 +1,10 @@
 //! The register.
 
-ghost use Rattle.std.specs.Prelude.{◌≡◌, ◌⊎◌, false, IfOk, IfErr};
+ghost use Rattle.std.specs.Prelude.{◌≡◌, ◌⊎◌, ◌≤◌, ◌<◌, false, length, IfOk, IfErr};
 ghost use Rattle.sqlite.specs.Held.{state};
 ghost use Rattle.lpis_lineage.specs.Order.{IsAscending};
+ghost use Rattle.lpis_lineage.specs.Tracings.{AreDescendants, AreTraced, most_asked};
+ghost use Rattle.lpis_lineage.specs.Tracings.{reached_by};
 ghost use Rattle.lpis_register_rows.specs.Shapes.{shape_ids};
 ghost use Rattle.lpis_register.specs.Accepting.{IsAccepted, WasMadeFor};
 ghost use Rattle.lpis_register.specs.Failing.{FailsToStore, HasReadCause, HasStoreCause};
@@ -23,11 +25,11 @@ use crate::reading::{copied_shapes, read_history};
 use crate::sound::SoundParcels;
 use crate::tracing::trace;
 use lpis_cert::Cert;
-use lpis_lineage::{Change, History, Row};
+use lpis_lineage::{Change, History, Row, Tracing, descendants};
 use lpis_register_rows::KeptShape;
 use lpis_tables::Id;
 use sqlite::{Alter, Connection};
-use std::alloc::Global;
+use std::alloc::{AllocError, Global};
 use std::marker::Model;
 
 /// Releases with their spans and rows, and the shapes of the last one's parcels, over any store of
@@ -49,6 +51,8 @@ impl<S: Alter> Model for Register<S> {
     ghost use Rattle.std.specs.Coded.{codes};
     ghost use Rattle.sqlite.specs.Held.{held_code};
     ghost use Rattle.lpis_lineage.specs.Order.{IsAscending};
+    ghost use Rattle.lpis_lineage.specs.Tracings.{AreDescendants, AreTraced, most_asked};
+    ghost use Rattle.lpis_lineage.specs.Tracings.{reached_by};
     ghost use Rattle.lpis_register_rows.specs.Shapes.{shape_ids};
     ghost use Rattle.lpis_register.specs.Holdings.{RegisterState};
 
@@ -205,15 +209,27 @@ impl<S: Alter> Register<S> {
         }
     }
 
+    /// Follows identifiers through the releases, all of them by one walk over the rows: no more
+    /// than `MOST_ASKED`, each at its place.
+    pub fn follow(&self, asked: &[Option<Id>]) -> Result<Tracing, AllocError>
+        requires { length asked.now ≤ most_asked }
+        ensures { IfOk result (AreTraced self.now.held.history asked.now) }
+    {
+        descendants(self.alloc, &self.history, asked)
+    }
+
     /// The identifiers of the last release that chains of rows, from old to new, reach from an
     /// identifier, itself among them where it is live; ascending by bytes, each once. `Unknown`
-    /// where it is in no release.
-    pub fn trace(&self, id: &Id) -> Result<Vec<Id>, PublishFault>
+    /// where it is in no release. It was asked at this place of the tracing.
+    pub fn trace(&self, tracing: &Tracing, asker: usize, id: &Id) -> Result<Vec<Id>, PublishFault>
+        requires asker { asker < most_asked }
+        requires traced { AreDescendants self.now.held.history (reached_by asker tracing.now)
+            id.now }
         ensures found { IfOk result (λ ids. IsTrace self.now.held.history id.now ids.items) }
         ensures unknown { IfErr result (λ fault. (fault ≡ Memory)
             ⊎ ((fault ≡ Unknown) × IsUnknown self.now.held.history id.now)) }
     {
-        trace(self.alloc, &self.history, id)
+        trace(self.alloc, &self.history, tracing, asker, id)
     }
 
     /// The history that the tables say, read from them. Nothing is changed.

@@ -2,6 +2,7 @@ pub mod Common
 pub mod AreaLemmas
 pub mod AreasLemmas
 pub mod CheckLemmas
+pub mod FolderLemmas
 pub mod ReadLemmas
 pub mod RefusalLemmas
 pub mod ReportLemmas

@@ -1,6 +1,7 @@
 pub mod Area
 pub mod Areas
 pub mod CheckAnswer
+pub mod CutRefusals
 pub mod Failures
 pub mod Folders
 pub mod Inputs

@@ -3,14 +3,16 @@
 ghost use Rattle.std.specs.Prelude.{◌≡◌, IfErr, IfOk};
 ghost use Rattle.lpis_checker.specs.GoodCertificate.{IsGood};
 ghost use Rattle.lpis_checker.specs.SoundMap.{IsSoundMap};
-ghost use Rattle.lpis_run.specs.CheckAnswer.{IsCheckAnswer, IsProvedOf, IsRefusal};
-ghost use Rattle.lpis_run.specs.Inputs.{inputs_of};
+ghost use Rattle.lpis_cert.specs.declared.cert.Cert.{Cert};
+ghost use Rattle.lpis_run.specs.CheckAnswer.{IsCheckAnswer, IsProvedOf, IsRefusal, IsUsedAnswer};
+ghost use Rattle.lpis_run.specs.Inputs.{IsTaken, inputs_of};
 ghost use Rattle.lpis_run.specs.Refusals.{check_refusal_text};
 ghost use Rattle.lpis_run.specs.Status.{refused};
 ghost use Rattle.lpis_run.specs.Stops.{IsRefusedAs};
 
 use crate::answer::Answer;
 use crate::folder::Folder;
+use crate::making::cert_for;
 use crate::refusal::print_check_fault;
 use crate::status::REFUSED;
 use crate::stop::Stop;
@@ -48,21 +50,37 @@ pub fn say_yes<'a>(alloc: Global, release: &'a Release, cert: &Cert) -> Result<Y
     }
 }
 
-/// The release of what was read, where its certificate is good.
-fn proved_release(alloc: Global, read: ReadInputs) -> Result<Release, Stop>
-    ensures release { IfOk result (λ r. (r ≡ read.release) × IsSoundMap r × IsGood r read.cert) }
-    ensures refused { IfErr result
-        (IsRefusedAs (IsCheckAnswer read.release read.cert (λ a. ⊥))) }
+/// Whether the certificate that is used for a release, the named one or one that is made, is good;
+/// or the line that says why not.
+fn prove(alloc: Global, release: &Release, named: Option<Cert>) -> Result<(), Stop>
+    ensures proved { IfOk result (λ _. IsSoundMap release.now
+        × ((c : Cert) × IsTaken named c × IsGood release.now c)) }
+    ensures refused { IfErr result (IsRefusedAs (IsUsedAnswer release.now
+        (λ c. IsCheckAnswer release.now c (λ a. ⊥)) named)) }
 {
-    let ReadInputs { release, cert } = read;
-    match say_yes(alloc, &release, &cert) {
-        Ok(_) => Ok(release),
+    let cert = cert_for(alloc, release, named)?;
+    match say_yes(alloc, release, &cert) {
+        Ok(_) => Ok(()),
         Err(stop) => Err(stop),
     }
 }
 
-/// The release of three tables, if it is a sound map by the certificate, or the line that refuses
-/// them.
+/// The release of what was read, where the certificate that is used is good.
+fn proved_release(alloc: Global, read: ReadInputs) -> Result<Release, Stop>
+    ensures release { IfOk result (λ r. (r ≡ read.release) × IsSoundMap r
+        × ((c : Cert) × IsTaken read.cert c × IsGood r c)) }
+    ensures refused { IfErr result (IsRefusedAs (IsUsedAnswer read.release
+        (λ c. IsCheckAnswer read.release c (λ a. ⊥)) read.cert)) }
+{
+    let ReadInputs { release, cert } = read;
+    match prove(alloc, &release, cert) {
+        Ok(()) => Ok(release),
+        Err(stop) => Err(stop),
+    }
+}
+
+/// The release of three tables, if it is a sound map by the certificate that is named, or by one
+/// that is made of it and let go again; or the line that refuses them.
 pub fn checked_release(alloc: Global, inputs: Folder<Vec<u8>>) -> Result<Release, Stop>
     ensures release { IfOk result (IsProvedOf (inputs_of inputs)) }
     ensures refused { IfErr result (IsRefusedAs (IsRefusal (inputs_of inputs))) }

@@ -1,10 +1,13 @@
 //! The files that a command reads: their readers, and their bytes.
 
-ghost use Rattle.std.specs.Prelude.{IfErr, IfOk};
+ghost use Rattle.std.specs.Prelude.{◌≡◌, IfErr, IfOk, is_some};
+ghost use Rattle.std.specs.Option.{option_map};
 ghost use Rattle.lpis_run.specs.CheckAnswer.{AreRead, AreTablesRead};
 ghost use Rattle.lpis_run.specs.Failures.{AreUnread, AreUntouched};
-ghost use Rattle.lpis_run.specs.Folders.{folder_by, folder_named, tables_by, tables_named};
+ghost use Rattle.lpis_run.specs.Folders.{cert_named, folder_by, folder_named, tables_by};
+ghost use Rattle.lpis_run.specs.Folders.{tables_named};
 ghost use Rattle.lpis_run.specs.Inputs.{inputs_of, tables_of};
+ghost use Rattle.lpis_run.specs.Streams.{IsReadIfAny};
 
 use crate::failure::{Failure, Name};
 use crate::reading::read_lent;
@@ -23,20 +26,20 @@ pub struct Tables<T: Drop> {
     pub classes: T,
 }
 
-/// The files of a release that has a certificate, in the order in which they are opened and read.
+/// The files of a release, in the order in which they are opened and read.
 #[derive(Debug, Drop)]
 pub struct Folder<T: Drop> {
     /// The tables of the release.
     pub tables: Tables<T>,
-    /// The certificate.
-    pub cert: T,
+    /// The certificate, where one is named; where none is, one is made.
+    pub cert: Option<T>,
 }
 
 /// The files of a release that is handed in to be published, or to be given the blocks of its exact
 /// lineage, in the order in which they are opened and read.
 #[derive(Debug, Drop)]
 pub struct Submission<T: Drop> {
-    /// The tables of the release and its certificate.
+    /// The tables of the release, and its certificate where one is named.
     pub folder: Folder<T>,
     /// The lineage table.
     pub lineage: T,
@@ -73,8 +76,24 @@ pub fn read_tables<R: Read + Drop>(
     })
 }
 
-/// All bytes of the tables and of the certificate, which is read behind them. Where one is not
-/// read, those behind it are as they were.
+/// All bytes of the certificate, where one is named.
+pub fn read_cert<R: Read + Drop>(
+    alloc: Global,
+    cert: &mut Option<R>,
+) -> Result<Option<Vec<u8>>, Failure>
+    ensures bytes { IfOk result (λ b. IsReadIfAny (option_map (λ v. v.items) b)
+        (option_map R.remaining cert.old)) }
+    ensures failure { IfErr result (AreUnread (cert_named (option_map R.remaining cert.old))) }
+    ensures named { is_some cert.new ≡ is_some cert.old }
+{
+    match cert {
+        Some(file) => Ok(Some(read_lent(alloc, file, Name::Cert)?)),
+        None => Ok(None),
+    }
+}
+
+/// All bytes of the tables, and of the certificate where one is named, which is read behind them.
+/// Where one is not read, those behind it are as they were.
 pub fn read_folder<R: Read + Drop>(
     alloc: Global,
     folder: &mut Folder<R>,
@@ -83,8 +102,9 @@ pub fn read_folder<R: Read + Drop>(
     ensures failure { IfErr result (AreUnread (folder_named (folder_by R.remaining folder.old))) }
     ensures untouched { IfErr result
         (AreUntouched (folder_named folder.old) (folder_named folder.new)) }
+    ensures named { is_some folder.new.cert ≡ is_some folder.old.cert }
 {
     let tables = read_tables(alloc, &mut folder.tables)?;
-    let cert = read_lent(alloc, &mut folder.cert, Name::Cert)?;
+    let cert = read_cert(alloc, &mut folder.cert)?;
     Ok(Folder { tables, cert })
 }

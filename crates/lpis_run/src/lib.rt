@@ -1,6 +1,6 @@
 //! What the program's runs share: how inputs are read and outputs written, what an answer and a
-//! failure print, and what tables and a certificate say: a release that is a sound map, or the line
-//! of the first fault.
+//! failure print, and what tables and a certificate say, which is made where none is named: a
+//! release that is a sound map, or the line of the first fault.
 //!
 //! The layer above may cite: `checked_release` and `understand`, and the lines of refusals.
 //! Begin at `specs/CheckAnswer.antt`, then `src/checked.rt`.
@@ -9,9 +9,11 @@
 mod answer;
 mod areas;
 mod checked;
+mod cut_line;
 mod detail;
 mod failure;
 mod folder;
+mod making;
 mod outcome;
 mod outputs;
 mod printing;
@@ -27,7 +29,8 @@ pub use areas::{Areas, areas_at, print_areas};
 pub use checked::{checked_release, say_yes};
 pub use detail::Detail;
 pub use failure::{Failure, Name, print_failure};
-pub use folder::{Folder, Submission, Tables, Top, read_folder, read_tables};
+pub use folder::{Folder, Submission, Tables, Top, read_cert, read_folder, read_tables};
+pub use making::{cert_for, refuse_release};
 pub use outcome::Outcome;
 pub use outputs::write_text;
 pub use printing::{PrintFault, print_line};

@@ -1,12 +1,13 @@
 //! What tables and the text of a certificate say.
 
-ghost use Rattle.std.specs.Prelude.{◌≡◌, IfErr, IfOk, List, Ok, ℕ};
+ghost use Rattle.std.specs.Prelude.{◌≡◌, IfErr, IfOk, List, Ok, Option, ℕ};
+ghost use Rattle.std.specs.Option.{option_map};
 ghost use Rattle.lpis_cert.specs.Contents.{IsCertText};
 ghost use Rattle.lpis_cert.specs.Faults.{verdict};
-ghost use Rattle.lpis_run.specs.CheckAnswer.{IsCertAnswer, IsInputAnswer, IsTableAnswer};
-ghost use Rattle.lpis_run.specs.CheckAnswer.{release_in};
-ghost use Rattle.lpis_run.specs.Inputs.{Say, inputs_of, tables_of};
-ghost use Rattle.lpis_run.specs.private.Reading.{IsReadAs};
+ghost use Rattle.lpis_run.specs.CheckAnswer.{IsCertAnswer, IsInputAnswer, IsNamedAnswer};
+ghost use Rattle.lpis_run.specs.CheckAnswer.{IsTableAnswer, release_in};
+ghost use Rattle.lpis_run.specs.Inputs.{IsNamed, Say, inputs_of, tables_of};
+ghost use Rattle.lpis_run.specs.private.Reading.{IsReadAs, IsReadIfAnyAs};
 ghost use Rattle.lpis_run.specs.Refusals.{cert_refusal_text};
 ghost use Rattle.lpis_run.specs.Status.{unreadable};
 ghost use Rattle.lpis_run.specs.Stops.{IsRefusedAs};
@@ -26,8 +27,8 @@ use std::alloc::{AllocError, Global};
 pub struct ReadInputs {
     /// The release of the tables.
     pub release: Release,
-    /// The certificate of the text.
-    pub cert: Cert,
+    /// The certificate of the text, where one is named.
+    pub cert: Option<Cert>,
 }
 
 /// The line of a text that is no certificate.
@@ -88,17 +89,48 @@ pub fn certificate_in(alloc: Global, text: Vec<u8>) -> Result<Cert, Stop>
     understand_cert(alloc, read)
 }
 
-/// The release of three tables and the certificate of a text, or the line of their first fault.
+/// What a text was read as, if there is one.
+fn cert_if_any(alloc: Global, text: Option<Vec<u8>>) -> Option<Result<Cert, CertFault>>
+    ensures { IsReadIfAnyAs (option_map (λ v. v.items) text) result }
+{
+    match text {
+        Some(text) => Some(cert_in(alloc, text)),
+        None => None,
+    }
+}
+
+/// The certificate that a text was read as, if there is one, or the line of the text's first fault.
+fn understand_if_any(
+    alloc: Global,
+    read: Option<Result<Cert, CertFault>>,
+) -> Result<Option<Cert>, Stop>
+    ensures said { (text : Option (List ℕ)) → IsReadIfAnyAs text read
+        → IfOk result (IsNamed text) }
+    ensures refused { (text : Option (List ℕ)) → IsReadIfAnyAs text read
+        → IfErr result (IsRefusedAs (IsNamedAnswer (λ named a. ⊥) text)) }
+{
+    match read {
+        Some(read) => match understand_cert(alloc, read) {
+            Ok(cert) => Ok(Some(cert)),
+            Err(stop) => Err(stop),
+        },
+        None => Ok(None),
+    }
+}
+
+/// The release of three tables and the certificate of a text, where one is named, or the line of
+/// their first fault.
 ///
 /// The certificate is read first, since its text is the longest as a rule, and the bytes of each
 /// input are let go when it is read; the fault of the tables is told first all the same.
 pub fn understand(alloc: Global, inputs: Folder<Vec<u8>>) -> Result<ReadInputs, Stop>
     ensures said { IfOk result (λ r. Say (inputs_of inputs) r.release r.cert) }
-    ensures refused { IfErr result (IsRefusedAs (IsInputAnswer (λ r c a. ⊥) (inputs_of inputs))) }
+    ensures refused { IfErr result (IsRefusedAs (IsInputAnswer (λ r named a. ⊥)
+        (inputs_of inputs))) }
 {
     let Folder { tables, cert } = inputs;
-    let read = cert_in(alloc, cert);
+    let read = cert_if_any(alloc, cert);
     let release = release_in(alloc, tables)?;
-    let cert = understand_cert(alloc, read)?;
+    let cert = understand_if_any(alloc, read)?;
     Ok(ReadInputs { release, cert })
 }

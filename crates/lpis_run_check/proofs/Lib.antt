@@ -1,2 +1,2 @@
+pub mod FolderLemmas
 pub mod OneAnswerLemmas
-pub mod TablesCheckLemmas

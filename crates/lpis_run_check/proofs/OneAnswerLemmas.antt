@@ -1,5 +1,5 @@
--- The inputs of a check have one answer.
-use Rattle.std.proofs.Common.{◌≡◌, ◌∙◌, inl, inr, ap, sym, subst, ℕ, List, Result, Ok, Err}
+-- The inputs of a check that name a certificate have one answer.
+use Rattle.std.proofs.Common.{◌≡◌, ◌∙◌, inl, inr, ap, sym, subst, ℕ, List, Option, Some, Result, Ok, Err}
 use Rattle.lpis_release.specs.Release.{Contents}
 use Rattle.lpis_cert.specs.declared.cert.Cert.{Cert}
 use Rattle.lpis_checker.specs.GoodCertificate.{IsGood}
@@ -10,7 +10,7 @@ use Rattle.lpis_cert.proofs.Shared.{one_cert}
 use Rattle.lpis_checker.specs.declared.condition.Site.{Site}
 use Rattle.lpis_checker.specs.FirstFault.{condition_of, IsFault, location_of}
 use Rattle.lpis_checker.proofs.Shared.{one_fault}
-use Rattle.lpis_run.specs.CheckAnswer.{Answer, Inputs, IsAnswer, IsCertAnswer, IsCheckAnswer, IsTableAnswer, release_in}
+use Rattle.lpis_run.specs.CheckAnswer.{Answer, Inputs, IsAnswer, IsCertAnswer, IsCheckAnswer, IsNamedAnswer, IsTableAnswer, IsUsedAnswer, release_in}
 use Rattle.lpis_run.proofs.Shared.{IsReport}
 use Rattle.lpis_run.specs.Refusals.{check_refusal_text}
 use Rattle.lpis_run.specs.Status.{refused}
@@ -47,11 +47,14 @@ unfolding Decides
 table_answer IsNext (Err fault) one a b x y = x ∙ sym y
 table_answer IsNext (Ok v) one a b x y = one v a b x y
 
-release_answer : (text : List ℕ) (r : Contents) → Decides (IsCertAnswer (λ c. IsCheckAnswer r c (IsReport r)) text (verdict text))
+release_answer : (text : List ℕ) (r : Contents) → Decides (IsNamedAnswer (IsUsedAnswer r (λ c. IsCheckAnswer r c (IsReport r))) (Some text))
 unfolding Decides
 release_answer text r = cert_answer (λ c. IsCheckAnswer r c (IsReport r)) text (verdict text) (λ c. check_answer r c (IsReport r) (λ a b x y. x ∙ sym y))
 
--- the inputs of a check have one answer
-pub one_answer : (x : Inputs) (a b : Answer) → IsAnswer x a → IsAnswer x b → a ≡ b
+-- the inputs of a check that name a certificate have one answer
+pub one_answer : (x : Inputs) (text : List ℕ) → x.cert ≡ Some text → (a b : Answer) → IsAnswer x a → IsAnswer x b → a ≡ b
 unfolding Decides
-one_answer x a b f g = table_answer (λ r. IsCertAnswer (λ c. IsCheckAnswer r c (IsReport r)) x.cert (verdict x.cert)) (release_in x.tables) (release_answer x.cert) a b f g
+one_answer x text named a b f g =
+    let one : (r : Contents) → Decides (IsNamedAnswer (IsUsedAnswer r (λ c. IsCheckAnswer r c (IsReport r))) x.cert) =
+    λ r. subst (λ (cert : Option (List ℕ)). Decides (IsNamedAnswer (IsUsedAnswer r (λ c. IsCheckAnswer r c (IsReport r))) cert)) (sym named) (release_answer text r) in
+    table_answer (λ r. IsNamedAnswer (IsUsedAnswer r (λ c. IsCheckAnswer r c (IsReport r))) x.cert) (release_in x.tables) one a b f g

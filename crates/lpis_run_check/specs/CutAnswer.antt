@@ -11,7 +11,7 @@ use Rattle.lpis_cert.specs.Contents.{cert_text}
 use Rattle.lpis_cutter.specs.declared.fault.Refusal.{Refusal}
 use Rattle.lpis_cutter.specs.Refusals.{RefusalReports}
 use Rattle.lpis_run.specs.CheckAnswer.{AreTablesRead, release_in}
-use Rattle.lpis_run_check.specs.CutRefusals.{cut_refusal_text}
+use Rattle.lpis_run.specs.CutRefusals.{cut_refusal_text}
 use Rattle.lpis_run.specs.Outputs.{Outputs, line_alone}
 use Rattle.lpis_run.specs.Refusals.{refusal_text}
 use Rattle.lpis_run.specs.Run.{OfRead}

@@ -1,5 +1,3 @@
 pub mod AreaAnswer
 pub mod CheckRun
 pub mod CutAnswer
-pub mod CutRefusals
-pub mod TablesCheck

@@ -1,6 +1,6 @@
 //! The run of `check`, over any readers and writer.
 
-ghost use Rattle.std.specs.Prelude.{◌≡◌, IfErr, IfOk};
+ghost use Rattle.std.specs.Prelude.{◌≡◌, IfErr, IfOk, is_some};
 ghost use Rattle.lpis_checker.specs.SoundMap.{IsSoundMap};
 ghost use Rattle.lpis_run.specs.CheckAnswer.{IsAnswer, IsProved};
 ghost use Rattle.lpis_run.specs.Failures.{AreUnread, AreUntouched};
@@ -17,7 +17,7 @@ use std::alloc::{AllocError, Global};
 use std::io::{Read, Write};
 
 /// The answer to a release that is a sound map.
-pub(crate) fn say_done(alloc: Global, release: &Release) -> Result<Answer, AllocError>
+fn say_done(alloc: Global, release: &Release) -> Result<Answer, AllocError>
     requires { IsSoundMap release.now }
     ensures { IfOk result (λ a. (a.text.items ≡ report_text release.now) × (a.status ≡ done)) }
 {
@@ -27,7 +27,7 @@ pub(crate) fn say_done(alloc: Global, release: &Release) -> Result<Answer, Alloc
     })
 }
 
-/// The answer to three tables and a certificate.
+/// The answer to three tables, and to a certificate where one is named.
 fn answer_to(alloc: Global, inputs: Folder<Vec<u8>>) -> Result<Answer, AllocError>
     ensures answer { IfOk result (λ a. IsAnswer (inputs_of inputs) (a.text.items, a.status)) }
     ensures proved { IfOk result (λ a. a.status ≡ done → IsProved (inputs_of inputs)) }
@@ -38,13 +38,14 @@ fn answer_to(alloc: Global, inputs: Folder<Vec<u8>>) -> Result<Answer, AllocErro
     }
 }
 
-/// The answer to what four readers give.
+/// The answer to what the readers give.
 fn decide<R: Read + Drop>(alloc: Global, folder: &mut Folder<R>) -> Result<Answer, Failure>
     ensures answers { IfOk result (λ a. Checks (folder_by R.remaining folder.old)
         (a.text.items, a.status)) }
     ensures unread { IfErr result (AreUnread (folder_named (folder_by R.remaining folder.old))) }
     ensures untouched { IfErr result
         (AreUntouched (folder_named folder.old) (folder_named folder.new)) }
+    ensures named { is_some folder.new.cert ≡ is_some folder.old.cert }
 {
     let inputs = read_folder(alloc, folder)?;
     let answer = answer_to(alloc, inputs)?;
@@ -54,6 +55,10 @@ fn decide<R: Read + Drop>(alloc: Global, folder: &mut Folder<R>) -> Result<Answe
 /// Checks the release of three tables against a certificate, and prints the report of a release
 /// that is a sound map, or the line of the first fault: of the tables, then of the certificate's
 /// text, then of the certificate.
+///
+/// Where no certificate is named, one is made of the release and let go again, or there is the line
+/// of the cutter's refusal. A yes comes from the check alone all the same: nothing is believed of
+/// what the cutter made.
 ///
 /// All inputs are read to their ends, in the order in which they stand in the folder, before
 /// anything is decided, and everything is decided before anything is written. Ok is the status:

@@ -5,31 +5,20 @@ ghost use Rattle.lpis_cert.specs.declared.cert.Cert.{Cert};
 ghost use Rattle.lpis_cutter.specs.Refusals.{RefusesRightly};
 ghost use Rattle.lpis_run.specs.CheckAnswer.{release_in};
 ghost use Rattle.lpis_run_check.specs.CutAnswer.{Cuts, IsCutAnswer, counts_text, cut_outputs};
-ghost use Rattle.lpis_run_check.specs.CutRefusals.{cut_refusal_text};
 ghost use Rattle.lpis_run.specs.Failures.{AreUnread, AreUntouched};
 ghost use Rattle.lpis_run.specs.Folders.{tables_by, tables_named};
 ghost use Rattle.lpis_run.specs.Inputs.{tables_of};
 ghost use Rattle.lpis_run.specs.Outputs.{held, outputs_of, writer};
 ghost use Rattle.lpis_run.specs.Run.{RunsBoth};
-ghost use Rattle.lpis_run.specs.Status.{done, refused};
+ghost use Rattle.lpis_run.specs.Status.{done};
 
-use crate::cut_line::{print_counts, print_refusal};
+use crate::cut_line::print_counts;
 use lpis_cert::Cert;
-use lpis_cutter::{CutFault, Refusal, ReleaseCut, cut};
+use lpis_cutter::{CutFault, ReleaseCut, cut};
 use lpis_release::Release;
-use lpis_run::{Answer, DONE, Failure, Outcome, REFUSED, Tables, read_tables, release_in};
+use lpis_run::{Answer, DONE, Failure, Outcome, Tables, read_tables, refuse_release, release_in};
 use std::alloc::{AllocError, Global};
 use std::io::{Read, Write};
-
-/// The line of a release that gets no certificate.
-pub(crate) fn refuse_release(alloc: Global, refusal: &Refusal) -> Result<Answer, AllocError>
-    ensures { IfOk result (λ a. (a.text.items ≡ cut_refusal_text refusal.now)
-        × (a.status ≡ refused)) }
-{
-    let mut text = Vec::new(alloc);
-    let printed = print_refusal(refusal, &mut text);
-    Answer::of(text, REFUSED, printed)
-}
 
 /// The line of a certificate's counts.
 fn count_cert(alloc: Global, cert: &Cert) -> Result<Answer, AllocError>

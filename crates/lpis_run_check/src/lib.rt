@@ -1,5 +1,4 @@
-//! The runs of `area`, `check` and `cut`, over readers and writers; of `check` with a certificate
-//! that it is handed, and with one that it makes.
+//! The runs of `area`, `check` and `cut`, over readers and writers.
 //!
 //! The layer above may cite: text and status of each are the answer's definition.
 //! Begin at `specs/CheckRun.antt`, then `src/check.rt`.
@@ -10,10 +9,8 @@ mod check;
 mod cut;
 mod cut_line;
 mod laws;
-mod tables_check;
 
 pub use area::run_area;
 pub use check::run_check;
 pub use cut::run_cut;
 pub use laws::{a_check_has_one_answer, a_sum_of_areas_is_printed};
-pub use tables_check::run_check_tables;

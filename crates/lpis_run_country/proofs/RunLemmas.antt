@@ -15,7 +15,7 @@ use Rattle.lpis_run.specs.declared.failure.Failure.{Failure}
 use Rattle.lpis_run.specs.declared.failure.Failure.TheVariants.{Memory, Read, ReadOf, Write, Store, StoreMemory}
 use Rattle.lpis_run.specs.declared.failure.Name.{Name}
 use Rattle.lpis_run.specs.declared.failure.Name.TheVariants.{Cert, Classes, Covers, Out, Parcels}
-use Rattle.lpis_run.specs.CheckAnswer.{Answer, AreRead, Inputs, IsProvedOf, IsRefusal}
+use Rattle.lpis_run.specs.CheckAnswer.{Answer, Inputs, IsProvedOf, IsRefusal}
 use Rattle.lpis_run.specs.Refusals.{line_in_region}
 use Rattle.lpis_run.specs.declared.answer.Answer.{Answer as Printed}
 use Rattle.lpis_run.specs.Folders.{folder_named}
@@ -39,7 +39,7 @@ use Rattle.lpis_run_country.specs.Beginning.{BegunParts, IsPlanned, setting_in}
 use Rattle.lpis_run_country.specs.CountryAnswer.{HavePassed, IsMisfit, None as NonePassed, IsReachedBy, IsRefusedRegion, Setting}
 use Rattle.lpis_run_country.specs.CountryFailures.{IsStoppedBefore, IsUnreadFolder}
 use Rattle.lpis_run_country.specs.CountryLines.{country_lines, region_report}
-use Rattle.lpis_run_country.specs.Regions.{Texts}
+use Rattle.lpis_run_country.specs.Regions.{IsFolderRead, Texts}
 use Rattle.lpis_run_country.specs.RegionsOutcome.{IsRegionsRefusal, JoinsAll, RegionsEnd, RegionsStop}
 use Rattle.lpis_run_country.specs.CountryFailures.{StopsRegions}
 use Rattle.lpis_run_country.specs.private.Progressing.{AnswersRegions, RunsRegions}
@@ -120,7 +120,7 @@ setting_begins texts detail b names tiles classes p names_are tiles_are classes_
 
 -- ---- the verdict
 -- on a region that is a sound map
-pub judged : (r : Result (Vec ℕ Global) Stop) (s : Setting) (before : List Contents) (name : List ℕ) (x : Inputs) (region : Contents) (p : Progress) → AreRead x (s.texts name).given
+pub judged : (r : Result (Vec ℕ Global) Stop) (s : Setting) (before : List Contents) (name : List ℕ) (x : Inputs) (region : Contents) (p : Progress) → IsFolderRead x (s.texts name)
     → IsProvedOf x region → FollowsAs s before name region p r → IsVerdict s before name p r
 judged (Ok text) s before name x region p told said (fits, is, at) = (region, record { inputs = x; told = told; said = said; fits = fits }, is, at)
 judged (Err stop) s before name x region p told said h =
@@ -128,7 +128,7 @@ judged (Err stop) s before name x region p told said h =
     (λ a misfit. (x, told, inr (region, said, misfit))) h
 
 -- on inputs that `check` refuses
-pub check_refused : (s : Setting) (before : List Contents) (name : List ℕ) (x : Inputs) (stop in_it : Stop) → AreRead x (s.texts name).given → IsRefusedAs (IsRefusal x) stop
+pub check_refused : (s : Setting) (before : List Contents) (name : List ℕ) (x : Inputs) (stop in_it : Stop) → IsFolderRead x (s.texts name) → IsRefusedAs (IsRefusal x) stop
     → IsInRegion stop name in_it → IsRefusedAs (IsRefusedRegion s before name) in_it
 check_refused s before name x stop in_it told refusal of =
     refused-more (λ a. (b : Answer) × IsRefusal x b × (a ≡ (line_in_region b.0 name, b.1))) (IsRefusedRegion s before name) in_it (λ a refused. (x, told, inl refused))
@@ -217,7 +217,7 @@ unread_is t failure (inl (inr (inl (may, e)))) = inr (Parcels, e)
 unread_is t failure (inl (inr (inr (inl (may, e))))) = inr (Covers, e)
 unread_is t failure (inl (inr (inr (inr (inl (may, e)))))) = inr (Classes, e)
 unread_is t failure (inl (inr (inr (inr (inr (may, e)))))) = inr (Cert, e)
-unread_is t failure (inr unread) = some_unread (folder_named t.given) failure unread
+unread_is t failure (inr (f, opened, unread)) = some_unread (folder_named f) failure unread
 
 -- another failure is none of these
 no_other : (failure : Failure) → (failure ≡ Memory) ⊎ ((file : Name) × (failure ≡ Read file)) → (failure ≡ Memory → ⊥) → ((file : Name) → failure ≡ Read file → ⊥) → ⊥

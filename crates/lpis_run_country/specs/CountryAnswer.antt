@@ -5,7 +5,7 @@ use Rattle.lpis_tables.specs.declared.class.Class.{Class}
 use Rattle.lpis_tables.specs.Classes.{classes_table}
 use Rattle.lpis_tables.specs.Faults.{rows_of}
 use Rattle.lpis_release.specs.Release.{Contents}
-use Rattle.lpis_run.specs.CheckAnswer.{Answer, AreRead, Inputs, IsProvedOf, IsRefusal}
+use Rattle.lpis_run.specs.CheckAnswer.{Answer, Inputs, IsProvedOf, IsRefusal}
 use Rattle.lpis_run.specs.CheckAnswer.{IsTableAnswer}
 use Rattle.lpis_run.specs.Refusals.{line_in_region}
 use Rattle.lpis_run.specs.declared.detail.Detail.{Detail}
@@ -19,7 +19,7 @@ use Rattle.lpis_country_seam.specs.declared.fault.SeamFault.{SeamFault}
 use Rattle.lpis_country_seam.specs.Faults.{IsFirstSeamFault, seam_faults}
 use Rattle.lpis_run_country.specs.CountryLines.{country_lines, plan_refusal_text, region_report}
 use Rattle.lpis_run_country.specs.CountryLines.{seam_refusal_text}
-use Rattle.lpis_run_country.specs.Regions.{CountryInputs, IsCountry, Texts}
+use Rattle.lpis_run_country.specs.Regions.{CountryInputs, IsCountry, IsFolderRead, Texts}
 
 -- what is known before the first region is read: the bytes of each folder's files, as far as they
 -- are known; what is to be printed; the folders and tiles of the plan; the table of classes
@@ -44,7 +44,7 @@ setting_of texts detail plan classes = record {
 pub record Passes (s : Setting) (before : List Contents) (name : List ℕ) (r : Contents) : Type 0
   where
     pub inputs : Inputs
-    pub told : AreRead inputs (s.texts name).given
+    pub told : IsFolderRead inputs (s.texts name)
     pub said : IsProvedOf inputs r
     pub fits : seam_faults s.tiles s.classes before r ≡ []
 
@@ -57,7 +57,7 @@ IsMisfit s before name r a =
 -- the region of a folder is refused by `check`: its line with the region at the end, and its
 -- status; or it is a sound map, and does not fit those before it
 abbrev pub IsRefusedRegion : Setting → List Contents → List ℕ → Answer → Type 0
-IsRefusedRegion s before name a = (x : Inputs) × AreRead x (s.texts name).given
+IsRefusedRegion s before name a = (x : Inputs) × IsFolderRead x (s.texts name)
     × (((b : Answer) × IsRefusal x b × (a ≡ (line_in_region b.0 name, b.1)))
     ⊎ ((r : Contents) × IsProvedOf x r × IsMisfit s before name r a))
 

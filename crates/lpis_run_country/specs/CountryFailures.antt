@@ -14,10 +14,12 @@ use Rattle.lpis_run.specs.declared.failure.Name.TheVariants.{Cert, Classes, Cove
 use Rattle.lpis_run.specs.declared.failure.Name.TheVariants.{Parcels}
 use Rattle.lpis_run.specs.Failures.{AreUnread}
 use Rattle.lpis_run.specs.Folders.{folder_named}
+use Rattle.lpis_run.specs.Streams.{Known}
+use Rattle.lpis_run.specs.declared.folder.Folder.{Folder}
 use Rattle.lpis_country.specs.CountryText.{IsCountryText}
 use Rattle.lpis_country.specs.Tree.{Tree}
 use Rattle.lpis_run_country.specs.CountryAnswer.{IsReachedBy, Setting, setting_of}
-use Rattle.lpis_run_country.specs.Regions.{CountryInputs, Texts}
+use Rattle.lpis_run_country.specs.Regions.{AreOpened, CountryInputs, Texts}
 
 -- a file of this name, which may be missing, was not opened
 abbrev pub IsMissing : Texts → Failure → Name → Type 0
@@ -28,9 +30,10 @@ abbrev pub IsUnopened : Texts → Failure → Type 0
 IsUnopened t failure = (failure ≡ Memory) ⊎ IsMissing t failure Parcels
     ⊎ IsMissing t failure Covers ⊎ IsMissing t failure Classes ⊎ IsMissing t failure Cert
 
--- so it is, or a file was not read, while those before it were
+-- so it is, or one that was opened was not read, while those before it were
 abbrev pub IsUnreadFolder : Texts → Failure → Type 0
-IsUnreadFolder t failure = IsUnopened t failure ⊎ AreUnread (folder_named t.given) failure
+IsUnreadFolder t failure = IsUnopened t failure
+    ⊎ ((f : Folder Known) × AreOpened t f × AreUnread (folder_named f) failure)
 
 -- this file was not read, in the folder of the region of this name
 abbrev pub IsReadOf : Name → List ℕ → Failure → Type 0

@@ -1,5 +1,5 @@
 -- The regions of a country, and what is known of the files of their folders.
-use Rattle.std.specs.Prelude.{◌≡◌, Bool, ℕ, List, [], ◌∷◌, All, Ok}
+use Rattle.std.specs.Prelude.{◌≡◌, ◌⊎◌, Bool, true, ℕ, List, [], ◌∷◌, All, None, Ok}
 use Rattle.lpis_tables.specs.declared.class.Class.{Class}
 use Rattle.lpis_tables.specs.Classes.{classes_table}
 use Rattle.lpis_tables.specs.Faults.{rows_of}
@@ -8,6 +8,7 @@ use Rattle.lpis_checker.specs.SoundMap.{IsSoundMap}
 use Rattle.lpis_run.specs.CheckAnswer.{AreRead, Inputs, IsProvedOf}
 use Rattle.lpis_run.specs.Streams.{IsRead, Known}
 use Rattle.lpis_run.specs.declared.failure.Name.{Name}
+use Rattle.lpis_run.specs.declared.failure.Name.TheVariants.{Cert}
 use Rattle.lpis_run.specs.declared.folder.Folder.{Folder}
 use Rattle.lpis_run.specs.declared.folder.Top.{Top}
 use Rattle.lpis_country.specs.Country.{country_of}
@@ -21,9 +22,19 @@ pub record Texts : Type 0 where
   pub may_be_missing : Name → Bool
   pub given : Folder Known
 
--- they are the tables of this release, which is a sound map, and a certificate that is good for it
+-- the files that are opened: all of them; or all but the certificate, where that may be missing
+abbrev pub AreOpened : Texts → Folder Known → Type 0
+AreOpened t f = (f ≡ t.given)
+    ⊎ ((t.may_be_missing Cert ≡ true) × (f ≡ record t.given { cert = None }))
+
+-- these are what the readers of such files reported, as far as it is known
+abbrev pub IsFolderRead : Inputs → Texts → Type 0
+IsFolderRead x t = (f : Folder Known) × AreOpened t f × AreRead x f
+
+-- they say this release, which is a sound map, and a certificate that is good for it; where theirs
+-- is missing, there is one
 abbrev pub IsRegionOf : Texts → Contents → Type 0
-IsRegionOf t r = (x : Inputs) × AreRead x t.given × IsProvedOf x r
+IsRegionOf t r = (x : Inputs) × IsFolderRead x t × IsProvedOf x r
 
 -- ---- a country
 -- the bytes of the two files at the top of a country's folder

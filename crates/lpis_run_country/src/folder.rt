@@ -9,7 +9,7 @@ ghost use Rattle.lpis_run.specs.Folders.{folder_by, folder_named};
 ghost use Rattle.lpis_run.specs.Inputs.{inputs_of};
 ghost use Rattle.lpis_run_country.specs.CountryFailures.{IsStoppedBefore, IsUnopened};
 ghost use Rattle.lpis_run_country.specs.CountryFailures.{IsUnreadFolder};
-ghost use Rattle.lpis_run_country.specs.Regions.{Texts};
+ghost use Rattle.lpis_run_country.specs.Regions.{AreOpened, IsFolderRead, Texts};
 ghost use Rattle.lpis_run_country.specs.private.Progressing.{IsFailureOf};
 
 use lpis_run::{Failure, Folder, read_folder};
@@ -24,10 +24,10 @@ pub trait Regions {
     /// What is known of the files of each folder: which may be missing, and their bytes.
     ghost texts: { Self → List ℕ → Texts };
 
-    /// Opens the files of the folder of this name.
+    /// Opens the files of the folder of this name: the certificate too, if there is one.
     fn open(&self, name: &str) -> Result<Folder<Self::File>, Failure>
-        ensures given { IfOk result (λ f. folder_by Self.File.remaining f
-            ≡ (texts self.now name.now).given) }
+        ensures given { IfOk result (λ f. AreOpened (texts self.now name.now)
+            (folder_by Self.File.remaining f)) }
         ensures failure { IfErr result (IsUnopened (texts self.now name.now)) };
 }
 
@@ -51,8 +51,8 @@ pub(crate) fn read_region_files<G: Regions>(
     regions: &G,
     name: &str,
 ) -> Result<Folder<Vec<u8>>, Failure>
-    ensures bytes { IfOk result (λ i. AreRead (inputs_of i)
-        (G.texts regions.now name.now).given) }
+    ensures bytes { IfOk result (λ i. IsFolderRead (inputs_of i)
+        (G.texts regions.now name.now)) }
     ensures failure { IfErr result (IsUnreadFolder (G.texts regions.now name.now)) }
 {
     let mut folder = regions.open(name)?;
@@ -80,8 +80,8 @@ pub fn read_region<G: Regions>(
 ) -> Result<Folder<Vec<u8>>, Failure>
     requires { index < length names.old.items }
     ensures names { OnOk result (names.new.items ≡ names.old.items) }
-    ensures bytes { IfOk result (λ i. AreRead (inputs_of i)
-        (G.texts regions.now (get_or (map string_bytes names.old.items) index [])).given) }
+    ensures bytes { IfOk result (λ i. IsFolderRead (inputs_of i)
+        (G.texts regions.now (get_or (map string_bytes names.old.items) index []))) }
     ensures failure { (left : List (List ℕ)) → IfErr result (IsStoppedBefore (G.texts regions.now)
         (get_or (map string_bytes names.old.items) index [] ∷ left)) }
 {

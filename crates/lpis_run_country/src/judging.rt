@@ -2,11 +2,10 @@
 
 ghost use Rattle.std.specs.Prelude.{◌≡◌, IfErr, IfOk, List, ℕ};
 ghost use Rattle.lpis_release.specs.Release.{Contents};
-ghost use Rattle.lpis_run.specs.CheckAnswer.{AreRead};
 ghost use Rattle.lpis_run.specs.Inputs.{inputs_of};
 ghost use Rattle.lpis_run_country.specs.CountryAnswer.{Setting};
 ghost use Rattle.lpis_run_country.specs.declared.progress.Progress.{Progress};
-ghost use Rattle.lpis_run_country.specs.Regions.{Texts};
+ghost use Rattle.lpis_run_country.specs.Regions.{IsFolderRead, Texts};
 ghost use Rattle.lpis_run_country.specs.private.Progressing.{AfterAny, IsReady, IsUnwritten};
 ghost use Rattle.lpis_run_country.specs.private.Progressing.{IsVerdict, IsWritten, gathers};
 ghost use Rattle.lpis_run_country.specs.private.Progressing.{setting_at};
@@ -28,7 +27,7 @@ fn judge_inputs(
     inputs: Folder<Vec<u8>>,
 ) -> Result<Vec<u8>, Stop>
     requires { IsReady progress.old }
-    ensures verdict { (texts : List ℕ → Texts) → AreRead (inputs_of inputs) (texts name.now).given
+    ensures verdict { (texts : List ℕ → Texts) → IsFolderRead (inputs_of inputs) (texts name.now)
         → AfterAny (setting_at texts detail names.now progress.old) progress.old
         (λ s before. IsVerdict s before name.now progress.new result) }
     ensures wanted { gathers progress.new.gathered ≡ gathers progress.old.gathered }

@@ -3,3 +3,4 @@ pub mod FaultLemmas
 pub mod FoundLemmas
 pub mod PassingLemmas
 pub mod CountryLemmas
+pub mod ReaderLemmas

@@ -7,7 +7,7 @@ use Rattle.lpis_points.specs.declared.boxes.Box4.{Box4}
 use Rattle.lpis_tables.specs.declared.class.Class.{Class}
 use Rattle.lpis_release.specs.Release.{Contents}
 use Rattle.lpis_run.proofs.Shared.{refused-more}
-use Rattle.lpis_run.specs.CheckAnswer.{AreRead, Inputs, IsProvedOf}
+use Rattle.lpis_run.specs.CheckAnswer.{Inputs, IsProvedOf}
 use Rattle.lpis_run.specs.Stops.{IsRefusedAs}
 use Rattle.lpis_run.specs.declared.answer.Answer.{Answer as Printed}
 use Rattle.lpis_run.specs.declared.stop.Stop.{Stop}
@@ -19,7 +19,7 @@ use Rattle.lpis_run_country.specs.Beginning.{BegunParts, setting_in}
 use Rattle.lpis_run_country.specs.CountryAnswer.{HavePassed, IsMisfit, None as NonePassed, IsReachedBy, IsRefusedRegion, Setting}
 use Rattle.lpis_run_country.specs.CountryFailures.{IsStoppedBefore}
 use Rattle.lpis_run_country.specs.CountryLines.{region_report}
-use Rattle.lpis_run_country.specs.Regions.{Texts}
+use Rattle.lpis_run_country.specs.Regions.{IsFolderRead, Texts}
 use Rattle.lpis_run_country.proofs.Shared.{passed_more, reached_by}
 use Rattle.lpis_country.specs.Country.{country_of}
 use Rattle.lpis_run_locate.specs.declared.progress.Progress.{Progress}
@@ -28,12 +28,12 @@ use Rattle.lpis_run_locate.specs.private.Searching.{Follows, HasPassed, IsAt, Is
 
 -- ---- the verdict
 -- on a region that is a sound map and fits those before it
-pub judged : (s : Setting) (table : List ℕ) (before : List Contents) (name : List ℕ) (x : Inputs) (region : Contents) (p : Progress) → AreRead x (s.texts name).given → IsProvedOf x region
+pub judged : (s : Setting) (table : List ℕ) (before : List Contents) (name : List ℕ) (x : Inputs) (region : Contents) (p : Progress) → IsFolderRead x (s.texts name) → IsProvedOf x region
     → Follows s table before region p → HasPassed s table before name p
 judged s table before name x region p told said (fits, at) = (region, record { inputs = x; told = told; said = said; fits = fits }, at)
 
 -- on one that does not fit them
-pub seam_refused : (s : Setting) (before : List Contents) (name : List ℕ) (x : Inputs) (region : Contents) (stop : Stop) → AreRead x (s.texts name).given → IsProvedOf x region
+pub seam_refused : (s : Setting) (before : List Contents) (name : List ℕ) (x : Inputs) (region : Contents) (stop : Stop) → IsFolderRead x (s.texts name) → IsProvedOf x region
     → IsRefusedAs (IsMisfit s before name region) stop → IsRefusedAs (IsRefusedRegion s before name) stop
 seam_refused s before name x region stop told said h =
     refused-more (IsMisfit s before name region) (IsRefusedRegion s before name) stop

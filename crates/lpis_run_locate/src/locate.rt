@@ -1,6 +1,6 @@
 //! The run of `locate`, over any readers and writer.
 
-ghost use Rattle.std.specs.Prelude.{◌≡◌, All, IfErr, IfOk, None, Ok, Option, length};
+ghost use Rattle.std.specs.Prelude.{◌≡◌, All, IfErr, IfOk, None, Ok, Option, is_some, length};
 ghost use Rattle.lpis_checker.specs.SoundMap.{IsSoundMap};
 ghost use Rattle.lpis_run.specs.CheckAnswer.{AreRead};
 ghost use Rattle.lpis_run.specs.Failures.{AreUnread, AreUntouched};
@@ -88,6 +88,7 @@ fn read_all_inputs<R: Read + Drop>(
         (points_by (folder_by R.remaining) R.remaining asked.old))) }
     ensures untouched { IfErr result (AreUntouched (points_named folder_named asked.old)
         (points_named folder_named asked.new)) }
+    ensures named { is_some asked.new.files.cert ≡ is_some asked.old.files.cert }
 {
     let files = read_folder(alloc, &mut asked.files)?;
     let points = read_lent(alloc, &mut asked.points, Name::Points)?;

@@ -2,11 +2,10 @@
 
 ghost use Rattle.std.specs.Prelude.{IfErr, IfOk, List, ℕ};
 ghost use Rattle.lpis_checker.specs.SoundMap.{IsSoundMap};
-ghost use Rattle.lpis_run.specs.CheckAnswer.{AreRead};
 ghost use Rattle.lpis_run.specs.Inputs.{inputs_of};
 ghost use Rattle.lpis_run.specs.Stops.{IsRefusedAs};
 ghost use Rattle.lpis_run_country.specs.CountryAnswer.{IsMisfit, IsRefusedRegion};
-ghost use Rattle.lpis_run_country.specs.Regions.{Texts};
+ghost use Rattle.lpis_run_country.specs.Regions.{IsFolderRead, Texts};
 ghost use Rattle.lpis_run_locate.specs.private.Searching.{AfterAny, Follows, HasPassed, IsReady};
 ghost use Rattle.lpis_run_locate.specs.private.Searching.{setting_at};
 
@@ -61,10 +60,10 @@ pub(crate) fn judge_inputs(
     inputs: Folder<Vec<u8>>,
 ) -> Result<(), Stop>
     requires { IsReady progress.old }
-    ensures passed { (texts : List ℕ → Texts) → AreRead (inputs_of inputs) (texts name.now).given
+    ensures passed { (texts : List ℕ → Texts) → IsFolderRead (inputs_of inputs) (texts name.now)
         → AfterAny (setting_at texts names.now progress.old) progress.old (λ s table before.
         IfOk result (λ _. HasPassed s table before name.now progress.new)) }
-    ensures refused { (texts : List ℕ → Texts) → AreRead (inputs_of inputs) (texts name.now).given
+    ensures refused { (texts : List ℕ → Texts) → IsFolderRead (inputs_of inputs) (texts name.now)
         → AfterAny (setting_at texts names.now progress.old) progress.old (λ s table before.
         IfErr result (IsRefusedAs (IsRefusedRegion s before name.now))) }
 {

@@ -13,11 +13,16 @@ use Rattle.lpis_lineage.specs.ExactGroups.{group_name}
 use Rattle.lpis_lineage.specs.declared.row.Row.{Row}
 use Rattle.lpis_release.specs.declared.parcel.Parcel.{Parcel}
 use Rattle.lpis_rings.specs.declared.polygon.Member.{Member}
+use Rattle.lpis_release.specs.Release.{Contents}
+use Rattle.lpis_run.proofs.Shared.{answer-of-taken, used-more}
+use Rattle.lpis_run.specs.CheckAnswer.{IsUsedAnswer}
+use Rattle.lpis_run.specs.Inputs.{IsTaken}
 use Rattle.lpis_run.specs.Outputs.{Outputs, line_alone}
 use Rattle.lpis_run.specs.Status.{done, refused}
-use Rattle.lpis_run_publish.specs.ExactAnswer.{AnswersSubmitted, FillsGroups, HasParts, HasTextOnlyIfDone, IsExactAnswer, IsFirstUnfilled, blocks_line, unfilled_line}
+use Rattle.lpis_run_publish.specs.ExactAnswer.{AnswersSubmitted, FillsGroups, FillsRows, HasParts, HasTextOnlyIfDone, IsExactAnswer, IsFirstUnfilled, blocks_line}
+use Rattle.lpis_run_publish.specs.ExactAnswer.{unfilled_line}
 use Rattle.lpis_register.specs.Holdings.{Holdings}
-use Rattle.lpis_run_publish.specs.Submission.{IsSubmitted, SubmissionInputs, Submitted}
+use Rattle.lpis_run_publish.specs.Submission.{IsSubmitted, SubmissionInputs, Submitted, submitted}
 use Rattle.lpis_run_publish.specs.private.ExactRuns.{filled_with}
 use Rattle.lpis_run_publish.specs.private.Submitting.{IsFaultAnswer}
 use Rattle.lpis_run_publish.proofs.SubmissionLemmas.{submission-more, submission-said}
@@ -72,9 +77,26 @@ outcome-filled before parcels rows cert made gs xs o asks has e =
     })
 
 -- ---- answers
+-- by the certificate that is used
+pub answered-taken : (before : Holdings) (r : Contents) (rows : List Row) (named : Option Cert) (c : Cert) (o : Outputs) → IsTaken named c → HasTextOnlyIfDone (FillsRows before r rows c) o
+    → HasTextOnlyIfDone (AnswersSubmitted before (submitted r named rows)) o
+answered-taken before r rows named c o taken is = record {
+  answer = answer-of-taken r (λ k. FillsRows before r rows k o.cert) named c (o.line, o.status) taken is.answer;
+  no_text = is.no_text;
+}
+
+-- of a release that gets none
+pub answered-uncut : (before : Holdings) (r : Contents) (rows : List Row) (named : Option Cert) (o : Outputs) → IsUsedAnswer r (λ _ _. ⊥) named (o.line, o.status) → o.cert ≡ None
+    → HasTextOnlyIfDone (AnswersSubmitted before (submitted r named rows)) o
+answered-uncut before r rows named o is none = record {
+  answer = used-more r (λ _ _. ⊥) (λ k. FillsRows before r rows k o.cert) named (o.line, o.status) (λ k no. absurd no) is;
+  no_text = λ _. none;
+}
+
+-- of what is handed in
 pub answered-said : (x : SubmissionInputs) (said : Submitted) (before : Holdings) (o : Outputs) → IsSubmitted x said → HasTextOnlyIfDone (AnswersSubmitted before said) o → IsExactAnswer x before o
-answered-said x said before o submitted is = record {
-  answer = submission-said (λ s. AnswersSubmitted before s o.cert) x said (o.line, o.status) submitted is.answer;
+answered-said x said before o of is = record {
+  answer = submission-said (λ s. AnswersSubmitted before s o.cert) x said (o.line, o.status) of is.answer;
   no_text = is.no_text;
 }
 

@@ -8,3 +8,4 @@ pub mod RunLemmas
 pub mod Shared
 pub mod SubmissionLemmas
 pub mod TraceLemmas
+pub mod ReaderLemmas

@@ -1,22 +1,22 @@
 -- The answer to a submission, by what it says or by its first fault.
-use Rattle.std.proofs.Common.{◌≡◌, ◌≢◌, ◌∙◌, ap, inl, inr, sym}
+use Rattle.std.proofs.Common.{◌≡◌, ◌≢◌, ◌∙◌, ap, inl, inr, sym, Option}
 use Rattle.lpis_cert.specs.declared.cert.Cert.{Cert}
 use Rattle.lpis_run_publish.proofs.Common.{Answer}
 use Rattle.lpis_release.specs.Release.{Contents}
 use Rattle.lpis_tables.specs.Faults.{rows_of}
 use Rattle.lpis_lineage.specs.LineageTable.{lineage_table}
-use Rattle.lpis_run.specs.CheckAnswer.{IsCheckAnswer, IsInputAnswer, IsTableAnswer}
+use Rattle.lpis_run.specs.CheckAnswer.{IsCheckAnswer, IsInputAnswer, IsTableAnswer, IsUsedAnswer}
 use Rattle.lpis_run.specs.Inputs.{Say}
 use Rattle.lpis_run.specs.Status.{done, unreadable}
 use Rattle.lpis_run.specs.Stops.{IsRefusedAs}
 use Rattle.lpis_run.specs.declared.stop.Stop.{Stop}
-use Rattle.lpis_run.proofs.Shared.{answer-said, input-more, input-status, refused-more, table-more, table-status}
+use Rattle.lpis_run.proofs.Shared.{answer-said, input-more, input-status, refused-more, table-more, table-status, used-is-no-yes, used-more}
 use Rattle.lpis_run_publish.specs.Submission.{IsSubmissionAnswer, IsSubmitted, SubmissionInputs, Submitted, submitted}
 use Rattle.lpis_run_publish.specs.private.Submitting.{IsFaultAnswer}
 
 -- of what tables and a text say, the answer to the lineage table
-abbrev pub of_rows : (Submitted → Answer → Type 0) → SubmissionInputs → Contents → Cert → Answer → Type 0
-of_rows IsNext x r c = IsTableAnswer (λ rows. IsNext (submitted r c rows)) (rows_of lineage_table x.lineage)
+abbrev pub of_rows : (Submitted → Answer → Type 0) → SubmissionInputs → Contents → Option Cert → Answer → Type 0
+of_rows IsNext x r named = IsTableAnswer (λ rows. IsNext (submitted r named rows)) (rows_of lineage_table x.lineage)
 
 -- ---- where it says something
 pub submission-said : (IsNext : Submitted → Answer → Type 0) (x : SubmissionInputs) (said : Submitted) (a : Answer) → IsSubmitted x said → IsNext said a → IsSubmissionAnswer IsNext x a
@@ -40,7 +40,7 @@ stop-of-inputs x stop is =
     refused-more _ (IsFaultAnswer x) stop (λ a. input-more (λ _ _ _. ⊥) (of_rows (λ _ _. ⊥) x) x.folder a (λ r c no. absurd no)) is
 
 -- where tables and certificate are read, the fault of the lineage table is that of the submission
-pub stop-of-rows : (x : SubmissionInputs) (r : Contents) (c : Cert) (stop : Stop) → Say x.folder r c → IsRefusedAs (IsTableAnswer (λ _ _. ⊥) (rows_of lineage_table x.lineage)) stop
+pub stop-of-rows : (x : SubmissionInputs) (r : Contents) (c : Option Cert) (stop : Stop) → Say x.folder r c → IsRefusedAs (IsTableAnswer (λ _ _. ⊥) (rows_of lineage_table x.lineage)) stop
     → IsRefusedAs (IsFaultAnswer x) stop
 stop-of-rows x r c stop said is = refused-more _ (IsFaultAnswer x) stop (λ a fault. answer-said (of_rows (λ _ _. ⊥) x) x.folder r c a said fault) is
 
@@ -54,3 +54,8 @@ check-more r c IsNext a (inr fault) = inr fault
 pub refused-is-not-done : (r : Contents) (c : Cert) (a : Answer) → IsCheckAnswer r c (λ _. ⊥) a → a.1 ≢ done
 refused-is-not-done r c a (inl p) same = p.1
 refused-is-not-done r c a (inr fault) same = let no = sym (ap (λ (b : Answer). b.1) fault.2) ∙ same in cc
+
+-- nor is the line of a release that gets no certificate
+pub unused-is-not-done : (r : Contents) (named : Option Cert) (a : Answer) → IsUsedAnswer r (λ _ _. ⊥) named a → a.1 ≢ done
+unused-is-not-done r named a is =
+    used-is-no-yes r named a (used-more r (λ _ _. ⊥) (λ c. IsCheckAnswer r c (λ _. ⊥)) named a (λ c no. absurd no) is)

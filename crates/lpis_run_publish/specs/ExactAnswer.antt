@@ -8,7 +8,7 @@ use Rattle.lpis_points.specs.declared.triangle.Triangle.{Triangle}
 use Rattle.lpis_edge_sums.specs.Making.{EdgesCancel, FlatsHaveCorners}
 use Rattle.lpis_tables.specs.Ids.{has_id, same_id}
 use Rattle.lpis_release.specs.declared.parcel.Parcel.{Parcel}
-use Rattle.lpis_release.specs.Release.{parcel_ids}
+use Rattle.lpis_release.specs.Release.{Contents, parcel_ids}
 use Rattle.lpis_cert.specs.declared.cert.Cert.{Cert}
 use Rattle.lpis_cert.specs.Contents.{cert_text}
 use Rattle.lpis_checker.specs.declared.exact.ExactPart.{ExactPart}
@@ -22,7 +22,7 @@ use Rattle.lpis_lineage_exact.specs.Asking.{AsksFor, IsUnkept}
 use Rattle.lpis_register.specs.Holdings.{Holdings}
 use Rattle.lpis_register.specs.declared.fault.PublishFault.{PublishFault}
 use Rattle.lpis_register.specs.declared.fault.PublishFault.TheVariants.{Lineage, NotKept}
-use Rattle.lpis_run.specs.CheckAnswer.{Answer}
+use Rattle.lpis_run.specs.CheckAnswer.{Answer, IsUsedAnswer}
 use Rattle.lpis_run.specs.Failures.{AreUnread}
 use Rattle.lpis_run.specs.Folders.{submission_named}
 use Rattle.lpis_run.specs.Outputs.{Held, Outputs}
@@ -104,10 +104,15 @@ abbrev pub FillsGroups : List Parcel → List Row → Cert → Holdings → Outp
 FillsGroups parcels rows cert before =
     HasTextOnlyIfDone (AnswersMarks parcels rows (HasParts cert) before)
 
--- the answer to what says this, of which its certificate has the rest
+-- the answer to a release and its rows of lineage, of which this certificate has the rest
+abbrev pub FillsRows : Holdings → Contents → List Row → Cert → Option (List ℕ) → Answer → Type 0
+FillsRows before r rows c =
+    IsBlocksAnswer r.parcels rows (HasParts c) before publish_refusal_text
+
+-- the answer to what says this, of which the certificate that is used has the rest
 abbrev pub AnswersSubmitted : Holdings → Submitted → Option (List ℕ) → Answer → Type 0
-AnswersSubmitted before said = IsBlocksAnswer said.release.parcels said.rows (HasParts said.cert)
-    before publish_refusal_text
+AnswersSubmitted before said text = IsUsedAnswer said.release
+    (λ c. FillsRows before said.release said.rows c text) said.cert
 
 -- the answer to what is handed in, where a register holds this: faults of the tables and texts come
 -- first. There is no year, and the certificate is not checked
@@ -116,7 +121,7 @@ IsExactAnswer x before =
     HasTextOnlyIfDone (λ text. IsSubmissionAnswer (λ said. AnswersSubmitted before said text) x)
 
 -- how a run ends that fills in blocks, over what its two writers hold before and after: an input
--- was not read, or memory ran out; or this is an answer to what five readers gave, as far as it is
+-- was not read, or memory ran out; or this is an answer to what the readers gave, as far as it is
 -- known, and it was written, or an output failed
 abbrev pub RunsExact : {E : Type 0} → Submission Known → Holdings → Held E → Held E
     → Result ℕ Failure → Type 0

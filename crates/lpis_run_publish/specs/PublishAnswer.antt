@@ -1,13 +1,17 @@
 -- The answer to a release that is to be published: text and status, of the year, the bytes of the
--- five inputs, and what the register holds before; and what it holds after.
-use Rattle.std.specs.Prelude.{◌≡◌, ◌≢◌, ◌⊎◌, ℕ, List, Result}
+-- inputs, and what the register holds before; and what it holds after.
+use Rattle.std.specs.Prelude.{◌≡◌, ◌≢◌, ◌⊎◌, ℕ, List, Option, Result}
 use Rattle.sqlite_trees.specs.declared.store.Store.{Ghosts}
+use Rattle.lpis_cert.specs.declared.cert.Cert.{Cert}
 use Rattle.lpis_checker.specs.GoodCertificate.{IsGood}
 use Rattle.lpis_checker.specs.SoundMap.{IsSoundMap}
+use Rattle.lpis_lineage.specs.declared.row.Row.{Row}
 use Rattle.lpis_register.specs.Faults.{IsRefused, IsSetAside}
 use Rattle.lpis_register.specs.Holdings.{Candidate, Holdings, RegisterState, candidate}
 use Rattle.lpis_register.specs.declared.fault.PublishFault.{PublishFault}
-use Rattle.lpis_run.specs.CheckAnswer.{Answer, IsCheckAnswer}
+use Rattle.lpis_release.specs.Release.{Contents}
+use Rattle.lpis_run.specs.CheckAnswer.{Answer, IsCheckAnswer, IsUsedAnswer}
+use Rattle.lpis_run.specs.Inputs.{IsTaken}
 use Rattle.lpis_run.specs.declared.failure.Failure.{Failure}
 use Rattle.lpis_run.specs.declared.folder.Submission.{Submission}
 use Rattle.lpis_run.specs.Failures.{AreUnread}
@@ -32,37 +36,45 @@ IsHistoryAnswer refusal_of head c before a =
     × (a ≡ (refusal_of fault, refused)))
     ⊎ IsPublicationAnswer head c before a
 
--- what is to be published in a year, of what was handed in
-abbrev pub candidate_of : ℕ → Submitted → Candidate
-candidate_of year said = candidate year said.release.parcels said.cert.exact said.rows
+-- what is to be published in a year: a release with rows of lineage and a certificate
+abbrev pub candidate_of : ℕ → Contents → List Row → Cert → Candidate
+candidate_of year r rows c = candidate year r.parcels c.exact rows
 
--- the answer to what is to be published in a year: faults of the tables and texts come first, then
--- those of the certificate
+-- of a release with rows of lineage, and the certificate that is used, whose faults come first
+abbrev pub IsReleaseAnswer : ℕ → Contents → List Row → Holdings → Cert → Answer → Type 0
+IsReleaseAnswer year r rows before c = IsCheckAnswer r c (IsHistoryAnswer publish_refusal_text
+    (report_text r) (candidate_of year r rows c) before)
+
+-- the answer to what is to be published in a year: faults of the tables and texts come first; then,
+-- where no certificate is named, what the release is refused for that gets none
 abbrev pub IsPublishAnswer : ℕ → SubmissionInputs → Holdings → Answer → Type 0
-IsPublishAnswer year x before =
-    IsSubmissionAnswer (λ said. IsCheckAnswer said.release said.cert (IsHistoryAnswer
-    publish_refusal_text (report_text said.release) (candidate_of year said) before)) x
+IsPublishAnswer year x before = IsSubmissionAnswer (λ said. IsUsedAnswer said.release
+    (IsReleaseAnswer year said.release said.rows before) said.cert) x
 
 -- ---- the register after
--- what was handed in says this, which is a sound map with a good certificate
-pub record IsSoundSubmission (x : SubmissionInputs) (said : Submitted) : Type 0 where
+-- a release is a sound map, and a certificate is good for it: the one that is named, if one is
+pub record IsSoundBy (r : Contents) (named : Option Cert) (c : Cert) : Type 0 where
+  pub sound : IsSoundMap r
+  pub taken : IsTaken named c
+  pub good : IsGood r c
+
+-- what was handed in says a release that is one by this certificate, which is to be published in a
+-- year
+pub record IsSoundCandidate (year : ℕ) (x : SubmissionInputs) (k : Candidate) : Type 0 where
+  pub said : Submitted
   pub submitted : IsSubmitted x said
-  pub sound : IsSoundMap said.release
-  pub good : IsGood said.release said.cert
+  pub certificate : Cert
+  pub sound : IsSoundBy said.release said.cert certificate
+  pub is : k ≡ candidate_of year said.release said.rows certificate
 
--- and that this release is to be published in a year
-abbrev pub IsSoundCandidate : ℕ → SubmissionInputs → Candidate → Type 0
-IsSoundCandidate year x c =
-    (said : Submitted) × IsSoundSubmission x said × (c ≡ candidate_of year said)
-
--- which five readers gave, as far as it is known
+-- which the readers gave, as far as it is known
 abbrev pub IsHandedIn : ℕ → Submission Known → Candidate → Type 0
 IsHandedIn year given c = OfRead AreAllRead given (λ x. IsSoundCandidate year x c)
 
 -- it was published in a year
 abbrev pub IsPublished : ℕ → SubmissionInputs → Holdings → Holdings → Type 0
-IsPublished year x before after = (said : Submitted) × IsSoundSubmission x said
-    × IsReleasePublished (candidate_of year said) before after
+IsPublished year x before after =
+    (k : Candidate) × IsSoundCandidate year x k × IsReleasePublished k before after
 
 -- with the status `done` the release was published, with every other one the register holds what it
 -- held before
@@ -71,9 +83,9 @@ MovesRegister year x before after status = (status ≡ done → IsPublished year
     × (status ≢ done → after ≡ before)
 
 -- ---- the run
--- in a year, of what five readers will give, over what a register holds before and after
+-- in a year, of what the readers will give, over what a register holds before and after
 module _ (year : ℕ) (given : Submission Known) (before after : Holdings) where
-  -- an answer to what five readers gave, as far as it is known, which is decided, and the register
+  -- an answer to what the readers gave, as far as it is known, which is decided, and the register
   -- written, before it is printed
   abbrev pub Publishes : Answer → Type 0
   Publishes a = OfRead AreAllRead given

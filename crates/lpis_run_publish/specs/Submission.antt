@@ -1,6 +1,6 @@
--- What is handed in: the tables of a release, the text of a certificate and a table of lineage; and
--- what they say.
-use Rattle.std.specs.Prelude.{◌≡◌, ℕ, List, Ok}
+-- What is handed in: the tables of a release, a table of lineage, and the text of a certificate
+-- where one is named; and what they say.
+use Rattle.std.specs.Prelude.{◌≡◌, ℕ, List, Option, Ok}
 use Rattle.lpis_tables.specs.Faults.{rows_of}
 use Rattle.lpis_release.specs.Release.{Contents}
 use Rattle.lpis_cert.specs.declared.cert.Cert.{Cert}
@@ -12,7 +12,7 @@ use Rattle.lpis_run.specs.Streams.{IsRead, Known}
 use Rattle.lpis_run.specs.declared.folder.Submission.{Submission}
 
 -- ---- what is read
--- the bytes of a release and a certificate, and those of a lineage table
+-- the bytes of a release, of a certificate where one is named, and of a lineage table
 abbrev pub SubmissionInputs : Type 0
 SubmissionInputs = Submission (List ℕ)
 
@@ -22,13 +22,13 @@ pub record AreAllRead (x : SubmissionInputs) (given : Submission Known) : Type 0
   pub of_lineage : IsRead x.lineage given.lineage
 
 -- ---- what it says
--- a release, its certificate and its rows of lineage
+-- a release, its certificate where one is named, and its rows of lineage
 pub record Submitted : Type 0 where
   pub release : Contents
-  pub cert : Cert
+  pub cert : Option Cert
   pub rows : List Row
 
-abbrev pub submitted : Contents → Cert → List Row → Submitted
+abbrev pub submitted : Contents → Option Cert → List Row → Submitted
 submitted release cert rows = record { release = release; cert = cert; rows = rows }
 
 -- the submission says these
@@ -41,5 +41,5 @@ pub record IsSubmitted (x : SubmissionInputs) (said : Submitted) : Type 0 where
 abbrev pub IsSubmissionAnswer : (Submitted → Answer → Type 0) → SubmissionInputs → Answer
     → Type 0
 IsSubmissionAnswer IsNext x =
-    IsInputAnswer (λ r c. IsTableAnswer (λ rows. IsNext (submitted r c rows))
+    IsInputAnswer (λ r named. IsTableAnswer (λ rows. IsNext (submitted r named rows))
     (rows_of lineage_table x.lineage)) x.folder

@@ -3,3 +3,4 @@ pub mod Blocks
 pub mod ExactRuns
 pub mod Marked
 pub mod Submitting
+pub mod Tracing

@@ -18,7 +18,8 @@ ghost use Rattle.lpis_run.specs.Failures.{AreUntouched};
 ghost use Rattle.lpis_run.specs.Folders.{submission_by, submission_named};
 ghost use Rattle.lpis_run.specs.Outputs.{held, line_alone, outputs_of, writer};
 ghost use Rattle.lpis_run.specs.Status.{done, refused};
-ghost use Rattle.lpis_run_publish.specs.ExactAnswer.{AnswersSubmitted, FillsGroups, HasTextOnlyIfDone};
+ghost use Rattle.lpis_run_publish.specs.ExactAnswer.{AnswersSubmitted, FillsGroups, FillsRows};
+ghost use Rattle.lpis_run_publish.specs.ExactAnswer.{HasTextOnlyIfDone};
 ghost use Rattle.lpis_run_publish.specs.ExactAnswer.{IsExactAnswer, RunsExact};
 ghost use Rattle.lpis_run_publish.specs.ExactAnswer.{blocks_line, unfilled_line};
 ghost use Rattle.lpis_run_publish.specs.LineageLines.{publish_refusal_text};
@@ -37,7 +38,7 @@ use lpis_lineage_exact::{AskFault, wanted_parts};
 use lpis_register::{PublishFault, Register, ids_of};
 use lpis_register_rows::{KeptShape, shapes_in};
 use lpis_release::{Parcel, Release};
-use lpis_run::{Answer, DONE, Failure, Outcome, PrintFault, REFUSED, Submission};
+use lpis_run::{Answer, DONE, Failure, Outcome, PrintFault, REFUSED, Submission, cert_for};
 use lpis_tables::Id;
 use sqlite::Alter;
 use std::alloc::{AllocError, Global};
@@ -196,15 +197,15 @@ pub fn fill_blocks<S: Alter>(
 }
 
 /// The answer to a release, rows of lineage and a certificate.
-fn answer_to_rows<S: Alter>(
+fn answer_by<S: Alter>(
     alloc: Global,
     register: &Register<S>,
     release: &Release,
     rows: &[Row],
     cert: Cert,
 ) -> Result<Outcome, AllocError>
-    ensures { IfOk result (λ o. HasTextOnlyIfDone (AnswersSubmitted register.now.held
-        (submitted release.now cert rows.now)) (outputs_of o)) }
+    ensures { IfOk result (λ o. HasTextOnlyIfDone (FillsRows register.now.held release.now rows.now
+        cert) (outputs_of o)) }
 {
     match fill_blocks(alloc, register, release.parcels(), rows, cert) {
         Ok(outcome) => Ok(outcome),
@@ -213,7 +214,25 @@ fn answer_to_rows<S: Alter>(
     }
 }
 
-/// The answer to a release, a certificate and rows of lineage.
+/// The answer to a release and rows of lineage, by the certificate that is named or by one that is
+/// made.
+fn answer_to_rows<S: Alter>(
+    alloc: Global,
+    register: &Register<S>,
+    release: &Release,
+    rows: &[Row],
+    named: Option<Cert>,
+) -> Result<Outcome, AllocError>
+    ensures { IfOk result (λ o. HasTextOnlyIfDone (AnswersSubmitted register.now.held
+        (submitted release.now named rows.now)) (outputs_of o)) }
+{
+    match cert_for(alloc, release, named) {
+        Ok(cert) => answer_by(alloc, register, release, rows, cert),
+        Err(stop) => Ok(Outcome::without_cert(stop.into_answer()?)),
+    }
+}
+
+/// The answer to what a submission says.
 fn answer_to_submission<S: Alter>(
     alloc: Global,
     register: &Register<S>,

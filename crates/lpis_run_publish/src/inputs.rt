@@ -1,6 +1,6 @@
 //! The bytes of a submission.
 
-ghost use Rattle.std.specs.Prelude.{IfErr, IfOk};
+ghost use Rattle.std.specs.Prelude.{◌≡◌, IfErr, IfOk, is_some};
 ghost use Rattle.lpis_run.specs.Failures.{AreUnread, AreUntouched};
 ghost use Rattle.lpis_run.specs.Folders.{submission_by, submission_named};
 ghost use Rattle.lpis_run_publish.specs.Submission.{AreAllRead};
@@ -22,6 +22,7 @@ pub(crate) fn read_submission<R: Read + Drop>(
         (AreUnread (submission_named (submission_by R.remaining submission.old))) }
     ensures untouched { IfErr result
         (AreUntouched (submission_named submission.old) (submission_named submission.new)) }
+    ensures named { is_some submission.new.folder.cert ≡ is_some submission.old.folder.cert }
 {
     let folder = read_folder(alloc, &mut submission.folder)?;
     let lineage = read_lent(alloc, &mut submission.lineage, Name::Lineage)?;

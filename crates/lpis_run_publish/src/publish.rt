@@ -4,6 +4,7 @@ ghost use Rattle.std.specs.Prelude.{◌≡◌, ◌++◌, IfErr, IfOk, OnOk};
 ghost use Rattle.std.specs.Io.KnownBytes.{Appends};
 ghost use Rattle.std.specs.List.{flat_map};
 ghost use Rattle.lpis_tables.specs.Ids.{has_id};
+ghost use Rattle.lpis_cert.specs.declared.cert.Cert.{Cert};
 ghost use Rattle.lpis_checker.specs.GoodCertificate.{IsGood};
 ghost use Rattle.lpis_checker.specs.SoundMap.{IsSoundMap};
 ghost use Rattle.lpis_lineage.specs.Changes.{kind_at};
@@ -11,7 +12,7 @@ ghost use Rattle.lpis_lineage.specs.Order.{IsAscending};
 ghost use Rattle.lpis_register.specs.Accepting.{IsAccepted, WasMadeFor};
 ghost use Rattle.lpis_register.specs.Failing.{HasStoreCause};
 ghost use Rattle.lpis_register.specs.Holdings.{Candidate};
-ghost use Rattle.lpis_run.specs.CheckAnswer.{IsCheckAnswer};
+ghost use Rattle.lpis_run.specs.CheckAnswer.{IsUsedAnswer};
 ghost use Rattle.lpis_run.specs.Failures.{AreUntouched};
 ghost use Rattle.lpis_run.specs.Folders.{submission_by, submission_named};
 ghost use Rattle.lpis_run.specs.Report.{report_text};
@@ -20,13 +21,11 @@ ghost use Rattle.lpis_run.specs.declared.failure.Failure.TheVariants.{Store};
 ghost use Rattle.lpis_run_publish.specs.LineageLines.{lineage_line, published_line};
 ghost use Rattle.lpis_run_publish.specs.Publication.{IsReleasePublished, PublishLeaves};
 ghost use Rattle.lpis_run_publish.specs.Publication.{PublishesAccepted};
-ghost use Rattle.lpis_run_publish.specs.PublishAnswer.{IsPublishAnswer};
+ghost use Rattle.lpis_run_publish.specs.PublishAnswer.{IsPublishAnswer, IsReleaseAnswer, IsSoundBy};
 ghost use Rattle.lpis_run_publish.specs.PublishAnswer.{IsSoundCandidate, MovesRegister};
 ghost use Rattle.lpis_run_publish.specs.PublishAnswer.{RunsPublish, candidate_of};
-ghost use Rattle.lpis_run_publish.specs.Submission.{submitted};
 ghost use Rattle.lpis_run_publish.specs.private.Marked.{is_marked};
 ghost use Rattle.lpis_run_publish.specs.private.Submitting.{IsGoodAnswer, submission_of};
-ghost use Rattle.lpis_run_publish.specs.private.Submitting.{submitted_of};
 
 use crate::inputs::read_submission;
 use crate::lineage_lines::{marked_ids, print_lineage, print_published, refuse};
@@ -35,7 +34,10 @@ use lpis_cert::Cert;
 use lpis_checker::Yes;
 use lpis_lineage::{Change, Row};
 use lpis_register::{Accepted, PublishFault, Register};
-use lpis_run::{Answer, DONE, Failure, PrintFault, REFUSED, Submission, report_of, say_yes};
+use lpis_release::Release;
+use lpis_run::{
+    Answer, DONE, Failure, PrintFault, REFUSED, Submission, cert_for, report_of, say_yes,
+};
 use lpis_tables::Id;
 use sqlite::Alter;
 use std::alloc::{AllocError, Global};
@@ -129,12 +131,12 @@ fn publish_checked<S: Alter>(
     cert: &Cert,
     rows: &[Row],
 ) -> Result<Answer, Failure>
-    ensures answer { IfOk result (λ a. IsGoodAnswer year (submitted yes.now cert.now rows.now)
+    ensures answer { IfOk result (λ a. IsGoodAnswer year yes.now rows.now cert.now
         register.old.held (a.text.items, a.status)) }
     ensures published { IfOk result (λ a. a.status ≡ done → IsReleasePublished (candidate_of year
-        (submitted yes.now cert.now rows.now)) register.old.held register.new.held) }
-    ensures leaves { PublishLeaves S.Store (λ c. c ≡ candidate_of year
-        (submitted yes.now cert.now rows.now)) register.old register.new result }
+        yes.now rows.now cert.now) register.old.held register.new.held) }
+    ensures leaves { PublishLeaves S.Store (λ k. k ≡ candidate_of year yes.now rows.now cert.now)
+        register.old register.new result }
 {
     match register.accept(year, yes, rows, cert) {
         Ok(accepted) => publish_reported(alloc, register, yes, accepted),
@@ -143,34 +145,78 @@ fn publish_checked<S: Alter>(
     }
 }
 
-/// The answer to a release, a certificate and rows of lineage.
+/// The answer to a release and rows of lineage by a certificate.
+fn answer_by<S: Alter>(
+    alloc: Global,
+    register: &mut Register<S>,
+    year: u16,
+    release: &Release,
+    rows: &[Row],
+    cert: &Cert,
+) -> Result<Answer, Failure>
+    ensures answer { IfOk result (λ a. IsReleaseAnswer year release.now rows.now register.old.held
+        cert.now (a.text.items, a.status)) }
+    ensures published { IfOk result (λ a. a.status ≡ done → IsSoundMap release.now
+        × IsGood release.now cert.now × IsReleasePublished
+        (candidate_of year release.now rows.now cert.now) register.old.held register.new.held) }
+    ensures leaves { PublishLeaves S.Store (λ k. IsSoundMap release.now
+        × IsGood release.now cert.now × (k ≡ candidate_of year release.now rows.now cert.now))
+        register.old register.new result }
+{
+    match say_yes(alloc, release, cert) {
+        Ok(yes) => publish_checked(alloc, register, year, &yes, cert, rows),
+        Err(stop) => Ok(stop.into_answer()?),
+    }
+}
+
+/// The answer to a release and rows of lineage, by the certificate that is named or by one that is
+/// made.
+fn answer_to_release<S: Alter>(
+    alloc: Global,
+    register: &mut Register<S>,
+    year: u16,
+    release: &Release,
+    rows: &[Row],
+    named: Option<Cert>,
+) -> Result<Answer, Failure>
+    ensures answer { IfOk result (λ a. IsUsedAnswer release.now
+        (IsReleaseAnswer year release.now rows.now register.old.held) named
+        (a.text.items, a.status)) }
+    ensures published { IfOk result (λ a. a.status ≡ done → (c : Cert)
+        × IsSoundBy release.now named c × IsReleasePublished
+        (candidate_of year release.now rows.now c) register.old.held register.new.held) }
+    ensures leaves { PublishLeaves S.Store (λ k. (c : Cert) × IsSoundBy release.now named c
+        × (k ≡ candidate_of year release.now rows.now c)) register.old register.new result }
+{
+    match cert_for(alloc, release, named) {
+        Ok(cert) => answer_by(alloc, register, year, release, rows, &cert),
+        Err(stop) => Ok(stop.into_answer()?),
+    }
+}
+
+/// The answer to what a submission says.
 fn answer_to_submission<S: Alter>(
     alloc: Global,
     register: &mut Register<S>,
     year: u16,
-    said: &ReadSubmission,
+    said: ReadSubmission,
 ) -> Result<Answer, Failure>
-    ensures answer { IfOk result (λ a. IsCheckAnswer said.now.release said.now.cert
-        (IsGoodAnswer year (submitted_of said.now) register.old.held)
+    ensures answer { IfOk result (λ a. IsUsedAnswer said.release
+        (IsReleaseAnswer year said.release said.rows.items register.old.held) said.cert
         (a.text.items, a.status)) }
-    ensures published { IfOk result (λ a. a.status ≡ done → IsSoundMap said.now.release
-        × IsGood said.now.release said.now.cert × IsReleasePublished
-        (candidate_of year (submitted_of said.now)) register.old.held register.new.held) }
-    ensures leaves { PublishLeaves S.Store (λ c. IsSoundMap said.now.release
-        × IsGood said.now.release said.now.cert × (c ≡ candidate_of year (submitted_of said.now)))
-        register.old register.new result }
+    ensures published { IfOk result (λ a. a.status ≡ done → (c : Cert)
+        × IsSoundBy said.release said.cert c × IsReleasePublished
+        (candidate_of year said.release said.rows.items c) register.old.held register.new.held) }
+    ensures leaves { PublishLeaves S.Store (λ k. (c : Cert) × IsSoundBy said.release said.cert c
+        × (k ≡ candidate_of year said.release said.rows.items c)) register.old register.new
+        result }
 {
-    match say_yes(alloc, &said.release, &said.cert) {
-        Ok(yes) => publish_checked(
-            alloc,
-            register,
-            year,
-            &yes,
-            &said.cert,
-            said.rows.as_slice(),
-        ),
-        Err(stop) => Ok(stop.into_answer()?),
-    }
+    let ReadSubmission {
+        release,
+        cert,
+        rows,
+    } = said;
+    answer_to_release(alloc, register, year, &release, rows.as_slice(), cert)
 }
 
 /// The answer to what is to be published.
@@ -188,7 +234,7 @@ fn answer_to<S: Alter>(
         register.old register.new result }
 {
     match submission_in(alloc, submission) {
-        Ok(said) => answer_to_submission(alloc, register, year, &said),
+        Ok(said) => answer_to_submission(alloc, register, year, said),
         Err(stop) => Ok(stop.into_answer()?),
     }
 }
@@ -199,6 +245,9 @@ fn answer_to<S: Alter>(
 /// the tables, of the certificate's text, of the lineage table, of the certificate, of the
 /// register. The certificate has to have the blocks that the marked rows ask for, and no others:
 /// they are checked against the shapes that the register keeps of the last release.
+///
+/// Where no certificate is named, one is made of the release behind the lineage table and let go
+/// again, or there is the line of the cutter's refusal.
 ///
 /// All inputs are read to their ends, in the order in which they stand here, before anything is
 /// decided, and what is printed is whole in memory before the register is written. Ok is the

@@ -16,11 +16,11 @@ use lpis_run::{Answer, ReadInputs, Stop, Submission, understand};
 use lpis_tables::TableFault;
 use std::alloc::Global;
 
-/// The release, the certificate and the rows of lineage that they say.
+/// The release, the certificate, where one is named, and the rows of lineage that they say.
 #[derive(Drop)]
 pub(crate) struct ReadSubmission {
     pub(crate) release: Release,
-    pub(crate) cert: Cert,
+    pub(crate) cert: Option<Cert>,
     pub(crate) rows: Vec<Row>,
 }
 

@@ -1,15 +1,19 @@
 //! The run of `trace`, over any register and writer.
 
-ghost use Rattle.std.specs.Prelude.{◌≡◌, ◌++◌, IfOk, List, OnOk, map, ℕ};
+ghost use Rattle.std.specs.Prelude.{◌≡◌, ◌++◌, ◌≤◌, ◌<◌, IfOk, List, None, OnOk, get_or, length};
+ghost use Rattle.std.specs.Prelude.{map, ℕ};
 ghost use Rattle.std.specs.Io.KnownBytes.{Appends};
-ghost use Rattle.std.specs.List.{flat_map};
+ghost use Rattle.std.specs.List.{AllZip, flat_map};
+ghost use Rattle.lpis_lineage.specs.Tracings.{AreDescendants, AreTraced, most_asked, reached_by};
 ghost use Rattle.lpis_run.specs.Run.{Runs};
 ghost use Rattle.lpis_run.specs.Status.{done};
 ghost use Rattle.lpis_run.specs.declared.failure.Failure.TheVariants.{Memory};
 ghost use Rattle.lpis_run_publish.specs.TraceAnswer.{AreTraceAnswers, IsTraceAnswer, IsWholeTrace};
 ghost use Rattle.lpis_run_publish.specs.TraceAnswer.{id_line, status_of_both, trace_line};
+ghost use Rattle.lpis_run_publish.specs.private.Tracing.{GoesOn, IsReadAs};
 
 use crate::lineage_lines::refuse;
+use lpis_lineage::{MOST_ASKED, Tracing};
 use lpis_register::{PublishFault, Register};
 use lpis_run::{Answer, DONE, Failure, PrintFault, REFUSED};
 use lpis_tables::Id;
@@ -37,16 +41,33 @@ fn list_ids(alloc: Global, ids: &[Id]) -> Result<Answer, AllocError>
     Answer::of(text, DONE, printed)
 }
 
-/// The answer to an identifier.
+/// The identifiers that the words are; `None` where a word is none.
+fn read_words(alloc: Global, words: &[&str]) -> Result<Vec<Option<Id>>, AllocError>
+    ensures { IfOk result (λ v. AllZip (λ w id. IsReadAs w.now id) words.now v.items) }
+{
+    let mut ids = Vec::with_capacity(alloc, words.len())?;
+    for word in words {
+        let id = Id::read(alloc, word.as_bytes())?;
+        ids.push(id)?;
+    }
+    Ok(ids)
+}
+
+/// The answer to an identifier that was asked at this place of a tracing.
 fn answer_to_id<S: Alter>(
     alloc: Global,
     register: &Register<S>,
+    tracing: &Tracing,
+    asker: usize,
     id: &Id,
 ) -> Result<Answer, AllocError>
+    requires asker { asker < most_asked }
+    requires traced { AreDescendants register.now.held.history (reached_by asker tracing.now)
+        id.now }
     ensures { IfOk result
         (λ a. IsTraceAnswer id.now register.now.held.history (a.text.items, a.status)) }
 {
-    match register.trace(id) {
+    match register.trace(tracing, asker, id) {
         Ok(ids) => list_ids(alloc, ids.as_slice()),
         Err(PublishFault::Unknown) => refuse(alloc, &PublishFault::Unknown, REFUSED),
         // Nothing else is reported of an identifier.
@@ -54,38 +75,38 @@ fn answer_to_id<S: Alter>(
     }
 }
 
-/// The answer to a word.
+/// The answer to the word that was read and asked at this place of a tracing.
 fn answer_to<S: Alter>(
     alloc: Global,
     register: &Register<S>,
+    tracing: &Tracing,
+    asked: &[Option<Id>],
+    place: usize,
     word: &str,
 ) -> Result<Answer, AllocError>
+    requires few { length asked.now ≤ most_asked }
+    requires within { place < length asked.now }
+    requires traced { AreTraced register.now.held.history asked.now tracing.now }
+    requires read { IsReadAs word.now (get_or asked.now place None) }
     ensures { IfOk result
         (λ a. IsTraceAnswer word.now register.now.held.history (a.text.items, a.status)) }
 {
-    match Id::read(alloc, word.as_bytes())? {
-        Some(id) => answer_to_id(alloc, register, &id),
+    match &asked[place] {
+        Some(id) => answer_to_id(alloc, register, tracing, place, id),
         None => refuse(alloc, &PublishFault::Unknown, REFUSED),
     }
 }
 
-/// Adds the answer to a word, after the word's line. Ok is its status.
-fn add_answer<S: Alter>(
-    alloc: Global,
-    register: &Register<S>,
-    word: &str,
-    text: &mut Vec<u8>,
-) -> Result<u8, AllocError>
-    ensures { IfOk result (λ status. (said : List ℕ)
-        × IsTraceAnswer word.now register.now.held.history (said, status)
-        × (text.new.items ≡ text.old.items ++ trace_line word.now ++ said)) }
+/// Adds the answer to a word, after the word's line.
+fn add_answer(word: &str, answer: &Answer, text: &mut Vec<u8>) -> Result<(), AllocError>
+    ensures { OnOk result (text.new.items
+        ≡ text.old.items ++ trace_line word.now ++ answer.now.text.items) }
 {
-    let answer = answer_to(alloc, register, word)?;
     text.extend_from_slice(b"trace ")?;
     text.extend_from_slice(word.as_bytes())?;
     text.push(b'\n')?;
     text.extend_from_slice(answer.text.as_slice())?;
-    Ok(answer.status)
+    Ok(())
 }
 
 /// Of two statuses, `DONE` where both are, else the first that is not.
@@ -93,6 +114,55 @@ fn status_of_two(first: u8, next: u8) -> u8
     ensures { result ≡ status_of_both first next }
 {
     if first == DONE { next } else { first }
+}
+
+/// Adds the answers to words that were read and traced, each after the word's line. Ok is the
+/// status of all so far.
+fn add_each<S: Alter>(
+    alloc: Global,
+    register: &Register<S>,
+    tracing: &Tracing,
+    asked: &[Option<Id>],
+    words: &[&str],
+    so_far: u8,
+    text: &mut Vec<u8>,
+) -> Result<u8, AllocError>
+    requires few { length asked.now ≤ most_asked }
+    requires traced { AreTraced register.now.held.history asked.now tracing.now }
+    requires read { AllZip (λ w id. IsReadAs w.now id) words.now asked.now }
+    ensures { IfOk result (λ status. (all left : List (List ℕ))
+        → GoesOn register.now.held.history all (map (λ w. w.now) words.now ++ left)
+        (text.old.items, so_far) → GoesOn register.now.held.history all left
+        (text.new.items, status)) }
+{
+    let mut status = so_far;
+    for place in 0..words.len() {
+        let word = words[place];
+        let answer = answer_to(alloc, register, tracing, asked, place, word)?;
+        add_answer(word, &answer, text)?;
+        status = status_of_two(status, answer.status);
+    }
+    Ok(status)
+}
+
+/// Adds the answers to no more words than one walk follows.
+fn add_answers<S: Alter>(
+    alloc: Global,
+    register: &Register<S>,
+    words: &[&str],
+    so_far: u8,
+    text: &mut Vec<u8>,
+) -> Result<u8, AllocError>
+    requires { length words.now ≤ most_asked }
+    ensures { IfOk result (λ status. (all left : List (List ℕ))
+        → GoesOn register.now.held.history all (map (λ w. w.now) words.now ++ left)
+        (text.old.items, so_far) → GoesOn register.now.held.history all left
+        (text.new.items, status)) }
+{
+    let ids = read_words(alloc, words)?;
+    let asked = ids.as_slice();
+    let tracing = register.follow(asked)?;
+    add_each(alloc, register, &tracing, asked, words, so_far, text)
 }
 
 /// The answers to words, each after the word's line.
@@ -106,11 +176,30 @@ fn answer_to_each<S: Alter>(
 {
     let mut text = Vec::new(alloc);
     let mut status = DONE;
-    for word in words {
-        let next = add_answer(alloc, register, word, &mut text)?;
-        status = status_of_two(status, next);
+    let mut done = 0;
+    'words: while done < words.len() {
+        let end = done + (words.len() - done).min(MOST_ASKED);
+        status = add_answers(alloc, register, &words[done..end], status, &mut text)?;
+        done = end;
     }
     Ok(Answer { text, status })
+}
+
+/// The answer to one word.
+fn answer_to_one<S: Alter>(
+    alloc: Global,
+    register: &Register<S>,
+    word: &str,
+) -> Result<Answer, AllocError>
+    ensures { IfOk result
+        (λ a. IsTraceAnswer word.now register.now.held.history (a.text.items, a.status)) }
+{
+    let id = Id::read(alloc, word.as_bytes())?;
+    let mut ids = Vec::new(alloc);
+    ids.push(id)?;
+    let asked = ids.as_slice();
+    let tracing = register.follow(asked)?;
+    answer_to(alloc, register, &tracing, asked, 0, word)
 }
 
 /// The answer to words: of one alone, or of several each after its line.
@@ -123,7 +212,7 @@ fn answer_to_words<S: Alter>(
         register.now.held.history (a.text.items, a.status)) }
 {
     match words {
-        [word] => answer_to(alloc, register, word),
+        [word] => answer_to_one(alloc, register, word),
         _ => answer_to_each(alloc, register, words),
     }
 }

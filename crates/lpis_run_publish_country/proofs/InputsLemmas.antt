@@ -4,7 +4,7 @@ use Rattle.std.proofs.lemmas.Result.{IfErr-weaker}
 use Rattle.std.specs.Io.KnownBytes.{Keeps}
 use Rattle.sqlite_trees.specs.declared.store.Store.{Ghosts}
 use Rattle.lpis_register.specs.Holdings.{Holdings, RegisterState}
-use Rattle.lpis_run.proofs.Shared.{NamesNone, memory_names_none, runs_on_unnamed, untouched_unnamed, write_names_none}
+use Rattle.lpis_run.proofs.Shared.{NamesNone, cert_last, memory_names_none, runs_on_unnamed, untouched_same, untouched_unnamed, write_names_none}
 use Rattle.lpis_run.specs.Failures.{AreUnread, AreUntouched}
 use Rattle.lpis_run.specs.Outputs.{BreaksOff, Held, Outputs}
 use Rattle.lpis_run.specs.Run.{BreaksOffIn, RunsOnBoth}
@@ -15,42 +15,30 @@ use Rattle.lpis_run.specs.declared.failure.Failure.{Failure}
 use Rattle.lpis_run.specs.declared.failure.Name.{Name}
 use Rattle.lpis_run.specs.declared.failure.Name.TheVariants.{Cert, Lineage, Out}
 use Rattle.lpis_run.specs.declared.folder.Top.{Top}
-use Rattle.lpis_run.specs.Folders.{top_named}
+use Rattle.lpis_run.specs.Folders.{cert_named, top_named}
 use Rattle.lpis_run_country.proofs.Shared.{read_of_names_none, regions_name_none}
 use Rattle.lpis_run_publish.specs.Stored.{IsStoreFailure}
 use Rattle.lpis_run_publish_country.specs.CountryLineage.{IsUnreadTable}
 use Rattle.lpis_run_publish_country.specs.PublishCountryAnswer.{CountryFiles, CountryRequest, PublishCountryInputs, setting_said}
-use Rattle.lpis_run_publish_country.specs.PublishCountryRuns.{StopsAtLineage, StopsBehind, exact_named, inputs_named}
+use Rattle.lpis_run_publish_country.specs.PublishCountryRuns.{StopsAtLineage, StopsBehind, inputs_named}
 use Rattle.lpis_run_publish_country.specs.private.Deciding.{RunsPrepared}
 use Rattle.lpis_run_publish_country.specs.private.Filling.{FillsPrepared, FillsWhole, StopsFillBehind}
 
 -- ---- reading
 module _ {R : Type 0} where
-  -- as they were
-  untouched_same : (files : List (Name × R)) (f : Failure) → AreUntouched files files f
-  untouched_same [] f = tt
-  untouched_same (file ∷ files) f = (λ is. refl, untouched_same files f)
-
   pub untouched_whole : (files : List (Name × R)) (r : Result ℕ Failure) → IfErr r (AreUntouched files files)
   untouched_whole files (Ok status) = tt
   untouched_whole files (Err f) = untouched_same files f
 
   -- so is the certificate, where a file at the top is not read
   pub top_unread : (old new : Top R) (exact : Option R) (f : Failure) → AreUntouched (top_named old) (top_named new) f → AreUntouched (inputs_named old exact) (inputs_named new exact) f
-  top_unread old new exact f h = (λ is. ap (λ (files : List (Name × R)). files ++ exact_named exact) (h.0 is), (λ is. refl, untouched_same (exact_named exact) f))
+  top_unread old new exact f h = (λ is. ap (λ (files : List (Name × R)). files ++ cert_named exact) (h.0 is), (λ is. refl, untouched_same (cert_named exact) f))
 
-  -- nothing is behind the certificate
-  exact-last : (old new : Option R) (f : Failure) → is_some new ≡ is_some old → AreUntouched (exact_named old) (exact_named new) f
-  exact-last None None f same = tt
-  exact-last None (Some b) f same = absurd (cc same)
-  exact-last (Some a) None f same = absurd (cc same)
-  exact-last (Some a) (Some b) f same = (λ is. refl, tt)
-
-  pub exact_unread : (old new : Top R) (e after : Option R) (told : Option Known) (f : Failure) → is_some after ≡ is_some e → AreUnread (exact_named told) f
+  pub exact_unread : (old new : Top R) (e after : Option R) (told : Option Known) (f : Failure) → is_some after ≡ is_some e → AreUnread (cert_named told) f
       → AreUntouched (inputs_named old e) (inputs_named new after) f
   exact_unread old new e after None f same never = absurd never
-  exact_unread old new e after (Some told) f same (inl (inl memory)) = (λ is. absurd (cc (memory, is)), (λ is. absurd (cc (memory, is)), exact-last e after f same))
-  exact_unread old new e after (Some told) f same (inl (inr read)) = (λ is. absurd (cc (read, is)), (λ is. absurd (cc (read, is)), exact-last e after f same))
+  exact_unread old new e after (Some told) f same (inl (inl memory)) = (λ is. absurd (cc (memory, is)), (λ is. absurd (cc (memory, is)), cert_last e after f same))
+  exact_unread old new e after (Some told) f same (inl (inr read)) = (λ is. absurd (cc (read, is)), (λ is. absurd (cc (read, is)), cert_last e after f same))
   exact_unread old new e after (Some told) f same (inr (within, never)) = absurd never
 
   -- as many as before

@@ -16,7 +16,7 @@ use Rattle.lpis_lineage.specs.declared.row.Row.{Row}
 use Rattle.lpis_register.specs.Holdings.{Candidate, Holdings, candidate}
 use Rattle.lpis_run.specs.CheckAnswer.{Answer, IsCertAnswer}
 use Rattle.lpis_run.specs.Status.{done}
-use Rattle.lpis_run.specs.Streams.{IsRead, Known}
+use Rattle.lpis_run.specs.Streams.{IsReadIfAny, Known}
 use Rattle.lpis_run.specs.declared.detail.Detail.{Detail}
 use Rattle.lpis_run.specs.declared.folder.Top.{Top}
 use Rattle.lpis_run_country.specs.CountryAnswer.{AfterRegions, IsTopAnswer, Setting}
@@ -48,16 +48,10 @@ pub record PublishCountryInputs : Type 0 where
   pub country : CountryInputs
   pub exact : Option (List ℕ)
 
--- the certificate, where one is named, has these bytes
-abbrev pub IsExactRead : Option (List ℕ) → Option Known → Type 0
-IsExactRead None None = Unit {0}
-IsExactRead (Some bytes) (Some told) = IsRead bytes told
-IsExactRead _ _ = ⊥
-
 -- these are the bytes of those files, as far as they are known
 pub record AreTopRead (x : PublishCountryInputs) (given : CountryFiles) : Type 0 where
   pub of_country : AreCountryRead x.country given.top
-  pub of_exact : IsExactRead x.exact given.exact
+  pub of_exact : IsReadIfAny x.exact given.exact
 
 -- ---- before the regions
 -- the blocks of a certificate, of whose text this is the answer where it has a fault; where no

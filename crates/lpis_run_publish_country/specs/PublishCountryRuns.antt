@@ -1,6 +1,5 @@
 -- The run of `publish-country`: what it ends with, and what it leaves of the register.
-use Rattle.std.specs.Prelude.{◌≡◌, ◌≢◌, ◌<◌, ◌≤◌, ◌⊎◌, ◌++◌, ◌∷◌, [], ℕ, List, Option, None}
-use Rattle.std.specs.Prelude.{Some, Result}
+use Rattle.std.specs.Prelude.{◌≡◌, ◌≢◌, ◌<◌, ◌≤◌, ◌⊎◌, ◌++◌, ℕ, List, Option, Result}
 use Rattle.sqlite_trees.specs.declared.store.Store.{Ghosts}
 use Rattle.lpis_release.specs.Release.{Contents}
 use Rattle.lpis_cert.specs.declared.part.ExactBlock.{ExactBlock}
@@ -11,12 +10,11 @@ use Rattle.lpis_register.specs.declared.fault.PublishFault.TheVariants.{Year}
 use Rattle.lpis_run.specs.Run.{OfRead, Runs, RunsOn}
 use Rattle.lpis_run.specs.Status.{done, refused}
 use Rattle.lpis_run.specs.Failures.{AreUnread}
-use Rattle.lpis_run.specs.Folders.{top_named}
+use Rattle.lpis_run.specs.Folders.{cert_named, top_named}
 use Rattle.lpis_run.specs.Streams.{Known}
 use Rattle.lpis_run.specs.declared.failure.Failure.{Failure}
 use Rattle.lpis_run.specs.declared.failure.Failure.TheVariants.{Memory}
 use Rattle.lpis_run.specs.declared.failure.Name.{Name}
-use Rattle.lpis_run.specs.declared.failure.Name.TheVariants.{Cert}
 use Rattle.lpis_run.specs.declared.folder.Top.{Top}
 use Rattle.lpis_run_country.specs.CountryAnswer.{HavePassed}
 use Rattle.lpis_run_country.specs.CountryFailures.{OfPlan, StopsRegions}
@@ -31,12 +29,8 @@ use Rattle.lpis_run_publish_country.specs.PublishCountryAnswer.{union_of}
 
 -- ---- files that are not read
 -- the certificate, where one is named, is read behind the files at the top
-abbrev pub exact_named : {T : Type 0} → Option T → List (Name × T)
-exact_named None = []
-exact_named (Some file) = (Cert, file) ∷ []
-
 abbrev pub inputs_named : {T : Type 0} → Top T → Option T → List (Name × T)
-inputs_named top exact = top_named top ++ exact_named exact
+inputs_named top exact = top_named top ++ cert_named exact
 
 abbrev pub files_named : CountryFiles → List (Name × Known)
 files_named given = inputs_named given.top given.exact

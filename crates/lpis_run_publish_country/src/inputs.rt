@@ -9,8 +9,8 @@ ghost use Rattle.lpis_run_country.specs.Beginning.{IsBegun};
 ghost use Rattle.lpis_run_publish_country.specs.PublishCountryAnswer.{AreBlocksOf, AreTopRead};
 ghost use Rattle.lpis_run_publish_country.specs.PublishCountryAnswer.{CountryFiles};
 ghost use Rattle.lpis_run_publish_country.specs.PublishCountryAnswer.{IsExactTextAnswer};
-ghost use Rattle.lpis_run_publish_country.specs.PublishCountryAnswer.{IsExactRead, IsRefusedBefore};
-ghost use Rattle.lpis_run_publish_country.specs.PublishCountryRuns.{StopsAtLineage, exact_named};
+ghost use Rattle.lpis_run_publish_country.specs.PublishCountryAnswer.{IsRefusedBefore};
+ghost use Rattle.lpis_run_publish_country.specs.PublishCountryRuns.{StopsAtLineage};
 ghost use Rattle.lpis_run_publish_country.specs.PublishCountryRuns.{files_named, inputs_named};
 ghost use Rattle.lpis_run_publish_country.specs.private.Preparing.{AreRowsOf, AreTablesRefused};
 ghost use Rattle.lpis_run_publish_country.specs.private.Preparing.{AreTablesUnread, IsPrepared};
@@ -20,7 +20,7 @@ ghost use Rattle.lpis_run_publish_country.specs.private.Unprepared.{IsUnprepared
 use crate::lineage::{CountryLineage, Lineages, read_lineage};
 use crate::unprepared::Unprepared;
 use lpis_cert::Cert;
-use lpis_run::{Failure, Name, Stop, Top, certificate_in, read_lent};
+use lpis_run::{Failure, Stop, Top, certificate_in, read_cert};
 use lpis_run_country::{Begun, begin, read_top};
 use std::alloc::Global;
 use std::io::Read;
@@ -45,22 +45,6 @@ pub(crate) struct Prepared {
     pub(crate) lineage: CountryLineage,
 }
 
-/// All bytes of the certificate, where one is named.
-fn read_exact<R: Read + Drop>(
-    alloc: Global,
-    exact: &mut Option<R>,
-) -> Result<Option<Vec<u8>>, Failure>
-    ensures bytes { IfOk result (λ b. IsExactRead (option_map (λ v. v.items) b)
-        (option_map R.remaining exact.old)) }
-    ensures failure { IfErr result (AreUnread (exact_named (option_map R.remaining exact.old))) }
-    ensures named { is_some exact.new ≡ is_some exact.old }
-{
-    match exact {
-        Some(file) => Ok(Some(read_lent(alloc, file, Name::Cert)?)),
-        None => Ok(None),
-    }
-}
-
 /// All bytes of the files that are no region's, which are read in this order. Where one is not
 /// read, those behind it are as they were.
 pub(crate) fn read_inputs<R: Read + Drop>(
@@ -79,7 +63,7 @@ pub(crate) fn read_inputs<R: Read + Drop>(
     ensures named { is_some exact.new ≡ is_some exact.old }
 {
     let country = read_top(alloc, top)?;
-    let exact = read_exact(alloc, exact)?;
+    let exact = read_cert(alloc, exact)?;
     Ok(PublishCountryBytes { country, exact })
 }
 

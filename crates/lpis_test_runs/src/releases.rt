@@ -69,7 +69,7 @@ pub fn run(
                 covers: Halting::at(1, texts.pieces, failing),
                 classes: Halting::at(2, CLASSES, failing),
             },
-            cert: Halting::at(3, texts.cert, failing),
+            cert: Some(Halting::at(3, texts.cert, failing)),
         },
         points: Halting::at(4, texts.points, failing),
     };

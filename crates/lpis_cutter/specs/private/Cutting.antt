@@ -65,7 +65,7 @@ IsNoFanAt r k = (x : Piece) × (slice_get r.pieces k ≡ Some x) × (IsFan x.pol
 abbrev pub HaveCuts : Contents → ℕ → Type 0
 HaveCuts r n = (k : ℕ) → k < n → HasCutAt r k
 
--- the first piece without a cut among those below an index, where one is found
+-- the pieces below an index have cuts; or those before one do, and that is no fan
 abbrev pub FindsUncut : Contents → ℕ → Option ℕ → Type 0
 FindsUncut r n o = MatchOption o (HaveCuts r n) (λ k. HaveCuts r k × IsNoFanAt r k)
 

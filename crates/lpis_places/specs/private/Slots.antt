@@ -40,3 +40,9 @@ stands_before s n h = nat_lt s.strip n || (s.strip == n && int_lt s.spot.y h)
 pub record StartsAt (slots : List Slot) (n : ℕ) (h : ℤ) (start : ℕ) : Type 0 where
   pub within : start ≤ length slots
   pub before : (k : ℕ) (d : Slot) → k < start → stands_before (get_or slots k d) n h ≡ true
+
+-- each slot is in one of two halves, and the halves have no others
+pub record ArePut (slots low high : List Slot) : Type 0 where
+  pub lows : All (λ (s : Slot). Contains slots s) low
+  pub highs : All (λ (s : Slot). Contains slots s) high
+  pub all : (s : Slot) → Contains slots s → Contains low s ⊎ Contains high s

@@ -1,7 +1,10 @@
 -- What a submission says, or the answer where it says nothing.
-use Rattle.std.specs.Prelude.{ℕ, Vec}
+use Rattle.std.specs.Prelude.{ℕ, List, Vec}
 use Rattle.std.specs.declared.alloc.Global.{Global}
+use Rattle.lpis_cert.specs.declared.cert.Cert.{Cert}
+use Rattle.lpis_lineage.specs.declared.row.Row.{Row}
 use Rattle.lpis_register.specs.Holdings.{Holdings}
+use Rattle.lpis_release.specs.Release.{Contents}
 use Rattle.lpis_run.specs.CheckAnswer.{Answer}
 use Rattle.lpis_run.specs.Folders.{submission_by}
 use Rattle.lpis_run.specs.Report.{report_text}
@@ -22,8 +25,8 @@ submitted_of s = submitted s.release s.cert s.rows.items
 abbrev pub IsFaultAnswer : SubmissionInputs → Answer → Type 0
 IsFaultAnswer = IsSubmissionAnswer (λ said a. ⊥)
 
--- the answer to one that says this, which is to be published in a year, where its certificate is
--- good
-abbrev pub IsGoodAnswer : ℕ → Submitted → Holdings → Answer → Type 0
-IsGoodAnswer year said before = IsHistoryAnswer publish_refusal_text (report_text said.release)
-    (candidate_of year said) before
+-- the answer to a release with these rows, which is to be published in a year, where this
+-- certificate is good
+abbrev pub IsGoodAnswer : ℕ → Contents → List Row → Cert → Holdings → Answer → Type 0
+IsGoodAnswer year r rows c before = IsHistoryAnswer publish_refusal_text (report_text r)
+    (candidate_of year r rows c) before

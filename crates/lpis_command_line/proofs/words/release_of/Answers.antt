@@ -2,6 +2,3 @@ use Rattle.lpis_command_line.proofs.words.release_of.Goals as goal
 
 pub returns-in_err-tables : goal.returns-in_err-tables
 returns-in_err-tables c = rw c.from_residual.ensures (λ f h. c.in_err-tables.ensures f.tables h.0)
-
-pub returns-in_err-cert : goal.returns-in_err-cert
-returns-in_err-cert c = rw c.from_residual-in_err-cert.ensures (λ f h. c.in_err-cert.ensures f.cert h.1)

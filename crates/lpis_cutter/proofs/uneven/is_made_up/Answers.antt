@@ -1,6 +1,7 @@
-use Rattle.std.proofs.Common.{inl}
-use Rattle.std.proofs.lemmas.Result.{IfOk-weaker}
+use Rattle.std.proofs.Common.{◌∙◌, ap}
+use Rattle.lpis_edge_sums.specs.Making.{polygons}
+use Rattle.lpis_checker.specs.GoodCertificate.{polygons_of}
 use Rattle.lpis_cutter.proofs.uneven.is_made_up.Goals as goal
 
-pub returns-clause-made : goal.returns-clause-made
-returns-clause-made c = IfOk-weaker c.is_even.result _ _ (λ b told is. inl (told.0 is)) c.is_even.ensures
+pub do_make_up-requires : goal.do_make_up-requires
+do_make_up-requires c = ap polygons c.as_slice.ensures.value ∙ c.in_ok-polygons.ensures ∙ ap polygons_of c.pieces_of.ensures

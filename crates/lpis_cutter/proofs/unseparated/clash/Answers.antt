@@ -1,9 +1,9 @@
-use Rattle.std.proofs.Common.{ℕ, List, sym, subst}
+use Rattle.std.proofs.Common.{ℕ, List, inl, sym, subst}
 use Rattle.lpis_cutter.specs.Refusals.{StandsAt}
 use Rattle.lpis_cutter.proofs.unseparated.clash.Goals as goal
 
 pub returns : goal.returns
-returns c = record {
+returns c = inl (record {
   cert = c.args.cert.now;
   parts = c.requires.parts;
   i = c.args.numbers.0;
@@ -19,4 +19,4 @@ returns c = record {
       c.requires.of_second;
   near = c.requires.near;
   none = c.requires.none;
-}
+})

@@ -1,7 +1,7 @@
 use Rattle.std.proofs.Common.{◌<◌, ◌∙◌, ◌∷◌, [], Some, ap, get_or, length, map, subst, sym}
 use Rattle.std.proofs.lemmas.List.{get_or-map}
 use Rattle.std.specs.String.{string_bytes}
-use Rattle.lpis_run.specs.CheckAnswer.{AreRead}
+use Rattle.lpis_run_country.specs.Regions.{IsFolderRead}
 use Rattle.lpis_run.specs.Inputs.{inputs_of}
 use Rattle.lpis_run.specs.Stops.{IsRefusedAs}
 use Rattle.lpis_run_country.specs.CountryAnswer.{IsRefusedRegion}
@@ -25,7 +25,7 @@ returns-in-Ok-clause-verdict g c = λ table before at.
     let same = c.as_slice.ensures.value ∙ there in
     let is = c.as_str.ensures.value ∙ ap string_bytes c.index.ensures ∙ sym (get_or-map string_bytes c.read_region.new.names.items c.args.index _ [] inside)
     ∙ ap (λ xs. get_or (map string_bytes xs) c.args.index []) there in
-    let told = subst (λ name. AreRead (inputs_of c.in_ok-inputs.inputs) (texts name).given) (sym is) c.in_ok-inputs.ensures.bytes in
+    let told = subst (λ name. IsFolderRead (inputs_of c.in_ok-inputs.inputs) (texts name)) (sym is) c.in_ok-inputs.ensures.bytes in
     let s = setting_at texts c.args.names.now.items c.args.progress.now in
     let passed = subst (λ xs. AfterAny (setting_at texts xs c.args.progress.now) c.args.progress.now (λ u ls rs. HasPassed u ls rs c.as_str.result.now c.judge_inputs-verdict.new.progress)) same
     (c.in-Ok.ensures.passed texts told) in
@@ -39,7 +39,7 @@ returns-in_ok-into_answer-in-Err-clause-verdict g c = λ table before at.
     let same = c.as_slice.ensures.value ∙ there in
     let is = c.as_str.ensures.value ∙ ap string_bytes c.index.ensures ∙ sym (get_or-map string_bytes c.read_region.new.names.items c.args.index _ [] inside)
     ∙ ap (λ xs. get_or (map string_bytes xs) c.args.index []) there in
-    let told = subst (λ name. AreRead (inputs_of c.in_ok-inputs.inputs) (texts name).given) (sym is) c.in_ok-inputs.ensures.bytes in
+    let told = subst (λ name. IsFolderRead (inputs_of c.in_ok-inputs.inputs) (texts name)) (sym is) c.in_ok-inputs.ensures.bytes in
     let s = setting_at texts c.args.names.now.items c.args.progress.now in
     let refused = subst (λ xs. AfterAny (setting_at texts xs c.args.progress.now) c.args.progress.now (λ u ls rs. IsRefusedAs (IsRefusedRegion u rs c.as_str.result.now) c.in-Err.stop)) same
     (c.in-Err.ensures.refused texts told) in

@@ -3,8 +3,9 @@ use Rattle.lpis_run_publish.proofs.Common.{IfOk-weaker}
 use Rattle.lpis_run_publish.proofs.LeavingLemmas.{leaves_as, leaves_untouched}
 use Rattle.lpis_run_publish.proofs.PublishLemmas.{both-ok}
 use Rattle.lpis_run_publish.proofs.SubmissionLemmas.{submission-more, submission-said, submission-status}
-use Rattle.lpis_run_publish.specs.private.Submitting.{IsFaultAnswer, IsGoodAnswer, submission_of, submitted_of}
-use Rattle.lpis_run.specs.CheckAnswer.{Answer, IsCheckAnswer}
+use Rattle.lpis_run_publish.specs.PublishAnswer.{IsReleaseAnswer}
+use Rattle.lpis_run_publish.specs.private.Submitting.{IsFaultAnswer, submission_of, submitted_of}
+use Rattle.lpis_run.specs.CheckAnswer.{Answer, IsUsedAnswer}
 use Rattle.lpis_run.specs.Stops.{IsRefusedAs}
 use Rattle.lpis_register.specs.Holdings.{Holdings}
 use Rattle.lpis_run_publish.specs.Submission.{Submitted}
@@ -12,7 +13,7 @@ use Rattle.lpis_run_publish.proofs.publish.answer_to.Goals as goal
 
 -- the answer to what a submission says
 abbrev next : ℕ → Holdings → Submitted → Answer → Type 0
-next year before said = IsCheckAnswer said.release said.cert (IsGoodAnswer year said before)
+next year before said = IsUsedAnswer said.release (IsReleaseAnswer year said.release said.rows before) said.cert
 
 pub returns-in-Ok-clause-answer : goal.returns-in-Ok-clause-answer
 returns-in-Ok-clause-answer g c =
@@ -28,7 +29,7 @@ returns-in-Ok-clause-moves g c =
     (λ a known. (
       (λ is_done.
           let was = known.0 is_done in
-          (submitted_of c.in-Ok.said, record { submitted = submitted; sound = was.0; good = was.1 }, was.2)),
+          (_, record { said = submitted_of c.in-Ok.said; submitted = submitted; certificate = was.0; sound = was.1; is = refl }, was.2)),
       known.1,
     ))
     (both-ok c.answer_to_submission.result _ _ c.answer_to_submission.ensures.published c.answer_to_submission.ensures.leaves.same)
@@ -47,7 +48,7 @@ returns-in_ok-into_answer-in-Err-clause-moves g c =
 
 pub returns-in-Ok-clause-leaves : goal.returns-in-Ok-clause-leaves
 returns-in-Ok-clause-leaves g c =
-    leaves_as g.S.Store _ _ (λ x is. (submitted_of c.in-Ok.said, record { submitted = c.in-Ok.ensures.said; sound = is.0; good = is.1 }, is.2)) c.args.register.now
+    leaves_as g.S.Store _ _ (λ x is. record { said = submitted_of c.in-Ok.said; submitted = c.in-Ok.ensures.said; certificate = is.0; sound = is.1; is = is.2 }) c.args.register.now
     c.answer_to_submission.new.register c.answer_to_submission.result c.answer_to_submission.ensures.leaves
 
 pub returns-in_ok-into_answer-in-Err-clause-leaves : goal.returns-in_ok-into_answer-in-Err-clause-leaves

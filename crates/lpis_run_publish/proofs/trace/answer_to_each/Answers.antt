@@ -1,15 +1,17 @@
-use Rattle.std.proofs.Common.{ap, map}
+use Rattle.std.proofs.Common.{◌+◌, arith, ap, map, drop}
 use Rattle.std.proofs.Math.ListN.{drop_of_length-le}
-use Rattle.lpis_run_publish.proofs.TraceLemmas.{goes-on-from, none-is-left, one-word-more}
+use Rattle.lpis_run_publish.proofs.TraceLemmas.{none-is-left, in-parts}
 use Rattle.lpis_run_publish.proofs.trace.answer_to_each.Goals as goal
 
-pub loop-word-init : goal.loop-word-init
-loop-word-init g c = goes-on-from _ _ c.new-text.result.items c.new-text.ensures.items
-
-pub loop-word-preserved : goal.loop-word-preserved
-loop-word-preserved g c =
-    one-word-more _ c.args.words.now c.loop-word.word-index _ c.loop-word.text.items c.add_answer.new.text.items c.loop-word.status c.in_ok-next.next c.status_of_two-status.result
-    c.loop-word-test.true c.loop-word.invariant c.in_ok-next.ensures c.status_of_two-status.ensures
+pub words-preserved : goal.words-preserved
+words-preserved g c =
+    let done = c.words.done in
+    let end = done + c.min.result in
+    record {
+      within = omega (arith, c.words-test.true, c.words.invariant.within, c.min.ensures);
+      so_far = c.in_ok-status.ensures (map (λ w. w.now) c.args.words.now) (map (λ w. w.now) (drop end c.args.words.now))
+          (in-parts c.args.register.now.held.history (map (λ w. w.now) c.args.words.now) c.args.words.now done end (c.words.text.items, c.words.status) (omega arith) c.words.invariant.so_far);
+    }
 
 pub returns : goal.returns
-returns g c = none-is-left _ _ _ c.loop-word.text.items c.loop-word.status (ap (map _) (drop_of_length-le c.args.words.now c.loop-word-test.false)) c.loop-word.invariant
+returns g c = none-is-left _ _ _ c.words.text.items c.words.status (ap (map _) (drop_of_length-le c.args.words.now (omega (arith, c.words-test.false)))) c.words.invariant.so_far

@@ -10,4 +10,4 @@ returns-in_err-country-clause-untouched g c =
 pub returns-in_err-exact-clause-untouched : goal.returns-in_err-exact-clause-untouched
 returns-in_err-exact-clause-untouched g c =
     let p = err_from_is_err_and c.from_residual-in_err-exact.result c.from_residual-in_err-exact.ensures.1 in
-    rw (p.1, p.2) (exact_unread c.args.top.now c.read_top.new.top c.args.exact.now c.read_exact.new.exact _ _ c.read_exact.ensures.named c.in_err-exact.ensures.failure)
+    rw (p.1, p.2) (exact_unread c.args.top.now c.read_top.new.top c.args.exact.now c.read_cert.new.cert _ _ c.read_cert.ensures.named c.in_err-exact.ensures.failure)

@@ -1,0 +1,6 @@
+pub mod BoxLemmas
+pub mod FaultyMapLemmas
+pub mod IslandLemmas
+pub mod ListLemmas
+pub mod SoundMapLemmas
+pub mod StripLemmas

@@ -1,0 +1,4 @@
+pub mod Opening
+pub mod Performance
+pub mod Standing
+pub mod private

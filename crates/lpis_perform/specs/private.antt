@@ -1,0 +1,2 @@
+-- Machinery, cited by private contracts alone: no promise rests on it.
+pub mod Missing
