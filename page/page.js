@@ -2,12 +2,14 @@
 // What the page does: takes files, asks the worker, shows what it answers.
 
 const KINDS = ['parcels', 'covers', 'classes', 'cert'];
+const WANTED = KINDS.slice(0, 3); // a certificate is made where none is there
 const FACTS = JSON.parse($('facts').textContent);
 const EXAMPLES = JSON.parse($('examples').textContent);
 const files = {};
 const known = { program: FACTS.program, module: '', page: '' }; // sha256s; of module and page those of what runs here
 let shown = null; // the last result, so that it can be shown in another language
 let tables = [];
+let passed = []; // what was dropped last and is of no kind, in words
 
 // The worker does one task after another.
 const worker = new Worker(URL.createObjectURL(new Blob([$('work').textContent], { type: 'text/javascript' })));
@@ -26,10 +28,22 @@ function ask(task, words, transfer = []) {
 // Files.
 
 function kindOf(name, start) {
-  const table = KINDS.slice(0, 3).find(kind => new RegExp(`${kind}[^/]*\\.csv$`, 'i').test(name));
+  const table = WANTED.find(kind => new RegExp(`${kind}[^/]*\\.csv$`, 'i').test(name));
   if (table || /\.csv$/i.test(name)) return table ?? '';
   if (/\.html?$/i.test(name)) return 'page';
   return start.startsWith('lpis-cert') || /cert|\.txt$/i.test(name) ? 'cert' : '';
+}
+
+const PACKAGES = ['GPKG', 'GP10', 'GP11']; // what a GeoPackage has at byte 68
+const MOST_PASSED = 5; // files of no kind that are told
+
+/** What a file of no kind is: a key of the words, and their values. */
+async function strangerOf(file) {
+  const name = file.webkitRelativePath || file.name, bytes = new Uint8Array(await file.slice(0, 4096).arrayBuffer());
+  const text = new TextDecoder('latin1').decode(bytes), [first] = text.split(/\r?\n/);
+  if (text.startsWith('SQLite format 3') && PACKAGES.includes(text.slice(68, 72))) return ['is package', { name }];
+  if (/\.(csv|txt|tsv)$/i.test(name) && /[,;\t]/.test(first)) return ['is table', { name, columns: new TextDecoder().decode(bytes).split(/\r?\n/)[0].split(/[,;\t]/).join(', ') }];
+  return ['is other', { name }];
 }
 
 const FOLDERS = 3; // how deep folders are looked into
@@ -67,26 +81,36 @@ async function addDropped(transfer) {
 }
 
 async function sorted(list) {
-  const found = {};
+  const found = {}, others = [];
   for (const file of list) {
     const kind = kindOf(file.name, await file.slice(0, 16).text());
     if (kind) (found[kind] ??= []).push(file);
+    else others.push(file);
   }
-  return found;
+  return [found, others];
+}
+
+/** Says what the files are that are of no kind. */
+async function tellPassed(others) {
+  passed = await Promise.all(others.slice(0, MOST_PASSED).map(strangerOf));
+  if (others.length > MOST_PASSED) passed.push(['more passed', { count: others.length - MOST_PASSED }]);
 }
 
 async function add(list) {
-  const found = await sorted(list);
+  const [found, others] = await sorted(list);
+  await tellPassed(others);
   const doubled = Object.entries(found).find(([kind, all]) => all.length > 1 && kind !== 'page');
   if (doubled) {
+    showFiles();
     showWords('no', 'several', { names: doubled[1].map(file => file.webkitRelativePath || file.name).join(', ') });
     return;
   }
   if (KINDS.some(kind => found[kind])) forget();
+  if (WANTED.every(kind => found[kind])) delete files.cert; // it was of the tables before
   if (found.page) await showDigestOf(found.page[0]);
   for (const kind of KINDS) if (found[kind]) files[kind] = found[kind][0];
   showFiles();
-  if (KINDS.every(kind => files[kind]) && KINDS.some(kind => found[kind])) await check();
+  if (WANTED.every(kind => files[kind]) && KINDS.some(kind => found[kind])) await check();
 }
 
 /** An answer to other files is shown no more; a certificate that was made of them is gone, and so are an example's tables. */
@@ -99,18 +123,19 @@ function forget() {
 /** Puts a small release in place of all files that are there, and tries it. */
 async function tryExample(name) {
   for (const kind of KINDS) delete files[kind];
+  passed = [];
   forget();
   for (const [kind, text] of Object.entries(EXAMPLES[name])) {
     files[kind] = new File([text], `${kind}.csv`);
     files[kind].isExample = true;
   }
   showFiles();
-  await cut();
+  await check();
 }
 
 /** What is said of a file, or that it is missing. */
-function wordsOf(file) {
-  if (!file) return say('missing');
+function wordsOf(file, kind) {
+  if (!file) return say(WANTED.includes(kind) ? 'missing' : 'not needed');
   if (file.isMadeHere) return say('made here', { bytes: file.size });
   return `${file.isExample ? say('of example', { name: file.name }) : file.name}, ${say('bytes', { bytes: file.size })}`;
 }
@@ -118,11 +143,10 @@ function wordsOf(file) {
 function showFiles() {
   $('have').replaceChildren(...KINDS.map(kind => {
     const file = files[kind];
-    return element('li', `${say(`file ${kind}`)}: ${wordsOf(file)}`, file ? 'there' : '');
+    return element('li', `${say(`file ${kind}`)}: ${wordsOf(file, kind)}`, file ? 'there' : '');
   }));
-  $('check').disabled = !KINDS.every(kind => files[kind]);
-  $('cut').disabled = !KINDS.slice(0, 3).every(kind => files[kind]);
-  $('hint').hidden = $('cut').disabled || Boolean(files.cert);
+  $('passed').replaceChildren(...passed.map(([key, values]) => element('li', say(key, values))));
+  $('check').disabled = $('cut').disabled = !WANTED.every(kind => files[kind]);
   $('save-cert').hidden = !files.cert?.isMadeHere;
 }
 
@@ -133,12 +157,17 @@ function showWords(kind, key, values = {}) {
   render();
 }
 
-const VERDICTS = { area: ['areas told', 'unreadable', 'unreadable'], check: ['yes', 'refused', 'unreadable'], cut: ['cut', 'not cut', 'unreadable'] };
+const VERDICTS = {
+  area: ['areas told', 'unreadable', 'unreadable'],
+  check: ['yes', 'refused', 'unreadable'],
+  'check by cert': ['yes by cert', 'refused by cert', 'unreadable'],
+  cut: ['cut', 'not cut', 'unreadable'],
+};
 
-function verdictOf(result, task) {
+function verdictOf(result, task, isByCert) {
   if (result.error) return ['no', result.error === 'memory' ? 'no memory' : 'no answer', { error: result.error }];
   const line = result.status === 0 && task !== 'cut' ? '' : result.text.trim();
-  return [result.status ? 'no' : task === 'check' ? 'yes' : 'plain', VERDICTS[task][result.status] ?? 'no answer', { line, error: `status ${result.status}` }];
+  return [result.status ? 'no' : task === 'check' ? 'yes' : 'plain', VERDICTS[isByCert ? 'check by cert' : task][result.status] ?? 'no answer', { line, error: `status ${result.status}` }];
 }
 
 async function run(task, wanted) {
@@ -146,14 +175,14 @@ async function run(task, wanted) {
   const waiting = shown;
   const result = await ask(task, { files: wanted });
   if (shown !== waiting) return {}; // other files came meanwhile
-  const [kind, key, values] = verdictOf(result, task), isBusy = !result.error && task !== 'area' && (task === 'check' || result.status > 0);
+  const [kind, key, values] = verdictOf(result, task, Boolean(wanted.cert)), isBusy = !result.error && task !== 'area' && (task === 'check' || result.status > 0);
   shown = { kind, key, values, sentences: result.sentences ?? [], result: result.error ? null : result, names: wanted, isReport: task === 'check' && result.status === 0, isBusy };
   render();
   if (isBusy) await draw(shown, wanted);
   return result;
 }
 
-const filesOf = kinds => Object.fromEntries(kinds.map(kind => [kind, files[kind]]));
+const filesOf = kinds => Object.fromEntries(kinds.filter(kind => files[kind]).map(kind => [kind, files[kind]]));
 
 async function check() {
   return run('check', filesOf(KINDS));
@@ -164,9 +193,9 @@ async function area(file) {
   return run('area', { area: file });
 }
 
-/** Makes a certificate, and checks the release by it. */
+/** Makes a certificate that can be saved, for whoever it is handed over to, and checks the release by it. */
 async function cut() {
-  const result = await run('cut', filesOf(KINDS.slice(0, 3)));
+  const result = await run('cut', filesOf(WANTED));
   if (!result.cert) return;
   files.cert = new File([result.cert], 'release.cert');
   files.cert.isMadeHere = true;

@@ -49,6 +49,17 @@ const csvField = field => (/[",\r\n]/.test(field) ? `"${field.replaceAll('"', '"
 /** A text that a spreadsheet would take for a formula has an apostrophe before it, as in the tables of the tools. */
 const csvText = field => csvField(/^'*[=+\-@\t\r]/.test(field) ? `'${field}` : field);
 
+/** Lets an element be chosen by a click, and by Enter or a blank where the keyboard has reached it. */
+function reach(chosen, act) {
+  chosen.tabIndex = 0;
+  chosen.addEventListener('click', act);
+  chosen.addEventListener('keydown', event => {
+    if (event.target !== chosen || !['Enter', ' '].includes(event.key)) return;
+    event.preventDefault();
+    act();
+  });
+}
+
 /** A table of texts that a click on a heading sorts, of which the first rows are shown. A column whose key begins with # has numbers. */
 class SortedTable {
   constructor(place, columns, rows, pick) {
@@ -60,13 +71,13 @@ class SortedTable {
     const table = element('table', '', 'sorted'), head = table.createTHead().insertRow(), body = table.createTBody();
     this.columns.forEach((key, column) => {
       const name = element('th', say(key.replace('#', '')), key.startsWith('#') ? 'number' : '');
-      name.addEventListener('click', () => this.sort(column));
+      reach(name, () => this.sort(column));
       head.append(name);
     });
     for (const { cells, number } of this.rows.slice(0, MOST_SHOWN)) {
       const row = body.insertRow();
       cells.forEach((cell, column) => row.append(element('td', cell, this.columns[column].startsWith('#') ? 'number' : '')));
-      if (this.pick) row.addEventListener('click', () => this.pick(number));
+      if (this.pick) reach(row, () => this.pick(number));
       row.className = this.pick ? 'row' : '';
     }
     const more = this.rows.length - MOST_SHOWN;

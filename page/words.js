@@ -33,7 +33,10 @@ function speak() {
   document.documentElement.lang = language;
   document.title = say('title');
   for (const element of document.querySelectorAll('[data-say]')) element.textContent = say(element.dataset.say);
-  for (const element of document.querySelectorAll('[data-say-label]')) element.placeholder = element.ariaLabel = say(element.dataset.sayLabel);
+  for (const element of document.querySelectorAll('[data-say-label]')) {
+    element.ariaLabel = say(element.dataset.sayLabel);
+    if ('placeholder' in element) element.placeholder = element.ariaLabel;
+  }
 }
 
 /** A choice of languages that calls when it changes. */

@@ -35,6 +35,13 @@ async function toldOf(answer, files, read) {
   return { status: answer.status, text: line, sentences: explained?.sentences ?? [], focus: explained?.focus ?? [], refusal, digests, memory: answer.memory };
 }
 
+/** The answer to three tables, by the certificate that is there, or by one that is made and let go. */
+function checked({ parcels, covers, classes, cert }) {
+  if (cert) return CALLS.check(checker, parcels, covers, classes, cert);
+  const made = CALLS.cut(checker, parcels, covers, classes);
+  return made.isAnswered && made.status === 0 ? CALLS.check(checker, parcels, covers, classes, made.texts[0]) : made;
+}
+
 const TASKS = {
   async begin({ module }) {
     checker = await WebAssembly.compile(module);
@@ -51,7 +58,7 @@ const TASKS = {
 
   async check({ files }) {
     const read = await readFiles(files), began = performance.now();
-    const answer = CALLS.check(checker, read.parcels, read.covers, read.classes, read.cert);
+    const answer = checked(read);
     const seconds = (performance.now() - began) / 1000;
     return answer.isAnswered ? { ...(await toldOf(answer, files, read)), seconds } : { error: 'memory' };
   },

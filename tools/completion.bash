@@ -51,24 +51,27 @@ _lpis_options() {
 
 _lpis_country() {
   if [[ $COMP_CWORD -eq 1 ]]; then
-    _lpis_files -W 'prepare split cut check publish --help'
+    _lpis_files -W 'prepare split cut check publish status --version --help'
     return
   fi
   case ${COMP_WORDS[1]-} in
-    prepare) _lpis_options '--accept --accept-from --between --classes --epsg --name --identifiers --previous --tables --workers --snakemake --profile --lineage --parcels --covers --points --anew --quiet --help' ;;
+    prepare) _lpis_options '--accept --accept-from --between --keep --classes --epsg --name --identifiers --previous --tables --workers --snakemake --profile --lineage --parcels --covers --points --anew --quiet --help' ;;
     split) _lpis_options '--lineage --parcels --covers --points --anew --quiet --help' -d ;;
     cut) _lpis_options '--jobs --snakemake --profile --lpis --quiet --help' -d ;;
-    publish) _lpis_options '--lineage --source --new --year-anyway --register-anyway --previous --jump --accept-from --jobs --snakemake --profile --lpis --quiet --help' ;;
+    publish) _lpis_options '--lineage --source --new --year-anyway --register-anyway --source-anyway --previous --jump --accept-from --jobs --snakemake --profile --lpis --quiet --help' ;;
+    status) _lpis_options '--quiet --help' -d ;;
     *) _lpis_options '--parcels --lpis --quiet --help' -d ;;
   esac
 }
-_lpis_check() { _lpis_options '--out --accept --accept-from --between --classes --epsg --name --identifiers --previous --quiet --lpis --version --help'; }
+_lpis_check() { _lpis_options '--out --accept --accept-from --between --keep --certificate --classes --epsg --name --identifiers --previous --quiet --lpis --version --help'; }
 _lpis_explain() { _lpis_options '--cert --register --area --points --svg --geojson --epsg --status --name --codes --version --help'; }
 _lpis_faults() { _lpis_options '--html --epsg --lpis --version --help'; }
-_lpis_lineage() { _lpis_options '--register --check --rows --workers --quiet --help'; }
-_lpis_prepare() { _lpis_options '--accept --accept-from --between --classes --epsg --name --identifiers --previous --quiet --help'; }
-_lpis_report() { _lpis_options '--json --html --diff --jump --changes --accept-from --register --audit --source --quiet --lpis --version --help'; }
-_lpis_year() { _lpis_options '--new --year-anyway --register-anyway --audit --source --previous --jump --accept-from --verify --lpis --help'; }
+_lpis_lineage() { _lpis_options '--register --check --rows --workers --quiet --version --help'; }
+_lpis_prepare() { _lpis_options '--accept --accept-from --between --keep --classes --epsg --name --identifiers --previous --quiet --version --help'; }
+_lpis_report() { _lpis_options '--json --html --diff --jump --changes --accept-from --register --year --audit --source --quiet --lpis --version --help'; }
+_lpis_year() {
+  _lpis_options '--new --year-anyway --register-anyway --source-anyway --audit --source --previous --jump --accept-from --certificate --verify --undo --status --lpis --version --help'
+}
 
 complete -o filenames -F _lpis lpis
 complete -o filenames -F _lpis_check lpis-check

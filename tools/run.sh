@@ -5,11 +5,10 @@
 #
 # --explain, which the program does not get, puts a refusal into words on standard error, as does a standard error that is a terminal.
 # A program that cannot start on this system ends with status 70, in one line, before anything else: a loader that misses its C library ends
-# with 1, which would read as refused by the gate. On standard error: that a register is not there or is none, before the program runs; behind `failed ..`, which file was meant and what is
-# wrong with it.
+# with 1, which would read as refused by the gate. What else is said on standard error, before the program runs and behind its own words,
+# is said by python/src/lpis/commands/remarks.py, which starts only where there may be something to say.
 
-. "${BASH_SOURCE[0]%/*}/explained.sh"
-
+WITH_EXPLAIN='With each command: --explain puts a refusal into words on standard error, as where that is a terminal.'
 NEEDS='Linux on x86-64 with glibc 2.34 or later (Debian 12, Ubuntu 22.04, RHEL 9)'
 
 # A standard error that the caller closed takes everything and keeps nothing: else its number would be given to a file that is opened here.
@@ -46,288 +45,95 @@ look() {
   fi
 }
 
-# Puts in `words` the command and its words that are no options, and in `valued` the options that have a value, as OPTION=VALUE.
-plain_words() {
-  local word is_over='' option='' row options
-  words=() valued=()
+# Has Python say what there is to say, where the program's standard output is file descriptor $1. Status 64: the program is not to run.
+remarks() {
+  local out=$1
+  shift
+  python3 -I -B -c 'import sys
+sys.path.insert(0, sys.argv.pop(1))
+from lpis.commands import remarks
+sys.exit(remarks.main(sys.argv[1:]))' "${BASH_SOURCE[0]%/*}/../python/src" "$@" 3>&2 2>/dev/null 1>&"$out" </dev/null
+}
+
+# Whether a command has a register among its words.
+has_register() { [[ $'\n'$(<"${BASH_SOURCE[0]%/*}/words.txt") =~ $'\n'"${1-}"\ +register\  ]]; }
+
+# Whether the file of a folder that says which run made its tables (python/src/lpis/register/table_standing.py) says that its last run made none.
+is_unfinished() { [[ -e $1/.lpis-standing ]] && ! grep -qs '^ "state": "whole",$' "$1/.lpis-standing"; }
+
+# Puts in `unfinished` the folder among the words that is unfinished, or lies in one.
+find_unfinished() {
+  local word
+  unfinished=
   for word; do
-    if [[ -n $option ]]; then
-      valued+=("$option=$word") option=
-    elif [[ -n $is_over || $word != -* ]]; then
-      words+=("$word")
-    elif [[ $word == -- ]]; then
-      is_over=yes
-    elif [[ $word == --*=* ]]; then
-      valued+=("$word")
-    else
-      row_of "${words[0]-}"
-      [[ " ${options[*]-}" != *" $word="* ]] || option=$word
-    fi
+    if [[ -d $word ]] && { is_unfinished "$word" || is_unfinished "$word/.."; }; then unfinished=$word; fi
   done
 }
 
-# Puts in `row` what words.txt has of a command or of a folder, and in `options` what it has of a command's options.
-row_of() {
-  local line word
-  row=() options=()
-  while read -ra line; do
-    [[ ${line[0]-} == "$1" ]] || continue
-    for word in "${line[@]:1}"; do
-      if [[ $word == --* ]]; then options+=("$word"); else row+=("${word//[][]/}"); fi
-    done
-  done <"${BASH_SOURCE[0]%/*}/words.txt"
+# Says what there is to say before the program runs; ends with 64 where the words name a folder whose tables are of an earlier run than its last.
+say_before() {
+  local unfinished status=0
+  find_unfinished "$@"
+  [[ -n $unfinished ]] || has_register "$@" || return 0
+  remarks 2 before "$@" || status=$?
+  [[ -n $unfinished && $status -ne 0 ]] || return 0
+  [[ $status -eq 64 ]] || say "$unfinished is unfinished: its last run did not come to its end, so the tables there are of an earlier run: run it again"
+  exit 64
 }
 
-# The path that the program reads or writes (KIND) by a name, for the command's words. NAME is REGION/NAME where it lies in a region.
-path_of() {
-  local mark='' name=$2 place places words valued row options option file
-  [[ $1 == read ]] || mark='>'
-  shift 2
-  plain_words "$@"
-  row_of "${words[0]-}"
-  for option in "${options[@]}"; do
-    [[ -z $mark && ${option#*=} == "$name" ]] || continue
-    for place in "${valued[@]}"; do
-      [[ ${place%%=*} != "${option%%=*}" ]] || printf '%s' "${place#*=}"
-    done
+# Whether a word is a folder in which a tool told what it left out of a source.
+is_prepared() {
+  local word
+  for word; do [[ ! -f $word/prepared.csv && ! -f $word/report.csv ]] || return 0; done
+  return 1
+}
+
+# Says what there is to say behind the program's own words.
+say_behind() {
+  [[ -z $refused ]] || remarks "$out" refusal "$refused" "$@" || true
+  case $status in
+    0) [[ ${1-} != check && ${1-} != publish ]] || ! is_prepared "$@" || remarks "$out" origin "$@" || true ;;
+    2) [[ -z $told ]] || remarks "$out" packages "$@" || true ;;
+    3) remarks "$out" cause "${told%$'\n'}" "$@" || true ;;
+  esac
+}
+
+# Puts the words without --explain in `said`, and in `explain` whether it stands among them, before --.
+take_explain() {
+  local word
+  explain='' said=()
+  while (($#)); do
+    word=$1
+    [[ $word != -- ]] || break
+    [[ $word == --explain ]] && explain=yes || said+=("$word")
+    shift
   done
-  places=("${row[@]}")
-  for place in "${!places[@]}"; do
-    if [[ ${places[place]} == "$mark$name" ]]; then
-      printf '%s' "${words[place + 1]-}"
-    elif [[ -z $mark && ${places[place]} == */ ]]; then
-      row_of "${places[place]}"
-      for file in "${row[@]}"; do
-        [[ ${file%.*} != "${name/#*\//*\/}" ]] || printf '%s/%s.%s' "${words[place + 1]-}" "$name" "${file##*.}"
-      done
-    fi
-  done
+  said+=("$@")
 }
 
-# The register that the words name, where the command line is whole.
-register_of() {
-  local words valued row options place
-  plain_words "$@"
-  row_of "${words[0]-}"
-  [[ ${#words[@]} -eq $((${#row[@]} + 1)) || ${row[*]} == *' -..' && ${#words[@]} -gt ${#row[@]} ]] || return 0
-  [[ ${row[1]-} != - || ${words[2]-} =~ ^[0-9]+$ ]] || return 0 # its year is none: a line of usage follows
-  for place in "${!row[@]}"; do
-    [[ ${row[place]} != register ]] || printf '%s' "${words[place + 1]}"
-  done
-}
+# Whether a refusal is put into words on standard error: where that is a terminal, or --explain is given. Of a pipe only --explain asks for it: its
+# reader may be tools/explain.
+is_explained() { [[ -n $explain ]] || { [[ -t 2 ]] && ! [[ -p /dev/fd/$1 || -S /dev/fd/$1 ]]; }; }
 
-has_head() { [[ $(head -c 15 -- "$1" 2>/dev/null | tr -d '\0') == 'SQLite format 3' ]]; }
-
-# The names of a database's tables, one a line, read without touching it. Nothing where neither Python nor sqlite3 is there.
-tables_of() {
-  local path
-  path=$(readlink -f -- "$1")
-  path=${path//'%'/%25} path=${path//'?'/%3f} path="file:${path//'#'/%23}?immutable=1"
-  python3 -c 'import sqlite3, sys
-for (name,) in sqlite3.connect(sys.argv[1], uri=True).execute("SELECT name FROM sqlite_master WHERE type = \"table\""): print(name)' "$path" 2>/dev/null ||
-    sqlite3 "$path" "SELECT name FROM sqlite_master WHERE type = 'table'" 2>/dev/null || true
-}
-
-# Says where a register is about to be made, by mistake perhaps.
-warn_of_register() {
-  local path tables
-  path=$(register_of "$@")
-  [[ -n $path && ! -d $path ]] || return 0
-  if [[ ! -e $path ]]; then
-    [[ ! -d $(dirname -- "$path") ]] || say "$path was not there: a new, empty register"
-  elif [[ ! -s $path ]]; then
-    say "$path was empty: a new, empty register"
-  elif [[ -r $path ]] && ! has_head "$path"; then
-    say "$path is no SQLite database"
-  elif [[ -r $path ]]; then
-    tables=$(tables_of "$path")
-    [[ -z $tables || $'\n'$tables == *$'\n'lpis_* ]] || say "$path has tables of another program and none of a register: a new, empty register beside them"
+# Runs the program as `run_and_hear` does, and puts in `refused` the line by which it refuses. What it prints is the same byte for byte: of a file
+# the line is read there, and else the output goes on through `tee`, whose failure is one of standard output.
+run_and_keep() {
+  local out=$1 shown='' teller kept
+  shift
+  refused=
+  if [[ -f /dev/fd/$out ]]; then
+    run_and_hear "$out" "$@"
+    [[ $status -ne 1 && $status -ne 2 ]] || refused=$(tail -n 1 -- "/proc/$BASHPID/fd/$out" 2>/dev/null | grep -a '^refused ') || true
+    return 0
   fi
-}
-
-# What is wrong with a file or its folder before it is read or written; nothing where they are as they should be.
-trouble_of_place() {
-  local folder
-  folder=$(dirname -- "$1")
-  if [[ -d $1 ]]; then
-    echo 'it is a folder'
-  elif [[ -L $1 && ! -e $1 && $2 == read ]]; then
-    echo "it is a link to $(readlink -- "$1"), which is missing"
-  elif [[ ! -e $1 && ! -d $folder ]]; then
-    [[ -e $folder ]] && echo "$folder is not a folder$(what_reads "$folder")" || echo "it is missing, and so is the folder $folder"
-  elif [[ ! -e $1 && ! -x $folder ]]; then
-    echo "there is no permission to enter the folder $folder"
-  fi
-}
-
-# What is wrong with a path that could not be read.
-trouble_of_reading() {
-  local found
-  found=$(trouble_of_place "$1" read)
-  if [[ -n $found ]]; then
-    echo "$found"
-  elif [[ ! -e $1 ]]; then
-    echo 'it is missing'
-  elif [[ ! -r $1 ]]; then
-    echo 'there is no permission to read it'
-  elif (($(stat -Lc %s -- "$1" 2>/dev/null || echo 0) > 1073741824)); then
-    echo 'it is over 1 GiB (1,073,741,824 bytes)'
-  else
-    echo 'it is there, and reading it failed'
-  fi
-}
-
-# What is wrong with a path that could not be written; nothing where that is not seen.
-trouble_of_writing() {
-  local found folder
-  folder=$(dirname -- "$1")
-  found=$(trouble_of_place "$1" write)
-  if [[ -n $found ]]; then
-    echo "$found"
-  elif [[ -e $1 && ! -w $1 ]]; then
-    is_read_only "$1" && echo 'it lies on a file system that is read-only' || echo 'there is no permission to write it'
-  elif [[ ! -w $folder ]]; then
-    is_read_only "$folder" && echo "the folder $folder lies on a file system that is read-only" || echo "there is no permission to write into the folder $folder"
-  elif [[ ! -c $1 && $(free_at "$folder") -le 1048576 ]]; then
-    echo 'the disk is full'
-  fi
-}
-
-# How many bytes are free where a path lies; very many where that is not known.
-free_at() {
-  local free
-  free=$(df --output=avail --block-size=1 -- "$1" 2>/dev/null | tail -n 1) || free=
-  echo "${free:-9000000000000000000}"
-}
-
-# What is wrong with standard output, which is the file descriptor handed in.
-trouble_of_output() {
-  local path=/dev/fd/$1
-  if [[ -p $path || -S $path ]]; then
-    echo 'its reader went away before the end'
-  elif [[ -f $path && $(free_at "/proc/self/fd/$1") -le 1048576 ]]; then
-    echo 'the disk is full'
-  elif [[ -c $path ]]; then
-    echo 'its device takes no more'
-  else
-    echo 'writing it failed'
-  fi
-}
-
-# Whether a path lies on a file system that is mounted read-only.
-is_read_only() {
-  local options
-  options=$(findmnt -no OPTIONS -T "$1" 2>/dev/null) || return 1
-  [[ ,$options, == *,ro,* ]]
-}
-
-# Which process holds a lock on a register's file or on one beside it; nothing where none does. What a process has open is seen of one's own
-# processes, or by root. The system's table of locks has all of them, but -1 or 0 for a process that it does not name.
-holder_of() {
-  local file inode entry pid name
-  for file in "$1" "$1"-wal "$1"-shm "$1"-journal; do
-    inode=$(stat -Lc %i -- "$file" 2>/dev/null) || continue
-    while read -r entry; do
-      pid=${entry#/proc/} pid=${pid%%/*}
-      [[ ${entry/fdinfo/fd} -ef $file ]] && name=$(cat "/proc/$pid/comm" 2>/dev/null) || continue
-      echo "the process $pid ($name) holds it"
-      return 0
-    done < <(grep -ls "^lock:.*:$inode " /proc/[0-9]*/fdinfo/* 2>/dev/null)
-    while read -r pid; do
-      name=$(cat "/proc/$pid/comm" 2>/dev/null) && echo "the process $pid ($name) holds it" || echo 'a process of another user holds it'
-      return 0
-    done < <(awk -v "inode=$inode" '{ for (i = 1; i <= NF; i++) if (split($i, part, ":") == 3 && part[3] == inode) print $(i - 1) }' /proc/locks 2>/dev/null)
-  done
-}
-
-# What SQLite finds wrong with a database's rows, where Python is there.
-damage_of() {
-  python3 -c 'import pathlib, sqlite3, sys
-base = sqlite3.connect(pathlib.Path(sys.argv[1]).resolve().as_uri() + "?mode=ro", uri=True, timeout=1)
-try:
-    told = base.execute("PRAGMA quick_check(1)").fetchone()[0]
-    keys = base.execute("PRAGMA foreign_key_check").fetchone()
-    print("" if told == "ok" and not keys else f"a row of {keys[0]} names a row of {keys[2]} that is not there" if keys else f"SQLite says of it: {told.splitlines()[-1]}")
-except sqlite3.Error as error:
-    print("another process holds it" if "locked" in str(error) else f"SQLite says of it: {error}")' "$1" 2>/dev/null || true
-}
-
-# What others have put into a register's file that keeps the program from it (`keeps`), or may have refused a release (`refuses`), where Python
-# is there.
-guest_of() { python3 -B "${BASH_SOURCE[0]%/*}/lpis_tools/beside.py" "$@" 2>/dev/null || true; }
-
-# How many bytes the polygons of parcels have that a publish reads, those of all regions of a country together.
-bytes_of_parcels() {
-  local path every
-  path=$(path_of read parcels "$@")
-  every=$(path_of read '*/parcels' "$@")
-  if [[ -n $every ]]; then
-    find -L "${every%/\*/*}" -mindepth 2 -maxdepth 2 -name parcels.csv -printf '%s\n' 2>/dev/null | awk '{ sum += $1 } END { print sum + 0 }'
-  else
-    stat -Lc %s -- "$path" 2>/dev/null || echo 0
-  fi
-}
-
-# That the disk may have been full, where it has less free than a publish may write: as much as the register and the polygons have. What it
-# wrote before it failed is given back by then.
-shortage_at() {
-  local free wanted
-  free=$(free_at "$(dirname -- "$1")")
-  wanted=$(($(stat -Lc %s -- "$1" 2>/dev/null || echo 0) + $(bytes_of_parcels "${@:2}")))
-  ((free >= wanted)) || echo "the disk has $((free / 1000000)) MB free, and a publish may write $((wanted / 1000000 + 1)) MB: it was full"
-}
-
-# What is wrong with a register that failed, for the command's words.
-trouble_of_register() {
-  local found
-  found=$(trouble_of_writing "$1")
-  if [[ -z $found && -s $1 && -r $1 ]] && ! has_head "$1"; then
-    found='it is no SQLite database'
-  fi
-  [[ -n $found ]] || found=$(holder_of "$1")
-  [[ -n $found || ! -e $1 ]] || found=$(guest_of keeps "$1")
-  [[ -n $found || ! -e $1 ]] || found=$(damage_of "$1")
-  [[ -n $found ]] || found=$(shortage_at "$@")
-  [[ -n $found || ! -e $1 ]] || found=$(guest_of refuses "$1")
-  echo "${found:-it is there, and using it failed: perhaps another process held it just now}"
-}
-
-# Says the cause behind the program's own line `failed read NAME`, `failed write NAME` or `failed store`; standard output was file descriptor $2.
-say_cause() {
-  local told=$1 out=$2 kind name region path found
-  shift 2
-  if [[ $told == 'failed store' ]]; then
-    path=$(register_of "$@")
-    [[ -z $path ]] || say "the register is $path: $(trouble_of_register "$path" "$@")"
-  elif [[ $told == 'failed write out' ]]; then
-    say "standard output could not be written: $(trouble_of_output "$out")"
-  elif [[ $told =~ ^failed\ (read|write)\ ([a-z]+)(\ region\ ([A-Za-z0-9_-]+))?$ ]]; then
-    kind=${BASH_REMATCH[1]} name=${BASH_REMATCH[2]} region=${BASH_REMATCH[4]}
-    path=$(path_of "$kind" "${region:+$region/}$name" "$@")
-    [[ -n $path ]] || return 0
-    if [[ $kind == read ]]; then
-      found=$(trouble_of_reading "$path")
-    else
-      found=$(trouble_of_writing "$path")
-    fi
-    [[ $name != lineage || $found != 'it is missing' ]] || found+='; where no identifier was dropped, as in a first year, it is the line old,new alone'
-    say "$name${region:+ of region $region} is $path: ${found:-it is there, and writing it failed}"
-  fi
-}
-
-# Says what was left out before the tables of a folder that passed, and what was accepted: a yes is about the tables alone.
-say_origin() {
-  local folder found
-  [[ ${1-} == check || ${1-} == publish ]] || return 0
-  folder=$(path_of read parcels "$@")
-  folder=${folder%/*}
-  [[ -f $folder/prepared.csv || -f $folder/report.csv ]] || return 0
-  found=$(python3 -B -c 'import sys
-sys.path.insert(0, sys.argv[1])
-from lpis_tools import origin
-print(origin.brief(sys.argv[2]))' "${BASH_SOURCE[0]%/*}" "$folder" 2>/dev/null) ||
-    found='prepared.csv and report.csv have what was left out of the source, and could not be summed'
-  [[ -z $found ]] || say "$folder: $found"
+  kept=$(mktemp) || { run_and_hear "$out" "$@" && return 0; }
+  exec {shown}> >(exec tee -i -- "$kept" 1>&"$out" 2>/dev/null)
+  teller=$!
+  run_and_hear "$shown" "$@"
+  exec {shown}>&-
+  wait "$teller" || { [[ $status -ne 0 ]] || { status=3 told=$'failed write out\n'; }; }
+  [[ $status -ne 1 && $status -ne 2 ]] || refused=$(grep -a '^refused ' -- "$kept" | tail -n 1) || true
+  rm -f -- "$kept"
 }
 
 # Hands a signal on to the program, or keeps it until the program is begun.
@@ -375,7 +181,7 @@ run_program() {
   # The C library would keep a freed block for itself where it is smaller than the largest freed before: of a cut that is a fifth more memory at its peak.
   export MALLOC_MMAP_THRESHOLD_=${MALLOC_MMAP_THRESHOLD_-131072}
   look "$home_of_program"
-  warn_of_register "$@"
+  say_before "$@"
   # The program's standard output is the caller's own; its standard error, of a few lines, is passed on as it is.
   { exec {out}>&1; } 2>/dev/null || exec "$program" "$@" # standard output is closed
   if is_explained "$out"; then
@@ -384,11 +190,9 @@ run_program() {
     run_and_hear "$out" "$program" "$@"
   fi
   printf '%s' "$told" >&2 || true
-  [[ -z $refused ]] || say_refusal "$refused" "$@"
-  [[ $status -ne 2 || -z $told ]] || say_packages "$@"
   [[ $status -ne 0 || $# -ne 1 || ($1 != --version && $1 != -V) ]] || say_facts "$home_of_program"
-  [[ $status -ne 0 ]] || say_origin "$@"
-  [[ $status -ne 3 ]] || say_cause "${told%$'\n'}" "$out" "$@"
+  [[ $status -ne 0 || $# -ne 1 || ($1 != --help && $1 != -h) ]] || printf '\n%s\n' "$WITH_EXPLAIN"
+  say_behind "$@"
   # A caller sees that a signal ended it, as it would of the program itself.
   [[ -z $signal || $status -le 128 ]] || kill -s "$signal" "$$"
   exit "$status"

@@ -11,14 +11,22 @@ from fractions import Fraction
 from pathlib import Path
 from typing import Any, Iterable, Union
 
-from . import tree
 from .areas import Area
 from .backends import Answer, chosen
+from .formats import refusal_line
+from .formats.codes import CODES
 from .refusals import Failed, Point, Refused
+from .system import installation
 from .tables import Table, columns_of, records_of
 from .tables import table as data_of
 
-KEYS = {"parcels": ("parcel",), "covers": ("piece", "parcel", "class"), "classes": ("class",), "lineage": ("old", "new"), "points": ("point",)}
+KEYS = {
+    "parcels": ("parcel",),
+    "covers": ("piece", "parcel", "class"),
+    "classes": ("class",),
+    "lineage": ("old", "new"),
+    "points": ("point",),
+}
 TOTAL = re.compile(r"(?m)^total area (\S+) eligible (\S+)$")
 PARCEL = re.compile(r"(?m)^parcel (\S+) area (\S+) eligible (\S+)$")
 POINT = re.compile(r"[^,()]*")
@@ -78,7 +86,8 @@ class LandClass:
 
 
 class Report:
-    """A yes, and what is said with it. The areas of parcels are those that `check` proved, the areas of pieces those that `area` did.
+    """A yes, and what is said with it. The areas of parcels are those that `check` proved, the areas of pieces those
+    that `area` did.
 
     Attributes:
         text: what `lpis` printed.
@@ -99,7 +108,9 @@ class Report:
     def pieces(self) -> tuple[Piece, ...]:
         """A `Piece` each, in the order of their table."""
         rows = columns_of(records_of(self._covers), "piece", "parcel", "class")
-        found = tuple(Piece(piece, parcel, class_, made) for (piece, parcel, class_), made in zip(rows, areas_of(self._covers)))
+        found = tuple(
+            Piece(piece, parcel, class_, made) for (piece, parcel, class_), made in zip(rows, areas_of(self._covers))
+        )
         if sum(piece.area for piece in found) != self.area:
             raise Failed("the areas of the pieces do not make up that of the parcels: this is a fault of lpis")
         return found
@@ -115,7 +126,15 @@ class Report:
         rows = []
         for name, share in columns_of(records, "class", "percent" if has_percent else "eligible"):
             every, percent = found.get(name, []), int(share) * (1 if has_percent else 100)
-            rows.append(LandClass(name, percent, len(every), Area.sum(every, 7), Area.sum(one * Fraction(percent, 100) for one in every)))
+            rows.append(
+                LandClass(
+                    name,
+                    percent,
+                    len(every),
+                    Area.sum(every, 7),
+                    Area.sum(one * Fraction(percent, 100) for one in every),
+                )
+            )
         return tuple(rows)
 
     def to_frame(self, table: str = "parcels") -> Any:
@@ -128,14 +147,22 @@ class Report:
 
 def rows_of(items: Iterable[Any]) -> list[dict[str, Any]]:
     """The columns of some dataclasses."""
-    return [{NAMES.get(part.name, part.name): value.decimal if isinstance(value, Area) else value for part, value in zip(fields(item), astuple(item))} for item in items]
+    return [
+        {
+            NAMES.get(part.name, part.name): value.decimal if isinstance(value, Area) else value
+            for part, value in zip(fields(item), astuple(item))
+        }
+        for item in items
+    ]
 
 
 def frame_of(rows: Iterable[dict[str, Any]]) -> Any:
     try:
         pandas = importlib.import_module("pandas")
     except ModuleNotFoundError:
-        raise ImportError("pandas is not there, which a frame wants: pip install pandas, or take the rows as they are") from None
+        raise ImportError(
+            "pandas is not there, which a frame wants: pip install pandas, or take the rows as they are"
+        ) from None
     return pandas.DataFrame(list(rows))
 
 
@@ -146,7 +173,8 @@ def area(table: Table) -> list[Area]:
     """The area of each row of a table, or of a list of shapes, in square metres, exactly.
 
     Args:
-        table: a table with a column `wkt`, in metres with three decimals at most; or shapes (`lpis.tables` says what a table may be).
+        table: a table with a column `wkt`, in metres with three decimals at most; or shapes (`lpis.tables` says what a
+            table may be).
 
     Returns:
         An `Area` for each row. It is below 0 where holes are larger than shells.
@@ -169,7 +197,8 @@ def cut(parcels: Table, covers: Table = None, classes: Table = None) -> Certific
     """Makes the certificate of a release.
 
     Args:
-        parcels: a table of `parcel` and a shape, in metres with three decimals at most (`lpis.tables` says what a table may be); or, alone, what `prepare`
+        parcels: a table of `parcel` and a shape, in metres with three decimals at most (`lpis.tables` says what a table
+            may be); or, alone, what `prepare`
             gave.
         covers: a table of `piece`, `parcel`, `class` and a shape.
         classes: a table of `class` and `percent`, or a mapping of the one to the other.
@@ -179,8 +208,6 @@ def cut(parcels: Table, covers: Table = None, classes: Table = None) -> Certific
         Failed: where there is no answer.
         ValueError: where there is no table, with what stops where `prepare` wrote none.
     """
-    if covers is None and classes is None and hasattr(parcels, "table_of"):
-        covers = classes = parcels
     tables = release_of(parcels, covers, classes)
     answer, data = chosen().cut(*tables.values())
     if answer.status:
@@ -189,16 +216,20 @@ def cut(parcels: Table, covers: Table = None, classes: Table = None) -> Certific
     return Certificate(data, int(triangles), int(pairs))
 
 
-def check(parcels: Table, covers: Table, classes: Table, certificate: CertificateSource) -> Report:
-    """Checks a release against its certificate. A report comes only if the answer of the proved code is yes.
+def check(
+    parcels: Table, covers: Table = None, classes: Table = None, certificate: CertificateSource | None = None
+) -> Report:
+    """Checks a release. A report comes only if the answer of the proved code is yes.
 
     Args:
         parcels, covers, classes: as of `cut`.
-        certificate: what `cut` made, or its bytes, or the path of a file.
+        certificate: one that was handed over: what `cut` made, or its bytes, or the path of a file. Of none one is
+            made, tested and let go.
 
     Raises:
-        Refused: where the release is no sound map, or the certificate does not show it.
+        Refused: where the release is no sound map, or a certificate that was handed over does not show it.
         Failed: where there is no answer.
+        ValueError: as of `cut`.
     """
     tables = release_of(parcels, covers, classes)
     answer = chosen().check(tables["parcels"], tables["covers"], tables["classes"], text_of(certificate))
@@ -208,14 +239,25 @@ def check(parcels: Table, covers: Table, classes: Table, certificate: Certificat
 
 
 def release_of(parcels: Table, covers: Table, classes: Table) -> dict[str, bytes]:
-    return {name: data_of(table, name) for name, table in (("parcels", parcels), ("covers", covers), ("classes", classes))}
+    """The three tables; what `prepare` gave has all of them."""
+    if covers is None and classes is None and hasattr(parcels, "table_of"):
+        covers = classes = parcels
+    return {
+        name: data_of(table, name) for name, table in (("parcels", parcels), ("covers", covers), ("classes", classes))
+    }
 
 
-def text_of(certificate: CertificateSource) -> bytes:
-    """The bytes of a certificate."""
+def text_of(certificate: CertificateSource | None) -> bytes | None:
+    """The bytes of a certificate, where one is named."""
+    if certificate is None:
+        return None
     if isinstance(certificate, Certificate):
         return certificate.data
-    return bytes(certificate) if isinstance(certificate, (bytes, bytearray, memoryview)) else Path(certificate).read_bytes()
+    return (
+        bytes(certificate)
+        if isinstance(certificate, (bytes, bytearray, memoryview))
+        else Path(certificate).read_bytes()
+    )
 
 
 # Refusals.
@@ -224,7 +266,7 @@ def text_of(certificate: CertificateSource) -> bytes:
 def refused(answer: Answer, tables: dict[str, bytes]) -> Refused:
     """The refusal that the last line of an answer reports, of these tables."""
     line = answer.text.rstrip("\n").rpartition("\n")[2]
-    found = tree.module("refusal").read(line)
+    found = refusal_line.read(line)
     if found is None:
         return Refused(line)
     second = found.text_code or found.number_code or found.lineage_code or found.exact_code
@@ -232,24 +274,35 @@ def refused(answer: Answer, tables: dict[str, bytes]) -> Refused:
     names, place = tuple(found.names), Point(*(value / 1000 for value in found.place)) if found.place else None
     if found.table in tables and found.row:
         names, place = row_of(tables[found.table], found)
-    return Refused(line, codes, tuple(filter(None, map(sentence_of, codes))), found.kind, found.table, found.row, names, place)
+    return Refused(
+        line, codes, tuple(filter(None, map(sentence_of, codes))), found.kind, found.table, found.row, names, place
+    )
 
 
 def sentence_of(code: str) -> str:
     """What a code means, its usual cause and its remedy."""
-    known = tree.module("codes").CODES.get(code)
+    known = CODES.get(code)
     if known is None:
         return ""
     meaning, cause, remedy = known
-    named = tree.module("installed").here
-    return f"{code}: {named(meaning)}" if cause.startswith("see code") else f"{code}: {named(meaning)}; usual cause: {named(cause)}; remedy: {named(remedy)}"
+    named = installation.here
+    return (
+        f"{code}: {named(meaning)}"
+        if cause.startswith("see code")
+        else f"{code}: {named(meaning)}; usual cause: {named(cause)}; remedy: {named(remedy)}"
+    )
 
 
 def row_of(data: bytes, found: Any) -> tuple[tuple[str, ...], Point | None]:
-    """The identifiers of the row that a refusal names, and the point at which its text is refused, where that has two numbers."""
+    """The identifiers of the row that a refusal names, and the point at which its text is refused, where that has
+    two numbers."""
     records = records_of(data)
     record = dict(zip((name.lower() for name in records[0]), records[found.row] if found.row < len(records) else []))
-    names = tuple(record[name].encode("latin-1").decode("utf-8", "replace") for name in KEYS.get(found.table, ()) if name in record)
+    names = tuple(
+        record[name].encode("latin-1").decode("utf-8", "replace")
+        for name in KEYS.get(found.table, ())
+        if name in record
+    )
     return names, point_at(record.get("wkt", ""), found.offset) if found.offset is not None else None
 
 

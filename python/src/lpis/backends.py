@@ -1,4 +1,5 @@
-"""Who answers: the proved code as a library in this process, or the proved program as a process. Both read the same bytes, and give the same."""
+"""Who answers: the proved code as a library in this process, or the proved program as a process. Both read the same
+bytes, and give the same."""
 
 from __future__ import annotations
 
@@ -40,7 +41,11 @@ class Library:
         self._calls: dict[str, Any] = {}
         found, reply = ctypes.CDLL(str(path)), ctypes.POINTER(Reply)
         pair, size = [ctypes.c_char_p, ctypes.c_size_t], ctypes.POINTER(ctypes.c_size_t)
-        for name, words in (("area", [*pair * 2, reply]), ("check", [*pair * 5, reply]), ("cut", [*pair * 5, size, reply])):
+        for name, words in (
+            ("area", [*pair * 2, reply]),
+            ("check", [*pair * 5, reply]),
+            ("cut", [*pair * 5, size, reply]),
+        ):
             call = getattr(found, f"lpis_{name}")
             call.restype, call.argtypes = ctypes.c_bool, words
             self._calls[name] = call
@@ -66,7 +71,11 @@ class Library:
     def area(self, table: bytes) -> Answer:
         return self._ask("area", (table,), [room_for(table)])[0]
 
-    def check(self, parcels: bytes, covers: bytes, classes: bytes, certificate: bytes) -> Answer:
+    def check(self, parcels: bytes, covers: bytes, classes: bytes, certificate: bytes | None = None) -> Answer:
+        if certificate is None:
+            cut, certificate = self.cut(parcels, covers, classes)
+            if cut.status:
+                return cut
         return self._ask("check", (parcels, covers, classes, certificate), [room_for(parcels)])[0]
 
     def cut(self, parcels: bytes, covers: bytes, classes: bytes) -> tuple[Answer, bytes]:
@@ -89,11 +98,9 @@ class Program:
         with folder_of(table=table) as folder:
             return run("area", f"{folder}/table.csv")
 
-    def check(self, parcels: bytes, covers: bytes, classes: bytes, certificate: bytes) -> Answer:
+    def check(self, parcels: bytes, covers: bytes, classes: bytes, certificate: bytes | None = None) -> Answer:
         with folder_of(parcels=parcels, covers=covers, classes=classes) as folder:
-            path = Path(folder, "cert.txt")
-            path.write_bytes(certificate)
-            return run("check", folder, str(path))
+            return run("check", folder, *put(folder, certificate))
 
     def cut(self, parcels: bytes, covers: bytes, classes: bytes) -> tuple[Answer, bytes]:
         with folder_of(parcels=parcels, covers=covers, classes=classes) as folder:
@@ -108,6 +115,15 @@ def folder_of(**tables: bytes) -> tempfile.TemporaryDirectory[str]:
     for name, data in tables.items():
         Path(folder.name, f"{name}.csv").write_bytes(data)
     return folder
+
+
+def put(folder: str, certificate: bytes | None) -> list[str]:
+    """The path of a certificate that is put into a folder; none where there is none."""
+    if certificate is None:
+        return []
+    path = Path(folder, "cert.txt")
+    path.write_bytes(certificate)
+    return [str(path)]
 
 
 def run(*words: str) -> Answer:

@@ -1,4 +1,5 @@
-"""The texts of doubles: the shortest decimals that give the same number, without an exponent. Of many at once by numpy, where it is there."""
+"""The texts of doubles: the shortest decimals that give the same number, without an exponent. Of many at once by
+numpy, where it is there."""
 
 from __future__ import annotations
 
@@ -21,7 +22,8 @@ def text_of(value: float) -> str:
 
 
 def texts_of(rings: list[bytes]) -> list[str]:
-    """The text of the points of each ring, which is given as the bytes of its doubles, x and y in turn. None is empty."""
+    """The text of the points of each ring, which is given as the bytes of its doubles, x and y in turn. None is
+    empty."""
     return by_numpy(rings) if rings and numpy() else [text_of_ring(ring) for ring in rings]
 
 
@@ -50,8 +52,8 @@ def numpy() -> Any:
 def by_numpy(rings: list[bytes]) -> list[str]:
     """The texts of rings: those of whole millimetres all at once, the others number by number.
 
-    No two decimals of 15 digits or fewer have the same double. So the shortest one of a double is that of its millimetres, where these give the double
-    again, without the zeros behind it.
+    No two decimals of 15 digits or fewer have the same double. So the shortest one of a double is that of its
+    millimetres, where these give the double again, without the zeros behind it.
     """
     np = numpy()
     values = np.frombuffer(b"".join(rings), "<f8")
@@ -64,11 +66,15 @@ def by_numpy(rings: list[bytes]) -> list[str]:
     are_whole = np.logical_and.reduceat(is_whole, np.concatenate(([0], stops[:-1]))).tolist()
     letters, ends = letters_of(np.where(is_whole, thousandths, 0).astype(np.int64), np.signbit(values))
     ends = ends[stops - 1].tolist()
-    return [letters[start : end - 1] if whole else text_of_ring(ring) for ring, whole, start, end in zip(rings, are_whole, [0, *ends], ends)]
+    return [
+        letters[start : end - 1] if whole else text_of_ring(ring)
+        for ring, whole, start, end in zip(rings, are_whole, [0, *ends], ends)
+    ]
 
 
 def letters_of(thousandths: Any, is_negative: Any) -> tuple[str, Any]:
-    """The texts of numbers one behind the other, a blank behind an x and a comma behind a y; and where each of them ends."""
+    """The texts of numbers one behind the other, a blank behind an x and a comma behind a y; and where each of them
+    ends."""
     np, (form, highs, lows, decimals) = numpy(), parts_of_numbers()
     metres = thousandths // MILLIMETRES
     part, high = thousandths - metres * MILLIMETRES, metres // FOUR
@@ -84,8 +90,9 @@ def letters_of(thousandths: Any, is_negative: Any) -> tuple[str, Any]:
 
 @functools.lru_cache(maxsize=None)
 def parts_of_numbers() -> tuple[Any, ...]:
-    """The form of a number's text, each part with bytes of 0 for letters that it lacks. And the texts of parts, with their lengths: of the metres above and
-    below ten thousand, the latter without and with zeros before them, and of the decimals."""
+    """The form of a number's text, each part with bytes of 0 for letters that it lacks. And the texts of parts, with
+    their lengths: of the metres above and below ten thousand, the latter without and with zeros before them, and of
+    the decimals."""
     np = numpy()
     form = np.dtype([("sign", "S1"), ("high", "S4"), ("low", "S4"), ("decimals", "S4"), ("behind", "S1")])
     words = [b"%d" % number for number in range(FOUR)]

@@ -44,14 +44,24 @@ class Refused(Error):
         code: its code, such as `41`.
         codes: with those behind it, such as `("38", "14")` of a coordinate that is finer than a millimetre.
         words: what each of them means, its usual cause and its remedy, a sentence each.
-        kind: of what the identifiers are, where no row is named: `parcel`, `parcels`, `piece`, `pieces`, `pair` or `exact`.
+        kind: of what the identifiers are, where no row is named: `parcel`, `parcels`, `piece`, `pieces`, `pair` or
+            `exact`.
         table, row: the table, and its row from 1, where one is named; its header is 0.
         identifiers: those that are concerned, of a row those of its columns.
         place: a point that shows the fault, or None where none is known.
     """
 
-    def __init__(self, line: str, codes: tuple[str, ...] = (), words: tuple[str, ...] = (), kind: str = "", table: str = "", row: int | None = None,
-                 identifiers: tuple[str, ...] = (), place: Point | None = None) -> None:
+    def __init__(
+        self,
+        line: str,
+        codes: tuple[str, ...] = (),
+        words: tuple[str, ...] = (),
+        kind: str = "",
+        table: str = "",
+        row: int | None = None,
+        identifiers: tuple[str, ...] = (),
+        place: Point | None = None,
+    ) -> None:
         super().__init__(line, codes, words, kind, table, row, identifiers, place)
         self.line, self.codes, self.words = line, codes, words
         self.kind, self.table, self.row, self.identifiers, self.place = kind, table, row, identifiers, place

@@ -10,9 +10,9 @@ from dataclasses import dataclass
 from pathlib import Path
 from typing import Any
 
-from . import tree
 from .answers import Certificate, CertificateSource, Report, refused, release_of, text_of
-from .backends import Answer, folder_of, run
+from .backends import Answer, folder_of, put, run
+from .formats import polygons, register_rows
 from .refusals import Failed
 from .tables import Table
 from .tables import table as data_of
@@ -29,14 +29,15 @@ class Shape:
 
     @property
     def __geo_interface__(self) -> dict[str, Any]:
-        members = tree.module("polygons").read(self.wkt.encode())
+        members = polygons.read(self.wkt.encode())
         found = tuple(tuple(tuple((x / 1000, y / 1000) for x, y in ring) for ring in member) for member in members)
         return {"type": "MultiPolygon", "coordinates": found}
 
 
 @dataclass(frozen=True)
 class Ending:
-    """What became of an identifier that a year dropped: `split`, `merged`, `replaced`, `redrawn` or `ended`, and whether that is proved exact."""
+    """What became of an identifier that a year dropped: `split`, `merged`, `replaced`, `redrawn` or `ended`, and
+    whether that is proved exact."""
 
     identifier: str
     kind: str
@@ -44,7 +45,8 @@ class Ending:
 
 
 class Publication(Report):
-    """The report of a release that a register has taken, with its year, and an `Ending` for each identifier that it dropped."""
+    """The report of a release that a register has taken, with its year, and an `Ending` for each identifier that it
+    dropped."""
 
     def __init__(self, text: str, covers: bytes, classes: bytes) -> None:
         super().__init__(text, covers, classes)
@@ -76,20 +78,25 @@ class Register:
         """The years that were published."""
         if not self.path.exists():
             return ()
-        registers = tree.module("registers")
         try:
-            return tuple(registers.facts(self.path)["years"])
-        except registers.Unreadable as error:
+            return tuple(register_rows.facts(self.path)["years"])
+        except register_rows.Unreadable as error:
             raise Failed(str(error)) from None
 
     def shapes(self) -> dict[str, Shape]:
         """The shapes of the last release, by the parcels' identifiers."""
         if not self.path.exists():
             return {}
-        registers = tree.module("registers")
         try:
-            with contextlib.closing(registers.opened(self.path)) as connection:
-                return {} if registers.is_empty(connection) else {name: Shape(text) for name, text in connection.execute("SELECT id, wkt FROM lpis_text ORDER BY id")}
+            with contextlib.closing(register_rows.opened(self.path)) as connection:
+                return (
+                    {}
+                    if register_rows.is_empty(connection)
+                    else {
+                        name: Shape(text)
+                        for name, text in connection.execute("SELECT id, wkt FROM lpis_text ORDER BY id")
+                    }
+                )
         except sqlite3.Error as error:
             raise Failed(f"{self.path} has no shapes that can be read: {error}") from None
 
@@ -102,11 +109,15 @@ class Register:
         """
         return tuple(self._told({}, "trace", "--", str(self.path), identifier).text.split())
 
-    def exact(self, parcels: Table, covers: Table, classes: Table, certificate: CertificateSource, lineage: Table) -> Certificate:
-        """The certificate with what shows that the marked splits and merges are exact: `publish` wants it where rows are marked.
+    def exact(
+        self, parcels: Table, covers: Table, classes: Table, certificate: CertificateSource, lineage: Table
+    ) -> Certificate:
+        """The certificate with what shows that the marked splits and merges are exact: `publish` wants it where rows
+        are marked.
 
         Args:
-            parcels, covers, classes, certificate: as of `check`.
+            parcels, covers, classes: as of `check`.
+            certificate: what `cut` made of them.
             lineage: as of `publish`.
 
         Raises:
@@ -115,18 +126,27 @@ class Register:
         """
         tables = {**release_of(parcels, covers, classes), "lineage": data_of(lineage, "lineage")}
         with folder_of(**tables) as folder:
-            cert, out = Path(folder, "cert.txt"), Path(folder, "exact.txt")
-            cert.write_bytes(text_of(certificate))
-            self._told(tables, "exact", "--", str(self.path), folder, str(cert), str(out))
+            out = Path(folder, "exact.txt")
+            self._told(tables, "exact", "--", str(self.path), folder, *put(folder, text_of(certificate)), str(out))
             return Certificate(out.read_bytes())
 
-    def publish(self, year: int, parcels: Table, covers: Table, classes: Table, certificate: CertificateSource, lineage: Table = ()) -> Publication:
+    def publish(
+        self,
+        year: int,
+        parcels: Table,
+        covers: Table,
+        classes: Table,
+        certificate: CertificateSource | None = None,
+        lineage: Table = (),
+    ) -> Publication:
         """Takes a release into the register, where it is a sound map and no identifier is lost: all of it, or nothing.
 
         Args:
             year: later than all years of the register.
-            parcels, covers, classes, certificate: as of `check`.
-            lineage: a table of `old` and `new`, what became of each identifier that is dropped (an ending has no `new`), and of `exact`, 1 in each row of a
+            parcels, covers, classes, certificate: as of `check`; where rows are marked the certificate is that of
+                `exact`.
+            lineage: a table of `old` and `new`, what became of each identifier that is dropped (an ending has no
+                `new`), and of `exact`, 1 in each row of a
                 split or merge that is to be proved exact.
 
         Raises:
@@ -135,9 +155,8 @@ class Register:
         """
         tables = {**release_of(parcels, covers, classes), "lineage": data_of(lineage, "lineage")}
         with folder_of(**tables) as folder:
-            cert = Path(folder, "cert.txt")
-            cert.write_bytes(text_of(certificate))
-            answer = self._told(tables, "publish", "--", str(self.path), str(year), folder, str(cert))
+            cert = put(folder, text_of(certificate))
+            answer = self._told(tables, "publish", "--", str(self.path), str(year), folder, *cert)
         return Publication(answer.text, tables["covers"], tables["classes"])
 
     def _told(self, tables: dict[str, bytes], *words: str) -> Answer:

@@ -1,7 +1,7 @@
 """The well-known text of shapes, exactly: a coordinate is written with the shortest decimals that give the same number.
 
-Polygons of Shapely are read by their well-known binary, many at once. Whatever else has `__geo_interface__`, and what is unusual about a polygon of Shapely
-(nothing in it, heights), goes through that. Both ways give the same texts.
+Polygons of Shapely are read by their well-known binary, many at once. Whatever else has `__geo_interface__`, and what
+is unusual about a polygon of Shapely (nothing in it, heights), goes through that. Both ways give the same texts.
 """
 
 from __future__ import annotations
@@ -30,8 +30,13 @@ def texts_of(shapes: Sequence[Any]) -> list[str]:
         some = shapes[begin : begin + AT_ONCE]
         blobs = iter(binaries_of([shape for shape in some if is_quick(shape)]))
         found = [members_of(next(blobs)) if is_quick(shape) else None for shape in some]
-        rings = iter(coordinates.texts_of([ring for members in found if members for member in members for ring in member]))
-        texts += [text_of(shape) if members is None else text_of_members(shape, members, rings) for shape, members in zip(some, found)]
+        rings = iter(
+            coordinates.texts_of([ring for members in found if members for member in members for ring in member])
+        )
+        texts += [
+            text_of(shape) if members is None else text_of_members(shape, members, rings)
+            for shape, members in zip(some, found)
+        ]
     return texts
 
 

@@ -4,18 +4,23 @@ A table is one of
 
 - a path, of a file that `lpis` reads
 - bytes of such a file
-- a GeoPandas frame, or anything with `__geo_interface__` that is a collection of features: a collection of fiona, a dictionary of GeoJSON. What a feature has
+- a GeoPandas frame, or anything with `__geo_interface__` that is a collection of features: a collection of fiona, a
+dictionary of GeoJSON. What a feature has
   beside its shape are the columns
-- rows: features, mappings of columns, or shapes alone; a shape is in the column `geometry` or `wkt`, as anything with `__geo_interface__` (Shapely),
+- rows: features, mappings of columns, or shapes alone; a shape is in the column `geometry` or `wkt`, as anything with
+`__geo_interface__` (Shapely),
   a dictionary of GeoJSON, or well-known text
-- of classes a mapping of each class to its percentage, such as `{"GRASS": 100, "TREES": 30}`; of these and of lineage a pandas frame too
+- of classes a mapping of each class to its percentage, such as `{"GRASS": 100, "TREES": 30}`; of these and of lineage a
+pandas frame too
 - what `prepare` gave, whose tables are taken.
 
-A table has the columns of all its rows; cases and blanks around their names are no part of them. A field that a row lacks is empty. `ValueError` says what
-is no table: a frame that lacks a column, a row with two shapes, a `Prepared` without tables.
+A table has the columns of all its rows; cases and blanks around their names are no part of them. A field that a row
+lacks is empty. `ValueError` says what is no table: a frame that lacks a column, a row with two shapes, a `Prepared`
+without tables.
 
-Nothing is rounded and nothing is tested here: a coordinate is written with the shortest decimals that give the same number, and so are identifiers. The
-proved code reads what is written, and refuses it where it is finer than a millimetre, no polygon, or no identifier.
+Nothing is rounded and nothing is tested here: a coordinate is written with the shortest decimals that give the same
+number, and so are identifiers. The proved code reads what is written, and refuses it where it is finer than a
+millimetre, no polygon, or no identifier.
 """
 
 from __future__ import annotations
@@ -29,12 +34,18 @@ from collections import Counter
 from pathlib import Path
 from typing import Any, Iterable, Iterator, Mapping, NamedTuple, Union
 
-from . import tree
+from .formats import byte_tables, guarded_csv
 from .shapes import is_of_shapely, texts_of
 
 Table = Union[str, "os.PathLike[str]", bytes, bytearray, memoryview, Mapping[Any, Any], Iterable[Any], Any]
 SHAPE, GEOMETRY, PERCENT = "wkt", "geometry", "percent"
-HEADERS = {"area": [SHAPE], "parcels": ["parcel", SHAPE], "covers": ["piece", "parcel", "class", SHAPE], "classes": ["class", "percent"], "lineage": ["old", "new"]}
+HEADERS = {
+    "area": [SHAPE],
+    "parcels": ["parcel", SHAPE],
+    "covers": ["piece", "parcel", "class", SHAPE],
+    "classes": ["class", "percent"],
+    "lineage": ["old", "new"],
+}
 WHOLE = (PERCENT, "eligible", "exact")  # columns of whole numbers
 INSTEAD = {PERCENT: ("eligible",), SHAPE: (GEOMETRY,)}  # columns that do as well
 
@@ -71,7 +82,9 @@ def columns_in(source: Any, name: str) -> Columns:
     """The columns of what is no file."""
     look_at_frame(source, name)
     geometry = geometry_of(source)
-    return columns_of_rows(rows_of(source, name), name) if geometry is None else columns_of_frame(source, geometry, name)
+    return (
+        columns_of_rows(rows_of(source, name), name) if geometry is None else columns_of_frame(source, geometry, name)
+    )
 
 
 def rows_of(source: Any, name: str) -> Iterator[dict[str, Any]]:
@@ -104,7 +117,8 @@ def items_of_interface(found: Any, name: str) -> Any:
 
 
 def geometry_of(source: Any) -> Any:
-    """The shapes of a frame or a series of GeoPandas, as a series; None of anything else. `__geo_interface__` of such a frame writes all of it out."""
+    """The shapes of a frame or a series of GeoPandas, as a series; None of anything else. `__geo_interface__` of
+    such a frame writes all of it out."""
     library = sys.modules.get("geopandas")
     if library is None or not isinstance(source, (library.GeoDataFrame, library.GeoSeries)):
         return None
@@ -113,7 +127,8 @@ def geometry_of(source: Any) -> Any:
 
 
 def columns_of_frame(source: Any, geometry: Any, name: str) -> Columns:
-    """The columns of a frame or series of GeoPandas, as those of the features that it gives: a shape with nothing in it is none."""
+    """The columns of a frame or series of GeoPandas, as those of the features that it gives: a shape with nothing in
+    it is none."""
     keys = [key for key in source.columns if key != geometry.name] if hasattr(source, "columns") else []
     if len(geometry):
         row_of({"type": "Feature", "properties": dict.fromkeys(keys)}, f"{name} row 1")
@@ -173,14 +188,17 @@ def row_of(item: Any, place: str) -> dict[str, Any]:
         raise ValueError(f"{place}: it has more fields than the table has columns")
     shapes = [key for key in columns if called(key) in (GEOMETRY, SHAPE)]
     if {called(key) for key in shapes} == {GEOMETRY, SHAPE} or is_feature and shapes:
-        raise ValueError(f"{place}: it has two shapes, in {' and '.join(map(str, ['its feature', *shapes] if is_feature else shapes))}: leave one out")
+        raise ValueError(
+            f"{place}: it has two shapes, in"
+            f" {' and '.join(map(str, ['its feature', *shapes] if is_feature else shapes))}: leave one out"
+        )
     row = {SHAPE if called(key) == GEOMETRY else str(key).strip(): value for key, value in columns.items()}
     return {**row, SHAPE: found.get("geometry")} if is_feature else row
 
 
 def known_columns(name: str) -> list[str]:
     """The columns that a table of this kind may have."""
-    return list(tree.module("tables").COLUMNS[name])
+    return list(byte_tables.COLUMNS[name])
 
 
 def columns_of_rows(rows: Iterable[dict[str, Any]], name: str) -> Columns:
@@ -193,15 +211,19 @@ def columns_of_rows(rows: Iterable[dict[str, Any]], name: str) -> Columns:
         names += (Counter(there) - Counter(names)).elements()
     orders = {keys: order_of(keys, names) for keys in different}
     found = [orders[tuple(row)] for row in every]
-    return Columns(names, [[row.get(order[place]) for row, order in zip(every, found)] for place in range(len(names))], len(every))
+    return Columns(
+        names, [[row.get(order[place]) for row, order in zip(every, found)] for place in range(len(names))], len(every)
+    )
 
 
 def written(columns: Columns, name: str) -> bytes:
     """The table of some columns."""
     text = io.StringIO(newline="")
-    writer = tree.module("cells").Writer(text)
+    writer = guarded_csv.Writer(text)
     writer.writerow(columns.names if columns.rows else HEADERS[name])
-    writer.writerows(zip(*map(fields_of, columns.names, columns.values)) if columns.names else ([] for _ in range(columns.rows)))
+    writer.writerows(
+        zip(*map(fields_of, columns.names, columns.values)) if columns.names else ([] for _ in range(columns.rows))
+    )
     return text.getvalue().encode("utf-8", "backslashreplace")
 
 
@@ -211,7 +233,8 @@ def fields_of(column: str, values: list[Any]) -> list[str]:
 
 
 def order_of(keys: tuple[Any, ...], columns: list[str]) -> list[Any]:
-    """Which of a row's keys each column is: the first of a name in the first column of that name, and so on; None where it has no more."""
+    """Which of a row's keys each column is: the first of a name in the first column of that name, and so on; None
+    where it has no more."""
     found: dict[str, list[Any]] = {}
     for key in keys:
         found.setdefault(called(key), []).append(key)
@@ -219,7 +242,8 @@ def order_of(keys: tuple[Any, ...], columns: list[str]) -> list[Any]:
 
 
 def field(value: Any, column: str) -> str:
-    """A field's text. What is missing has none; a whole number of a column of whole numbers has no point, but 1.0 percent, which may be the whole, and is refused."""
+    """A field's text. What is missing has none; a whole number of a column of whole numbers has no point, but 1.0
+    percent, which may be the whole, and is refused."""
     if type(value) is str:
         return value
     value = value.item() if hasattr(value, "item") else value
@@ -241,9 +265,12 @@ def is_missing(value: Any) -> bool:
 
 def records_of(data: bytes) -> list[list[str]]:
     """The header and the rows of a table, as `lpis` reads them."""
-    tree.module("tables")  # has the limit of a field
     text = data.decode("latin-1")
-    return [record for record in csv.reader(io.StringIO(text[3:] if text.startswith("\xef\xbb\xbf") else text, newline="")) if record]
+    return [
+        record
+        for record in csv.reader(io.StringIO(text[3:] if text.startswith("\xef\xbb\xbf") else text, newline=""))
+        if record
+    ]
 
 
 def columns_of(records: list[list[str]], *names: str) -> list[list[str]]:

@@ -1,35 +1,25 @@
-"""The one tree of program and tools: the wheel carries it, and in a clone it is that of the repository."""
+"""What stands beside the package: the program, its library and the tools, which a wheel carries and a clone has."""
 
 from __future__ import annotations
 
 import functools
-import importlib
 import os
 import subprocess
+from importlib import metadata
 from pathlib import Path
-from typing import Any
 
 from .refusals import Failed
+from .system import program as tools
 
 # As the installed lpis does: causes are said behind `failed ..`, and a program that cannot start here is no answer.
 SCRIPT = """set -Eeuo pipefail; trap 'exit 70' ERR; . "$0"; run_program "$@" """
-HERE = Path(__file__).resolve().parent
-CARRIED = HERE / "carried" / "lib" / "lpis"
+CARRIED = Path(__file__).resolve().parent / "carried" / "lib" / "lpis"
 LIBRARY = "liblpis.so"
 
 
-@functools.lru_cache(maxsize=None)
 def home() -> Path:
     """The folder of the tools."""
-    for folder in (CARRIED, HERE.parents[2] / "tools"):
-        if (folder / "lpis_tools").is_dir():
-            return folder
-    raise Failed(f"there are no tools beside {HERE}: install the wheel of lpis, or run a clone of its sources")
-
-
-def module(name: str) -> Any:
-    """A module of the tools."""
-    return importlib.import_module(f"{__package__}.shared.{name}")
+    return Path(tools.HERE)
 
 
 def library() -> Path | None:
@@ -42,17 +32,24 @@ def library() -> Path | None:
 @functools.lru_cache(maxsize=None)
 def program() -> list[str]:
     """The words that call the program: of LPIS in the environment, else the one of the tree. It starts here."""
-    found, named = module("program"), os.environ.get("LPIS", "")
+    named = os.environ.get("LPIS", "")
     try:
-        words = list(found.command(named))
-    except (found.Absent, OSError) as error:
+        words = list(tools.command(named))
+    except (tools.Absent, OSError) as error:
         raise Failed(str(error)) from None
     return words if named else ["bash", "-c", SCRIPT, str(home() / "run.sh"), os.path.dirname(words[0])]
 
 
 def ended(words: list[str]) -> subprocess.CompletedProcess[str]:
     """A process that has ended: where this one is interrupted, it ends before."""
-    with subprocess.Popen(words, stdin=subprocess.DEVNULL, stdout=subprocess.PIPE, stderr=subprocess.PIPE, text=True, errors="backslashreplace") as process:
+    with subprocess.Popen(
+        words,
+        stdin=subprocess.DEVNULL,
+        stdout=subprocess.PIPE,
+        stderr=subprocess.PIPE,
+        text=True,
+        errors="backslashreplace",
+    ) as process:
         try:
             out, err = process.communicate()
         except BaseException:
@@ -60,3 +57,14 @@ def ended(words: list[str]) -> subprocess.CompletedProcess[str]:
             process.wait()
             raise
     return subprocess.CompletedProcess(words, process.returncode, out, err)
+
+
+@functools.lru_cache(maxsize=None)
+def version() -> str:
+    """That of the wheel; in a clone that of its program."""
+    if CARRIED.is_dir():
+        return metadata.version("lpis")
+    words = ended([*program(), "--version"]).stdout.split()
+    if len(words) < 2:
+        raise Failed("the program does not say its version")
+    return words[1]

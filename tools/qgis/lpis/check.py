@@ -4,26 +4,38 @@ import os
 import tempfile
 
 from qgis.core import (
-    QgsProcessing, QgsProcessingException, QgsProcessingOutputNumber, QgsProcessingOutputString, QgsProcessingParameterFeatureSink,
-    QgsProcessingParameterFile, QgsWkbTypes,
+    QgsProcessing,
+    QgsProcessingException,
+    QgsProcessingOutputNumber,
+    QgsProcessingOutputString,
+    QgsProcessingParameterFeatureSink,
+    QgsProcessingParameterFile,
+    QgsWkbTypes,
 )
 
 from . import places, styles
 from .layers import LINES, POINTS, POLYGONS, TEXT, NUMBER, WHOLE, Styled, features_of, shapes_of
 
-TABLES = ("parcels.csv", "covers.csv", "classes.csv")
 YES, REFUSED, UNREADABLE = 0, 1, 2
-FAULT_COLUMNS = [("code", TEXT), ("kind", TEXT), ("names", TEXT), ("width_m", NUMBER), ("area_m2", NUMBER), ("table", TEXT), ("row", WHOLE), ("meaning", TEXT), ("place", TEXT),
-                 ("line", TEXT)]
+FAULT_COLUMNS = [
+    ("code", TEXT),
+    ("kind", TEXT),
+    ("names", TEXT),
+    ("width_m", NUMBER),
+    ("area_m2", NUMBER),
+    ("table", TEXT),
+    ("row", WHOLE),
+    ("meaning", TEXT),
+    ("place", TEXT),
+    ("line", TEXT),
+]
 SHAPE_COLUMNS = [("kind", TEXT), ("name", TEXT), ("line", TEXT)]
 # Of each kind of shape the form of its output, and what a parameter calls it.
-KINDS = {"POINTS": (POINTS, QgsProcessing.TypeVectorPoint), "LINES": (LINES, QgsProcessing.TypeVectorLine), "POLYGONS": (POLYGONS, QgsProcessing.TypeVectorPolygon)}
-
-
-def is_older(cert, folder):
-    """The certificate is not there, or a table is newer."""
-    tables = [os.path.join(folder, name) for name in TABLES]
-    return not os.path.exists(cert) or any(os.path.exists(path) and os.path.getmtime(path) > os.path.getmtime(cert) for path in tables)
+KINDS = {
+    "POINTS": (POINTS, QgsProcessing.TypeVectorPoint),
+    "LINES": (LINES, QgsProcessing.TypeVectorLine),
+    "POLYGONS": (POLYGONS, QgsProcessing.TypeVectorPolygon),
+}
 
 
 def by_kind(features, columns):
@@ -39,12 +51,28 @@ def by_kind(features, columns):
 
 def values_of(properties, columns):
     """The values of columns: texts as texts, and numbers as numbers, or none."""
-    return [str(properties.get(column) or "") if form == TEXT else number_of(properties.get(column)) for column, form in columns]
+    return [
+        str(properties.get(column) or "") if form == TEXT else number_of(properties.get(column))
+        for column, form in columns
+    ]
 
 
 def number_of(value):
     """A number of JSON or of a table; None where there is none."""
-    return None if value in (None, "") else int(value) if isinstance(value, bool) else float(value) if isinstance(value, str) else value
+    return (
+        None
+        if value in (None, "")
+        else int(value)
+        if isinstance(value, bool)
+        else float(value)
+        if isinstance(value, str)
+        else value
+    )
+
+
+def of_certificate(cert):
+    """The words that hand a certificate to tools/explain."""
+    return [f"--cert={path}" for path in cert]
 
 
 class Folder(Styled):
@@ -55,27 +83,32 @@ class Folder(Styled):
     def add_folder(self):
         self.addParameter(QgsProcessingParameterFile("DIR", self.FOLDER, behavior=QgsProcessingParameterFile.Folder))
 
-    def folder_and_cert(self, place):
-        parameters, context = place
-        folder = self.parameterAsFile(parameters, "DIR", context)
-        return folder, self.parameterAsFile(parameters, "CERT", context) or os.path.join(folder, "cert.txt")
+    def add_certificate(self):
+        self.addParameter(
+            QgsProcessingParameterFile("CERT", "Certificate that was handed over (none is needed)", optional=True)
+        )
 
-    @staticmethod
-    def cut(folder, cert, feedback):
-        """Cuts the release where a table is newer than its certificate."""
-        if not is_older(cert, folder):
-            return places.Ran(YES, [])
-        feedback.setProgressText("cutting: no certificate that is newer than the tables")
-        return places.done(places.run([places.lpis(), "cut", "--", folder, cert], feedback), "lpis cut", (REFUSED, UNREADABLE))
+    def folder_and_cert(self, place):
+        """The folder, and the certificate in a list, which is empty where none is named."""
+        parameters, context = place
+        cert = self.parameterAsFile(parameters, "CERT", context)
+        return self.parameterAsFile(parameters, "DIR", context), [cert] if cert else []
 
     def add_shapes(self, words, before=""):
         for name, (_, source) in KINDS.items():
-            self.addParameter(QgsProcessingParameterFeatureSink(before + name, f"{words}: {name.lower()}", source, optional=True, createByDefault=True))
+            self.addParameter(
+                QgsProcessingParameterFeatureSink(
+                    before + name, f"{words}: {name.lower()}", source, optional=True, createByDefault=True
+                )
+            )
 
     def fill_shapes(self, place, paths, columns, before=""):
         """Writes the shapes of GeoJSON files, where they are there, into the outputs of their kinds."""
         rows = by_kind((found for path in paths if os.path.exists(path) for found in features_of(path)), columns)
-        return {before + name: self.fill(before + name, place, columns, form, rows[name]) for name, (form, _) in KINDS.items()}
+        return {
+            before + name: self.fill(before + name, place, columns, form, rows[name])
+            for name, (form, _) in KINDS.items()
+        }
 
     def explained(self, words, line, place, feedback):
         """The words of a refusal, and its shapes as layers."""
@@ -88,15 +121,31 @@ class Folder(Styled):
 
 class CheckRelease(Folder):
     NAME, TITLE = "checkrelease", "Check a release"
-    HELP = ("Answers yes only where no two parcels overlap, no two pieces overlap, and each parcel is filled by its pieces exactly. The certificate is cut anew where "
-            "a table is newer. The report has each parcel's exact area and eligible area; of a refusal the fault's place and shapes are layers, and its words are in the log.")
-    STYLED = {"REPORT": styles.parcels, "FAULT_POINTS": styles.fault, "FAULT_LINES": styles.fault, "FAULT_POLYGONS": styles.fault}
+    HELP = (
+        "Answers yes only where no two parcels overlap, no two pieces overlap, and each parcel is filled by its pieces"
+        " exactly. No certificate is needed, and no file is made of one. The report has each parcel's exact area and"
+        " eligible area; of a refusal the fault's place and shapes are layers, and its words are in the log."
+    )
+    STYLED = {
+        "REPORT": styles.parcels,
+        "FAULT_POINTS": styles.fault,
+        "FAULT_LINES": styles.fault,
+        "FAULT_POLYGONS": styles.fault,
+    }
 
     def initAlgorithm(self, configuration=None):
         self.add_folder()
-        self.addParameter(QgsProcessingParameterFile("CERT", "Certificate (DIR/cert.txt where none is named)", optional=True))
+        self.add_certificate()
         self.add_system()
-        self.addParameter(QgsProcessingParameterFeatureSink("REPORT", "Report: parcels with their areas", QgsProcessing.TypeVectorPolygon, optional=True, createByDefault=True))
+        self.addParameter(
+            QgsProcessingParameterFeatureSink(
+                "REPORT",
+                "Report: parcels with their areas",
+                QgsProcessing.TypeVectorPolygon,
+                optional=True,
+                createByDefault=True,
+            )
+        )
         self.add_shapes("Fault", "FAULT_")
         self.addOutput(QgsProcessingOutputString("VERDICT", "Verdict"))
         self.addOutput(QgsProcessingOutputNumber("STATUS", "Status of lpis"))
@@ -104,14 +153,19 @@ class CheckRelease(Folder):
     def processAlgorithm(self, parameters, context, feedback):
         place = parameters, context
         folder, cert = self.folder_and_cert(place)
-        ran = self.cut(folder, cert, feedback)
-        if ran.status == YES:
-            feedback.setProgressText("checking")
-            ran = places.done(places.run([places.lpis(), "check", "--", folder, cert], feedback, quiet=True), "lpis check", (REFUSED, UNREADABLE))
+        feedback.setProgressText("checking")
+        ran = places.done(
+            places.run([places.lpis(), "check", "--", folder, *cert], feedback, quiet=True),
+            "lpis check",
+            (REFUSED, UNREADABLE),
+        )
         feedback.pushInfo(ran.last())
         rows = report_rows(folder, ran.lines) if ran.status == YES else []
         columns = [("parcel", TEXT), ("area", TEXT), ("eligible", TEXT), ("area_m2", NUMBER), ("eligible_m2", NUMBER)]
-        self.written = {"REPORT": self.fill("REPORT", place, columns, POLYGONS, rows), **self.explained([folder, "--cert", cert], ran.last(), place, feedback)}
+        self.written = {
+            "REPORT": self.fill("REPORT", place, columns, POLYGONS, rows),
+            **self.explained([folder, *of_certificate(cert)], ran.last(), place, feedback),
+        }
         return {**self.written, "VERDICT": ran.last(), "STATUS": ran.status}
 
 
@@ -129,8 +183,9 @@ def report_rows(folder, lines):
 class FindFaults(Folder):
     NAME, TITLE = "allfaults", "All faults of a release"
     HELP = (
-        "Each row's first fault, each parcel's first fault with its pieces, each two parcels that overlap: each as the polygon of the overlap, of the gap "
-        "or of what is outside of its parcel, with width and area, or as a point where nothing has an area; styled by their code. Nothing here is part of a yes."
+        "Each row's first fault, each parcel's first fault with its pieces, each two parcels that overlap: each as the"
+        " polygon of the overlap, of the gap or of what is outside of its parcel, with width and area, or as a point"
+        " where nothing has an area; styled by their code. Nothing here is part of a yes."
     )
     STYLED = {"POINTS": styles.faults, "LINES": styles.faults, "POLYGONS": styles.faults}
 
@@ -145,7 +200,11 @@ class FindFaults(Folder):
         folder = self.parameterAsFile(parameters, "DIR", context)
         with tempfile.TemporaryDirectory() as spare:
             path = os.path.join(spare, "faults.geojson")
-            ran = places.done(places.run([places.tool("faults"), f"--lpis={places.lpis()}", "--", folder, path], feedback), "tools/faults", (REFUSED,))
+            ran = places.done(
+                places.run([places.tool("faults"), f"--lpis={places.lpis()}", "--", folder, path], feedback),
+                "tools/faults",
+                (REFUSED,),
+            )
             self.written = self.fill_shapes((parameters, context), [path], FAULT_COLUMNS)
         words = ran.last().split()
         return {**self.written, "COUNT": int(words[1]) if len(words) > 1 else 0, "SUMMARY": "\n".join(ran.lines)}
@@ -153,25 +212,37 @@ class FindFaults(Folder):
 
 class CheckCountry(Folder):
     NAME, TITLE = "checkcountry", "Check a country"
-    HELP = "One yes for all regions of a folder with country.txt. The table has the regions that passed, with their counts and sums; of a refusal the shapes at the seam are layers."
-    FOLDER = "Folder of the country (country.txt, classes.csv, a folder for each region with its certificate)"
+    HELP = (
+        "One yes for all regions of a folder with country.txt. The table has the regions that passed, with their counts"
+        " and sums; of a refusal the shapes at the seam are layers."
+    )
+    FOLDER = "Folder of the country (country.txt, classes.csv, a folder for each region)"
     STYLED = {"FAULT_POINTS": styles.fault, "FAULT_LINES": styles.fault, "FAULT_POLYGONS": styles.fault}
 
     def initAlgorithm(self, configuration=None):
         self.add_folder()
         self.add_system()
-        self.addParameter(QgsProcessingParameterFeatureSink("REGIONS", "Regions that passed", QgsProcessing.TypeVector, optional=True, createByDefault=True))
+        self.addParameter(
+            QgsProcessingParameterFeatureSink(
+                "REGIONS", "Regions that passed", QgsProcessing.TypeVector, optional=True, createByDefault=True
+            )
+        )
         self.add_shapes("Fault", "FAULT_")
         self.addOutput(QgsProcessingOutputString("VERDICT", "Verdict"))
         self.addOutput(QgsProcessingOutputNumber("STATUS", "Status of lpis"))
 
     def processAlgorithm(self, parameters, context, feedback):
         place, folder = (parameters, context), self.parameterAsFile(parameters, "DIR", context)
-        ran = places.done(places.run([places.lpis(), "country", "--", folder], feedback), "lpis country", (REFUSED, UNREADABLE))
+        ran = places.done(
+            places.run([places.lpis(), "country", "--", folder], feedback), "lpis country", (REFUSED, UNREADABLE)
+        )
         if ran.status == YES and ran.last() != "yes":
             raise QgsProcessingException("the report does not end with yes")
         columns = [("region", TEXT), ("parcels", WHOLE), ("pieces", WHOLE), ("area", TEXT), ("eligible", TEXT)]
         words = [line.split() for line in ran.lines if line.startswith("region ")]
         rows = [([line[1], int(line[3]), int(line[5]), line[7], line[9]], None) for line in words]
-        self.written = {"REGIONS": self.fill("REGIONS", place, columns, QgsWkbTypes.NoGeometry, rows), **self.explained([folder], ran.last(), place, feedback)}
+        self.written = {
+            "REGIONS": self.fill("REGIONS", place, columns, QgsWkbTypes.NoGeometry, rows),
+            **self.explained([folder], ran.last(), place, feedback),
+        }
         return {**self.written, "VERDICT": ran.last(), "STATUS": ran.status}

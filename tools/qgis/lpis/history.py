@@ -3,8 +3,15 @@
 import os
 
 from qgis.core import (
-    QgsProcessing, QgsProcessingException, QgsProcessingOutputNumber, QgsProcessingOutputString, QgsProcessingParameterBoolean,
-    QgsProcessingParameterFeatureSink, QgsProcessingParameterFile, QgsProcessingParameterNumber, QgsProcessingParameterString,
+    QgsProcessing,
+    QgsProcessingException,
+    QgsProcessingOutputNumber,
+    QgsProcessingOutputString,
+    QgsProcessingParameterBoolean,
+    QgsProcessingParameterFeatureSink,
+    QgsProcessingParameterFile,
+    QgsProcessingParameterNumber,
+    QgsProcessingParameterString,
     QgsProcessingParameterVectorLayer,
 )
 
@@ -12,7 +19,16 @@ from . import places, styles
 from .layers import NUMBER, POLYGONS, TEXT, WHOLE, Algorithm, Styled, kept_of, rows_of, shape_of, shapes_of
 
 YES, LEFT = 0, 1
-SHARED = [("old", TEXT), ("new", TEXT), ("square_metres", NUMBER), ("of_old_percent", NUMBER), ("of_new_percent", NUMBER), ("kind", TEXT), ("exact", TEXT), ("row", TEXT)]
+SHARED = [
+    ("old", TEXT),
+    ("new", TEXT),
+    ("square_metres", NUMBER),
+    ("of_old_percent", NUMBER),
+    ("of_new_percent", NUMBER),
+    ("kind", TEXT),
+    ("exact", TEXT),
+    ("row", TEXT),
+]
 
 
 def add_file(algorithm, name, words, is_folder=False, is_optional=False):
@@ -22,8 +38,11 @@ def add_file(algorithm, name, words, is_folder=False, is_optional=False):
 
 class ProposeLineage(Styled):
     NAME, TITLE = "lineage", "Lineage between two releases"
-    HELP = ("Writes lineage.csv into the folder of the newer release, where none is there: a row for each new parcel that has land of a dropped one, with marks for splits and merges that "
-            "are exact to the millimetre. What is not clear gets no row. The layer has each dropped parcel with what it shares with a new one.")
+    HELP = (
+        "Writes lineage.csv into the folder of the newer release, where none is there: a row for each new parcel that"
+        " has land of a dropped one, with marks for splits and merges that are exact to the millimetre. What is not"
+        " clear gets no row. The layer has each dropped parcel with what it shares with a new one."
+    )
     STYLED = {"SHARED": styles.lineage}
 
     def initAlgorithm(self, configuration=None):
@@ -31,7 +50,15 @@ class ProposeLineage(Styled):
         add_file(self, "REGISTER", "or the register, for the shapes of its last release", is_optional=True)
         add_file(self, "NEW", "Folder of the newer release", True)
         self.add_system()
-        self.addParameter(QgsProcessingParameterFeatureSink("SHARED", "Dropped parcels and what became of them", QgsProcessing.TypeVectorPolygon, optional=True, createByDefault=True))
+        self.addParameter(
+            QgsProcessingParameterFeatureSink(
+                "SHARED",
+                "Dropped parcels and what became of them",
+                QgsProcessing.TypeVectorPolygon,
+                optional=True,
+                createByDefault=True,
+            )
+        )
         self.addOutput(QgsProcessingOutputString("LINEAGE", "Table"))
         self.addOutput(QgsProcessingOutputString("SUMMARY", "Summary"))
 
@@ -48,16 +75,26 @@ class ProposeLineage(Styled):
 
 
 def values_of(row):
-    return [float(row[name]) if form == NUMBER and row[name] else None if form == NUMBER else row[name] for name, form in SHARED]
+    return [
+        float(row[name]) if form == NUMBER and row[name] else None if form == NUMBER else row[name]
+        for name, form in SHARED
+    ]
 
 
 class Publish(Algorithm):
     NAME, TITLE = "publish", "Publish a year"
-    HELP = "Backup, cut, exact where rows are marked, publish, report, and a line in the log beside the register. It stops before anything is done where the year is far from the last one."
+    HELP = (
+        "Backup, check, exact where rows are marked, publish, report, and a line in the log beside the register. It"
+        " stops before anything is done where the year is far from the last one."
+    )
 
     def initAlgorithm(self, configuration=None):
         self.addParameter(QgsProcessingParameterFile("REGISTER", "Register (a new one where 'first year' is set)"))
-        self.addParameter(QgsProcessingParameterNumber("YEAR", "Year", QgsProcessingParameterNumber.Integer, minValue=1, maxValue=9999))
+        self.addParameter(
+            QgsProcessingParameterNumber(
+                "YEAR", "Year", QgsProcessingParameterNumber.Integer, minValue=1, maxValue=9999
+            )
+        )
         add_file(self, "DIR", "Folder of the release, with lineage.csv", True)
         self.addParameter(QgsProcessingParameterBoolean("NEW", "First year: make a new register", False))
         self.addOutput(QgsProcessingOutputString("VERDICT", "Verdict"))
@@ -70,25 +107,46 @@ class Publish(Algorithm):
         register, year = str(parameters["REGISTER"]), self.parameterAsInt(parameters, "YEAR", context)
         folder = self.parameterAsFile(parameters, "DIR", context)
         more = ["--new"] if self.parameterAsBool(parameters, "NEW", context) else []
-        ran = places.run([places.tool("year"), *more, f"--lpis={places.lpis()}", "--", register, str(year), folder], feedback)
+        ran = places.run(
+            [places.tool("year"), *more, f"--lpis={places.lpis()}", "--", register, str(year), folder], feedback
+        )
         refusal = next((line for line in ran.lines if line.startswith("refused")), "")
         if ran.status != YES and not refusal:
             raise QgsProcessingException(f"not published, status {ran.status}: {' '.join(ran.told) or ran.last()}")
-        return {"VERDICT": refusal or f"published {year}", "REPORT": "" if refusal else os.path.join(folder, f"report-{year}.html")}
+        return {
+            "VERDICT": refusal or f"published {year}",
+            "REPORT": "" if refusal else os.path.join(folder, f"report-{year}.html"),
+        }
 
 
 class Trace(Styled):
     NAME, TITLE = "trace", "Trace an identifier"
-    HELP = "What an identifier of any year has become: its descendants of the last release, with the shapes that the register keeps. Where a layer of parcels is named, they are selected in it."
+    HELP = (
+        "What an identifier of any year has become: its descendants of the last release, with the shapes that the"
+        " register keeps. Where a layer of parcels is named, they are selected in it."
+    )
     STYLED = {"DESCENDANTS": styles.parcels}
 
     def initAlgorithm(self, configuration=None):
         add_file(self, "REGISTER", "Register")
         self.addParameter(QgsProcessingParameterString("ID", "Identifier"))
-        self.addParameter(QgsProcessingParameterVectorLayer("PARCELS", "Layer of parcels in which to select them", [QgsProcessing.TypeVectorAnyGeometry], optional=True))
-        self.addParameter(QgsProcessingParameterString("FIELD", "its field with the identifier", "parcel", optional=True))
+        self.addParameter(
+            QgsProcessingParameterVectorLayer(
+                "PARCELS",
+                "Layer of parcels in which to select them",
+                [QgsProcessing.TypeVectorAnyGeometry],
+                optional=True,
+            )
+        )
+        self.addParameter(
+            QgsProcessingParameterString("FIELD", "its field with the identifier", "parcel", optional=True)
+        )
         self.add_system()
-        self.addParameter(QgsProcessingParameterFeatureSink("DESCENDANTS", "Descendants", QgsProcessing.TypeVectorPolygon, optional=True, createByDefault=True))
+        self.addParameter(
+            QgsProcessingParameterFeatureSink(
+                "DESCENDANTS", "Descendants", QgsProcessing.TypeVectorPolygon, optional=True, createByDefault=True
+            )
+        )
         self.addOutput(QgsProcessingOutputString("NAMES", "Identifiers"))
         self.addOutput(QgsProcessingOutputNumber("COUNT", "Number of descendants"))
 
@@ -96,7 +154,9 @@ class Trace(Styled):
         return super().flags() | self.FlagNoThreading
 
     def processAlgorithm(self, parameters, context, feedback):
-        register, name = self.parameterAsFile(parameters, "REGISTER", context), self.parameterAsString(parameters, "ID", context)
+        register, name = self.parameterAsFile(parameters, "REGISTER", context), self.parameterAsString(
+            parameters, "ID", context
+        )
         if not os.path.isfile(register):
             raise QgsProcessingException(f"{register} is not there")
         ran = places.done(places.run([places.lpis(), "trace", "--", register, name], feedback), "lpis trace")
@@ -107,7 +167,11 @@ class Trace(Styled):
             field = self.parameterAsString(parameters, "FIELD", context)
             names = ", ".join("'" + found.replace("'", "''") + "'" for found in ran.lines)
             layer.selectByExpression(f'"{field}" IN ({names})' if names else "FALSE")
-        self.written = {"DESCENDANTS": self.fill("DESCENDANTS", (parameters, context), [("parcel", TEXT), ("since", WHOLE)], POLYGONS, rows)}
+        self.written = {
+            "DESCENDANTS": self.fill(
+                "DESCENDANTS", (parameters, context), [("parcel", TEXT), ("since", WHOLE)], POLYGONS, rows
+            )
+        }
         return {**self.written, "NAMES": " ".join(ran.lines), "COUNT": len(ran.lines)}
 
 
@@ -122,6 +186,11 @@ class KeptShapes(Styled):
         self.addParameter(QgsProcessingParameterFeatureSink("SHAPES", "Kept shapes", QgsProcessing.TypeVectorPolygon))
 
     def processAlgorithm(self, parameters, context, feedback):
-        rows = [([name, since], shape_of(text) if text else None) for name, since, text in kept_of(self.parameterAsFile(parameters, "REGISTER", context))]
-        self.written = {"SHAPES": self.fill("SHAPES", (parameters, context), [("parcel", TEXT), ("since", WHOLE)], POLYGONS, rows)}
+        rows = [
+            ([name, since], shape_of(text) if text else None)
+            for name, since, text in kept_of(self.parameterAsFile(parameters, "REGISTER", context))
+        ]
+        self.written = {
+            "SHAPES": self.fill("SHAPES", (parameters, context), [("parcel", TEXT), ("since", WHOLE)], POLYGONS, rows)
+        }
         return self.written

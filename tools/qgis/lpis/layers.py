@@ -9,15 +9,26 @@ from pathlib import Path
 
 from osgeo import ogr
 from qgis.core import (
-    QgsCoordinateReferenceSystem, QgsFeature, QgsField, QgsFields, QgsGeometry, QgsProcessingAlgorithm, QgsProcessingException,
-    QgsProcessingParameterCrs, QgsProcessingParameterDefinition, QgsProcessingUtils, QgsRectangle, QgsWkbTypes,
+    QgsCoordinateReferenceSystem,
+    QgsFeature,
+    QgsField,
+    QgsFields,
+    QgsGeometry,
+    QgsProcessingAlgorithm,
+    QgsProcessingException,
+    QgsProcessingParameterCrs,
+    QgsProcessingParameterDefinition,
+    QgsProcessingUtils,
+    QgsRectangle,
+    QgsWkbTypes,
 )
 from qgis.PyQt.QtCore import QVariant
 
 TEXT, NUMBER, WHOLE = QVariant.String, QVariant.Double, QVariant.Int
 POINTS, LINES, POLYGONS = QgsWkbTypes.Point, QgsWkbTypes.MultiLineString, QgsWkbTypes.MultiPolygon
 LEAST = 50.0  # metres: a fifth of it is shown around a fault that is a point
-MARKED = re.compile("'+[=+\\-@\t\r]")  # a text that a spreadsheet would take for a formula has an apostrophe before it in tables for people
+# a text that a spreadsheet would take for a formula has an apostrophe before it in tables for people
+MARKED = re.compile("'+[=+\\-@\t\r]")
 csv.field_size_limit(1 << 30)
 
 
@@ -46,17 +57,27 @@ class Algorithm(QgsProcessingAlgorithm):
         """The system that is named; else that of the report which `prepare` wrote beside the tables."""
         found = self.parameterAsCrs(parameters, "CRS", context) if self.parameterDefinition("CRS") else None
         folders = [str(parameters[name]) for name in self.FOLDERS if parameters.get(name)]
-        return found if found and found.isValid() else next(filter(QgsCoordinateReferenceSystem.isValid, map(system_of, folders)), QgsCoordinateReferenceSystem())
+        return (
+            found
+            if found and found.isValid()
+            else next(
+                filter(QgsCoordinateReferenceSystem.isValid, map(system_of, folders)), QgsCoordinateReferenceSystem()
+            )
+        )
 
     def fill(self, name, place, columns, kind, rows, source=None):
-        """Writes rows, each its values and a shape or none, into an output; answers where it is, or None where it is not wanted. The columns of a source stand
-        before these, and its system is taken where the release's is not known."""
+        """Writes rows, each its values and a shape or none, into an output; answers where it is, or None where it is
+        not wanted. The columns of a source stand before these, and its system is taken where the release's is not
+        known."""
         parameters, context = place
         fields, system = QgsFields(), self.system(parameters, context)
         for column, form in columns:
             fields.append(QgsField(column, form))
         if source:
-            fields, system = QgsProcessingUtils.combineFields(source.fields(), fields), system if system.isValid() else source.sourceCrs()
+            fields, system = (
+                QgsProcessingUtils.combineFields(source.fields(), fields),
+                system if system.isValid() else source.sourceCrs(),
+            )
         sink, where = self.parameterAsSink(parameters, name, context, fields, kind, system)
         if sink is None and not self.parameterDefinition(name).flags() & QgsProcessingParameterDefinition.FlagOptional:
             raise QgsProcessingException(self.invalidSinkError(parameters, name))
@@ -83,7 +104,14 @@ class Styled(Algorithm):
             if layer is not None:
                 style(layer)
                 layer.triggerRepaint()
-        zoom([layer for name in self.written if name.startswith("FAULT_") and (layer := QgsProcessingUtils.mapLayerFromString(self.written[name] or "", context))])
+        zoom(
+            [
+                layer
+                for name in self.written
+                if name.startswith("FAULT_")
+                and (layer := QgsProcessingUtils.mapLayerFromString(self.written[name] or "", context))
+            ]
+        )
         return {}
 
 
@@ -110,7 +138,11 @@ def system_of(folder):
         found = None
     if found:
         return QgsCoordinateReferenceSystem(f"EPSG:{found[1]}")
-    package = ogr.Open(os.path.join(folder, "findings.gpkg")) if os.path.isfile(os.path.join(folder, "findings.gpkg")) else None
+    package = (
+        ogr.Open(os.path.join(folder, "findings.gpkg"))
+        if os.path.isfile(os.path.join(folder, "findings.gpkg"))
+        else None
+    )
     system = package.GetLayer(0).GetSpatialRef() if package and package.GetLayerCount() else None
     number = system.GetAuthorityCode(None) if system else None
     return QgsCoordinateReferenceSystem(f"EPSG:{number}") if number else QgsCoordinateReferenceSystem()
@@ -139,7 +171,10 @@ def rows_of(path):
         reader = csv.DictReader(file)
         reader.fieldnames = [name.lower() for name in reader.fieldnames or []]
         for row in reader:
-            yield {name: value[1:] if isinstance(value, str) and MARKED.match(value) else value for name, value in row.items()}
+            yield {
+                name: value[1:] if isinstance(value, str) and MARKED.match(value) else value
+                for name, value in row.items()
+            }
 
 
 def shapes_of(folder):
@@ -166,7 +201,10 @@ def kept_of(register):
     for mode in ("mode=ro", "immutable=1"):
         base = sqlite3.connect(f"{address}?{mode}", uri=True, timeout=60)
         try:
-            return base.execute("SELECT lpis_span.id, since, wkt FROM lpis_span LEFT JOIN lpis_text USING (id) WHERE until = 0 ORDER BY id").fetchall()
+            return base.execute(
+                "SELECT lpis_span.id, since, wkt FROM lpis_span LEFT JOIN lpis_text USING (id) WHERE until = 0 ORDER"
+                " BY id"
+            ).fetchall()
         except sqlite3.Error as error:
             reason = error
         finally:

@@ -6,12 +6,19 @@ import os
 import tempfile
 
 from qgis.core import (
-    QgsCoordinateTransform, QgsGeometry, QgsPointXY, QgsProcessing, QgsProcessingException, QgsProcessingOutputNumber, QgsProcessingOutputString,
-    QgsProcessingParameterFeatureSink, QgsProcessingParameterFeatureSource, QgsProcessingParameterFile,
+    QgsCoordinateTransform,
+    QgsGeometry,
+    QgsPointXY,
+    QgsProcessing,
+    QgsProcessingException,
+    QgsProcessingOutputNumber,
+    QgsProcessingOutputString,
+    QgsProcessingParameterFeatureSink,
+    QgsProcessingParameterFeatureSource,
 )
 
 from . import places, styles
-from .check import REFUSED, UNREADABLE, YES, Folder
+from .check import REFUSED, UNREADABLE, YES, Folder, of_certificate
 from .layers import POINTS, TEXT
 
 ADDED = [("parcel", TEXT), ("piece", TEXT), ("class", TEXT)]
@@ -19,16 +26,27 @@ ADDED = [("parcel", TEXT), ("piece", TEXT), ("class", TEXT)]
 
 class LocatePoints(Folder):
     NAME, TITLE = "locatepoints", "Locate points"
-    HELP = ("Which parcel and which piece each point is in, exactly: on a border too a point is in one or in none. The release is checked first, and no point of a refused one is located. "
-            "Points in another system are transformed where the release's is known: named here, or by the report beside its tables. A point outside of all parcels has no parcel.")
-    STYLED = {"LOCATED": styles.located, "FAULT_POINTS": styles.fault, "FAULT_LINES": styles.fault, "FAULT_POLYGONS": styles.fault}
+    HELP = (
+        "Which parcel and which piece each point is in, exactly: on a border too a point is in one or in none. The"
+        " release is checked first, and no point of a refused one is located. Points in another system are transformed"
+        " where the release's is known: named here, or by the report beside its tables. A point outside of all parcels"
+        " has no parcel."
+    )
+    STYLED = {
+        "LOCATED": styles.located,
+        "FAULT_POINTS": styles.fault,
+        "FAULT_LINES": styles.fault,
+        "FAULT_POLYGONS": styles.fault,
+    }
 
     def initAlgorithm(self, configuration=None):
         self.addParameter(QgsProcessingParameterFeatureSource("INPUT", "Points", [QgsProcessing.TypeVectorPoint]))
         self.add_folder()
-        self.addParameter(QgsProcessingParameterFile("CERT", "Certificate (DIR/cert.txt where none is named)", optional=True))
+        self.add_certificate()
         self.add_system()
-        self.addParameter(QgsProcessingParameterFeatureSink("LOCATED", "Points with their parcels", QgsProcessing.TypeVectorPoint))
+        self.addParameter(
+            QgsProcessingParameterFeatureSink("LOCATED", "Points with their parcels", QgsProcessing.TypeVectorPoint)
+        )
         self.add_shapes("Fault", "FAULT_")
         self.addOutput(QgsProcessingOutputString("VERDICT", "Verdict"))
         self.addOutput(QgsProcessingOutputNumber("STATUS", "Status of lpis"))
@@ -40,21 +58,28 @@ class LocatePoints(Folder):
         source = self.parameterAsSource(parameters, "INPUT", context)
         if source is None:
             raise QgsProcessingException(self.invalidSourceError(parameters, "INPUT"))
-        ran = self.cut(folder, cert, feedback)
-        points = list(self.points(source, place)) if ran.status == YES else []
-        if ran.status == YES:
-            ran = self.located(folder, cert, points, feedback)
+        points = list(self.points(source, place))
+        ran = self.located(folder, cert, points, feedback)
         feedback.pushInfo(ran.last())
         found = answers(ran.lines) if ran.status == YES else {}
-        self.written = {"LOCATED": self.fill("LOCATED", place, ADDED, POINTS, rows_of(points, found), source), **self.explained([folder, "--cert", cert], ran.last(), place, feedback)}
+        self.written = {
+            "LOCATED": self.fill("LOCATED", place, ADDED, POINTS, rows_of(points, found), source),
+            **self.explained([folder, *of_certificate(cert)], ran.last(), place, feedback),
+        }
         return {**self.written, "VERDICT": ran.last(), "STATUS": ran.status, "INSIDE": sum(map(bool, found.values()))}
 
     def points(self, source, place):
         """Each point of the layer with its feature; a feature of several points has one for each."""
         system = self.system(*place)
-        transform = QgsCoordinateTransform(source.sourceCrs(), system, place[1].transformContext()) if system.isValid() and source.sourceCrs().isValid() else None
+        transform = (
+            QgsCoordinateTransform(source.sourceCrs(), system, place[1].transformContext())
+            if system.isValid() and source.sourceCrs().isValid()
+            else None
+        )
         if transform is None and source.sourceCrs().isGeographic():
-            raise QgsProcessingException(f"the points are in degrees ({source.sourceCrs().authid()}): name the system of the release")
+            raise QgsProcessingException(
+                f"the points are in degrees ({source.sourceCrs().authid()}): name the system of the release"
+            )
         for feature in source.getFeatures():
             shape = feature.geometry()
             if shape.isEmpty():
@@ -74,18 +99,28 @@ class LocatePoints(Folder):
             with open(table, "w", encoding="ascii", newline="") as file:
                 writer = csv.writer(file, lineterminator="\n")
                 writer.writerow(["point", "x", "y"])
-                writer.writerows([number, f"{point.x():.9f}", f"{point.y():.9f}"] for number, (_, point) in enumerate(points))
-            return places.done(places.run([places.lpis(), "locate", "--", folder, cert, table], feedback, quiet=True), "lpis locate", (REFUSED, UNREADABLE))
+                writer.writerows(
+                    [number, f"{point.x():.9f}", f"{point.y():.9f}"] for number, (_, point) in enumerate(points)
+                )
+            return places.done(
+                places.run([places.lpis(), "locate", "--", folder, *cert, table], feedback, quiet=True),
+                "lpis locate",
+                (REFUSED, UNREADABLE),
+            )
 
 
 def rows_of(points, found):
-    """The columns of each point's feature with what was found of it, and the point; nothing where no point was located."""
+    """The columns of each point's feature with what was found of it, and the point; nothing where no point was
+    located."""
     for number, (feature, point) in enumerate(points if found else ()):
-        yield [*feature.attributes(), *(found[number] or [None] * len(ADDED))], QgsGeometry.fromPointXY(QgsPointXY(point))
+        yield [*feature.attributes(), *(found[number] or [None] * len(ADDED))], QgsGeometry.fromPointXY(
+            QgsPointXY(point)
+        )
 
 
 def answers(lines):
-    """Parcel, piece and class of each point by its number, None where it is in no parcel. A text that is no yes to its end has none."""
+    """Parcel, piece and class of each point by its number, None where it is in no parcel. A text that is no yes to
+    its end has none."""
     if not lines or lines[-1] != "yes":
         raise QgsProcessingException("the answer does not end with yes")
     words = [line.split() for line in lines if line.startswith("point ")]

@@ -9,7 +9,17 @@ from .history import KeptShapes, ProposeLineage, Publish, Trace
 from .locate import LocatePoints
 from .prepare import PrepareRelease
 
-ALGORITHMS = (PrepareRelease, CheckRelease, FindFaults, ProposeLineage, Publish, Trace, KeptShapes, CheckCountry, LocatePoints)
+ALGORITHMS = (
+    PrepareRelease,
+    CheckRelease,
+    FindFaults,
+    ProposeLineage,
+    Publish,
+    Trace,
+    KeptShapes,
+    CheckCountry,
+    LocatePoints,
+)
 
 
 class Provider(QgsProcessingProvider):
@@ -20,7 +30,15 @@ class Provider(QgsProcessingProvider):
         return "LPIS release checks"
 
     def load(self):
-        ProcessingConfig.addSetting(Setting(self.name(), places.SETTING, "Folder of the installed lpis (lib/lpis), where it is not found by itself", "", valuetype=Setting.FOLDER))
+        ProcessingConfig.addSetting(
+            Setting(
+                self.name(),
+                places.SETTING,
+                "Folder of the installed lpis (lib/lpis), where it is not found by itself",
+                "",
+                valuetype=Setting.FOLDER,
+            )
+        )
         self.refreshAlgorithms()
         return True
 

@@ -1,1 +1,0 @@
-"""What the tools beside `lpis` share. Python's standard library alone."""
