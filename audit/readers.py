@@ -5,6 +5,7 @@ and the regions of a country; and what names and percentages of a source are in 
 import contextlib
 import csv
 import io
+import json
 import os
 import re
 import sqlite3
@@ -81,6 +82,21 @@ def percentages(rows: Iterable[list], name_of: Callable[[str], str]) -> dict[str
     return {name: value if value is None else str(value * times) for name, value in found.items()}
 
 
+def beside(land: Path) -> dict[str, str]:
+    """What lpis.toml beside a source says: a text by each key, such as columns.parcels.parcel."""
+    place, section, said = (land if (land / "lpis.toml").exists() else land.resolve().parent) / "lpis.toml", "", {}
+    for line in place.read_text(encoding="utf-8-sig").splitlines() if place.is_file() else ():
+        header = re.fullmatch(r"\s*\[\s*([\w.]+)\s*\].*", line)
+        entry = re.match(r"""\s*([\w.]+)\s*=\s*("(?:[^"\\]|\\.)*"|'[^']*'|[^\s#]+)""", line)
+        if header:
+            section = header[1] + "."
+        elif entry:
+            said[section + entry[1]] = entry[2][1:-1] if entry[2][0] == "'" else str(json.loads(entry[2]))
+    if "classes" in said:
+        said["classes"] = str(place.parent / said["classes"])
+    return said
+
+
 class Source:
     """A GeoPackage, or a folder of tables of text; what has another name there has it in `names`."""
 
@@ -102,10 +118,14 @@ class Source:
         found = self.base.execute(query, [self.system(layer)[1]]).fetchone() if self.base else None
         return found[0] if found else None
 
+    def called(self, layer: str, *columns: str) -> list[str]:
+        """What columns of a layer are called: those of a table of classes where none is named."""
+        return [self.names.get(f"{layer}.{column}", column) for column in columns or COLUMNS[layer]]
+
     def rows(self, layer: str, columns: list[str]) -> Iterator[tuple[int, list]]:
         """The number of each row, its fields, and its shape as it stands there."""
         name = self.names.get(layer, layer)
-        wanted = [self.names.get(f"{layer}.{column}", column) for column in (*columns, "wkt")]
+        wanted = self.called(layer, *columns, "wkt")
         if self.base is None:
             path = self.path / f"{name}.csv"
             yield from enumerate(fields_of(sheet(path) if path.exists() else (), wanted), 1)

@@ -27,7 +27,7 @@ from fractions import Fraction
 from pathlib import Path
 from typing import Any, Iterable, Iterator, NamedTuple, Optional
 
-from readers import COLUMNS, Names, Source, Trouble, fields_of, folders_of, members_of_text, opened
+from readers import COLUMNS, Names, Source, Trouble, beside, fields_of, folders_of, members_of_text, opened
 from readers import percentages, plain, read_table, sheet
 from shapes import Point, Shape, box_of, exact, points_of, rings_of
 
@@ -392,17 +392,21 @@ def words_of(keys: Iterable[Key]) -> str:
 
 def answer(arguments: argparse.Namespace) -> str:
     """The line that is printed."""
-    renamed, out = dict(word.split("=", 1) for word in arguments.name), Path(arguments.out)
+    said, out = beside(Path(arguments.land)), Path(arguments.out)
+    renamed = {key.partition(".")[2]: value for key, value in said.items() if key.startswith(("layers.", "columns."))}
+    renamed.update(word.split("=", 1) for word in arguments.name)
+    table, epsg = arguments.classes or said.get("classes"), arguments.epsg or int(said.get("epsg", 0)) or None
     names, written = Names(out), percentages(read_table(out, "classes"), plain)
     with tempfile.TemporaryDirectory() as spare:
-        land = opened(arguments.land, renamed, arguments.epsg, spare)
+        land = opened(arguments.land, renamed, epsg, spare)
         classes = (fields[:3] for _, fields in land.rows("classes", COLUMNS["classes"]))
-        if arguments.classes:
-            classes = fields_of(sheet(Path(arguments.classes)), COLUMNS["classes"])
+        if table:
+            classes = fields_of(sheet(Path(table)), land.called("classes"))
         percents = percentages(classes, lambda name: names.of("class", name))
         rows = list(rows_of_source(land, names, percents or written))
     if not rows:
-        raise Trouble(f"{arguments.land} has no rows of parcels and covers")
+        called = " and ".join(renamed.get(layer, layer) for layer in ("parcels", "covers"))
+        raise Trouble(f"{arguments.land} has no rows in layers {called}: --name, or lpis.toml, says others")
     judge = Judge(rows, rows_of_tables(out), rows_of_findings(out), KEPT if arguments.previous else ROUNDED)
     point = judge.first_break()
     if point:

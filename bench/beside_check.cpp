@@ -1,10 +1,11 @@
-// A checker in C++ of a release and its certificate: beside_check DIR CERT. Beside it `bench/beside_check` measures the proved one.
+// A checker in C++ of a release and its certificate: beside_check DIR CERT [read]. Beside it `bench/beside_check` measures the proved one.
 //
 // It does the tests of `lpis check` over the same four files, in the same order, on one thread: it reads tables and certificate whole,
 // keeps each list as plain vectors, and tests the ten conditions one after the other, by sorting where something is to be found. It
 // prints the same report, status 0, or `refused CODE` with the code of `lpis check`, status 1, or 2 where the code is one of a table or
 // of a certificate's text. Of a wrong polygon text that is 38 alone, and of a certificate's text one of 50 to 56, not always the same:
-// which of them it is takes a look at the whole line. Status 2 is also that a file can't be read.
+// which of them it is takes a look at the whole line. Status 2 is also that a file can't be read. With `read` it reads and adds, and tests
+// nothing: its report lacks the last line.
 
 #include "beside_check_input.h"
 
@@ -298,7 +299,7 @@ static void print_areas(std::string &out, Area area, Area eligible) {
     out += '\n';
 }
 
-static std::string report(const Release &release) {
+static std::string report(const Release &release, const char *last) {
     std::string out;
     out.reserve(64 * release.parcels.size() + 128);
     out += "parcels " + std::to_string(release.parcels.size()) + " pieces " + std::to_string(release.pieces.size()) + "\n";
@@ -316,12 +317,13 @@ static std::string report(const Release &release) {
     }
     out += "total";
     print_areas(out, areas, eligibles);
-    return out + "yes\n";
+    return out + last;
 }
 
 int main(int count, char **words) {
-    if (count != 3) {
-        std::fprintf(stderr, "beside_check: two words are wanted, a folder and a certificate\n");
+    bool tests = count == 3;
+    if (!tests && !(count == 4 && string_view(words[3]) == "read")) {
+        std::fprintf(stderr, "beside_check: two words are wanted, a folder and a certificate, and perhaps `read`\n");
         return 2;
     }
     std::string folder = words[1];
@@ -336,15 +338,19 @@ int main(int count, char **words) {
     Certificate cert;
     Certificate_text(text).read(cert);
 
-    test_names(release, cert);
-    test_triangles(cert);
-    test_corners(release, cert);
+    if (tests) {
+        test_names(release, cert);
+        test_triangles(cert);
+        test_corners(release, cert);
+    }
     add_areas(release.parcel_shapes);
     add_areas(release.piece_shapes);
-    test_edges(release, cert);
-    test_near_pairs(cert);
-    test_separators(cert);
-    std::string out = report(release);
+    if (tests) {
+        test_edges(release, cert);
+        test_near_pairs(cert);
+        test_separators(cert);
+    }
+    std::string out = report(release, tests ? "yes\n" : "");
     std::fwrite(out.data(), 1, out.size(), stdout);
     return 0;
 }

@@ -1,9 +1,10 @@
-"""What the benches share. A bench is a script of this folder that measures one thing. Its docstring says what is measured beside what,
-what is wanted and with which words it is run; constants and a `main` follow. It prints a page of Markdown: a heading, a line on what it is,
-a table, and under it what was wanted and what was got. `bench/all` runs them, and keeps the page of NAME as bench/results/NAME.md.
+"""What the benches share. A bench is a script of this folder that measures one thing. Its docstring says what is
+measured beside what, what is wanted and with which words it is run; constants and a `main` follow. It prints a page of
+Markdown: a heading, a line on what it is, a table, and under it what was wanted and what was got. `bench/all` runs
+them, and keeps the page of NAME as bench/results/NAME.md.
 
-`LPIS=PROGRAM` in the environment names another `lpis` than the one that ./lpis runs. `BEFORE=PROGRAM` names an earlier `lpis`, which
-bench/beside_check runs too."""
+`LPIS=PROGRAM` in the environment names another `lpis` than the one that ./lpis runs. `BEFORE=PROGRAM` names an earlier
+`lpis`, which bench/beside_check runs too."""
 
 import collections
 import functools
@@ -20,11 +21,14 @@ import textwrap
 
 HERE = os.path.dirname(os.path.realpath(__file__))
 TOP = os.path.dirname(HERE)
-sys.path[:0] = [os.path.join(TOP, "tests"), os.path.join(TOP, "tools")]  # before all that is installed: tests and benches share lpis_helpers
+# before all that is installed: tests and benches share lpis_helpers
+sys.path[:0] = [os.path.join(TOP, "tests"), os.path.join(TOP, "python", "src")]
 from lpis_helpers.places import run_helper  # noqa: E402
+
 MEGABYTE = 1_000_000
 RUNS, WIDTH, MOST_FAULTS = 3, 120, 20
-IN_MEMORY = "/dev/shm" if os.access("/dev/shm", os.W_OK) else None  # a folder for files that are written and synced often
+# a folder for files that are written and synced often
+IN_MEMORY = "/dev/shm" if os.access("/dev/shm", os.W_OK) else None
 TABLES = ["parcels.csv", "covers.csv", "classes.csv"]
 CERT = "cert.txt"
 
@@ -32,8 +36,8 @@ CERT = "cert.txt"
 
 
 def options(*flags, words=""):
-    """Which of these flags are on the command line, and the other words. Where words that begin with a dash are none of them, or no other
-    words are taken, the docstring is printed."""
+    """Which of these flags are on the command line, and the other words. Where words that begin with a dash are none of
+    them, or no other words are taken, the docstring is printed."""
     given = [word for word in sys.argv[1:] if word in flags]
     others = [word for word in sys.argv[1:] if word not in flags]
     if any(word.startswith("-") for word in others) or (others and not words):
@@ -107,7 +111,7 @@ while not pid:
     pid, status, usage = os.wait4(child, os.WNOHANG)
 took = time.perf_counter() - start
 os.write(end, json.dumps([os.waitstatus_to_exitcode(status), usage.ru_utime + usage.ru_stime, took, usage.ru_maxrss * 1024]).encode())
-"""
+"""  # noqa: E501
 
 Run = collections.namedtuple("Run", "status text told seconds wall peak")
 
@@ -118,16 +122,24 @@ def limited(room, seconds_):
 
 
 def run(words, folder=None, limits=(), wall=None):
-    """Status, standard output, standard error, processor seconds, wall seconds and peak bytes of a run in a folder, with what the
-    script `lpis` sets. Limits are pairs as of `setrlimit`; after so many seconds of wall the run is killed."""
+    """Status, standard output, standard error, processor seconds, wall seconds and peak bytes of a run in a folder,
+    with what the script `lpis` sets. Limits are pairs as of `setrlimit`; after so many seconds of wall the run is
+    killed."""
     surroundings = {"MALLOC_MMAP_THRESHOLD_": "131072", **os.environ}
     words = [str(word) for word in words]
     words[0] = shutil.which(words[0]) or sys.exit(f"there is no {words[0]}")
     end, other = os.pipe()
     with tempfile.TemporaryFile() as out, tempfile.TemporaryFile() as err, os.fdopen(end, "rb") as figures:
         starter = [sys.executable, "-I", "-S", "-c", STARTER, json.dumps([other, list(limits), wall])]
-        process = subprocess.Popen([*starter, *words], cwd=folder, stdin=subprocess.DEVNULL, stdout=out, stderr=err, env=surroundings,
-                                   pass_fds=[other])
+        process = subprocess.Popen(
+            [*starter, *words],
+            cwd=folder,
+            stdin=subprocess.DEVNULL,
+            stdout=out,
+            stderr=err,
+            env=surroundings,
+            pass_fds=[other],
+        )
         os.close(other)
         said = figures.read()
         process.wait()
@@ -143,7 +155,9 @@ def run(words, folder=None, limits=(), wall=None):
 
 def answer(words):
     """Status, standard output and standard error of a run of which no figure is wanted: it starts sooner."""
-    found = subprocess.run([str(word) for word in words], stdin=subprocess.DEVNULL, capture_output=True, text=True, check=False)
+    found = subprocess.run(
+        [str(word) for word in words], stdin=subprocess.DEVNULL, capture_output=True, text=True, check=False
+    )
     return found.returncode, found.stdout, found.stderr
 
 
@@ -163,7 +177,18 @@ def counts_in(text):
 
 def psql(database, *statements):
     """The words by which psql has statements done in a database."""
-    return ["psql", "-X", "-q", "-A", "-t", "-v", "ON_ERROR_STOP=1", "-d", database, *(word for statement in statements for word in ("-c", statement))]
+    return [
+        "psql",
+        "-X",
+        "-q",
+        "-A",
+        "-t",
+        "-v",
+        "ON_ERROR_STOP=1",
+        "-d",
+        database,
+        *(word for statement in statements for word in ("-c", statement)),
+    ]
 
 
 def dropped(database):
@@ -173,7 +198,11 @@ def dropped(database):
 
 def has_postgis(database):
     """Makes a database with PostGIS anew, where a server is reached; whether it is there."""
-    return dropped(database) and answer(psql("postgres", f"create database {database}"))[0] == 0 and answer(psql(database, "create extension postgis"))[0] == 0
+    return (
+        dropped(database)
+        and answer(psql("postgres", f"create database {database}"))[0] == 0
+        and answer(psql(database, "create extension postgis"))[0] == 0
+    )
 
 
 def in_turns(works, runs=RUNS):
@@ -191,7 +220,9 @@ def least(runs):
     """The least seconds and the greatest peak of runs of one command, which have to print the same."""
     if len({it.text for it in runs}) != 1:
         sys.exit(f"the runs print different texts: {[it.text[-200:] for it in runs]}")
-    return runs[0]._replace(seconds=min(it.seconds for it in runs), wall=min(it.wall for it in runs), peak=max(it.peak for it in runs))
+    return runs[0]._replace(
+        seconds=min(it.seconds for it in runs), wall=min(it.wall for it in runs), peak=max(it.peak for it in runs)
+    )
 
 
 # Sections.
@@ -261,7 +292,8 @@ def counted(passed, failed):
 
 
 def side_by_side(judged, numbers, answers):
-    """What is made of each number, in processes; once there are many that are not right, of no more. `judged` answers it with its faults behind it."""
+    """What is made of each number, in processes; once there are many that are not right, of no more. `judged`
+    answers it with its faults behind it."""
     lpis()  # built before the processes begin
     with multiprocessing.Pool() as pool:
         for *found, faults in pool.imap(judged, numbers):
@@ -272,7 +304,8 @@ def side_by_side(judged, numbers, answers):
 
 
 class Judge:
-    """Answers of the program about the years of a number, held against what is true. Each call of `wrong` is a fault."""
+    """Answers of the program about the years of a number, held against what is true. Each call of `wrong` is a
+    fault."""
 
     def __init__(self, name, number, folder):
         self.name, self.folder, self.faults, self.numbers = name, folder, [], random.Random(-1 - number)

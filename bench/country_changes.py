@@ -1,4 +1,5 @@
-"""The second year of a country that make_country.cpp wrote, made in its place: one parcel of twenty is changed, certificates too, so that nothing is cut anew."""
+"""The second year of a country that make_country.cpp wrote, made in its place: one parcel of twenty is changed,
+certificates too, so that nothing is cut anew."""
 
 import os
 import zlib
@@ -28,7 +29,8 @@ def rows_of(*names):
 
 
 def kind_of(name, seen):
-    """What becomes of a parcel: one of several regions is never split, since its pieces need not meet the same tiles."""
+    """What becomes of a parcel: one of several regions is never split, since its pieces need not meet the same
+    tiles."""
     place = zlib.crc32(name.encode()) % OF
     if place < CHANGED:
         return "renamed"
@@ -46,14 +48,19 @@ def change(folder):
 
 
 def change_region(folder, kinds, told):
-    """Changes a region's tables and certificate; answers its rows of lineage, none of a parcel that an earlier region has."""
+    """Changes a region's tables and certificate; answers its rows of lineage, none of a parcel that an earlier
+    region has."""
     pieces, rows = change_covers(folder, kinds), []
     head, lines = rows_of(folder, "parcels.csv")
     with open(os.path.join(folder, "parcels.csv"), "w", encoding="ascii") as file:
         file.write(head)
         for line in lines:
             name, wkt = line.split(",", 1)
-            news = [f"{name}.{place}" for place in range(len(pieces[name]))] if kinds.get(name) == "split" else [f"{name}.n"]
+            news = (
+                [f"{name}.{place}" for place in range(len(pieces[name]))]
+                if kinds.get(name) == "split"
+                else [f"{name}.n"]
+            )
             if name not in kinds:
                 file.write(line)
                 continue
@@ -92,7 +99,13 @@ def change_certificate(path, kinds, pieces):
                 _, name, flats = line.split()
                 kind = kinds.get(name)
                 is_left_out = kind == "split"
-                new.write("".join(f"parcel {name}.{place} 0\n" for place in range(len(pieces[name]))) if is_left_out else f"parcel {name}.n {flats}\n" if kind else line)
+                new.write(
+                    "".join(f"parcel {name}.{place} 0\n" for place in range(len(pieces[name])))
+                    if is_left_out
+                    else f"parcel {name}.n {flats}\n"
+                    if kind
+                    else line
+                )
             elif not (is_left_out and line.startswith("f ")):
                 new.write(line)
     os.replace(f"{path}.new", path)

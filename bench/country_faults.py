@@ -1,5 +1,5 @@
-"""Faults that are planted in the folders of a country, the register and the words of a command, one by one. Each gets what a command is given, and
-changes it; it answers False where there was no place for it."""
+"""Faults that are planted in the folders of a country, the register and the words of a command, one by one. Each gets
+what a command is given, and changes it; it answers False where there was no place for it."""
 
 import os
 import re
@@ -13,11 +13,20 @@ from lpis_helpers.tables import write_lines
 
 
 class Given:
-    """The folder, the register, the year and the file of --exact of a command; all of them copies that may be changed. `stale` are the regions whose
-    certificates are to be made anew, `gone` identifiers that were live in an earlier year alone."""
+    """The folder, the register, the year and the file of --exact of a command; all of them copies that may be changed.
+    `stale` are the regions whose certificates are to be made anew, `gone` identifiers that were live in an earlier
+    year alone."""
 
     def __init__(self, numbers, folder, register, year, file, gone):
-        self.numbers, self.folder, self.register, self.year, self.file, self.gone, self.stale = numbers, folder, register, year, file, gone, set()
+        self.numbers, self.folder, self.register, self.year, self.file, self.gone, self.stale = (
+            numbers,
+            folder,
+            register,
+            year,
+            file,
+            gone,
+            set(),
+        )
         self.regions = regions_of(folder)
 
     def path(self, *names):
@@ -34,7 +43,12 @@ class Given:
 
     def rows(self):
         """Each row of lineage: its region, its line's place in the table, and its fields."""
-        return [(region, place, line.split(",")) for region in self.regions for place, line in enumerate(self.lines(region, "lineage.csv")) if place]
+        return [
+            (region, place, line.split(","))
+            for region in self.regions
+            for place, line in enumerate(self.lines(region, "lineage.csv"))
+            if place
+        ]
 
     def set_row(self, region, place, fields):
         lines = self.lines(region, "lineage.csv")
@@ -61,7 +75,18 @@ class Given:
         self.stale.add(region)
         for table, column in (("parcels.csv", 0), ("covers.csv", 1)):
             head, *rows = self.lines(region, table)
-            self.write([head, *(line for row in rows for line in (change(row, column) if row.split(",")[column] == name else [row]))], region, table)
+            self.write(
+                [
+                    head,
+                    *(
+                        line
+                        for row in rows
+                        for line in (change(row, column) if row.split(",")[column] == name else [row])
+                    ),
+                ],
+                region,
+                table,
+            )
 
     def sql(self, statement, *values):
         connection = sqlite3.connect(self.register)
@@ -77,7 +102,14 @@ def store(given):
 
 
 def no_register(given):
-    return os.path.exists(given.register) and given.sql(given.numbers.choice(["UPDATE lpis_format SET version = 9", "UPDATE lpis_span SET id = 'no identifier' WHERE id = (SELECT min(id) FROM lpis_span)"]))
+    return os.path.exists(given.register) and given.sql(
+        given.numbers.choice(
+            [
+                "UPDATE lpis_format SET version = 9",
+                "UPDATE lpis_span SET id = 'no identifier' WHERE id = (SELECT min(id) FROM lpis_span)",
+            ]
+        )
+    )
 
 
 def year(given):
@@ -90,12 +122,29 @@ def top_missing(given):
 
 def no_plan(given):
     lines = given.lines("country.txt")
-    given.write(given.numbers.choice([lines[:-1], [*lines, "region more"], ["lpis-country 2", *lines[1:]], [*lines[:-1], f"{lines[-1]}."]]), "country.txt")
+    given.write(
+        given.numbers.choice(
+            [lines[:-1], [*lines, "region more"], ["lpis-country 2", *lines[1:]], [*lines[:-1], f"{lines[-1]}."]]
+        ),
+        "country.txt",
+    )
 
 
 def no_classes(given):
     lines = given.lines("classes.csv")
-    given.write(given.numbers.choice([["class,class,percent"], [*lines, lines[1]], [*lines, "Z,101"], ["class"], [*lines, "Z"], [*lines, "a b,1"]]), "classes.csv")
+    given.write(
+        given.numbers.choice(
+            [
+                ["class,class,percent"],
+                [*lines, lines[1]],
+                [*lines, "Z,101"],
+                ["class"],
+                [*lines, "Z"],
+                [*lines, "a b,1"],
+            ]
+        ),
+        "classes.csv",
+    )
 
 
 def no_file(given):
@@ -107,11 +156,24 @@ def bad_file(given):
     before = read(given.file) if given.file else "lpis-cert 2\npairs 0\nend\n"
     given.file = given.path("bad.txt")
     with open(given.file, "w", encoding="ascii") as file:
-        file.write(given.numbers.choice([
-            before[:-1], before + "end\n", before.replace("pairs 0", "pairs 1"), before.replace("pairs", "pears"), before.replace("lpis-cert 2", "lpis-cert 3"), before.replace("pairs 0", "pairs  0"),
-            before.replace("pairs 0\n", "pairs 0\npairs 0\n"), before.replace("pairs 0", "exact split A 1\nf 0 0 0 0 0 00\npairs 0"), before.replace("pairs 0", "exact join A 0\npairs 0"),
-            before.replace("pairs 0", "parcel A 0\npairs 0"), before.replace("pairs 0", "exact merge A 2000001\npairs 0"), before[: given.numbers.randrange(len(before))],
-        ]))
+        file.write(
+            given.numbers.choice(
+                [
+                    before[:-1],
+                    before + "end\n",
+                    before.replace("pairs 0", "pairs 1"),
+                    before.replace("pairs", "pears"),
+                    before.replace("lpis-cert 2", "lpis-cert 3"),
+                    before.replace("pairs 0", "pairs  0"),
+                    before.replace("pairs 0\n", "pairs 0\npairs 0\n"),
+                    before.replace("pairs 0", "exact split A 1\nf 0 0 0 0 0 00\npairs 0"),
+                    before.replace("pairs 0", "exact join A 0\npairs 0"),
+                    before.replace("pairs 0", "parcel A 0\npairs 0"),
+                    before.replace("pairs 0", "exact merge A 2000001\npairs 0"),
+                    before[: given.numbers.randrange(len(before))],
+                ]
+            )
+        )
 
 
 def whole_certificate(given):
@@ -132,10 +194,24 @@ def lineage_table(given):
     lines = given.lines(region, "lineage.csv")
     columns = lines[0].count(",") + 1
     row = ["A", "B", ""][:columns]
-    given.write(given.numbers.choice([
-        ["old"], ["old,old,new"], ["new"], ["old,new,exact,exact"], ["old,new,new"], [*lines, ",".join([*row, "more"])], [*lines, ",".join(["", *row[1:]])], [*lines, ",".join([row[0], "a b", *row[2:]])],
-        ["old,new,exact", "A,B,x"], ["new,EXACT,Old", "B,1,A A"],
-    ]), region, "lineage.csv")
+    given.write(
+        given.numbers.choice(
+            [
+                ["old"],
+                ["old,old,new"],
+                ["new"],
+                ["old,new,exact,exact"],
+                ["old,new,new"],
+                [*lines, ",".join([*row, "more"])],
+                [*lines, ",".join(["", *row[1:]])],
+                [*lines, ",".join([row[0], "a b", *row[2:]])],
+                ["old,new,exact", "A,B,x"],
+                ["new,EXACT,Old", "B,1,A A"],
+            ]
+        ),
+        region,
+        "lineage.csv",
+    )
 
 
 def lineage_column_order(given):
@@ -143,15 +219,20 @@ def lineage_column_order(given):
     region = given.region()
     rows = [line.split(",") for line in given.lines(region, "lineage.csv")]
     with open(given.path(region, "lineage.csv"), "w", encoding="utf-8") as file:
-        file.write("\ufeff" + "".join(",".join([f"note {place}" if place else "Note", *row[::-1]]) + "\n\n" for place, row in enumerate(rows)))
+        file.write(
+            "\ufeff"
+            + "".join(
+                ",".join([f"note {place}" if place else "Note", *row[::-1]]) + "\n\n" for place, row in enumerate(rows)
+            )
+        )
 
 
 def region_file(given):
-    """A region's own fault: a file that is missing, a table or a certificate that is none."""
+    """A region's own fault: a table that is missing, a table or a certificate that is none."""
     region = given.region()
     kind = given.numbers.choice(["missing", "table", "text", "other"])
     if kind == "missing":
-        os.remove(given.path(region, given.numbers.choice(["parcels.csv", "covers.csv", "classes.csv", "cert.txt"])))
+        os.remove(given.path(region, given.numbers.choice(["parcels.csv", "covers.csv", "classes.csv"])))
     elif kind == "table":
         given.write(["piece,parcel,class"], region, "covers.csv")
     elif kind == "text":
@@ -162,7 +243,11 @@ def region_file(given):
 
 def other_classes(given):
     region = given.region()
-    given.write(given.numbers.choice([[*CLASSES, "X,0"], [CLASSES[0], CLASSES[2], CLASSES[1]], [*CLASSES[:2], "W,38"]]), region, "classes.csv")
+    given.write(
+        given.numbers.choice([[*CLASSES, "X,0"], [CLASSES[0], CLASSES[2], CLASSES[1]], [*CLASSES[:2], "W,38"]]),
+        region,
+        "classes.csv",
+    )
 
 
 def guest_missing(given):
@@ -172,7 +257,11 @@ def guest_missing(given):
         return False
     name, regions = given.numbers.choice(several)
     region = given.numbers.choice(regions)
-    given.change_parcel(region, name, (lambda row, column: []) if given.numbers.random() < 0.5 else (lambda row, column: [row.replace("G,", "W,")]))
+    given.change_parcel(
+        region,
+        name,
+        (lambda row, column: []) if given.numbers.random() < 0.5 else (lambda row, column: [row.replace("G,", "W,")]),
+    )
 
 
 def stranger(given):
@@ -195,7 +284,13 @@ def namesake(given):
     if not pairs:
         return False
     (name, region), (other, _) = given.numbers.choice(pairs)
-    given.change_parcel(region, name, lambda row, column: [",".join(other if place == column else field for place, field in enumerate(row.split(",")))])
+    given.change_parcel(
+        region,
+        name,
+        lambda row, column: [
+            ",".join(other if place == column else field for place, field in enumerate(row.split(",")))
+        ],
+    )
 
 
 def renamed(given):
@@ -206,6 +301,7 @@ def renamed(given):
         return False
     old, new = given.numbers.choice(list(parcels)), given.numbers.choice(names)
     for region in parcels[old]:
+
         def change(row, column):
             fields = row.split(",")
             fields[column] = new
@@ -217,7 +313,9 @@ def renamed(given):
 
 
 def unknown_row(given):
-    given.add_row(given.numbers.choice(["unknown", *given.gone]), given.numbers.choice(list(given.parcels()) or ["unknown"]))
+    given.add_row(
+        given.numbers.choice(["unknown", *given.gone]), given.numbers.choice(list(given.parcels()) or ["unknown"])
+    )
 
 
 def kept_row(given):
@@ -257,7 +355,11 @@ def other_mark(given):
 def shape_lost(given):
     """The register keeps no shape of a parcel that has a marked row."""
     olds = [fields[0] for _, _, fields in given.rows() if fields[2:] == ["1"]]
-    return bool(olds) and os.path.exists(given.register) and given.sql("DELETE FROM lpis_text WHERE id = ?", given.numbers.choice(olds))
+    return (
+        bool(olds)
+        and os.path.exists(given.register)
+        and given.sql("DELETE FROM lpis_text WHERE id = ?", given.numbers.choice(olds))
+    )
 
 
 def other_blocks(given):
@@ -265,21 +367,32 @@ def other_blocks(given):
     text = read(given.file) if given.file else "lpis-cert 2\npairs 0\nend\n"
     names = re.findall(r"(?m)^exact (?:split|merge) (\S+)", text)
     flats = [line for line in text.splitlines() if line.startswith("f ")]
-    kind = given.numbers.choice(["none", "one more", *["turned", "bent", "moved", "left out", "other kind"] * bool(names)])
+    kind = given.numbers.choice(
+        ["none", "one more", *["turned", "bent", "moved", "left out", "other kind"] * bool(names)]
+    )
     if kind == "none":
         given.file = None
         return bool(names)
     if kind == "one more":
-        text = text.replace("pairs ", f"exact {given.numbers.choice(['split', 'merge'])} {given.numbers.choice([*names, 'A'])} 0\npairs ")
+        text = text.replace(
+            "pairs ",
+            f"exact {given.numbers.choice(['split', 'merge'])} {given.numbers.choice([*names, 'A'])} 0\npairs ",
+        )
     elif kind == "other kind":
-        text = re.sub("exact (split|merge)", lambda found: "exact merge" if found[1] == "split" else "exact split", text, count=1)
+        text = re.sub(
+            "exact (split|merge)", lambda found: "exact merge" if found[1] == "split" else "exact split", text, count=1
+        )
     elif flats:
         flat = given.numbers.choice(flats)
         a, b, c = re.findall(r"-?\d+ -?\d+", flat)
         x, y = map(int, c.split())
         inward = 1 if x <= 0 else -1
-        new = {"turned": f"f {c} {b} {a}", "bent": f"f {a} {b} {x + inward} {y - (1 if y > 0 else -1)}", "moved": f"f {a} {b} {' '.join(str(2 * p - q) for p, q in zip(map(int, a.split()), map(int, b.split())))}",
-               "left out": f"f {a} {a} {a}"}[kind]
+        new = {
+            "turned": f"f {c} {b} {a}",
+            "bent": f"f {a} {b} {x + inward} {y - (1 if y > 0 else -1)}",
+            "moved": f"f {a} {b} {' '.join(str(2 * p - q) for p, q in zip(map(int, a.split()), map(int, b.split())))}",
+            "left out": f"f {a} {a} {a}",
+        }[kind]
         text = text.replace(flat, new, 1)
     given.file = given.path("blocks.txt")
     Path(given.file).write_text(text, encoding="ascii")
@@ -291,8 +404,30 @@ def read(path):
 
 # With how often each is planted.
 PLANTS = [
-    (store, 1), (no_register, 1), (year, 3), (top_missing, 1), (no_plan, 2), (no_classes, 2), (no_file, 1), (bad_file, 6), (whole_certificate, 2), (lineage_missing, 1), (lineage_table, 5), (lineage_column_order, 2),
-    (region_file, 4), (other_classes, 2), (guest_missing, 4), (stranger, 3), (namesake, 3), (renamed, 5), (unknown_row, 3), (kept_row, 3), (other_row, 12), (other_mark, 5), (shape_lost, 6), (other_blocks, 12),
+    (store, 1),
+    (no_register, 1),
+    (year, 3),
+    (top_missing, 1),
+    (no_plan, 2),
+    (no_classes, 2),
+    (no_file, 1),
+    (bad_file, 6),
+    (whole_certificate, 2),
+    (lineage_missing, 1),
+    (lineage_table, 5),
+    (lineage_column_order, 2),
+    (region_file, 4),
+    (other_classes, 2),
+    (guest_missing, 4),
+    (stranger, 3),
+    (namesake, 3),
+    (renamed, 5),
+    (unknown_row, 3),
+    (kept_row, 3),
+    (other_row, 12),
+    (other_mark, 5),
+    (shape_lost, 6),
+    (other_blocks, 12),
 ]
 
 

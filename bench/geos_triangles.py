@@ -1,9 +1,9 @@
 #!/usr/bin/python3
 """Triangulates the pieces of a release by GEOS through Shapely: geos_triangles.py FOLDER.
 
-Needs Shapely for /usr/bin/python3 (Debian: python3-shapely), with constrained Delaunay triangulation: Shapely 2.1 has a function for it,
-Shapely 1.8 stands on a GEOS which has it from 3.10 on and is called through its C interface. Prints the processor seconds of the
-triangulation alone.
+Needs Shapely for /usr/bin/python3 (Debian: python3-shapely), with constrained Delaunay triangulation: Shapely 2.1 has a
+function for it, Shapely 1.8 stands on a GEOS which has it from 3.10 on and is called through its C interface. Prints
+the processor seconds of the triangulation alone.
 """
 
 import csv

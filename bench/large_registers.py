@@ -1,4 +1,5 @@
-"""Large registers that SQLite (Python's own sqlite3) writes, and how long works on copies of them take, for scripts that time these."""
+"""Large registers that SQLite (Python's own sqlite3) writes, and how long works on copies of them take, for scripts
+that time these."""
 
 import contextlib
 import os
@@ -14,8 +15,12 @@ YEARS = range(2021, 2031)
 POINTS = 56  # of a text: 1,354 bytes, so that 100,000 weigh 135 MB
 TWENTIETH = 20
 QUERIES = (
-    "SELECT one, version FROM lpis_format", "SELECT year FROM lpis_release", "SELECT id, since, until FROM lpis_span",
-    "SELECT year, pos, old, new FROM lpis_row", "SELECT year, pos FROM lpis_mark", "SELECT id, wkt FROM lpis_text",
+    "SELECT one, version FROM lpis_format",
+    "SELECT year FROM lpis_release",
+    "SELECT id, since, until FROM lpis_span",
+    "SELECT year, pos, old, new FROM lpis_row",
+    "SELECT year, pos FROM lpis_mark",
+    "SELECT id, wkt FROM lpis_text",
 )
 
 
@@ -50,21 +55,26 @@ def square_of(number):
 
 
 def text_of(number):
-    """The text of a parcel as the register keeps it: a square of as many points as a digitised parcel has, most of them its first corner."""
+    """The text of a parcel as the register keeps it: a square of as many points as a digitised parcel has, most of
+    them its first corner."""
     corners = square_of(number)
     corners = corners[:1] * (POINTS - len(corners)) + corners
     return f"POLYGON(({','.join(f'{x}.000 {y}.000' for x, y in corners)}))"
 
 
 def with_texts(path, count, is_changed=False):
-    """A register of one year of so many parcels with their texts, of which each twentieth is another one where that is asked for."""
+    """A register of one year of so many parcels with their texts, of which each twentieth is another one where that
+    is asked for."""
     ids = names(count)
-    texts = [(name, text_of(number + count * (is_changed and number % TWENTIETH == 0))) for number, name in enumerate(ids)]
+    texts = [
+        (name, text_of(number + count * (is_changed and number % TWENTIETH == 0))) for number, name in enumerate(ids)
+    ]
     return made(path, 3, [2021], lpis_span=[(name, 2021, 0) for name in ids], lpis_text=texts)
 
 
 def moved(path, count):
-    """A register of one year of so many parcels that was of version 2, and that the program has moved: it keeps no texts."""
+    """A register of one year of so many parcels that was of version 2, and that the program has moved: it keeps no
+    texts."""
     ids = names(count)
     made(path, 2, [2021], lpis_span=[(name, 2021, 0) for name in ids])
     done([lpis(), "trace", path, ids[0]])
@@ -72,7 +82,8 @@ def moved(path, count):
 
 
 def ten_years(path, count):
-    """A register of ten years of so many identifiers, of which a tenth is renamed each year. Answers one of its last year."""
+    """A register of ten years of so many identifiers, of which a tenth is renamed each year. Answers one of its last
+    year."""
     live, spans, lines = dict.fromkeys(names(count), YEARS[0]), [], []
     for year in YEARS[1:]:
         gone = [name for place, name in enumerate(live) if place % len(YEARS) == year % len(YEARS)]
@@ -99,7 +110,9 @@ def released(connection, year=2022):
 
 
 def write_spans(connection, ids):
-    connection.executemany("INSERT INTO lpis_span (id, since, until) VALUES (?1, ?2, ?3)", [(name, 2021, 0) for name in ids])
+    connection.executemany(
+        "INSERT INTO lpis_span (id, since, until) VALUES (?1, ?2, ?3)", [(name, 2021, 0) for name in ids]
+    )
 
 
 def write_texts(connection, count):
@@ -165,7 +178,8 @@ def copied(path):
 
 
 def run_over(path, words, line, status=0):
-    """A run of a program over a copy of a register, whose path comes in place of None; its status and its last line have to be these."""
+    """A run of a program over a copy of a register, whose path comes in place of None; its status and its last line
+    have to be these."""
     copy = copied(path)
     found = run([copy if word is None else word for word in words])
     if found.status != status or found.text.splitlines()[-1:] != [line]:

@@ -18,7 +18,9 @@ class Years:
     def __init__(self, folder, count):
         self.first = os.path.join(folder, "first")
         run_helper("make_parcels", count, self.first)
-        self.parcels, self.covers = read(os.path.join(self.first, "parcels.csv")), read(os.path.join(self.first, "covers.csv"))
+        self.parcels, self.covers = read(os.path.join(self.first, "parcels.csv")), read(
+            os.path.join(self.first, "covers.csv")
+        )
         self.names = {line.split(",", 1)[0]: line.split(",", 1)[0] for line in self.parcels[1:]}
         self.folder = folder
 
@@ -38,7 +40,11 @@ class Years:
         renamed = [line.split(",", 1) for line in self.parcels[1:]]
         write_lines(folder, "parcels.csv", self.parcels[:1] + [f"{self.names[name]},{rest}" for name, rest in renamed])
         pieces = [line.split(",", 2) for line in self.covers[1:]]
-        write_lines(folder, "covers.csv", self.covers[:1] + [f"{piece},{self.names[name]},{rest}" for piece, name, rest in pieces])
+        write_lines(
+            folder,
+            "covers.csv",
+            self.covers[:1] + [f"{piece},{self.names[name]},{rest}" for piece, name, rest in pieces],
+        )
         cert = os.path.join(folder, CERT)
         done([lpis(), "cut", folder, cert])
         return folder, cert, rows

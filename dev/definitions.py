@@ -1,6 +1,7 @@
 """The definitions of specs/, and what the contracts of public functions and types lead to: imported by `dev/trust`.
 
-What the promises of the program (roots.py) lead to is to be believed. What only other promises lead to is between crates: it is proved, and in no page."""
+What the promises of the program (roots.py) lead to is to be believed. What only other promises lead to is between
+crates: it is proved, and in no page."""
 
 import re
 
@@ -77,7 +78,7 @@ class Spec:
             if line.startswith("--"):
                 comment.append(line)
             elif line.strip() and not re.match(r"(pub )?(use|mod|infix[lr]?)\b", line):
-                if not re.match(r"[\s(}]", line):
+                if not re.match(r"[\s()}]", line):
                     current = self.define(line)
                     current.head = head or current.head
                 current.comment += " ".join(line[2:].strip() for line in comment)
@@ -130,17 +131,28 @@ class Crate:
             for is_public, path, given in module.uses:
                 source = path[1:] if path[:1] == ("crate",) else (*name, *path)
                 if is_public and source in self.modules:
-                    names |= {(source, item) for item in (self.pub_items(self.modules[source]) if given == ["*"] else given)}
+                    names |= {
+                        (source, item) for item in (self.pub_items(self.modules[source]) if given == ["*"] else given)
+                    }
         return names
 
     @staticmethod
     def pub_items(module):
-        found = (re.match(r"pub\s+(?:const\s+|extern\s+)?(?:fn|struct|enum|trait|type)\s+(\w+)", head) for head, _, _ in module.items)
+        found = (
+            re.match(r"pub\s+(?:const\s+|extern\s+)?(?:fn|struct|enum|trait|type)\s+(\w+)", head)
+            for head, _, _ in module.items
+        )
         return [match.group(1) for match in found if match]
 
     def imported(self):
         """What its sources import of other crates: crate and name."""
-        found = ((path[0], name) for module in self.modules.values() for _, path, names in module.uses if path for name in names)
+        found = (
+            (path[0], name)
+            for module in self.modules.values()
+            for _, path, names in module.uses
+            if path
+            for name in names
+        )
         return {(crate, name) for crate, name in found if crate.startswith("lpis_")}
 
     def node(self, kind, name, place=None):
@@ -150,7 +162,9 @@ class Crate:
         return self.nodes.get(("type", name, None))
 
     def law(self, name):
-        found = (node for (kind, label, _), node in self.nodes.items() if (kind, label) == ("fn", name) and node.is_promise)
+        found = (
+            node for (kind, label, _), node in self.nodes.items() if (kind, label) == ("fn", name) and node.is_promise
+        )
         return next(found, None)
 
     def declare(self, module, head, clauses, body):
@@ -212,7 +226,8 @@ class Trust:
         self.faults = []
         promises = [node for crate in self.crates.values() for node in crate.nodes.values() if node.is_promise]
         self.proved = self.follow(promises)
-        self.reached = self.follow(list(roots.of(self.crates)))
+        examples = [node for node in promises if node.crate == roots.EXAMPLES]
+        self.reached = self.follow([*roots.of(self.crates), *examples])
 
     def at(self, module, name):
         """What a name of a module is: a definition, a type, or nothing of these crates."""
@@ -247,7 +262,9 @@ class Trust:
             if law:
                 yield self.law(node, law)
         for text, scopes in parts:
-            known = [name for scope in scopes for name in scope.names] + [*(node.spec.owner if isinstance(node, Definition) else ())]
+            known = [name for scope in scopes for name in scope.names] + [
+                *(node.spec.owner if isinstance(node, Definition) else ())
+            ]
             for name in known:
                 if name[0] == "◌" and f" {name.strip('◌')} " in text:
                     yield self.meaning(node, scopes, name, "")
@@ -291,7 +308,7 @@ class Trust:
             return kind
         spec = self.crates[crate].specs.get(module.replace("/", ".")) if crate in self.crates else None
         if spec is None or name not in spec.definitions:
-            raise SystemExit(f"docs/BELIEVE.md: there is no {item}")
+            raise SystemExit(f"dev/trust: there is no {item}")
         return spec.definitions[name]
 
     def check_specs(self):

@@ -16,18 +16,28 @@ RELEASE_BYTES = 7_000_000  # the most that release/ may have
 
 
 def output(*words, folder=TOP):
-    return subprocess.run([str(word) for word in words], cwd=folder, check=True, stdout=subprocess.PIPE, text=True).stdout.strip()
+    return subprocess.run(
+        [str(word) for word in words], cwd=folder, check=True, stdout=subprocess.PIPE, text=True
+    ).stdout.strip()
 
 
 def installed(folder, prefix):
     """Installs to a prefix below a folder; gives the prefix's folder."""
-    subprocess.run([TOP / "install", prefix], env={**os.environ, "DESTDIR": f"{folder}/"}, check=True, stderr=subprocess.DEVNULL, stdout=subprocess.DEVNULL)
+    subprocess.run(
+        [TOP / "install", prefix],
+        env={**os.environ, "DESTDIR": f"{folder}/"},
+        check=True,
+        stderr=subprocess.DEVNULL,
+        stdout=subprocess.DEVNULL,
+    )
     return folder / prefix.strip("/")
 
 
 def crates():
     """The crates of crates.txt, the lowest first, each with those that its line names."""
-    lines = (line.partition("#")[0].partition(":") for line in (TOP / "crates.txt").read_text(encoding="utf-8").splitlines())
+    lines = (
+        line.partition("#")[0].partition(":") for line in (TOP / "crates.txt").read_text(encoding="utf-8").splitlines()
+    )
     return {name.split()[0]: below.split() for name, _, below in lines if name}
 
 
@@ -81,6 +91,11 @@ def is_newer(libc, other):
 def is_linked():
     """Whether rt has linked a program here, and no source of it is newer."""
     crates = output(TOP / "dev" / "sources", "--crates").splitlines()
-    folders = [folder for crate in crates for part in ("src", "specs", "proofs") if (folder := TOP / "crates" / crate / part).is_dir()]
+    folders = [
+        folder
+        for crate in crates
+        for part in ("src", "specs", "proofs")
+        if (folder := TOP / "crates" / crate / part).is_dir()
+    ]
     paths = [TOP / "crates.txt", *folders, *(path for folder in folders for path in folder.rglob("*"))]
     return LINKED.exists() and all(path.stat().st_mtime <= LINKED.stat().st_mtime for path in paths)

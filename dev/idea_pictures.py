@@ -1,7 +1,8 @@
-"""Draws docs/parcel.svg and idea-*.svg, of worked releases and the certificates that `lpis` finds for them: imported by dev/pictures.
+"""Draws docs/parcel.svg and idea-*.svg, of worked releases and the certificates that `lpis` finds for them: imported by
+dev/pictures.
 
-Each is an SVG of its own, on a ground of its own, for light and for dark pages. What is flat or touches is drawn a little apart, and the page says so.
-Tables are read by audit/release.py."""
+Each is an SVG of its own, on a ground of its own, for light and for dark pages. What is flat or touches is drawn a
+little apart, and the page says so. Tables are read by audit/release.py."""
 
 import math
 import os
@@ -22,19 +23,25 @@ STYLE = """
 .ray{fill:none;stroke:#b3003b;stroke-width:1.4}.dot{fill:#b3003b}
 @media (prefers-color-scheme:dark){.ground{fill:#14181d}.words,.head,.tip{fill:#e6e6e6}.shape,.arrow{stroke:#e6e6e6}
 .one{fill:#1f4260}.two{fill:#5a4418}.three{fill:#274d2e}.cut{stroke:#7fb0d8}.flat{fill:#5c1a30;stroke:#ff7a9c}.line{stroke:#4fc79a}.ray{stroke:#ff7a9c}.dot{fill:#ff7a9c}}
-"""
+"""  # noqa: E501
 
 
 class Panel:
-    """A part of a drawing, with a place for each point of a map's box (least x, least y, greatest x, greatest y in millimetres)."""
+    """A part of a drawing, with a place for each point of a map's box (least x, least y, greatest x, greatest y in
+    millimetres)."""
 
     def __init__(self, drawing, title, box, left, width):
         self.drawing, self.box, self.left = drawing, box, left
-        self.scale = min((width - 2 * MARGIN) / (box[2] - box[0]), (drawing.height - TITLE - 2 * MARGIN) / (box[3] - box[1]))
+        self.scale = min(
+            (width - 2 * MARGIN) / (box[2] - box[0]), (drawing.height - TITLE - 2 * MARGIN) / (box[3] - box[1])
+        )
         self.words(title, (left + MARGIN, 22), "head")
 
     def place(self, point):
-        return self.left + MARGIN + (point[0] - self.box[0]) * self.scale, TITLE + MARGIN + (self.box[3] - point[1]) * self.scale
+        return (
+            self.left + MARGIN + (point[0] - self.box[0]) * self.scale,
+            TITLE + MARGIN + (self.box[3] - point[1]) * self.scale,
+        )
 
     def put(self, element):
         self.drawing.elements.append(element)
@@ -64,9 +71,18 @@ class Panel:
         length = math.hypot(bx - ax, by - ay) or 1
         ux, uy = (bx - ax) / length, (by - ay) / length
         short = min(9.0, length / 5) if aside else 0
-        ax, ay, bx, by = (ax + uy * aside + ux * short, ay - ux * aside + uy * short, bx + uy * aside - ux * short, by - ux * aside - uy * short)
+        ax, ay, bx, by = (
+            ax + uy * aside + ux * short,
+            ay - ux * aside + uy * short,
+            bx + uy * aside - ux * short,
+            by - ux * aside - uy * short,
+        )
         self.put(f'<line class="{kind}" x1="{ax:.1f}" y1="{ay:.1f}" x2="{bx:.1f}" y2="{by:.1f}"/>')
-        tip = [(bx, by), (bx - 8 * ux - 3.2 * uy, by - 8 * uy + 3.2 * ux), (bx - 8 * ux + 3.2 * uy, by - 8 * uy - 3.2 * ux)]
+        tip = [
+            (bx, by),
+            (bx - 8 * ux - 3.2 * uy, by - 8 * uy + 3.2 * ux),
+            (bx - 8 * ux + 3.2 * uy, by - 8 * uy - 3.2 * ux),
+        ]
         self.path([], "tip" if kind == "arrow" else "dot", [tip])
 
     def dot(self, point, text="", shift=(7, -6)):
@@ -94,8 +110,17 @@ class Drawing:
         return Panel(self, title, box, part * WIDTH / parts, WIDTH / parts)
 
     def text(self):
-        head = f'<svg xmlns="http://www.w3.org/2000/svg" viewBox="0 0 {WIDTH} {self.height}" width="{WIDTH}" height="{self.height}">'
-        lines = [head, f"<style>{STYLE}</style>", '<rect class="ground" width="100%" height="100%"/>', *self.elements, "</svg>"]
+        head = (
+            f'<svg xmlns="http://www.w3.org/2000/svg" viewBox="0 0 {WIDTH} {self.height}" width="{WIDTH}"'
+            f' height="{self.height}">'
+        )
+        lines = [
+            head,
+            f"<style>{STYLE}</style>",
+            '<rect class="ground" width="100%" height="100%"/>',
+            *self.elements,
+            "</svg>",
+        ]
         return "\n".join(lines) + "\n"
 
 
@@ -116,7 +141,12 @@ def rings_of(polygon):
 
 
 def lpis(*words):
-    subprocess.run([os.environ.get("LPIS") or TOP / "lpis", *map(str, words)], check=True, stdout=subprocess.DEVNULL, stderr=subprocess.DEVNULL)
+    subprocess.run(
+        [os.environ.get("LPIS") or TOP / "lpis", *map(str, words)],
+        check=True,
+        stdout=subprocess.DEVNULL,
+        stderr=subprocess.DEVNULL,
+    )
 
 
 def blocks_of(cert):
@@ -136,7 +166,8 @@ def blocks_of(cert):
 
 
 def crossings(polygon, point):
-    """What each edge that a way to the right meets adds to the count, from left to right: 1 where it goes up, -1 where it goes down."""
+    """What each edge that a way to the right meets adds to the count, from left to right: 1 where it goes up, -1
+    where it goes down."""
     found = []
     for a, b in polygon:
         low, high, sign = (a, b, 1) if a[1] < b[1] else (b, a, -1)
@@ -151,7 +182,9 @@ def draw_parcel(folder):
     mine = {name: (land_class, shape) for name, (parcel, land_class, shape) in pieces.items() if parcel == "upper"}
     triangles = {name: folder["pasture"][0]["piece", name][0] for name in mine}
     drawing, fills = Drawing(250), {"meadow": "one", "scattered-trees": "three", "rock": "two"}
-    for part, title in enumerate(("A parcel and its pieces, each of a class", f"The certificate: {sum(map(len, triangles.values()))} triangles")):
+    for part, title in enumerate(
+        ("A parcel and its pieces, each of a class", f"The certificate: {sum(map(len, triangles.values()))} triangles")
+    ):
         panel = drawing.panel(title, box_of(parcels["upper"]), part, 2)
         for name, (land_class, shape) in mine.items():
             panel.path(rings_of(shape), fills[land_class])
@@ -159,7 +192,11 @@ def draw_parcel(folder):
                 panel.path(triangles[name], "cut")
             panel.path(rings_of(shape), "shape")
     panel = drawing.panel("", box_of(parcels["upper"]), 0, 2)
-    for land_class, place in (("meadow", (7_000, 46_000)), ("scattered-trees", (37_200, 55_000)), ("rock", (48_000, 35_000))):
+    for land_class, place in (
+        ("meadow", (7_000, 46_000)),
+        ("scattered-trees", (37_200, 55_000)),
+        ("rock", (48_000, 35_000)),
+    ):
         panel.words(f"{land_class}, {percents[land_class]} %", panel.place(place))
     return drawing
 
@@ -168,8 +205,10 @@ def draw_walk(_):
     """A polygon as a closed walk, and what points count of it."""
     farm = audit.read_parcels(TOP / "examples" / "holes")["farm"]
     drawing, box = Drawing(360), box_of(farm)
-    panel = drawing.panel("Edges are walked with the land on their left. On a way to the right, up is +1, down is -1.",
-                          (box[0] - 14_000, box[1] - 6_000, box[2] + 14_000, box[3]))
+    panel = drawing.panel(
+        "Edges are walked with the land on their left. On a way to the right, up is +1, down is -1.",
+        (box[0] - 14_000, box[1] - 6_000, box[2] + 14_000, box[3]),
+    )
     panel.polygon(farm, "one", True)
     for point in ((20_000, 70_000), (30_000, 40_000), (80_000, 30_000), (-12_000, 10_000)):
         signs = crossings(farm, point)
@@ -199,8 +238,10 @@ def draw_pieces(folder):
     every = [triangle for (kind, _), (triangles, _) in blocks.items() if kind == "piece" for triangle in triangles]
     own = {triangle for name in ("east-1", "east-2") for triangle in blocks["piece", name][0]}
     box, drawing = box_of(parcels["east"]), Drawing(320)
-    panel = drawing.panel("A parcel of two pieces: triangles, a flat, and edges that separate triangles (dashed)",
-                          (box[0] - 30_000, box[1] - 4_000, box[2] + 30_000, box[3] + 4_000))
+    panel = drawing.panel(
+        "A parcel of two pieces: triangles, a flat, and edges that separate triangles (dashed)",
+        (box[0] - 30_000, box[1] - 4_000, box[2] + 30_000, box[3] + 4_000),
+    )
     for name, kind in (("east-1", "one"), ("east-2", "two")):
         panel.path(rings_of(pieces[name][2]), kind)
     for triangle in own:
@@ -221,14 +262,25 @@ def draw_pieces(folder):
 def draw_border(_):
     """Points on borders, and the parcels to which they belong."""
     parcels, drawing = audit.read_parcels(TOP / "examples" / "junctions"), Drawing(300)
-    panel = drawing.panel("A point of a border counts as lying a hair to the right and, by less, above", (10_000, 18_000, 80_000, 50_000))
-    for name, kind, place in (("south", "three", (12_000, 21_000)), ("west", "one", (12_000, 45_000)), ("east", "two", (60_000, 40_000))):
-        rings = [[(min(max(x, 10_000), 80_000), min(max(y, 18_000), 50_000)) for x, y in ring] for ring in rings_of(parcels[name])]
+    panel = drawing.panel(
+        "A point of a border counts as lying a hair to the right and, by less, above", (10_000, 18_000, 80_000, 50_000)
+    )
+    for name, kind, place in (
+        ("south", "three", (12_000, 21_000)),
+        ("west", "one", (12_000, 45_000)),
+        ("east", "two", (60_000, 40_000)),
+    ):
+        rings = [
+            [(min(max(x, 10_000), 80_000), min(max(y, 18_000), 50_000)) for x, y in ring]
+            for ring in rings_of(parcels[name])
+        ]
         panel.path(rings, kind)
         panel.path(rings, "shape")
         panel.words(name, panel.place(place))
     for point, owner in (((40_000, 42_000), "east"), ((25_000, 30_000), "west"), ((40_000, 30_000), "east")):
-        if owner not in [name for name, polygon in parcels.items() if sum(crossings(polygon, (point[0] + 1, point[1] + 0.5))) == 1]:
+        if owner not in [
+            name for name, polygon in parcels.items() if sum(crossings(polygon, (point[0] + 1, point[1] + 0.5))) == 1
+        ]:
             raise SystemExit(f"{point} is not in {owner}")
         panel.arrow(point, (point[0] + 3_000, point[1] + 1_400), "ray", 0)
         panel.dot(point, f"in {owner}", (30, 4 if point[1] > 40_000 else -16))
@@ -250,8 +302,42 @@ def draw_lineage(folder):
     return drawing
 
 
+def ring_of(left, low, right, high):
+    """The edges of a rectangle, counter-clockwise."""
+    corners = [(left, low), (right, low), (right, high), (left, high)]
+    return list(zip(corners, corners[1:] + corners[:1]))
+
+
+def draw_examples(_):
+    """The shapes of the examples of docs/BELIEVE.md, and which points are in them, each with its coordinates."""
+    drawing, square, hole = Drawing(230), ring_of(0, 0, 4, 4), ring_of(1, 1, 3, 3)
+    parts = (
+        ("square", square, ((2, 2), (4, 2))),
+        ("frame", [*square, *((b, a) for a, b in reversed(hole))], ((2, 2), (0.5, 2))),
+        ("wedge", [((0, 0), (4, 0)), ((4, 0), (0, 4)), ((0, 4), (0, 0))], ((1, 1), (2, 2), (3, 3))),
+    )
+    for part, (name, polygon, points) in enumerate(parts):
+        panel = drawing.panel(name, (0, 0, 4, 4), part, 4)
+        panel.polygon(polygon, "one")
+        for point in points:
+            is_in = sum(crossings(polygon, point)) == 1
+            x, y = panel.place(point)
+            panel.put(f'<circle class="{"words" if is_in else "dot"}" cx="{x:.1f}" cy="{y:.1f}" r="3.5"/>')
+            aside = 16 if name == "frame" else -8 if not is_in else 16
+            panel.words(f"({point[0]}, {point[1]})", (x - aside - 8 * (point[0] == 0.5), y - 9))
+            panel.words("in" if is_in else "not in", (x - (6 if is_in else aside), y + 17))
+    panel = drawing.panel("two parcels", (0, 0, 8, 4), 3, 4)
+    for kind, box in (("one", (0, 0, 2, 4)), ("three", (2, 0, 4, 4)), ("two", (4, 0, 8, 4))):
+        panel.polygon(ring_of(*box), kind)
+    for row, words in enumerate(("farm: meadow, wood", "field: crop")):
+        x, y = panel.place((0, 0))
+        panel.words(words, (x, y + 20 + 18 * row))
+    return drawing
+
+
 def certificates(folder):
-    """Triangles, flats and pair lines of the certificates of two examples, and of the one with which examples/exact/2025 is published."""
+    """Triangles, flats and pair lines of the certificates of two examples, and of the one with which
+    examples/exact/2025 is published."""
     examples = TOP / "examples"
     for name in ("junctions", "pasture"):
         lpis("cut", examples / name, folder / f"{name}.txt")
@@ -263,7 +349,13 @@ def certificates(folder):
 
 
 DRAWINGS = {
-    "parcel": draw_parcel, "idea-walk": draw_walk, "idea-cancel": draw_cancel, "idea-pieces": draw_pieces, "idea-border": draw_border, "idea-lineage": draw_lineage,
+    "parcel": draw_parcel,
+    "idea-walk": draw_walk,
+    "idea-cancel": draw_cancel,
+    "idea-pieces": draw_pieces,
+    "idea-border": draw_border,
+    "idea-lineage": draw_lineage,
+    "idea-examples": draw_examples,
 }
 
 

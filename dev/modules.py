@@ -1,4 +1,5 @@
-"""The text of sources, as definitions.py looks at it: the items of a file of src/, with their clauses, and what a file of any kind imports."""
+"""The text of sources, as definitions.py looks at it: the items of a file of src/, with their clauses, and what a
+file of any kind imports."""
 
 import re
 

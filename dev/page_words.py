@@ -1,4 +1,5 @@
-"""The words of the page in a browser, page/words.csv: what `dev/page` writes and reads of them, and `dev/lint` looks for."""
+"""The words of the page in a browser, page/words.csv: what `dev/page` writes and reads of them, and `dev/lint` looks
+for."""
 
 import csv
 import io
@@ -7,9 +8,9 @@ import sys
 from pathlib import Path
 
 TOP = Path(__file__).resolve().parent.parent
-sys.path.insert(0, str(TOP / "tools"))
-from lpis_tools import codes
-from lpis_tools.sentences import SENTENCES
+sys.path.insert(0, str(TOP / "python" / "src"))
+from lpis.formats import codes
+from lpis.formats.sentences import SENTENCES
 
 WORDS = TOP / "page" / "words.csv"
 PARTS = ("meaning", "cause", "remedy")
@@ -18,9 +19,12 @@ ELSEWHERE = ("3c", "3d", "45", "6a", "6b", "6c", "6d")  # of these the codes tha
 
 
 def english():
-    """The English of the keys that tools/lpis_tools has."""
+    """The English of the keys that python/src/lpis has."""
     shown = {code: words for code, words in codes.CODES.items() if code[0] in CODES and code not in ELSEWHERE}
-    return {**SENTENCES, **{f"{code} {part}": text for code, words in shown.items() for part, text in zip(PARTS, words)}}
+    return {
+        **SENTENCES,
+        **{f"{code} {part}": text for code, words in shown.items() for part, text in zip(PARTS, words)},
+    }
 
 
 def rows():
@@ -29,27 +33,31 @@ def rows():
 
 
 def write():
-    """Writes the English of tools/lpis_tools. Keys that are not there yet come at the end, without words in the other languages."""
+    """Writes the English of python/src/lpis. Keys that are not there yet come at the end, without words in the other
+    languages."""
     head, *lines = rows()
     words = english()
     lines = [[key, words.get(key, text), *others] for key, text, *others in lines]
-    lines += [[key, text, *[""] * (len(head) - 2)] for key, text in words.items() if key not in {line[0] for line in lines}]
+    lines += [
+        [key, text, *[""] * (len(head) - 2)] for key, text in words.items() if key not in {line[0] for line in lines}
+    ]
     made = io.StringIO()
     csv.writer(made, lineterminator="\n").writerows([head, *lines])
     WORDS.write_text(made.getvalue(), encoding="utf-8")
 
 
 def stale():
-    """The keys whose English is not that of tools/lpis_tools."""
+    """The keys whose English is not that of python/src/lpis."""
     known = {line[0]: line[1] for line in rows()}
     return [key for key, text in english().items() if known.get(key) != text]
 
 
 def faults():
-    """What is to be mended: English that is not that of tools/lpis_tools, codes that are no more, and cells that are empty or have other places."""
+    """What is to be mended: English that is not that of python/src/lpis, codes that are no more, and cells that are
+    empty or have other places."""
     head, *lines = rows()
     words = english()
-    yield from (f"{key} is not as tools/lpis_tools has it: dev/page --words writes it" for key in stale())
+    yield from (f"{key} is not as python/src/lpis has it: dev/page --words writes it" for key in stale())
     for key, text, *others in lines:
         if key.split()[-1] in PARTS and " " in key and key not in words:
             yield f"{key} is of no code that the page prints"

@@ -1,34 +1,47 @@
-"""The wheel of the package `lpis`: written by `dev/package` for release/, and by pip through python/backend.py of a clone.
+"""The wheel of the package `lpis`: written by `dev/package` for release/, and by pip of a clone.
 
-A wheel is a zip with the files of the package and four of facts. It carries what `./install` puts (lpis/carried), so that program and tools are those of the
-archive; the pages of the manual go where a system has them. Its bytes depend on these files alone: names are sorted, times are one.
+A wheel is a zip with the files of the package and four of facts. It carries what `./install` puts (lpis/carried), so
+that program and tools are those of the archive; the pages of the manual go where a system has them. Its bytes depend on
+these files alone: names are sorted, times are one.
 """
 
 import ast
 import base64
 import configparser
 import hashlib
+import re
 import shutil
+import sys
 import tempfile
 import zipfile
 from pathlib import Path
 
+sys.dont_write_bytecode = True
 from facts import TOP, installed, is_newer, libc_of, version_of
 
-PYTHON = TOP / "python"
+SETTINGS = TOP / "pyproject.toml"
+PACKAGE = TOP / "python" / "src" / "lpis"
 CARRIED = Path("lpis", "carried")
 HOME = CARRIED / "lib" / "lpis"
+UP = "../../../.."  # from there to the folder of the package
 LIBRARY = HOME / "program" / "liblpis.so"
-NOT_CARRIED = ("bin", "share/bash-completion", "share/lpis")  # commands are those of the wheel; a completion and a plugin are found elsewhere
+# commands are those of the wheel; a completion and a plugin are found elsewhere
+NOT_CARRIED = ("bin", "share/bash-completion", "share/lpis")
 TIME = (1980, 1, 1, 0, 0, 0)
 
 
 def project():
-    """The table [project] of pyproject.toml with its tables below: each value stands in one line, as Python has it too."""
+    """The table [project] of pyproject.toml with its tables below: each value stands in one line, as Python has it
+    too."""
     parser = configparser.ConfigParser(delimiters=("=",), interpolation=None)
     parser.optionxform = str
-    parser.read(PYTHON / "pyproject.toml", encoding="utf-8")
-    return {name: {key: ast.literal_eval(value) for key, value in parser[name].items()} for name in parser.sections() if name.startswith("project")}
+    parser.read_string(SETTINGS.read_text(encoding="utf-8").partition("\n[tool.")[0])
+    tables = {name.strip("[]"): parser[name] for name in parser.sections()}  # [[..]] is one of a list
+    return {
+        name: {key: ast.literal_eval(value) for key, value in table.items()}
+        for name, table in tables.items()
+        if name.startswith("project")
+    }
 
 
 def version_of_wheel(version, is_unfinished):
@@ -38,8 +51,13 @@ def version_of_wheel(version, is_unfinished):
 
 def plant(folder, library=None):
     """Puts into a folder what the wheel installs; gives the folder of what is carried."""
-    shutil.copytree(PYTHON / "src" / "lpis", folder / "lpis", ignore=shutil.ignore_patterns("__pycache__", "carried"))
     top = installed(folder, str(CARRIED))
+    for path in sorted((folder / HOME / "python" / "lpis").iterdir()):
+        path.rename(folder / "lpis" / path.name)
+    shutil.rmtree(folder / HOME / "python")
+    for path in [*(folder / HOME).glob("*"), *(folder / HOME / "recipes").glob("*")]:
+        if path.is_file() and path.suffix in ("", ".sh"):
+            path.write_text(re.sub(r'(?<=["/])python(?=["/])', UP, path.read_text(encoding="utf-8")), encoding="utf-8")
     for name in NOT_CARRIED:
         shutil.rmtree(top / name)
     if library:
@@ -57,15 +75,28 @@ def tag_of(folder):
 
 
 def describe(folder, version, tag):
-    """Adds the files of facts but the list of all, and puts the manual where systems have it; gives the folder of the facts."""
+    """Adds the files of facts but the list of all, and puts the manual where systems have it; gives the folder of
+    the facts."""
     about = project()
     facts = folder / f"lpis-{version}.dist-info"
     facts.mkdir()
-    lines = ["Metadata-Version: 2.1", "Name: lpis", f"Version: {version}", f"Summary: {about['project']['description']}", f"Requires-Python: {about['project']['requires-python']}"]
+    lines = [
+        "Metadata-Version: 2.1",
+        "Name: lpis",
+        f"Version: {version}",
+        f"Summary: {about['project']['description']}",
+        f"Requires-Python: {about['project']['requires-python']}",
+    ]
+    lines += [f"Author: {about['project.authors']['name']}", f"License: {about['project.license']['text']}"]
+    lines += [f"Project-URL: {name}, {place}" for name, place in about.get("project.urls", {}).items()]
     for extra, names in about["project.optional-dependencies"].items():
         lines += [f"Provides-Extra: {extra}", *(f"Requires-Dist: {name} ; extra == '{extra}'" for name in names)]
     scripts = [f"{name} = {place}" for name, place in about["project.scripts"].items()]
-    for name, text in (("METADATA", lines), ("WHEEL", ["Wheel-Version: 1.0", "Generator: lpis", "Root-Is-Purelib: false", f"Tag: {tag}"]), ("entry_points.txt", ["[console_scripts]", *scripts])):
+    for name, text in (
+        ("METADATA", lines),
+        ("WHEEL", ["Wheel-Version: 1.0", "Generator: lpis", "Root-Is-Purelib: false", f"Tag: {tag}"]),
+        ("entry_points.txt", ["[console_scripts]", *scripts]),
+    ):
         (facts / name).write_text("".join(f"{line}\n" for line in text), encoding="utf-8")
     manual = folder / CARRIED / "share" / "man"
     if manual.exists():
@@ -109,7 +140,9 @@ def build_wheel(wheel_directory, config_settings=None, metadata_directory=None):
     with tempfile.TemporaryDirectory() as spare:
         folder = Path(spare)
         top = plant(folder, (config_settings or {}).get("library"))
-        return wheel(folder, wheel_directory, version_of_wheel(version_of(top / "lib" / "lpis" / "program" / "lpis"), True)).name
+        return wheel(
+            folder, wheel_directory, version_of_wheel(version_of(top / "lib" / "lpis" / "program" / "lpis"), True)
+        ).name
 
 
 def build_editable(wheel_directory, config_settings=None, metadata_directory=None):
@@ -117,7 +150,7 @@ def build_editable(wheel_directory, config_settings=None, metadata_directory=Non
     version, tag = version_of_wheel(version_of(TOP / "program" / "lpis"), True), "py3-none-any"
     with tempfile.TemporaryDirectory() as spare:
         folder = Path(spare)
-        (folder / "lpis.pth").write_text(f"{PYTHON / 'src'}\n", encoding="utf-8")
+        (folder / "lpis.pth").write_text(f"{PACKAGE.parent}\n", encoding="utf-8")
         return zipped(folder, describe(folder, version, tag), Path(wheel_directory) / f"lpis-{version}-{tag}.whl").name
 
 

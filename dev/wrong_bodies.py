@@ -1,17 +1,20 @@
 """Wrong bodies: what they are, where they stand, and which of them are due to be tried.
 
-`must-fail/` of a crate has those that break a headline promise: the gate tries them. `wrong/` has the others, which `dev/wrong` tries.
-`wrong/tried` has a line for each of these that was refused, NAME DIGEST: the digest is of the crate's sources and of the edit, so that it
-tells whether either has changed since.
+`must-fail/` of a crate has those that break a headline promise: the gate tries them. `wrong/` has the others, which
+`dev/wrong` tries. `wrong/tried` has a line for each of these that was refused, NAME DIGEST: the digest is of the
+crate's sources and of the edit, so that it tells whether either has changed since.
 """
 
 import hashlib
+import re
 from pathlib import Path
 
 TOP = Path(__file__).resolve().parent.parent
 CRATES = TOP / "crates"
 AT_THE_MERGE, LATER = "must-fail", "wrong"
 PARTS = "src", "specs", "proofs"
+PAGE = TOP / "docs" / "contributing" / "wrong-bodies.md"
+LIST = re.compile(r"(?ms)^<!-- wrong -->\n.*?^<!-- end -->$")
 
 
 def edits(crate, folder=LATER):
@@ -46,6 +49,20 @@ def due(crate):
 def note(crate, refused):
     """Writes into `wrong/tried` that these edits were refused; what is no longer there goes."""
     names = {edit.stem for edit in edits(crate)}
-    after = {name: sum for name, sum in (tried(crate) | {edit.stem: digest(edit) for edit in refused}).items() if name in names}
+    after = {
+        name: sum
+        for name, sum in (tried(crate) | {edit.stem: digest(edit) for edit in refused}).items()
+        if name in names
+    }
     text = "".join(f"{name} {sum}\n" for name, sum in sorted(after.items()))
     (CRATES / crate / LATER / "tried").write_text(text, encoding="utf-8")
+
+
+def page():
+    """The page of wrong bodies, with the names of all of them as they stand in the folders."""
+    lines = []
+    for crate in sorted(path.name for path in CRATES.iterdir()):
+        for folder, words in ((AT_THE_MERGE, "at each merge"), (LATER, "before a version")):
+            if found := edits(crate, folder):
+                lines += ["", f"### {crate}, {words}", "", *(f"- {edit.stem.replace('_', ' ')}" for edit in found)]
+    return LIST.sub("\n".join(["<!-- wrong -->", *lines, "", "<!-- end -->"]), PAGE.read_text(encoding="utf-8"))

@@ -1,5 +1,5 @@
-"""What all tests share: the program, named to the tools that they run, compiled modules, libraries in C, which tests begin first, which wait for
-`--long`, and what each uses of a processor."""
+"""What all tests share: the program, named to the tools that they run, compiled modules, libraries in C, which tests
+begin first, which wait for `--long`, and what each uses of a processor."""
 
 import os
 import resource
@@ -11,12 +11,26 @@ import tempfile
 import pytest
 from lpis_helpers import places, starter
 from lpis_helpers.starts import STARTS
-from lpis_tools import shapely_there
+from lpis.system import shapely_there
 
 # Modules whose tests take longest: they begin first, and short ones fill the cores at the end.
-LONGEST = ("test_country_cells", "test_package", "test_lands", "test_country_prepare", "test_guests", "test_far", "test_compare", "test_placing", "test_nation", "test_wheel")
+LONGEST = (
+    "test_page",
+    "test_benches",
+    "test_country_cells",
+    "test_package",
+    "test_lands",
+    "test_country_prepare",
+    "test_guests",
+    "test_far",
+    "test_compare",
+    "test_placing",
+    "test_nation",
+    "test_wheel",
+)
 # Those of which each test goes to whatever process is free; of all others a module, or a class, is run by one.
 SPREAD = ("test_refusals", "test_prefixes", "test_audited_releases", "test_audited_years")
+TOGETHER = ("test_page",)  # all go to one process, which builds the page once
 MOST = 15  # seconds of a processor of a test that is not marked `long`, with all that it was the first to want
 HEAVY = []
 sys.dont_write_bytecode = True
@@ -25,7 +39,8 @@ os.environ["PYTHONDONTWRITEBYTECODE"] = "1"
 
 @pytest.fixture(scope="module", autouse=True)
 def named_program(request):
-    """Names the program to the tools, so that none asks ./lpis at each start; but where a module's tests look for it as users do."""
+    """Names the program to the tools, so that none asks ./lpis at each start; but where a module's tests look for it
+    as users do."""
     with pytest.MonkeyPatch.context() as surroundings:
         if places.BUILT and not request.node.get_closest_marker("finds_program"):
             surroundings.setenv("LPIS", places.BUILT)
@@ -35,6 +50,7 @@ def named_program(request):
 @pytest.fixture(scope="session")
 def preloaded(tmp_path_factory):
     """Makes a file in C into a library that LD_PRELOAD names."""
+
     def made(source):
         compiler = shutil.which("cc") or shutil.which("gcc") or pytest.skip("there is no C compiler (Debian: gcc)")
         path = tmp_path_factory.mktemp("preloaded") / f"{source.stem}.so"
@@ -49,8 +65,8 @@ def pytest_addoption(parser):
 
 
 def pytest_configure(config):
-    """What a test starts finds its modules compiled, in a folder that goes away, and compiles what is not there yet: nothing is written beside sources, and the
-    tools write no bytecode at all."""
+    """What a test starts finds its modules compiled, in a folder that goes away, and compiles what is not there yet:
+    nothing is written beside sources, and the tools write no bytecode at all."""
     at_work, config.compiled = getattr(config, "workerinput", None), None
     if "PYTHONPYCACHEPREFIX" not in os.environ:
         config.compiled = at_work["compiled"] if at_work else compiled()
@@ -81,7 +97,9 @@ def pytest_unconfigure(config):
 
 
 def pytest_collection_modifyitems(config, items):
-    items.sort(key=lambda item: LONGEST.index(item.module.__name__) if item.module.__name__ in LONGEST else len(LONGEST))
+    items.sort(
+        key=lambda item: LONGEST.index(item.module.__name__) if item.module.__name__ in LONGEST else len(LONGEST)
+    )
     waiting = [] if config.getoption("long") else [item for item in items if item.get_closest_marker("long")]
     if waiting:
         items[:] = [item for item in items if item not in set(waiting)]
@@ -99,9 +117,9 @@ def pytest_testnodedown(node):
 
 
 def processor():
-    """The seconds of a processor that this process and all that it waited for have used."""
+    """The seconds of a processor that this process and all that it waited for have used for tests."""
     used = [resource.getrusage(whose) for whose in (resource.RUSAGE_SELF, resource.RUSAGE_CHILDREN)]
-    return STARTS.seconds + sum(one.ru_utime + one.ru_stime for one in used)
+    return STARTS.seconds - STARTS.apart + sum(one.ru_utime + one.ru_stime for one in used)
 
 
 @pytest.hookimpl(hookwrapper=True)
@@ -126,7 +144,9 @@ def pytest_runtest_logreport(report):
 
 def pytest_terminal_summary(terminalreporter):
     for line in HEAVY:
-        terminalreporter.write_line(f"{line}: make it smaller, or mark it `long`; a test outside of --long has {MOST} s")
+        terminalreporter.write_line(
+            f"{line}: make it smaller, or mark it `long`; a test outside of --long has {MOST} s"
+        )
 
 
 @pytest.hookimpl(optionalhook=True)
@@ -135,6 +155,7 @@ def pytest_xdist_make_scheduler(config, log):
 
     class Scheduling(LoadScopeScheduling):
         def _split_scope(self, nodeid):
-            return nodeid if nodeid.partition(".py::")[0].rpartition("/")[2] in SPREAD else super()._split_scope(nodeid)
+            module = nodeid.partition(".py::")[0].rpartition("/")[2]
+            return nodeid if module in SPREAD else module if module in TOGETHER else super()._split_scope(nodeid)
 
     return Scheduling(config, log)

@@ -136,7 +136,8 @@ def test_rows_without_points(tmp_path):
 
 
 def test_what_the_tools_make(tmp_path):
-    """Of a land with every kind of dirt the release, the country, and last year's borders; of a coverage all borders."""
+    """Of a land with every kind of dirt the release, the country, and last year's borders; of a coverage all
+    borders."""
     land, out, country, later = (tmp_path / name for name in ("land.gpkg", "release", "country", "later"))
     dirty.make(land, dirty.ALL)
     calls.ended_with(0, calls.tool("prepare", land, out, "--accept"))
@@ -182,7 +183,9 @@ def test_sheets(name, tmp_path):
     words = ["parcels=blocks", "parcels.parcel=blk", "parcels.wkt=shape", "covers.parcel=blk"]
     assert answered(folder, tmp_path / "out", name=words) == "yes"
     tables.change("classes", "TREES", 1, "29")
-    expect(answered(folder, tmp_path / "out", name=words), (40, 0, 60, 60), "class TREES at 30 percent, the tables have")
+    expect(
+        answered(folder, tmp_path / "out", name=words), (40, 0, 60, 60), "class TREES at 30 percent, the tables have"
+    )
 
 
 def test_arcs(tmp_path):
@@ -207,7 +210,11 @@ def test_statuses(land, tmp_path):
     assert calls.done("python3", script, land, tables.folder) == "yes\n"
     tables.drop("covers", "A2")
     assert calls.ended_with(1, calls.run("python3", script, land, tables.folder)).stdout.startswith("no at ")
-    for words in ((land, tmp_path / "none"), (tmp_path / "none.gpkg", tables.folder), (tables.folder / "findings.gpkg",)):
+    for words in (
+        (land, tmp_path / "none"),
+        (tmp_path / "none.gpkg", tables.folder),
+        (tables.folder / "findings.gpkg",),
+    ):
         ended = calls.run(sys.executable, script, *words)
         assert (ended.returncode, ended.stdout) == (64, ""), ended.stderr
 
@@ -268,7 +275,8 @@ def test_a_quick_yes_is_right():
 
 
 def test_a_union_that_geos_does_not_find(monkeypatch):
-    """It gives none of some surfaces that share long borders nearly, as 13 findings of one land did: then each has a hair about it."""
+    """It gives none of some surfaces that share long borders nearly, as 13 findings of one land did: then each has a
+    hair about it."""
     tried, found = [], source.unary_union
 
     def finds_none_at_first(surfaces):
@@ -309,8 +317,15 @@ def test_country_publish(tmp_path):
     (wrong / "covers.csv").write_text("".join(rows))
     words = ["country", "publish", register, "2024", out, "--new", "--year-anyway", "--source"]
     ended = calls.tool(*words, wrong)
-    assert (ended.returncode, register.exists(), (out / "west" / "cert.txt").exists()) == (1, False, False), ended.stderr
-    assert re.search(f"the second checker says of {wrong} and {out}: no", ended.stderr) and last.split(",")[0] in ended.stderr
+    assert (ended.returncode, register.exists(), (out / "west" / "cert.txt").exists()) == (
+        1,
+        False,
+        False,
+    ), ended.stderr
+    assert (
+        re.search(f"the second checker says of {wrong} and {out}: no", ended.stderr)
+        and last.split(",")[0] in ended.stderr
+    )
     ended = calls.ended_with(0, calls.tool(*words, source_of_it))
     assert f"the second checker says of {source_of_it} and {out}: yes\n" in ended.stdout, ended.stderr
 
@@ -330,4 +345,6 @@ def test_tools(tool, tmp_path):
     assert (ended.returncode, register.exists()) == (1, False), ended.stderr
     assert re.search("the second checker says of .*a land and .*: no at .* class arable .* class grass", ended.stderr)
     ended = calls.tool(tool, *words, "--source", f"{exact} --classes {exact}/classes.csv --previous")
-    assert ended.returncode == 0 and f"the second checker says of {exact} and {out}: yes\n" in ended.stdout, ended.stderr
+    assert (
+        ended.returncode == 0 and f"the second checker says of {exact} and {out}: yes\n" in ended.stdout
+    ), ended.stderr

@@ -13,8 +13,10 @@ from pathlib import Path
 import pytest
 import source
 from lpis_helpers import places
-from tool_mutants import COUNTRY, LANDS, LATER, MUTANTS, PREPARE
+from lpis_helpers.spare import few_at_once
+from tool_mutants import COUNTRY, GROUPS, LANDS, LATER, MUTANTS, PREPARE
 
+EACH = 2  # mutants of a group; the others wait for --long
 FEW_POINTS = 8  # of a cell, so that a small land has several
 
 
@@ -22,9 +24,10 @@ class Copy:
     """A copy of the tools, and the lands."""
 
     def __init__(self, folder: Path) -> None:
-        self.tools, self.folder = folder / "tools", folder
-        shutil.copytree(places.TOOLS, self.tools, ignore=shutil.ignore_patterns("__pycache__"))
-        compileall.compile_dir(self.tools / "lpis_tools", quiet=1)
+        self.tools, self.package, self.folder = folder / "tools", folder / "python" / "src", folder
+        for here, there in ((places.TOOLS, self.tools), (places.PACKAGE, self.package)):
+            shutil.copytree(here, there, ignore=shutil.ignore_patterns("__pycache__"))
+        compileall.compile_dir(self.package, quiet=1)
         self.lands = {}
         for name, write in LANDS.items():
             (folder / name).mkdir()
@@ -49,9 +52,9 @@ class Copy:
             os.dup2(handle, 1)
             os.dup2(handle, 2)
             sys.stdout, sys.stderr = (open(number, "w", encoding="utf-8", closefd=False) for number in (1, 2))
-            for name in [name for name in sys.modules if name.partition(".")[0] == "lpis_tools"]:
+            for name in [name for name in sys.modules if name.partition(".")[0] == "lpis"]:
                 del sys.modules[name]
-            sys.path.insert(0, str(self.tools))
+            sys.path.insert(0, str(self.package))
             sys.argv = words
             if words[0].endswith(COUNTRY):
                 by_cells()
@@ -67,7 +70,7 @@ class Copy:
 
     def with_edit(self, mutant):
         """Makes the edit; answers what takes it back. The text stands once, or the mutant has to be written anew."""
-        path = self.tools / "lpis_tools" / mutant.file
+        path = self.package / "lpis" / mutant.file
         text, times = path.read_text(encoding="utf-8"), os.stat(path)
         count = text.count(mutant.old)
         assert count == 1, f"this text of a mutant stands {count} times in {mutant.file}, write it anew: {mutant.old}"
@@ -82,9 +85,9 @@ class Copy:
 
 def by_cells() -> None:
     """Has a country made in many cells, and all of them in this process."""
-    from lpis_tools import jobs, store
+    from lpis.country import jobs, row_store
 
-    store.MOST_POINTS, store.LEAST = FEW_POINTS, 0
+    row_store.MOST_POINTS, row_store.LEAST = FEW_POINTS, 0
 
     def do_all(folder, kind, count, workers, shown):
         worker = jobs.Worker(folder)
@@ -111,7 +114,7 @@ def test_without_an_edit(tool, land, copy, tmp_path):
     assert told(copy, tool, land, tmp_path / "out") == "yes"
 
 
-@pytest.mark.parametrize("name", MUTANTS)
+@pytest.mark.parametrize("name", [name for group in GROUPS for name in few_at_once([*group], EACH)])
 def test_mutants(name, copy, tmp_path):
     mutant = MUTANTS[name]
     back = copy.with_edit(mutant)

@@ -21,7 +21,7 @@ PREPARE, COUNTRY = "prepare", "country"
 
 @dataclass(frozen=True)
 class Mutant:
-    """A text of a file of tools/lpis_tools that stands there once, what it becomes, and why that matters; the land over
+    """A text of a file of python/src/lpis that stands there once, what it becomes, and why that matters; the land over
     which the tools are run, and which of them.
     """
 
@@ -35,139 +35,163 @@ class Mutant:
 
 MOVED = {
     "corners are rounded down": Mutant(
-        "snapping.py",
+        "rounding/snap_rounding.py",
         "return numpy.rint(points * (1000.0 * WHOLE)).astype(numpy.int64)",
         "return (numpy.floor(points * 1000.0) * WHOLE).astype(numpy.int64)",
         "a corner moves by up to 1.4 mm, and all borders with it, so nothing is open",
     ),
     "one corner is moved by three millimetres": Mutant(
-        "snapping.py",
+        "rounding/snap_rounding.py",
         "    *ways, network = drawn(edges)\n",
         "    *ways, network = drawn(edges)\n    network.points[0, 0] += 3\n",
         "the report takes less than a millimetre along the whole border for rounding",
     ),
     "a corner where two edges meet is taken for needless": Mutant(
-        "snapping.py",
+        "rounding/snap_rounding.py",
         "    is_kept[hot.numbers(ends.points)] = True\n",
         "",
         "a bend of five millimetres is cut off",
     ),
     "a zone's number is taken off with a millimetre": Mutant(
-        "preparing.py",
+        "preparation/source_tests.py",
         "[(x - zone * ZONE, y) for x, y in ring]",
         "[(x - zone * ZONE - 0.001, y) for x, y in ring]",
         "all land lies beside its place",
         ZONED,
     ),
     "coordinates of texts are read in centimetres": Mutant(
-        "wkt.py",
-        "[list(map(float, ring.replace",
-        "[list(map(lambda word: round(float(word), 2), ring.replace",
+        "source/wkt.py",
+        '                list(map(float, ring.replace(")", " ").replace(",", " ").split()))\n',
+        (
+            '                list(map(lambda word: round(float(word), 2), ring.replace(")", " ").replace(",", "'
+            ' ").split()))\n'
+        ),
         "the report reads the source in the same way, and sees nothing",
         SHEETS,
     ),
     "an arc is straightened coarsely": Mutant(
-        "wkb.py",
+        "formats/wkb.py",
         "ARC = 0.0005",
         "ARC = 0.05",
         "the finding says that it lies within half a millimetre",
     ),
     "a corner between two parts of a curve is dropped": Mutant(
-        "wkb.py", "way += part[1:] if way else part", "way += part[2:] if way else part", "the next part begins later"
+        "formats/wkb.py",
+        "way += part[1:] if way else part",
+        "way += part[2:] if way else part",
+        "the next part begins later",
     ),
     "a way of last year's is taken too far aside": Mutant(
-        "previous.py", "ASIDE = 1.5", "ASIDE = 4.0", "its corners may lie beside the source's border", LATER
+        "preparation/last_year_conflation.py",
+        "WHOLE, 3 * HALF",
+        "WHOLE, 8 * HALF",
+        "its corners may lie beside the source's border",
+        LATER,
     ),
     "a way of last year's is held to the line between its ends alone": Mutant(
-        "previous.py",
-        "return between if not between or (apart(self.line, self.around.points[between]) <= ASIDE).all() else None",
-        "return between",
+        "preparation/last_year_conflation.py",
+        "if (aside(before, over << BITS) > ASIDE).any():",
+        "if False:",
         "both ends may be a millimetre aside already",
         LATER,
     ),
 }
 DROPPED = {
     "the last row of a layer is not read": Mutant(
-        "land.py",
-        "layer.rows += rows_of(connection, layer.origin)",
-        "layer.rows += list(rows_of(connection, layer.origin))[: -1 if name in SHAPED else None]",
+        "country/source_parts.py",
+        'return list(land.rows_of(connection, origin, part["among"], part["first"]))',
+        'return list(land.rows_of(connection, origin, part["among"], part["first"]))[:-1]',
         "nobody asks for a row that was never read",
     ),
     "the last record of a table is not read": Mutant(
-        "sheets.py",
-        "for number, (line, fields) in unforeseen.each(\"\", lines, self.path):",
-        "for number, (line, fields) in list(unforeseen.each(\"\", lines, self.path))[:-1]:",
+        "source/spreadsheets.py",
+        'for number, (line, fields) in unforeseen.each("", lines, self.path):',
+        'for number, (line, fields) in list(unforeseen.each("", lines, self.path))[:-1]:',
         "the same of a table of text",
         SHEETS,
     ),
     "holes of shapes with heights are dropped": Mutant(
-        "wkb.py",
-        "self.members.append([read() for _ in range(self.take(\"I\", order)[0])])",
-        "self.members.append([read() for _ in range(self.take(\"I\", order)[0])][:1])",
+        "formats/wkb.py",
+        'self.members.append([read() for _ in range(self.take("I", order)[0])])',
+        'self.members.append([read() for _ in range(self.take("I", order)[0])][:1])',
         "the parcel and its piece both get the lake",
     ),
     "holes of texts are dropped": Mutant(
-        "wkt.py",
-        "for ring in part if ring.strip(OUTSIDE)])]",
-        "for ring in part if ring.strip(OUTSIDE)][:1])]",
+        "source/wkt.py",
+        "            ]\n",
+        "            ][:1]\n",
         "the same of a table of text",
         SHEETS,
     ),
     "of shapes with heights the first polygon alone is read": Mutant(
-        "wkb.py",
+        "formats/wkb.py",
         "return Found(judge_rings(reader.members), frozenset",
         "return Found(judge_rings(reader.members)[:1], frozenset",
         "half of the parcel is gone, and of its piece",
     ),
     "a piece that is lost is not told": Mutant(
-        "outcome.py",
-        "        self.add(\"lost\", name, ",
-        "        (lambda *_: None)(\"lost\", name, ",
+        "preparation/row_outcomes.py",
+        "        whole = self.before(row, shape)\n        self.add(\n",
+        "        whole = self.before(row, shape)\n        (lambda *_: None)(\n",
         "it was narrower than a millimetre; no row says so",
     ),
     "the last piece of a cell is not written": Mutant(
-        "cell.py",
-        "for row, text in texts[name] if row[\"parcel\"] in cell.wanted)",
-        "for row, text in texts[name][: -1 if kind == \"piece\" else None] if row[\"parcel\"] in cell.wanted)",
+        "country/cell_rounding.py",
+        '        yield from ((kind, row[kind], text) for row, text in texts[name] if row["parcel"] in cell.wanted)\n',
+        (
+            "        yield from (\n            (kind, row[kind], text)\n            for row, text in texts[name][: -1"
+            ' if kind == "piece" else None]\n            if row["parcel"] in cell.wanted\n        )\n'
+        ),
         "the report compares what the cell has made, and not what it wrote",
         tool=COUNTRY,
     ),
     "a cell forgets the polygons that a piece has beside its first": Mutant(
-        "cell.py",
-        "yield from ((kind, row[kind], text) for row, text",
-        "yield from ((kind, row[kind], text.partition(\")),((\")[0].rstrip(\")\") + \")))\") for row, text",
+        "country/cell_rounding.py",
+        '        yield from ((kind, row[kind], text) for row, text in texts[name] if row["parcel"] in cell.wanted)\n',
+        (
+            '        yield from (\n            (kind, row[kind], text.partition(")),((")[0].rstrip(")") + ")))")\n     '
+            '       for row, text in texts[name]\n            if row["parcel"] in cell.wanted\n        )\n'
+        ),
         "the same of a part of a row",
         tool=COUNTRY,
     ),
 }
 SWAPPED = {
     "the shapes of the first two rows are exchanged": Mutant(
-        "land.py",
-        "layer.rows += rows_of(connection, layer.origin)\n",
-        "layer.rows += rows_of(connection, layer.origin)\n"
-        "                    layer.rows[0].found, layer.rows[1].found = layer.rows[1].found, layer.rows[0].found\n",
+        "country/source_parts.py",
+        '        return list(land.rows_of(connection, origin, part["among"], part["first"]))\n',
+        (
+            '        rows = list(land.rows_of(connection, origin, part["among"], part["first"]))\n'
+            "        rows[0].found, rows[1].found = rows[1].found, rows[0].found\n        return rows\n"
+        ),
         "two parcels lie at each other's place, with their pieces",
     ),
     "two classes are exchanged while they are read": Mutant(
-        "land.py",
-        "if isinstance(value, bytes) else str(value)",
-        "if isinstance(value, bytes) else {\"GRASS\": \"TREES\", \"TREES\": \"GRASS\"}.get(value, str(value))",
+        "source/land.py",
+        '    return value.decode("utf-8", "backslashreplace") if isinstance(value, bytes) else str(value)\n',
+        (
+            '    return (\n        value.decode("utf-8", "backslashreplace")\n        if isinstance(value, bytes)\n    '
+            '    else {"GRASS": "TREES", "TREES": "GRASS"}.get(value, str(value))\n    )\n'
+        ),
         "in the table of classes too, so that each has a percentage",
     ),
     "percentages are written to the classes by their size": Mutant(
-        "prepared.py",
-        "sorted(classes.items())",
-        "zip(sorted(classes), sorted(classes.values()))",
+        "preparation/preparation_run.py",
+        '            coverage.write(self.made, "classes.csv", ["class", "percent"], sorted(classes.items()))\n',
+        (
+            '            coverage.write(\n                self.made, "classes.csv", ["class", "percent"],'
+            " zip(sorted(classes), sorted(classes.values()))\n            )\n"
+        ),
         "behind the report nobody looks at them again",
     ),
     "old and new names are exchanged in identifiers.csv": Mutant(
-        "naming.py",
-        "[kind, cells.text(old), cells.text(new)] for kind, names",
-        "[kind, cells.text(new), cells.text(old)] for kind, names",
+        "preparation/identifier_passes.py",
+        "            [kind, guarded_csv.text(old), guarded_csv.text(new)]\n",
+        "            [kind, guarded_csv.text(new), guarded_csv.text(old)]\n",
         "who was renamed is not to be found",
     ),
     "a row gets the shape of the one before it in its cell": Mutant(
-        "gathering.py",
+        "country/cell_results.py",
         "texts[kind].append((name, cell, at))",
         "texts[kind].append((name, cell, texts[kind][-1][2] if len(texts[kind]) == 1 else at))",
         "the second one is where the first one is too",
@@ -176,82 +200,104 @@ SWAPPED = {
 }
 MERGED = {
     "all pieces of a country get one class": Mutant(
-        "gathering.py",
-        "([piece, parcel, land_class, self.text_of(cell, at)]",
-        "([piece, parcel, \"GRASS\", self.text_of(cell, at)]",
+        "country/cell_results.py",
+        (
+            "                [piece, parcel, land_class, self.text_of(cell, at)] if is_cover else [parcel,"
+            " self.text_of(cell, at)]\n"
+        ),
+        (
+            '                [piece, parcel, "GRASS", self.text_of(cell, at)] if is_cover else [parcel,'
+            " self.text_of(cell, at)]\n"
+        ),
         "the classes are read from the store once more, behind the report",
         tool=COUNTRY,
     ),
     "a pond gets the class of the meadow around it": Mutant(
-        "prepared.py",
-        "        naming.join(work, whole)\n",
-        "        naming.join(work, whole)\n        layers[\"covers\"].rows[3].fields[\"class\"] = \"GRASS\"\n",
+        "preparation/source_run.py",
+        "        work.at(tested_source.CLASSES)\n",
+        (
+            '        work.at(tested_source.CLASSES)\n        self.base.execute(\n            "UPDATE row SET class ='
+            " 'GRASS' WHERE id = (SELECT id FROM row WHERE is_cover ORDER BY id LIMIT 1 OFFSET 3)\"\n        )\n"
+        ),
         "it was changed before the report compares classes",
     ),
     "all pieces of a country are of one parcel": Mutant(
-        "gathering.py",
-        "([piece, parcel, land_class, self.text_of(cell, at)]",
-        "([piece, \"pond\", land_class, self.text_of(cell, at)]",
+        "country/cell_results.py",
+        (
+            "                [piece, parcel, land_class, self.text_of(cell, at)] if is_cover else [parcel,"
+            " self.text_of(cell, at)]\n"
+        ),
+        (
+            '                [piece, "pond", land_class, self.text_of(cell, at)] if is_cover else [parcel,'
+            " self.text_of(cell, at)]\n"
+        ),
         "the names of parcels too are read once more",
         tool=COUNTRY,
     ),
 }
 UNTOLD = {
     "conflicts narrower than a centimetre are no rows": Mutant(
-        "conflicts.py", "LEAST = 0.001", "LEAST = 0.01", "a sliver goes to one of two in silence"
+        "preparation/conflicts.py", "LEAST = 0.001", "LEAST = 0.01", "a sliver goes to one of two in silence"
     ),
     "of a conflict the first place alone is told": Mutant(
-        "conflicts.py",
+        "preparation/conflicts.py",
         "    for part in parts_of(shape) if is_as_wide(shape, LEAST - ROUNDING) else ():",
         "    for part in parts_of(shape)[:1] if is_as_wide(shape, LEAST - ROUNDING) else ():",
         "two pieces share two slivers",
     ),
     "gaps are settled without a row": Mutant(
-        "conflicts.py", "        find_gap(source, row)\n", "        pass\n", "the parcel loses what no piece of it has"
+        "preparation/conflicts.py",
+        "        find_gap(source, row)\n",
+        "        pass\n",
+        "the parcel loses what no piece of it has",
     ),
     "what lies outside of a parcel is settled without a row": Mutant(
-        "conflicts.py", "        find_outside(source, piece, row)\n", "        pass\n", "the parcel grows by it"
+        "preparation/conflicts.py",
+        "        find_outside(source, piece, row)\n",
+        "        pass\n",
+        "the parcel grows by it",
     ),
     "the rows of findings.gpkg lack their polygons": Mutant(
-        "losses.py",
-        "package.add(loss.kind, loss.polygons(), loss.",
-        "package.add(loss.kind, None, loss.",
+        "preparation/loss_report.py",
+        "package.add(loss.kind, loss.polygons(), (*loss.",
+        "package.add(loss.kind, None, (*loss.",
         "a row says that something was settled, and not where",
     ),
     "findings.gpkg lacks the last rows of the report": Mutant(
-        "losses.py",
-        "        for loss in losses:\n            package.add",
-        "        for loss in [loss for loss in losses if loss.stops()]:\n            package.add",
+        "preparation/loss_report.py",
+        "        for loss in losses:\n            more = next(told)",
+        "        for loss in [loss for loss in losses if loss.stops()]:\n            more = next(told)",
         "slivers that stop nobody are settled too",
     ),
     "the polygon of a conflict is that of its widest circle alone": Mutant(
-        "conflicts.py",
+        "preparation/conflicts.py",
         "        members = members_of(self.shape)\n",
-        "        members = members_of(self.shape.centroid.buffer(0.001) if self.kind == \"overlap\" else self.shape)\n",
+        '        members = members_of(self.shape.centroid.buffer(0.001) if self.kind == "overlap" else self.shape)\n',
         "a row has to show all that it settles",
     ),
     "a parcel that was made of its pieces has a row without a polygon": Mutant(
-        "outcome.py",
-        "it was made of its pieces\", [row.number], after)",
-        "it was made of its pieces\", [row.number], None)",
+        "preparation/row_outcomes.py",
+        "                after,\n",
+        "                None,\n",
         "the tables have land that the source has not",
     ),
     "a cell does not tell its narrow conflicts": Mutant(
-        "cell.py",
+        "country/cell_rounding.py",
         "    for number, loss in enumerate(source.losses):\n",
         "    for number, loss in enumerate([loss for loss in source.losses if loss.stops()]):\n",
         "the same of a country",
         tool=COUNTRY,
     ),
     "an overlap is that of neither cell": Mutant(
-        "cell.py",
-        "if min(pair, key=lambda row: row[\"piece\"])[\"parcel\"] in wanted]",
-        "if all(row[\"parcel\"] in wanted for row in pair)]",
+        "country/cell_rounding.py",
+        'if min(pair, key=lambda row: row["piece"])["parcel"] in wanted]',
+        'if all(row["parcel"] in wanted for row in pair)]',
         "between two parcels of other cells a sliver goes in silence",
         tool=COUNTRY,
     ),
 }
-MUTANTS = {**MOVED, **DROPPED, **SWAPPED, **MERGED, **UNTOLD}
+GROUPS = (MOVED, DROPPED, SWAPPED, MERGED, UNTOLD)
+MUTANTS = {name: mutant for group in GROUPS for name, mutant in group.items()}
 
 
 # The lands.

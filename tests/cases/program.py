@@ -16,7 +16,9 @@ CLASSES = "class,eligible\nG,1\nW,0\n"
 
 def lpis(*words):
     """The lines of standard output of a run, with what stands on standard error behind them."""
-    run = subprocess.run([LPIS, *map(str, words)], stdin=subprocess.DEVNULL, capture_output=True, timeout=SECONDS, check=False)
+    run = subprocess.run(
+        [LPIS, *map(str, words)], stdin=subprocess.DEVNULL, capture_output=True, timeout=SECONDS, check=False
+    )
     return (run.stdout + run.stderr).decode("utf-8", "backslashreplace").splitlines()
 
 

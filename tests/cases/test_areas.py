@@ -11,35 +11,67 @@ OTHER_RIGHT = "POLYGON((5.01 0,10 0,10 10,5.01 10,5.01 0))"
 MOST_POINTS, MOST_ROWS = 100_000, 200_000
 
 AREAS = [
-    (SQUARE, "100.0000000"), ("POLYGON((0 0,0 10,10 10,10 0,0 0))", "100.0000000"), ("Polygon ((0 0, 0.01 0, 0 0.010, 0 0))", "0.0000500"),
-    ("POLYGON((0 0,0.001 0,0 0.001,0 0))", "0.0000005"), ("POLYGON((0 0,1.234 0,0 1,0 0))", "0.6170000"), (BOW_TIE, "0.0000000"),
-    ("POLYGON((0 0,20000000 0,0 1,0 0))", "10000000.0000000"), ("POLYGON((0 0,10 0,10 0,10 10,0 10,0 0))", "100.0000000"),
-    ("POLYGON((0 0,1 0,1 1,0 1,0 0),(0 0,2 0,2 2,0 2,0 0))", "-3.0000000"), (CORNERS, "200.0000000"), (TOUCHING, "94.0000000"),
-    (f"POLYGON((0 0,{'0' * 200}10 0,10 10,0 10,0 0))", "100.0000000"), (f"POLYGON((0 0{',0 0' * (MOST_POINTS - 1)}))", "0.0000000"),
+    (SQUARE, "100.0000000"),
+    ("POLYGON((0 0,0 10,10 10,10 0,0 0))", "100.0000000"),
+    ("Polygon ((0 0, 0.01 0, 0 0.010, 0 0))", "0.0000500"),
+    ("POLYGON((0 0,0.001 0,0 0.001,0 0))", "0.0000005"),
+    ("POLYGON((0 0,1.234 0,0 1,0 0))", "0.6170000"),
+    (BOW_TIE, "0.0000000"),
+    ("POLYGON((0 0,20000000 0,0 1,0 0))", "10000000.0000000"),
+    ("POLYGON((0 0,10 0,10 0,10 10,0 10,0 0))", "100.0000000"),
+    ("POLYGON((0 0,1 0,1 1,0 1,0 0),(0 0,2 0,2 2,0 2,0 0))", "-3.0000000"),
+    (CORNERS, "200.0000000"),
+    (TOUCHING, "94.0000000"),
+    (f"POLYGON((0 0,{'0' * 200}10 0,10 10,0 10,0 0))", "100.0000000"),
+    (f"POLYGON((0 0{',0 0' * (MOST_POINTS - 1)}))", "0.0000000"),
 ]
 # The code of what is wrong with a text, and how many bytes stand before it.
 FAULTS = [
-    ("POLYGON((0 0,20000000.001 0,0 1,0 0))", "15 at 13"), ("POLYGON((0 0,20000000.01 0,0 1,0 0))", "15 at 13"), ("POLYGON((0 0,1.2345 0,0 1,0 0))", "14 at 13"),
-    ("POLYGON((0 0,1e3 0,0 1,0 0))", "13 at 13"), ("POLYGON EMPTY", "11 at 8"), ("POLYGON((0 0,10 0,0 0))", "16 at 21"), ("POLYGON((0 0,10 0,10 10,0 10))", "17 at 28"),
-    ("SRID=4326;POLYGON((0 0,1 0,1 1,0 0))", "12 at 0"), ("POLYGON((0 0 5,1 0 5,1 1 5,0 0 5))", "12 at 13"), ("POLYGON((0 0,1 0,1 1,0 0)) x", "18 at 27"), ("", "10 at 0"),
-    ("POLYGON((0 0,1 0", "18 at 16"), ("POLYGON((99999999999.999 0,1 0,1 1,0 0))", "15 at 9"), (f"POLYGON(({'9' * 44}", "15 at 9"),
+    ("POLYGON((0 0,20000000.001 0,0 1,0 0))", "15 at 13"),
+    ("POLYGON((0 0,20000000.01 0,0 1,0 0))", "15 at 13"),
+    ("POLYGON((0 0,1.2345 0,0 1,0 0))", "14 at 13"),
+    ("POLYGON((0 0,1e3 0,0 1,0 0))", "13 at 13"),
+    ("POLYGON EMPTY", "11 at 8"),
+    ("POLYGON((0 0,10 0,0 0))", "16 at 21"),
+    ("POLYGON((0 0,10 0,10 10,0 10))", "17 at 28"),
+    ("SRID=4326;POLYGON((0 0,1 0,1 1,0 0))", "12 at 0"),
+    ("POLYGON((0 0 5,1 0 5,1 1 5,0 0 5))", "12 at 13"),
+    ("POLYGON((0 0,1 0,1 1,0 0)) x", "18 at 27"),
+    ("", "10 at 0"),
+    ("POLYGON((0 0,1 0", "18 at 16"),
+    ("POLYGON((99999999999.999 0,1 0,1 1,0 0))", "15 at 9"),
+    (f"POLYGON(({'9' * 44}", "15 at 9"),
     (f"POLYGON((0 0{',0 0' * MOST_POINTS}))", f"19 at {4 * MOST_POINTS + 9}"),
 ]
 ROW = '"POLYGON((0 0,1 0,1 1,0 0))"\n'
 TABLES = [
-    ("", ["refused 31 area row 0"]), ("wkt\n", []), ("\ufeffwkt\n", []), ("\ufeff\ufeffwkt\n", ["refused 30 area row 0"]), (f"\ufeffWKT\n{ROW}", ["0.5000000"]),
-    ("name\nx\n", ["refused 31 area row 0"]), ("wkt,Wkt\n", ["refused 32 area row 0"]), ("wkt,x\nA,b\nC\n", ["refused 38 area row 1 wkt 10 at 0"]),
-    ("wkt,x\nC\nA,b\n", ["refused 30 area row 1"]), (f'piece,parcel,class,wkt\nP,A,G,"{HOLE}"\nH,A,W,"{IN_IT}"\n', ["96.0000000", "4.0000000"]),
-    (f"wkt\n{ROW * MOST_ROWS}", ["0.5000000"] * MOST_ROWS), (f"wkt\n{ROW * (MOST_ROWS + 1)}", [f"refused 3a area row {MOST_ROWS + 1}"]),
+    ("", ["refused 31 area row 0"]),
+    ("wkt\n", []),
+    ("\ufeffwkt\n", []),
+    ("\ufeff\ufeffwkt\n", ["refused 30 area row 0"]),
+    (f"\ufeffWKT\n{ROW}", ["0.5000000"]),
+    ("name\nx\n", ["refused 31 area row 0"]),
+    ("wkt,Wkt\n", ["refused 32 area row 0"]),
+    ("wkt,x\nA,b\nC\n", ["refused 38 area row 1 wkt 10 at 0"]),
+    ("wkt,x\nC\nA,b\n", ["refused 30 area row 1"]),
+    (f'piece,parcel,class,wkt\nP,A,G,"{HOLE}"\nH,A,W,"{IN_IT}"\n', ["96.0000000", "4.0000000"]),
+    (f"wkt\n{ROW * MOST_ROWS}", ["0.5000000"] * MOST_ROWS),
+    (f"wkt\n{ROW * (MOST_ROWS + 1)}", [f"refused 3a area row {MOST_ROWS + 1}"]),
     (f"wkt\n{ROW * MOST_ROWS}a,b\n", [f"refused 30 area row {MOST_ROWS + 1}"]),
 ]
-# The polygons of the parcel A, or the rows of parcels; those of pieces with their classes; the beginning of the line of `cut`, and what is eligible.
+# The polygons of the parcel A, or the rows of parcels; those of pieces with their classes; the beginning of the line of
+# `cut`, and what is eligible.
 CUT = [
-    ([SQUARE], [("G", SQUARE)], "triangles 2 pairs 1", "100.000000000"), ([SQUARE], [("G", LEFT), ("W", RIGHT)], "triangles ", "50.000000000"),
-    ([SQUARE], [("G", HOLE), ("W", IN_IT)], "triangles ", "96.000000000"), ([CORNERS], [("G", CORNERS)], "triangles 4 pairs 2", "200.000000000"),
-    ([TOUCHING], [("G", TOUCHING)], "triangles ", "94.000000000"), ([], [], "triangles 0 pairs 0", "0.000000000"),
-    ([SQUARE], [("G", LEFT), ("W", OTHER_RIGHT)], "refused 43 parcel A at ", None), ([SQUARE], [("G", LEFT)], "refused 43 parcel A at ", None),
-    ([BOW_TIE], [("G", BOW_TIE)], "refused 40 piece p0", None), ([SQUARE], [("G", LEFT), ("G", BOW_TIE), ("G", BOW_TIE)], "refused 40 piece p1", None),
+    ([SQUARE], [("G", SQUARE)], "triangles 2 pairs 1", "100.000000000"),
+    ([SQUARE], [("G", LEFT), ("W", RIGHT)], "triangles ", "50.000000000"),
+    ([SQUARE], [("G", HOLE), ("W", IN_IT)], "triangles ", "96.000000000"),
+    ([CORNERS], [("G", CORNERS)], "triangles 4 pairs 2", "200.000000000"),
+    ([TOUCHING], [("G", TOUCHING)], "triangles ", "94.000000000"),
+    ([], [], "triangles 0 pairs 0", "0.000000000"),
+    ([SQUARE], [("G", LEFT), ("W", OTHER_RIGHT)], "refused 43 parcel A at ", None),
+    ([SQUARE], [("G", LEFT)], "refused 43 parcel A at ", None),
+    ([BOW_TIE], [("G", BOW_TIE)], "refused 40 piece p0", None),
+    ([SQUARE], [("G", LEFT), ("G", BOW_TIE), ("G", BOW_TIE)], "refused 40 piece p1", None),
 ]
 # Two parcels that share a strip of a metre, each of one piece; no edge keeps the two triangles of the pair line apart.
 STRIP = "POLYGON((9 0,20 0,20 10,9 10,9 0))"
@@ -64,7 +96,9 @@ end
 """
 
 
-OF_ONE = [(f'wkt\n"{text}"\n', [area]) for text, area in AREAS] + [(f'wkt\n"{text}"\n', [f"refused 38 area row 1 wkt {fault}"]) for text, fault in FAULTS]
+OF_ONE = [(f'wkt\n"{text}"\n', [area]) for text, area in AREAS] + [
+    (f'wkt\n"{text}"\n', [f"refused 38 area row 1 wkt {fault}"]) for text, fault in FAULTS
+]
 
 
 def area(text, folder):

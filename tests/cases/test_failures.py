@@ -1,4 +1,5 @@
-"""A release and a country that are published while reads and writes are short and interrupted, and fail at each call in turn (failing.c)."""
+"""A release and a country that are published while reads and writes are short and interrupted, and fail at each call
+in turn (failing.c)."""
 
 import os
 import shutil
@@ -14,7 +15,9 @@ from test_histories import MAPS, MARKED, certificate_of, hand_in, lines_of, tabl
 # The inputs in the order in which they are read.
 NAMES = ["parcels", "covers", "classes", "cert", "lineage"]
 REGIONS = ["west", "southeast", "northeast"]
-OF_REGIONS = [f"lineage region {region}" for region in REGIONS] + [f"{name} region {region}" for region in REGIONS for name in NAMES[:4]]
+OF_REGIONS = [f"lineage region {region}" for region in REGIONS] + [
+    f"{name} region {region}" for region in REGIONS for name in NAMES[:4]
+]
 OF_COUNTRY = ["country", "classes", "cert", *OF_REGIONS]
 
 
@@ -29,9 +32,20 @@ class Run:
     def answer(self, **failing):
         """The status, the lines of standard output and of standard error, and what the register holds then."""
         shutil.copy(self.kept, self.register)
-        environment = {**os.environ, "LD_PRELOAD": str(self.shim), **{name: str(value) for name, value in failing.items()}}
+        environment = {
+            **os.environ,
+            "LD_PRELOAD": str(self.shim),
+            **{name: str(value) for name, value in failing.items()},
+        }
         words = [self.register if word is None else word for word in self.words]
-        run = subprocess.run([LPIS, *map(str, words)], env=environment, stdin=subprocess.DEVNULL, capture_output=True, timeout=SECONDS, check=False)
+        run = subprocess.run(
+            [LPIS, *map(str, words)],
+            env=environment,
+            stdin=subprocess.DEVNULL,
+            capture_output=True,
+            timeout=SECONDS,
+            check=False,
+        )
         return run.returncode, run.stdout.decode().splitlines(), run.stderr.decode().splitlines(), said(self.register)
 
 
@@ -72,18 +86,29 @@ def country(shim, tmp_path_factory):
     assert lpis("publish-country", kept, 2024, folder / "2024")[-1] == "published 2024"
     exact = Run(folder, shim, kept, ["exact-country", None, folder / "2025", out])
     assert (exact.whole[0], exact.whole[1][-1], exact.whole[2]) == (0, "exact 2", [])
-    publish = Run(folder, shim, kept, ["publish-country", None, "2025", folder / "2025", "--exact", shutil.copy(out, folder / "exact.txt")])
+    publish = Run(
+        folder,
+        shim,
+        kept,
+        ["publish-country", None, "2025", folder / "2025", "--exact", shutil.copy(out, folder / "exact.txt")],
+    )
     status, lines, told, _ = publish.whole
     assert (status, [*lines[:3], lines[-1]], told) == (0, [*exact.whole[1][:-1], "published 2025"], [])
     return {"publish-country": publish, "exact-country": exact}
 
 
-@pytest.mark.parametrize("kind, command, names", [
-    ("release", "publish", NAMES), ("release", "exact", NAMES), ("country", "publish-country", OF_COUNTRY), ("country", "exact-country", [name for name in OF_COUNTRY if name != "cert"]),
-])
+@pytest.mark.parametrize(
+    "kind, command, names",
+    [
+        ("release", "publish", NAMES),
+        ("release", "exact", NAMES),
+        ("country", "publish-country", OF_COUNTRY),
+        ("country", "exact-country", [name for name in OF_COUNTRY if name != "cert"]),
+    ],
+)
 def test_each_read_fails(kind, command, names, request):
-    """The input is named, in the order in which they are read, nothing is printed but the lines of a country's regions before it, and the register is as
-    before."""
+    """The input is named, in the order in which they are read, nothing is printed but the lines of a country's regions
+    before it, and the register is as before."""
     run, met, at = request.getfixturevalue(kind)[command], [], 1
     before = said(run.kept)
     while (found := run.answer(FAIL_READ=at)) != run.whole and at < 10_000:
@@ -96,12 +121,15 @@ def test_each_read_fails(kind, command, names, request):
 
 @pytest.mark.parametrize("kind, command", [("release", "publish"), ("country", "publish-country")])
 def test_each_write_fails(kind, command, request):
-    """What was printed is a beginning of the whole, and the release is there; not where a region's line was not written, since the rest is decided after
-    it."""
+    """What was printed is a beginning of the whole, and the release is there; not where a region's line was not
+    written, since the rest is decided after it."""
     run, at = request.getfixturevalue(kind)[command], 1
     whole, regions = run.whole, [line for line in run.whole[1] if line.startswith("region ")]
     while (found := run.answer(FAIL_WRITE=at)) != whole and at < 10_000:
-        is_beginning, is_decided = "\n".join(whole[1]).startswith("\n".join(found[1])), len(found[1]) > len(regions) or not regions
+        is_beginning, is_decided = (
+            "\n".join(whole[1]).startswith("\n".join(found[1])),
+            len(found[1]) > len(regions) or not regions,
+        )
         register = whole[3] if is_decided or (found[1] == regions and found[3] == whole[3]) else said(run.kept)
         assert (found[0], is_beginning, found[2], found[3]) == (3, True, ["failed write out"], register), at
         at += 1

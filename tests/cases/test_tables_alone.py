@@ -1,4 +1,5 @@
-"""`check` of tables alone, beside `cut` and then `check` with the certificate that `cut` wrote: the same text and the same status."""
+"""`check` of tables alone, beside `cut` and then `check` with the certificate that `cut` wrote: the same text and
+the same status."""
 
 import shutil
 
@@ -13,11 +14,19 @@ EXAMPLES = sorted(path.parent.relative_to(TOP) for path in (TOP / "examples").gl
 # The tables of each release of the other worked cases.
 RELEASES = [
     *((test_tables.PARCEL, test_tables.HALVES, classes) for classes, _ in test_tables.OF_CLASSES),
-    *((parcels, f'{test_tables.COVERS}L,A,G,"{LEFT}"\n{right},"{RIGHT}"\n', classes) for parcels, right, classes, _ in test_tables.JOINED),
+    *(
+        (parcels, f'{test_tables.COVERS}L,A,G,"{LEFT}"\n{right},"{RIGHT}"\n', classes)
+        for parcels, right, classes, _ in test_tables.JOINED
+    ),
     *((parcels, covers, CLASSES) for parcels, covers, _ in test_tables.REFUSED),
-    *(tables for parcels, pieces, *_ in test_areas.CUT for tables in [(*test_areas.tables_of(parcels, pieces), CLASSES)]),
+    *(
+        tables
+        for parcels, pieces, *_ in test_areas.CUT
+        for tables in [(*test_areas.tables_of(parcels, pieces), CLASSES)]
+    ),
     *((parcels, covers, CLASSES) for parcels, covers, *_ in test_certificates.OTHERS),
-    (test_certificates.PARCEL, test_certificates.ONE_PIECE, CLASSES), (test_certificates.PARCEL, test_certificates.HALVES, CLASSES),
+    (test_certificates.PARCEL, test_certificates.ONE_PIECE, CLASSES),
+    (test_certificates.PARCEL, test_certificates.HALVES, CLASSES),
     (*test_areas.STRIPS, CLASSES),
 ]
 TABLES = ["parcels", "covers", "classes"]
@@ -44,7 +53,8 @@ def test_examples(release, tmp_path):
 
 @pytest.mark.parametrize("missing", range(3), ids=TABLES.__getitem__)
 def test_missing_tables(missing, tmp_path):
-    """The first table that is missing is named, and none of those behind it is looked at; a certificate that lies in the folder is none that was named."""
+    """The first table that is missing is named, and none of those behind it is looked at; a certificate that lies in
+    the folder is none that was named."""
     release = shutil.copytree(TOP / "examples" / "square", tmp_path / "release")
     for name in TABLES[missing:]:
         (release / f"{name}.csv").unlink()

@@ -8,7 +8,7 @@ import lpis
 import pytest
 from lpis_helpers.places import BUILT
 from lpis_helpers.python_case import Feature, has, square
-from lpis_tools import shapely_there
+from lpis.system import shapely_there
 
 pytestmark = pytest.mark.finds_program
 SHAPE, TEXT = square(0, 0), "POLYGON ((0 0,10 0,10 10,0 10,0 0))"
@@ -38,13 +38,16 @@ def test_cases_of_columns():
     assert [line.replace("N (", "N(") for line in shapes] == ["wkt", *[f'"{TEXT}"'.replace("N (", "N(")] * 2]
 
 
-@pytest.mark.parametrize("row", [
-    {"parcel": "a", "geometry": SHAPE, "wkt": TEXT},
-    {"parcel": "a", "wkt": TEXT, "Geometry": None},
-    feature(parcel="a", wkt=TEXT),
-    Feature(feature(parcel="a", WKT=None)),
-    feature(parcel="a", geometry=TEXT),
-])
+@pytest.mark.parametrize(
+    "row",
+    [
+        {"parcel": "a", "geometry": SHAPE, "wkt": TEXT},
+        {"parcel": "a", "wkt": TEXT, "Geometry": None},
+        feature(parcel="a", wkt=TEXT),
+        Feature(feature(parcel="a", WKT=None)),
+        feature(parcel="a", geometry=TEXT),
+    ],
+)
 def test_two_shapes(row):
     """A row with two shapes is an error, whichever of them would have been taken."""
     with pytest.raises(ValueError, match="parcels row 2: it has two shapes, in .*(geometry|wkt|WKT)"):
@@ -59,7 +62,8 @@ def test_too_many_fields():
 
 
 def test_percentages():
-    """1.0 and True may be the whole, and are no percent: the program refuses them. Whole numbers above are percentages."""
+    """1.0 and True may be the whole, and are no percent: the program refuses them. Whole numbers above are
+    percentages."""
     wanted = b"class,percent\na,1.0\nb,True\nc,100\nd,0\ne,1\nf,0.5\n"
     assert lpis.table({"a": 1.0, "b": True, "c": 100.0, "d": 0.0, "e": 1, "f": 0.5}, "classes") == wanted
     rows = [{"class": "a", "eligible": 1.0}, {"class": "b", "eligible": True}]
@@ -68,15 +72,18 @@ def test_percentages():
 
 @pytest.mark.skipif(not has("pandas"), reason="no pandas (Debian: python3-pandas)")
 class TestFrames:
-    @pytest.mark.parametrize(("name", "columns", "lacking"), [
-        ("classes", ["class", "share"], "percent"),
-        ("classes", ["percent"], "class"),
-        ("lineage", ["old"], "new"),
-        ("parcels", ["parcel"], "wkt"),
-        ("covers", ["piece", "class", "wkt"], "parcel"),
-        ("area", ["shape"], "wkt"),
-        ("classes", [], "class"),
-    ])
+    @pytest.mark.parametrize(
+        ("name", "columns", "lacking"),
+        [
+            ("classes", ["class", "share"], "percent"),
+            ("classes", ["percent"], "class"),
+            ("lineage", ["old"], "new"),
+            ("parcels", ["parcel"], "wkt"),
+            ("covers", ["piece", "class", "wkt"], "parcel"),
+            ("area", ["shape"], "wkt"),
+            ("classes", [], "class"),
+        ],
+    )
     def test_lacking(self, name, columns, lacking):
         """A frame names the column that it lacks, with rows and without."""
         import pandas
@@ -110,12 +117,13 @@ def test_prepared():
     parcels = [{"parcel": name, "geometry": square(x, 5_400_000)} for name, x in (("west", 550_000), ("east", 550_009))]
     covers = [{"piece": row["parcel"], "class": "G", **row} for row in parcels]
     stopped = lpis.prepare(parcels, covers, {"G": 100})
-    with pytest.raises(ValueError, match="no parcels were written: to look at: .*overlap east west"):
-        lpis.cut(stopped)
+    for call in (lpis.cut, lpis.check):
+        with pytest.raises(ValueError, match="no parcels were written: to look at: .*overlap east west"):
+            call(stopped)
     with pytest.raises(ValueError, match="parcels: None is no table; .* says what stops"):
         lpis.cut(stopped.parcels, stopped.covers, stopped.classes)
     made = lpis.prepare(parcels[:1], covers[:1], {"G": 100})
-    assert lpis.check(made, made, made, lpis.cut(made)).area == 100
+    assert lpis.check(made, made, made, lpis.cut(made)).area == lpis.check(made).area == 100
     made = lpis.prepare(parcels[:1], covers[:1])
     with pytest.raises(ValueError, match="no classes were written: a source without a table of classes"):
         lpis.cut(made)

@@ -1,5 +1,5 @@
-"""What the tests of registers share: a call of the program, what SQLite finds in a register, the tables of version 3, a release that is cut and
-published."""
+"""What the tests of registers share: a call of the program, what SQLite finds in a register, the tables of version 3, a
+release that is cut and published."""
 
 import contextlib
 import pathlib
@@ -50,7 +50,11 @@ def names_of(path):
 def shape_of(path, table):
     """The columns of a table, its foreign keys, and whether it is STRICT."""
     strict = rows(path, f"SELECT strict FROM pragma_table_list WHERE name = '{table}'")
-    return rows(path, f"SELECT * FROM pragma_table_xinfo('{table}')"), rows(path, f"SELECT * FROM pragma_foreign_key_list('{table}')"), strict
+    return (
+        rows(path, f"SELECT * FROM pragma_table_xinfo('{table}')"),
+        rows(path, f"SELECT * FROM pragma_foreign_key_list('{table}')"),
+        strict,
+    )
 
 
 def expect_tables(name, path, order, folder):
@@ -75,14 +79,21 @@ def publish(folder, path, year, release):
 def expect_published(name, path, year, release, cert, *before):
     """A release is published in a year, and these lines stand before the last one that is printed."""
     text, status = lpis("publish", path, year, release, cert)
-    expect(f"{name}: published", (text.splitlines()[-len(before) - 1:], status), ([*before, f"published {year}"], 0))
+    expect(f"{name}: published", (text.splitlines()[-len(before) - 1 :], status), ([*before, f"published {year}"], 0))
 
 
 def write_release(release, shapes, *lineage):
     """The tables of parcels of these shapes, each with one piece, and this table of lineage."""
     release.mkdir(exist_ok=True)
-    for name, lines in (("parcels", ["parcel,wkt", *(f'{parcel},"{wkt}"' for parcel, wkt in shapes.items())]), ("classes", ["class,percent", "G,100"]),
-                        ("covers", ["piece,parcel,class,wkt", *(f'{parcel.lower()},{parcel},G,"{wkt}"' for parcel, wkt in shapes.items())]), ("lineage", lineage)):
+    for name, lines in (
+        ("parcels", ["parcel,wkt", *(f'{parcel},"{wkt}"' for parcel, wkt in shapes.items())]),
+        ("classes", ["class,percent", "G,100"]),
+        (
+            "covers",
+            ["piece,parcel,class,wkt", *(f'{parcel.lower()},{parcel},G,"{wkt}"' for parcel, wkt in shapes.items())],
+        ),
+        ("lineage", lineage),
+    ):
         (release / f"{name}.csv").write_text("".join(f"{line}\n" for line in lines))
 
 

@@ -8,7 +8,15 @@ import tempfile
 import time
 
 CHROMIUM = next((path for path in map(shutil.which, ("chromium", "chromium-browser", "google-chrome")) if path), None)
-WORDS = ["--headless=new", "--no-sandbox", "--disable-gpu", "--disable-dev-shm-usage", "--no-first-run", "--remote-debugging-pipe", "--host-resolver-rules=MAP * ~NOTFOUND"]
+WORDS = [
+    "--headless=new",
+    "--no-sandbox",
+    "--disable-gpu",
+    "--disable-dev-shm-usage",
+    "--no-first-run",
+    "--remote-debugging-pipe",
+    "--host-resolver-rules=MAP * ~NOTFOUND",
+]
 
 
 class Browser:
@@ -21,8 +29,20 @@ class Browser:
         there_reads, here_writes = os.pipe()
         self.reads, self.writes = here_reads, here_writes
         starter = f'exec "$0" "$@" 3<&{there_reads} 4>&{there_writes}'
-        chromium = [CHROMIUM, *WORDS, f"--user-data-dir={self.folder}", "--window-size=1100,1600", *words, "about:blank"]
-        self.process = subprocess.Popen(["bash", "-c", starter, *chromium], pass_fds=(there_reads, there_writes), stdout=subprocess.DEVNULL, stderr=subprocess.DEVNULL)
+        chromium = [
+            CHROMIUM,
+            *WORDS,
+            f"--user-data-dir={self.folder}",
+            "--window-size=1100,1600",
+            *words,
+            "about:blank",
+        ]
+        self.process = subprocess.Popen(
+            ["bash", "-c", starter, *chromium],
+            pass_fds=(there_reads, there_writes),
+            stdout=subprocess.DEVNULL,
+            stderr=subprocess.DEVNULL,
+        )
         os.close(there_reads)
         os.close(there_writes)
         self.session = None
@@ -43,7 +63,12 @@ class Browser:
 
     def call(self, method, **words):
         self.last += 1
-        message = {"id": self.last, "method": method, "params": words, **({"sessionId": self.session} if self.session else {})}
+        message = {
+            "id": self.last,
+            "method": method,
+            "params": words,
+            **({"sessionId": self.session} if self.session else {}),
+        }
         os.write(self.writes, json.dumps(message).encode() + b"\0")
         while True:
             answer = self.next()
@@ -81,11 +106,16 @@ class Browser:
             if found:
                 return found
             time.sleep(0.05)
-        raise RuntimeError(f"not true in {seconds} s: {script}; the page: {self.value('document.body.innerText')[:500]}")
+        raise RuntimeError(
+            f"not true in {seconds} s: {script}; the page: {self.value('document.body.innerText')[:500]}"
+        )
 
     def drop(self, selector, paths):
         """Drops files or folders on an element."""
-        box = self.value(f"(() => {{ const r = document.querySelector({selector!r}).getBoundingClientRect(); return [r.x + r.width / 2, r.y + r.height / 2]; }})()")
+        box = self.value(
+            f"(() => {{ const r = document.querySelector({selector!r}).getBoundingClientRect(); return [r.x + r.width /"
+            " 2, r.y + r.height / 2]; })()"
+        )
         data = {"items": [], "files": [os.path.realpath(path) for path in paths], "dragOperationsMask": 1}
         for kind in ("dragEnter", "dragOver", "drop"):
             self.call("Input.dispatchDragEvent", type=kind, x=box[0], y=box[1], data=data)
@@ -96,8 +126,18 @@ class Browser:
         self.call("DOM.setFileInputFiles", nodeId=node, files=[os.path.realpath(path) for path in paths])
 
     def requests(self):
-        return [event["params"]["request"]["url"] for event in self.events if event["method"] == "Network.requestWillBeSent"]
+        return [
+            event["params"]["request"]["url"] for event in self.events if event["method"] == "Network.requestWillBeSent"
+        ]
 
     def errors(self):
-        logged = [event["params"]["entry"]["text"] for event in self.events if event["method"] == "Log.entryAdded" and event["params"]["entry"]["level"] == "error"]
-        return logged + [json.dumps(event["params"]["exceptionDetails"]) for event in self.events if event["method"] == "Runtime.exceptionThrown"]
+        logged = [
+            event["params"]["entry"]["text"]
+            for event in self.events
+            if event["method"] == "Log.entryAdded" and event["params"]["entry"]["level"] == "error"
+        ]
+        return logged + [
+            json.dumps(event["params"]["exceptionDetails"])
+            for event in self.events
+            if event["method"] == "Runtime.exceptionThrown"
+        ]

@@ -10,7 +10,7 @@ from pathlib import Path
 
 from lpis_helpers.places import BUILT, TOOLS
 from lpis_helpers.starts import SHEBANG, STARTS
-from lpis_tools import shapely_there
+from lpis.system import shapely_there
 
 CAPTURED = {"capture_output": True, "text": True, "check": False}
 
@@ -38,7 +38,8 @@ def lpis(*words, **more):
 
 
 def tool(name, *words, **more):
-    """A run of a script of tools/, as `run` has it; its Python has loaded already what the tools load, wherever that makes no difference."""
+    """A run of a script of tools/, as `run` has it; its Python has loaded already what the tools load, wherever that
+    makes no difference."""
     path, more = os.path.join(TOOLS, name), {**CAPTURED, **more}
     return STARTS.run([path, *words], **more) if STARTS.can(path, more) else run(path, *words, **more)
 
@@ -49,7 +50,9 @@ def with_shapely(text, *words):
         script = Path(folder, "text")
         script.write_bytes(SHEBANG + text.encode())
         python = shapely_there.python()
-        is_forked = os.path.realpath(shutil.which("python3") or "") == os.path.realpath(python) and STARTS.can(script, CAPTURED)
+        is_forked = os.path.realpath(shutil.which("python3") or "") == os.path.realpath(python) and STARTS.can(
+            script, CAPTURED
+        )
         return ended_with(0, STARTS.run([script, *words], **CAPTURED) if is_forked else run(python, script, *words))
 
 

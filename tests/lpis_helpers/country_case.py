@@ -1,5 +1,6 @@
-"""What the tests of countries share: lands of jittered cells, a country that is split from one, and the comparison of the program with a judge of the
-definition (judged_country.py). Without the program, built or named by LPIS, the judge alone is asked."""
+"""What the tests of countries share: lands of jittered cells, a country that is split from one, and the comparison of
+the program with a judge of the definition (judged_country.py). Without the program, built or named by LPIS, the
+judge alone is asked."""
 
 import os
 import random
@@ -49,12 +50,12 @@ def wkt(*rings):
 
 
 class Land:
-    """Jittered cells of four corners and a middle, each of three pieces. Between some rows of cells a road, one parcel of the whole width,
-    whose straight borders have the corners of cells as T-junctions."""
+    """Jittered cells of four corners and a middle, each of three pieces. Between some rows of cells a road, one parcel
+    of the whole width, whose straight borders have the corners of cells as T-junctions."""
 
     def __init__(self, seed, columns, rows, roads=()):
         self.numbers, self.columns, self.parcels, self.covers = random.Random(seed), columns, [], []
-        self.shift = self.numbers.randrange(-10**9, 10**9)
+        self.shift = self.numbers.randrange(-(10**9), 10**9)
         base = self.border(0, True)
         for row in range(rows):
             is_road = row in roads
@@ -69,16 +70,26 @@ class Land:
 
     def border(self, row, is_straight):
         """The corners between two rows of cells."""
+
         def jitter():
             return self.numbers.randrange(-30_000, 30_001)
 
-        return [(self.shift + 100_000 * column + (jitter() if 0 < column < self.columns else 0), 100_000 * row + (0 if is_straight else jitter()))
-                for column in range(self.columns + 1)]
+        return [
+            (
+                self.shift + 100_000 * column + (jitter() if 0 < column < self.columns else 0),
+                100_000 * row + (0 if is_straight else jitter()),
+            )
+            for column in range(self.columns + 1)
+        ]
 
     def cell(self, name, a, b, c, d):
         middle = tuple(sum(values) // 4 for values in zip(a, b, c, d))
         kinds = self.numbers.choices(["GRASS", "TREES"], k=3)
-        self.add(name, [a, b, c, d], [("1", kinds[0], [a, b, middle]), ("2", kinds[1], [b, c, middle]), ("3", kinds[2], [c, d, a, middle])])
+        self.add(
+            name,
+            [a, b, c, d],
+            [("1", kinds[0], [a, b, middle]), ("2", kinds[1], [b, c, middle]), ("3", kinds[2], [c, d, a, middle])],
+        )
 
     def add(self, name, ring, pieces):
         self.parcels.append(f"{name},{wkt(ring)}")
@@ -139,7 +150,8 @@ class Case(Spare):
         return judged.answer(self.out, own_check, True)
 
     def assertCountry(self, ending, status, is_certified=True):
-        """Judge and program give one text and status, whose last line is this one; the text, without the parcels and with them."""
+        """Judge and program give one text and status, whose last line is this one; the text, without the parcels and
+        with them."""
         if is_certified:
             self.certify()
         text, found = self.answer()

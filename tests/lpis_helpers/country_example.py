@@ -1,4 +1,5 @@
-"""The two years of examples/country-years as countries of three regions, their rows of lineage dealt out, for scripts that starve, stop or cut one."""
+"""The two years of examples/country-years as countries of three regions, their rows of lineage dealt out, for
+scripts that starve, stop or cut one."""
 
 import pathlib
 
@@ -13,13 +14,21 @@ REGIONS = {
 HEAD = "old,new,exact"
 ROWS = {
     "2024": {},
-    "2025": {"west": ["croft,,", "ford,ford-1,1"], "southeast": ["weir,weir-1,", "weir,weir-2,", "ford,ford-2,1"], "northeast": ["mill,lane,1", "heath,moor,"]},
+    "2025": {
+        "west": ["croft,,", "ford,ford-1,1"],
+        "southeast": ["weir,weir-1,", "weir,weir-2,", "ford,ford-2,1"],
+        "northeast": ["mill,lane,1", "heath,moor,"],
+    },
 }
 
 
 def regions_of(folder):
     """The names of a country's regions, in their order."""
-    return [line.split()[1] for line in pathlib.Path(folder, "country.txt").read_text(encoding="ascii").splitlines() if line.startswith("region ")]
+    return [
+        line.split()[1]
+        for line in pathlib.Path(folder, "country.txt").read_text(encoding="ascii").splitlines()
+        if line.startswith("region ")
+    ]
 
 
 def begin(folder, lpis):
@@ -31,7 +40,8 @@ def begin(folder, lpis):
 
 
 def write(folder, year, cut):
-    """Writes the country of a year into a folder that is not there; `cut` makes the certificate of a region's folder."""
+    """Writes the country of a year into a folder that is not there; `cut` makes the certificate of a region's
+    folder."""
     folder.mkdir()
     (folder / "country.txt").write_text(PLAN, encoding="ascii")
     classes = (EXAMPLE / year / "classes.csv").read_text(encoding="ascii")
@@ -43,6 +53,8 @@ def write(folder, year, cut):
             head, *rows = (EXAMPLE / year / table).read_text(encoding="ascii").splitlines()
             mine = [row for row in rows if row.split(",")[column] in names.split()]
             (folder / region / table).write_text("\n".join([head, *mine, ""]), encoding="ascii")
-        (folder / region / "lineage.csv").write_text("\n".join([HEAD, *ROWS[year].get(region, []), ""]), encoding="ascii")
+        (folder / region / "lineage.csv").write_text(
+            "\n".join([HEAD, *ROWS[year].get(region, []), ""]), encoding="ascii"
+        )
         cut(folder / region)
     return folder

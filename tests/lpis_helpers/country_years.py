@@ -1,6 +1,6 @@
-"""Small countries through three years, each from its number: a rectangle that lines part into parcels, which are kept, split, merged, redrawn, replaced or
-ended from year to year, exactly or a millimetre beside it; cut into regions by lines of its own in each year, or by those of the year before.
-Rows of lineage lie in any region's table.
+"""Small countries through three years, each from its number: a rectangle that lines part into parcels, which are kept,
+split, merged, redrawn, replaced or ended from year to year, exactly or a millimetre beside it; cut into regions by
+lines of its own in each year, or by those of the year before. Rows of lineage lie in any region's table.
 
 A shape is a ring of whole millimetres without its closing point. Rings only become smaller, so that no two overlap."""
 
@@ -15,7 +15,8 @@ LETTERS = "abcdefghijklmnopqrstuvwxyzABCDEFGHIJKLMNOPQRSTUVWXYZ"
 
 
 class Shape:
-    """A parcel's ring. `box` is there for a rectangle, `whole` for the half of one that a slanted line parted: the rectangle."""
+    """A parcel's ring. `box` is there for a rectangle, `whole` for the half of one that a slanted line parted: the
+    rectangle."""
 
     def __init__(self, ring, box=None, whole=None):
         self.ring, self.box, self.whole = ring, box, whole
@@ -37,13 +38,17 @@ def smaller(shape, numbers):
 
 
 def parted(shape, numbers):
-    """A rectangle cut in two, by a line along an axis or by a slanted one; None where it is too small, or no rectangle."""
+    """A rectangle cut in two, by a line along an axis or by a slanted one; None where it is too small, or no
+    rectangle."""
     if shape.box is None or min(shape.box[2] - shape.box[0], shape.box[3] - shape.box[1]) < 20:
         return None
     left, low, right, high = shape.box
     if numbers.random() < 0.3:
         a, b = numbers.randint(left + 5, right - 5), numbers.randint(left + 5, right - 5)
-        return [Shape([(left, low), (a, low), (b, high), (left, high)], None, shape.box), Shape([(a, low), (right, low), (right, high), (b, high)], None, shape.box)]
+        return [
+            Shape([(left, low), (a, low), (b, high), (left, high)], None, shape.box),
+            Shape([(a, low), (right, low), (right, high), (b, high)], None, shape.box),
+        ]
     if numbers.random() < 0.5:
         at = numbers.randint(left + 5, right - 5)
         return [rectangle((left, low, at, high)), rectangle((at, low, right, high))]
@@ -69,7 +74,10 @@ class Map:
     def __init__(self, numbers):
         self.numbers, self.used, self.rows = numbers, set(), []
         size = numbers.choice([200, 10_000, 10**6])
-        by = [numbers.choice([0, numbers.randint(-10**9, 10**9), 20_000_000_000 - size, -20_000_000_000]) for _ in range(2)]
+        by = [
+            numbers.choice([0, numbers.randint(-(10**9), 10**9), 20_000_000_000 - size, -20_000_000_000])
+            for _ in range(2)
+        ]
         shapes = [rectangle((by[0], by[1], by[0] + size, by[1] + size))]
         for _ in range(numbers.randint(0, 9)):
             self.cut(shapes)
@@ -96,7 +104,9 @@ class Map:
         while before:
             old = before.pop()
             other = next((it for it in before if joined(old[1], it[1])), None)
-            kind = self.numbers.choices(["kept", "split", "merge", "replaced", "redrawn", "ended", "moved"], [8, 5, 5, 1, 1, 1, 1])[0]
+            kind = self.numbers.choices(
+                ["kept", "split", "merge", "replaced", "redrawn", "ended", "moved"], [8, 5, 5, 1, 1, 1, 1]
+            )[0]
             if kind in ("merge", "redrawn") and other:
                 before.remove(other)
                 getattr(self, kind)(old, other)
@@ -144,7 +154,9 @@ class Map:
         """Both become the same two; or the second only one of them."""
         parts = parted(joined(one[1], two[1]), self.numbers) or [one[1], two[1]]
         news = [self.put(part) for part in parts]
-        self.rows += [(one[0], new, False) for new in news] + [(two[0], new, False) for new in news[: self.numbers.randint(1, 2)]]
+        self.rows += [(one[0], new, False) for new in news] + [
+            (two[0], new, False) for new in news[: self.numbers.randint(1, 2)]
+        ]
 
 
 # Folders.
@@ -155,7 +167,11 @@ class Tiling:
 
     def __init__(self, numbers, box):
         self.numbers, self.box, self.lines, self.tiles = numbers, box, ["lpis-country 1"], {}
-        self.names = iter(numbers.sample(["west", "east", "north", "south", "r0001", "r0002", "R-1", "a_b", "middle", "x", "region", "row"], 12))
+        self.names = iter(
+            numbers.sample(
+                ["west", "east", "north", "south", "r0001", "r0002", "R-1", "a_b", "middle", "x", "region", "row"], 12
+            )
+        )
         self.part([(None, None)] * 2, numbers.randint(0, 3))
 
     def part(self, sides, depth):
@@ -183,15 +199,24 @@ class Tiling:
 
     def met(self, ring):
         """The names of the regions whose tile the box of a ring meets."""
+
         def meets(side, values):
             return (side[1] is None or min(values) < side[1]) and (side[0] is None or side[0] < max(values))
 
-        return [name for name, sides in self.tiles.items() if all(meets(side, [point[k] for point in ring]) for k, side in enumerate(sides))]
+        return [
+            name
+            for name, sides in self.tiles.items()
+            if all(meets(side, [point[k] for point in ring]) for k, side in enumerate(sides))
+        ]
 
 
 def box_of(shapes):
     points = [point for shape in shapes for point in shape.ring]
-    return (*(min(p[k] for p in points) for k in (0, 1)), *(max(p[k] for p in points) for k in (0, 1))) if points else (0, 0, 1, 1)
+    return (
+        (*(min(p[k] for p in points) for k in (0, 1)), *(max(p[k] for p in points) for k in (0, 1)))
+        if points
+        else (0, 0, 1, 1)
+    )
 
 
 def wkt(ring):
@@ -204,20 +229,30 @@ def pieces_of(name, shape):
         return [f"p.{name},{name},G,{wkt(shape.ring)}"]
     left, low, right, high = shape.box
     middle = (left + right) // 2
-    return [f"{name}:1,{name},G,{wkt(rectangle((left, low, middle, high)).ring)}", f"{name}:2,{name},W,{wkt(rectangle((middle, low, right, high)).ring)}"]
+    return [
+        f"{name}:1,{name},G,{wkt(rectangle((left, low, middle, high)).ring)}",
+        f"{name}:2,{name},W,{wkt(rectangle((middle, low, right, high)).ring)}",
+    ]
 
 
 def write_region(folder, parcels):
     os.makedirs(folder, exist_ok=True)
     write_lines(folder, "parcels.csv", ["parcel,wkt", *(f"{name},{wkt(shape.ring)}" for name, shape in parcels)])
-    write_lines(folder, "covers.csv", ["piece,parcel,class,wkt", *(line for name, shape in parcels for line in pieces_of(name, shape))])
+    write_lines(
+        folder,
+        "covers.csv",
+        ["piece,parcel,class,wkt", *(line for name, shape in parcels for line in pieces_of(name, shape))],
+    )
     write_lines(folder, "classes.csv", CLASSES)
 
 
 def write_rows(numbers, folder, rows):
     """A table of lineage, with a column of marks where one is wanted or by chance."""
     has_marks = any(row[2] for row in rows) or numbers.random() < 0.5
-    lines = [f"{old},{new}" + (f",{1 if is_marked else numbers.choice(['', '0'])}" if has_marks else "") for old, new, is_marked in rows]
+    lines = [
+        f"{old},{new}" + (f",{1 if is_marked else numbers.choice(['', '0'])}" if has_marks else "")
+        for old, new, is_marked in rows
+    ]
     write_lines(folder, "lineage.csv", ["old,new" + ",exact" * has_marks, *lines])
 
 
@@ -229,7 +264,9 @@ def write_country(numbers, folder, parcels, rows, tiling):
     places = {name: tiling.met(shape.ring) for name, shape in parcels.items()}
     dealt = [numbers.choice(list(tiling.tiles)) for _ in rows]
     for region in tiling.tiles:
-        write_region(os.path.join(folder, region), [(name, shape) for name, shape in parcels.items() if region in places[name]])
+        write_region(
+            os.path.join(folder, region), [(name, shape) for name, shape in parcels.items() if region in places[name]]
+        )
         write_rows(numbers, os.path.join(folder, region), [row for row, it in zip(rows, dealt) if it == region])
 
 

@@ -1,18 +1,49 @@
-"""Damage of a certificate: each function takes its lines and a source of random numbers, and gives other lines, or None where it has nothing to turn.
-And damage of any text, byte by byte.
+"""Damage of a certificate: each function takes its lines and a source of random numbers, and gives other lines, or None
+where it has nothing to turn. And damage of any text, byte by byte.
 
 What the damaged text is worth is not said here: the program and the second checker each decide, and have to agree."""
 
-LETTERS = [b'"', b"\n", b"\r", b",", b"(", b")", b" ", b".", b"+", b"-", b"0", b"1", b"9", b"A", b"\t", b";", b"\0", b"\xc3\xa4", b"\xff", b"\xef\xbb\xbf", b"\xc2\xa0", b"\x0c", b"\x85"]
+LETTERS = [
+    b'"',
+    b"\n",
+    b"\r",
+    b",",
+    b"(",
+    b")",
+    b" ",
+    b".",
+    b"+",
+    b"-",
+    b"0",
+    b"1",
+    b"9",
+    b"A",
+    b"\t",
+    b";",
+    b"\0",
+    b"\xc3\xa4",
+    b"\xff",
+    b"\xef\xbb\xbf",
+    b"\xc2\xa0",
+    b"\x0c",
+    b"\x85",
+]
 
 
 def edited(data, numbers):
-    """The bytes with an edit or two: one more letter, one less, or another, often at the begin or the end; or other line ends."""
+    """The bytes with an edit or two: one more letter, one less, or another, often at the begin or the end; or other
+    line ends."""
     if numbers.random() < 0.1:
         return data.replace(b"\n", numbers.choice([b"\r\n", b"\r", b"\n\n"]))
     for _ in range(numbers.choice([1, 1, 2])):
-        at = numbers.choice([0, len(data), data.find(b"\n"), data.find(b"\n") + 1, *[numbers.randint(0, len(data)) for _ in range(6)]])
-        data = data[:at] + numbers.choice([b"", numbers.choice(LETTERS), numbers.choice(LETTERS)]) + data[at + numbers.randint(0, 1) :]
+        at = numbers.choice(
+            [0, len(data), data.find(b"\n"), data.find(b"\n") + 1, *[numbers.randint(0, len(data)) for _ in range(6)]]
+        )
+        data = (
+            data[:at]
+            + numbers.choice([b"", numbers.choice(LETTERS), numbers.choice(LETTERS)])
+            + data[at + numbers.randint(0, 1) :]
+        )
     return data
 
 
@@ -96,7 +127,15 @@ def added_flat(lines, numbers):
     heads = places(lines, "piece") + places(lines, "parcel")
     place = numbers.choice(heads)
     corners = lines[chosen(numbers, lines, "t ")].split(" ")[1:]
-    flat = numbers.choice([corners, corners[:2] * 3, corners[:2] * 2 + corners[2:4], ["0", "0", "7", "0", "3", "0"], corners[:2] + corners[2:4] + corners[:2]])
+    flat = numbers.choice(
+        [
+            corners,
+            corners[:2] * 3,
+            corners[:2] * 2 + corners[2:4],
+            ["0", "0", "7", "0", "3", "0"],
+            corners[:2] + corners[2:4] + corners[:2],
+        ]
+    )
     lines = with_count(lines, place, -1, 1)
     end = block_ends(lines, place)
     return lines[:end] + [" ".join(["f", *flat])] + lines[end:]
@@ -108,7 +147,7 @@ def with_flats(lines, numbers, count):
     if place is None:
         return None
     head = max(head for head in places(lines, "p") if head < place)
-    return with_count(lines[:place] + lines[place:place + 1] * count + lines[place + 1 :], head, -1, count - 1)
+    return with_count(lines[:place] + lines[place : place + 1] * count + lines[place + 1 :], head, -1, count - 1)
 
 
 def flat_left_out(lines, numbers):
@@ -122,7 +161,7 @@ def flat_doubled(lines, numbers):
 def triangle_doubled(lines, numbers):
     place = chosen(numbers, lines, "t ")
     head = max(head for head in places(lines, "piece") if head < place)
-    return without_pairs(with_count(lines[:place] + lines[place:place + 1] + lines[place:], head, 2, 1))
+    return without_pairs(with_count(lines[:place] + lines[place : place + 1] + lines[place:], head, 2, 1))
 
 
 def moved_corner(lines, numbers):
@@ -136,7 +175,14 @@ def moved_corner(lines, numbers):
 
 
 def pair_left_out(lines, numbers):
-    return with_pairs(lines, lambda pairs: [pair for place, pair in enumerate(pairs) if place != drop] if (drop := numbers.randrange(len(pairs) or 1)) < len(pairs) else None)
+    return with_pairs(
+        lines,
+        lambda pairs: (
+            [pair for place, pair in enumerate(pairs) if place != drop]
+            if (drop := numbers.randrange(len(pairs) or 1)) < len(pairs)
+            else None
+        ),
+    )
 
 
 def pair_added(lines, numbers):
@@ -166,6 +212,7 @@ def pairs_out_of_order(lines, numbers):
 
 def with_other_pair(lines, numbers, change):
     """The lines with one pair line changed, word by word."""
+
     def changed(pairs):
         if not pairs:
             return None
@@ -177,7 +224,22 @@ def with_other_pair(lines, numbers, change):
 
 def other_pair(lines, numbers):
     """A pair of a triangle with itself, turned round, or with one that is not there."""
-    return with_other_pair(lines, numbers, lambda i, j, k: ["s", *numbers.choice([(i, i, k), (j, i, k), (i, str(len(places(lines, "t "))), k), (i, "4294967295", k), (i, "4294967296", k)])])
+    return with_other_pair(
+        lines,
+        numbers,
+        lambda i, j, k: [
+            "s",
+            *numbers.choice(
+                [
+                    (i, i, k),
+                    (j, i, k),
+                    (i, str(len(places(lines, "t "))), k),
+                    (i, "4294967295", k),
+                    (i, "4294967296", k),
+                ]
+            ),
+        ],
+    )
 
 
 def other_edge(lines, numbers):
@@ -185,7 +247,9 @@ def other_edge(lines, numbers):
 
 
 def edge_past_five(lines, numbers):
-    return with_other_pair(lines, numbers, lambda i, j, _: ["s", i, j, numbers.choice(["6", "7", "05", "-1", "+1", "10", "²", "1.0", ""])])
+    return with_other_pair(
+        lines, numbers, lambda i, j, _: ["s", i, j, numbers.choice(["6", "7", "05", "-1", "+1", "10", "²", "1.0", ""])]
+    )
 
 
 def other_spelling(lines, numbers):
@@ -194,26 +258,71 @@ def other_spelling(lines, numbers):
     words = lines[place].split(" ")
     word = numbers.randrange(len(words))
     old = words[word]
-    words[word] = numbers.choice([f"0{old}", f"+{old}", f"-{old}", f"{old} ", f" {old}", f"{old}\r", f"{old}\t", f"{old}.0", f"{old}e0", f"{old}_0", old + "\x00", old.upper(),
-                                  old.translate({48 + digit: 0x661 + digit - 1 for digit in range(10)}), "0" * 5000 + old, "9" * 5000, "20000000001", "-20000000001"])
+    words[word] = numbers.choice(
+        [
+            f"0{old}",
+            f"+{old}",
+            f"-{old}",
+            f"{old} ",
+            f" {old}",
+            f"{old}\r",
+            f"{old}\t",
+            f"{old}.0",
+            f"{old}e0",
+            f"{old}_0",
+            old + "\x00",
+            old.upper(),
+            old.translate({48 + digit: 0x661 + digit - 1 for digit in range(10)}),
+            "0" * 5000 + old,
+            "9" * 5000,
+            "20000000001",
+            "-20000000001",
+        ]
+    )
     return lines[:place] + [" ".join(words)] + lines[place + 1 :]
 
 
 def other_form(lines, numbers):
-    """Another version, one more block that is no matter of a release, lines left out, doubled or exchanged, another count."""
+    """Another version, one more block that is no matter of a release, lines left out, doubled or exchanged, another
+    count."""
     place = numbers.randrange(len(lines))
     at = places(lines, "pairs")[0]
     triangle = lines[chosen(numbers, lines, "t ")][2:]
-    return numbers.choice([
-        ["lpis-cert 1", *lines[1:]], ["lpis-cert 3", *lines[1:]], ["\ufefflpis-cert 2", *lines[1:]],
-        lines[:at] + ["exact split A 0", f"exact merge {'b' * 40} 1", f"f {triangle}"] + lines[at:],
-        ["lpis-cert 1", *lines[1:at], "exact split A 0", *lines[at:]],
-        lines[:at] + ["exact both A 0"] + lines[at:], lines[:1] + ["exact split A 0"] + lines[1:], lines[:place] + [""] + lines[place:],
-        lines[:place] + lines[place + 1 :], lines[: place + 1] + lines[place:], lines[:-1] + ["end", "end"], lines[:-1],
-        with_count(lines, chosen(numbers, lines, "p"), -1, numbers.choice([-1, 1, 2_000_001, 4_294_967_296])),
-    ])
+    return numbers.choice(
+        [
+            ["lpis-cert 1", *lines[1:]],
+            ["lpis-cert 3", *lines[1:]],
+            ["\ufefflpis-cert 2", *lines[1:]],
+            lines[:at] + ["exact split A 0", f"exact merge {'b' * 40} 1", f"f {triangle}"] + lines[at:],
+            ["lpis-cert 1", *lines[1:at], "exact split A 0", *lines[at:]],
+            lines[:at] + ["exact both A 0"] + lines[at:],
+            lines[:1] + ["exact split A 0"] + lines[1:],
+            lines[:place] + [""] + lines[place:],
+            lines[:place] + lines[place + 1 :],
+            lines[: place + 1] + lines[place:],
+            lines[:-1] + ["end", "end"],
+            lines[:-1],
+            with_count(lines, chosen(numbers, lines, "p"), -1, numbers.choice([-1, 1, 2_000_001, 4_294_967_296])),
+        ]
+    )
 
 
-CONDITIONS = [blocks_exchanged, block_doubled, block_left_out, other_identifier, emptied_piece, turned_triangle, added_flat, flat_left_out, flat_doubled, triangle_doubled,
-              moved_corner, pair_left_out, pair_added, pairs_out_of_order, other_pair, other_edge]
+CONDITIONS = [
+    blocks_exchanged,
+    block_doubled,
+    block_left_out,
+    other_identifier,
+    emptied_piece,
+    turned_triangle,
+    added_flat,
+    flat_left_out,
+    flat_doubled,
+    triangle_doubled,
+    moved_corner,
+    pair_left_out,
+    pair_added,
+    pairs_out_of_order,
+    other_pair,
+    other_edge,
+]
 TEXTS = [edge_past_five, other_spelling, other_form]

@@ -1,9 +1,12 @@
-"""A source in doubles as it is a year later: exact splits and merges along corners that it had, for the tests of `tools/prepare --previous`. By Shapely.
+"""A source in doubles as it is a year later: exact splits and merges along corners that it had, for the tests of
+`tools/prepare --previous`. By Shapely.
 
-    PYTHONPATH=tests python3 -m lpis_helpers.edits FOLDER NEW [COUNT [SEED [NOISE]]]     FOLDER has parcels.csv and covers.csv of make_coverage.py
+    PYTHONPATH=tests python3 -m lpis_helpers.edits FOLDER NEW [COUNT [SEED [NOISE]]]     FOLDER has parcels.csv and
+        covers.csv of make_coverage.py
 
-A parcel is split along its pieces or along a line between two of its corners; two neighbours are merged, with their pieces kept, or drawn anew as one
-piece without the corners that then lie on a straight line. NOISE metres are added to each corner, the same wherever the corner stands.
+A parcel is split along its pieces or along a line between two of its corners; two neighbours are merged, with their
+pieces kept, or drawn anew as one piece without the corners that then lie on a straight line. NOISE metres are added to
+each corner, the same wherever the corner stands.
 """
 
 import csv
@@ -55,8 +58,14 @@ class Land:
 
     def write(self, folder, moved):
         os.makedirs(folder, exist_ok=True)
-        for name, header, lines in (("parcels", ["parcel", "wkt"], [[key, self.text(shape, moved)] for key, shape in self.parcels.items()]),
-                                    ("covers", ["piece", "parcel", "class", "wkt"], [[key, *piece[:2], self.text(piece[2], moved)] for key, piece in self.pieces.items()])):
+        for name, header, lines in (
+            ("parcels", ["parcel", "wkt"], [[key, self.text(shape, moved)] for key, shape in self.parcels.items()]),
+            (
+                "covers",
+                ["piece", "parcel", "class", "wkt"],
+                [[key, *piece[:2], self.text(piece[2], moved)] for key, piece in self.pieces.items()],
+            ),
+        ):
             with open(os.path.join(folder, f"{name}.csv"), "w", newline="", encoding="ascii") as file:
                 table = csv.writer(file, lineterminator="\n")
                 table.writerows([header, *lines])
@@ -67,7 +76,14 @@ class Land:
         def ring(way):
             return "(" + ",".join(f"{x!r} {y!r}" for x, y in map(moved, way.coords)) + ")"
 
-        return "MULTIPOLYGON(" + ",".join("(" + ",".join(map(ring, (part.exterior, *part.interiors))) + ")" for part in getattr(shape, "geoms", [shape])) + ")"
+        return (
+            "MULTIPOLYGON("
+            + ",".join(
+                "(" + ",".join(map(ring, (part.exterior, *part.interiors))) + ")"
+                for part in getattr(shape, "geoms", [shape])
+            )
+            + ")"
+        )
 
     # Edits: each answers whether it was done.
 
@@ -76,7 +92,9 @@ class Land:
         return self.split_by(name, lambda border: LineString(chance.sample(list(border.coords)[:-1], 2)), 20)
 
     def split_across(self, name, chance):
-        """Along a line that ends somewhere between the corners of two borders; those that the parcel shares them with have no corner there."""
+        """Along a line that ends somewhere between the corners of two borders; those that the parcel shares them
+        with have no corner there."""
+
         def across(border):
             a, b = (border.interpolate(chance.random(), normalized=True) for _ in range(2))
             return LineString([(2 * a.x - b.x, 2 * a.y - b.y), (2 * b.x - a.x, 2 * b.y - a.y)])
@@ -84,7 +102,8 @@ class Land:
         return self.split_by(name, across)
 
     def split_by(self, name, line_of, least=0):
-        """By the first of twenty lines, drawn for the border of a parcel of one part, that is longer than that and leaves two large halves."""
+        """By the first of twenty lines, drawn for the border of a parcel of one part, that is longer than that and
+        leaves two large halves."""
         shape = self.parcels[name]
         if shape.geom_type != "Polygon" and len(shape.geoms) != 1:
             return False
@@ -111,7 +130,12 @@ class Land:
         pieces = self.pieces_of(name)
         first = chance.choice(pieces)
         groups = [[first], [piece for piece in pieces if piece != first]]
-        if any(len(parts_of(unary_union([self.pieces[piece][2] for piece in group]))) != 1 for group in groups if group) or not groups[1]:
+        if (
+            any(
+                len(parts_of(unary_union([self.pieces[piece][2] for piece in group]))) != 1 for group in groups if group
+            )
+            or not groups[1]
+        ):
             return False
         del self.parcels[name]
         for number, group in enumerate(groups, 1):
@@ -143,7 +167,11 @@ class Land:
     def edit(self, kind, name, chance):
         if kind == "split by a line":
             return self.split_by_a_line(name, chance)
-        return self.split_by_pieces(name, chance) if kind == "split by pieces" else self.merge(name, chance, kind == "drawn anew")
+        return (
+            self.split_by_pieces(name, chance)
+            if kind == "split by pieces"
+            else self.merge(name, chance, kind == "drawn anew")
+        )
 
 
 def make(folder, new, count=90, seed=1, noise=0.0):

@@ -1,5 +1,6 @@
-"""What is true of marked splits and merges, by whole numbers and from the definitions alone: which groups there are and in what order, which of them are exact,
-and what `publish` says of blocks. Polygons are as in tables.py, of whole millimetres."""
+"""What is true of marked splits and merges, by whole numbers and from the definitions alone: which groups there are and
+in what order, which of them are exact, and what `publish` says of blocks. Polygons are as in tables.py, of whole
+millimetres."""
 
 import collections
 
@@ -15,7 +16,8 @@ def corners_of(polygons):
 
 
 def net_of(counted):
-    """The net counts of directed edges, each with how often it counts: by the pair with the lesser end first, none of them 0."""
+    """The net counts of directed edges, each with how often it counts: by the pair with the lesser end first, none
+    of them 0."""
     net = {}
     for (a, b), count in counted:
         if a != b:
@@ -26,7 +28,9 @@ def net_of(counted):
 
 def difference(whole, parts, flats=()):
     """The net counts by which the edges of a whole differ from those of its parts and flats together."""
-    taken = [(edge, -1) for polygon in parts for edge in edges(polygon)] + [(edge, -1) for a, b, c in flats for edge in ((a, b), (b, c), (c, a))]
+    taken = [(edge, -1) for polygon in parts for edge in edges(polygon)] + [
+        (edge, -1) for a, b, c in flats for edge in ((a, b), (b, c), (c, a))
+    ]
     return net_of([(edge, 1) for edge in edges(whole)] + taken)
 
 
@@ -37,8 +41,8 @@ def passed(edge, corners):
 
 
 def is_made_up(whole, parts):
-    """The whole turns round each point as often as its parts together: the edges that do not cancel do so once each is taken from one corner
-    on it to the next."""
+    """The whole turns round each point as often as its parts together: the edges that do not cancel do so once each is
+    taken from one corner on it to the next."""
     corners = corners_of([whole, *parts])
     atoms = []
     for edge, count in difference(whole, parts).items():
@@ -48,7 +52,8 @@ def is_made_up(whole, parts):
 
 
 def flats_of(whole, parts):
-    """Flats that lead each edge that does not cancel over the corners on it: where the whole is made up by its parts they show it."""
+    """Flats that lead each edge that does not cancel over the corners on it: where the whole is made up by its parts
+    they show it."""
     corners, flats = corners_of([whole, *parts]), []
     for (a, b), count in sorted(difference(whole, parts).items()):
         first = a
@@ -63,12 +68,15 @@ def is_flat(flat):
 
 
 class Group:
-    """A marked split or merge, with its whole and its parts; `olds` are the identifiers whose old shapes it asks for."""
+    """A marked split or merge, with its whole and its parts; `olds` are the identifiers whose old shapes it asks
+    for."""
 
     def __init__(self, is_merge, name, others, old, new):
         self.is_merge, self.name, self.others = is_merge, name, sorted(others)
         self.olds = self.others if is_merge else [name]
-        self.whole, self.parts = (new[name], [old[it] for it in self.others]) if is_merge else (old[name], [new[it] for it in self.others])
+        self.whole, self.parts = (
+            (new[name], [old[it] for it in self.others]) if is_merge else (old[name], [new[it] for it in self.others])
+        )
 
     def block(self):
         return [self.is_merge, self.name, flats_of(self.whole, self.parts)]
@@ -109,7 +117,9 @@ def with_blocks(cert, blocks):
 def spoiled(numbers, groups, blocks):
     """The blocks with one thing wrong, mostly."""
     blocks = [[is_merge, name, list(flats)] for is_merge, name, flats in blocks]
-    kind = numbers.choice(["bent", "stranger", "left out", "twice", "turned", "no block", "exchanged", "other kind", "one more"])
+    kind = numbers.choice(
+        ["bent", "stranger", "left out", "twice", "turned", "no block", "exchanged", "other kind", "one more"]
+    )
     place = numbers.randrange(len(blocks))
     flats = blocks[place][2]
     a, b = sorted({point for member in groups[place].whole for point in member[0]})[:2]
@@ -133,7 +143,8 @@ def spoiled(numbers, groups, blocks):
 
 
 class Change:
-    """What the rows between the parcels of a year and those of the next say; both are polygons by identifier, of the older year where they are kept."""
+    """What the rows between the parcels of a year and those of the next say; both are polygons by identifier, of the
+    older year where they are kept."""
 
     def __init__(self, last, parcels, rows, shapes):
         self.last, self.parcels, self.rows, self.shapes = last, parcels, rows, shapes
@@ -162,8 +173,11 @@ class Change:
     def marked(self):
         """The marked groups in their order: whether it is a merge, its identifier, and the others of it."""
         splits = [(False, old, self.after[old]) for old in self.dropped() if self.kind(old) == "split"]
-        merges = [(True, new, self.before[new]) for new in sorted(self.parcels)
-                  if len(self.before[new]) > 1 and all(old == new or self.after[old] == [new] for old in self.before[new])]
+        merges = [
+            (True, new, self.before[new])
+            for new in sorted(self.parcels)
+            if len(self.before[new]) > 1 and all(old == new or self.after[old] == [new] for old in self.before[new])
+        ]
         return [group for group in splits + merges if all(row.is_marked for row in self.rows_of(*group[:2]))]
 
     def groups(self):

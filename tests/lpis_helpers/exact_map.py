@@ -1,8 +1,9 @@
 """What is true of a release, worked out with whole numbers and fractions alone, and from the definitions alone.
 
-The plane is cut into horizontal strips between the heights of all corners and crossings. In the middle of each strip the edges that
-pass it are met from left to right; between two of them lies one face, in which containment and turns are counted by the half-open
-rule. Nothing here triangulates, and no order of a sweep is kept from strip to strip. Polygons are as in tables.py, of whole millimetres."""
+The plane is cut into horizontal strips between the heights of all corners and crossings. In the middle of each strip
+the edges that pass it are met from left to right; between two of them lies one face, in which containment and turns are
+counted by the half-open rule. Nothing here triangulates, and no order of a sweep is kept from strip to strip.
+Polygons are as in tables.py, of whole millimetres."""
 
 from fractions import Fraction
 
@@ -84,7 +85,9 @@ def points_of(corners):
 
 def area2(polygon):
     """The doubled area: shells added, holes taken off."""
-    return sum(abs(shoelace(ring)) * (1 if place == 0 else -1) for member in polygon for place, ring in enumerate(member))
+    return sum(
+        abs(shoelace(ring)) * (1 if place == 0 else -1) for member in polygon for place, ring in enumerate(member)
+    )
 
 
 def decimal(value, places):
@@ -92,8 +95,8 @@ def decimal(value, places):
 
 
 class Truth:
-    """Of a release as write_release takes it: pieces that no triangles on their corners cover, parcels whose turns are not those of their
-    pieces together, and the faces in which a piece or a parcel is wrong."""
+    """Of a release as write_release takes it: pieces that no triangles on their corners cover, parcels whose turns are
+    not those of their pieces together, and the faces in which a piece or a parcel is wrong."""
 
     def __init__(self, parcels, pieces):
         self.parcels, self.pieces = dict(parcels), {name: (parcel, polygon) for name, parcel, _, polygon in pieces}
@@ -112,8 +115,8 @@ class Truth:
         self.bad |= set(self.owner) - self.with_turns
 
     def gather(self):
-        """For each segment, lower end first, how often each polygon has it upwards less downwards (to the right less to the left), and
-        how often in all."""
+        """For each segment, lower end first, how often each polygon has it upwards less downwards (to the right less to
+        the left), and how often in all."""
         self.segments = {}
         for number, polygon in enumerate(self.polygons):
             for a, b in edges(polygon):
@@ -150,7 +153,12 @@ class Truth:
             met = {}
             for (x0, y0), (x1, y1) in slanted:
                 if y0 <= low and high <= y1:
-                    x = Fraction((middle.numerator - y0 * middle.denominator) * (x1 - x0), (y1 - y0) * middle.denominator) + x0
+                    x = (
+                        Fraction(
+                            (middle.numerator - y0 * middle.denominator) * (x1 - x0), (y1 - y0) * middle.denominator
+                        )
+                        + x0
+                    )
                     met.setdefault(x, []).append(((x0, y0), (x1, y1)))
             self.walk_strip(sorted(met.items()), middle, high - low)
 
@@ -197,7 +205,9 @@ class Truth:
         largest = sorted(self.faces, reverse=True)
         near = ((round(x * d), round(y * d), d) for _, x, y, _ in largest[:8] for d in (1, 10, 1_000, MOST))
         found = next(filter(self.shows_fault, near), None)
-        return found or next(filter(self.shows_fault, (point for *_, corners in largest[:50] for point in points_of(corners))), None)
+        return found or next(
+            filter(self.shows_fault, (point for *_, corners in largest[:50] for point in points_of(corners))), None
+        )
 
     def shows_fault(self, point):
         return is_point(*point) and self.is_wrong([contains(polygon, point) for polygon in self.polygons])
@@ -207,7 +217,14 @@ class Truth:
         counted = [f"parcels {len(self.parcels)} pieces {len(self.pieces)}"]
         whole = [0, 0]
         for name, polygon in self.parcels.items():
-            sums = [area2(polygon), sum(percents[kind] * area2(self.pieces[piece][1]) for piece, kind in self.kinds.items() if self.pieces[piece][0] == name)]
+            sums = [
+                area2(polygon),
+                sum(
+                    percents[kind] * area2(self.pieces[piece][1])
+                    for piece, kind in self.kinds.items()
+                    if self.pieces[piece][0] == name
+                ),
+            ]
             whole = [a + b for a, b in zip(whole, sums)]
             counted.append(f"parcel {name} area {decimal(5 * sums[0], 7)} eligible {decimal(5 * sums[1], 9)}")
         counted.append(f"total area {decimal(5 * whole[0], 7)} eligible {decimal(5 * whole[1], 9)}")

@@ -1,9 +1,10 @@
 """Two years of one map with marked splits and merges, each pair from its number.
 
-Shapes are heaps of a mesh's triangles, drawn as mesh.py draws them, in each year anew, or halves of a convex ring along a line.
-Between the years a corner moves by a millimetre, or land is lost, gained or exchanged; a line has its ends on lattice points of the border
-or beside it, where they are rounded. So a group may be exact or not, whatever was done: exact_lineage.py says it. Each parcel has one piece,
-which is its own shape. Polygons are as in tables.py, of whole millimetres."""
+Shapes are heaps of a mesh's triangles, drawn as mesh.py draws them, in each year anew, or halves of a convex ring along
+a line. Between the years a corner moves by a millimetre, or land is lost, gained or exchanged; a line has its ends on
+lattice points of the border or beside it, where they are rounded. So a group may be exact or not, whatever was done:
+exact_lineage.py says it. Each parcel has one piece, which is its own shape. Polygons are as in tables.py, of whole
+millimetres."""
 
 import os
 import random
@@ -19,7 +20,8 @@ CLASSES, UNMARKED = ["class,percent", "G,100"], ["", "0"]
 
 
 class TwoYears:
-    """`old` and `new` are the parcels of the two years by identifier, `rows` the lineage between them, each (old, new, is marked)."""
+    """`old` and `new` are the parcels of the two years by identifier, `rows` the lineage between them, each (old,
+    new, is marked)."""
 
     def __init__(self, number):
         for attempt in range(100):
@@ -42,8 +44,8 @@ class TwoYears:
                 return name
 
     def put(self, before, after, joined=False):
-        """Puts the shapes of a change beside all that were put before; answers their names, those of after and before the same where they
-        are joined."""
+        """Puts the shapes of a change beside all that were put before; answers their names, those of after and before
+        the same where they are joined."""
         points = corners_of(before + after)
         by = (self.place - min(p[0] for p in points), -min(p[1] for p in points))
         self.place = max(p[0] for p in points) + by[0] + self.numbers.choice([0, 1, 5, 1_000])
@@ -63,7 +65,18 @@ class TwoYears:
         by = []
         for k in (0, 1):
             low, high = min(p[k] for p in points), max(p[k] for p in points)
-            by.append(self.numbers.choice([0, 0, self.numbers.randint(-500, 500), self.numbers.randint(-(10**8), 10**8), LIMIT - high, -LIMIT - low]))
+            by.append(
+                self.numbers.choice(
+                    [
+                        0,
+                        0,
+                        self.numbers.randint(-500, 500),
+                        self.numbers.randint(-(10**8), 10**8),
+                        LIMIT - high,
+                        -LIMIT - low,
+                    ]
+                )
+            )
         for parcels in (self.old, self.new):
             for name, polygon in parcels.items():
                 parcels[name] = [[[(x + by[0], y + by[1]) for x, y in ring] for ring in member] for member in polygon]
@@ -106,7 +119,9 @@ class Heaps:
         self.numbers, self.mesh = numbers, Mesh(numbers, 10**8)
         every = list(range(len(self.mesh.triangles)))
         numbers.shuffle(every)
-        count = len(every) if len(every) < 4 or numbers.random() < 0.4 else numbers.randint(len(every) // 2, len(every) - 1)
+        count = (
+            len(every) if len(every) < 4 or numbers.random() < 0.4 else numbers.randint(len(every) // 2, len(every) - 1)
+        )
         self.land, self.beside = set(every[:count]), set(every[count:])
         self.parts = [heap for heap in self.mesh.deal(self.land, numbers.randint(2, 4)) if heap]
 
@@ -188,12 +203,15 @@ def others(years):
     else:
         before, after = heaps.drawn([heaps.land]), heaps.drawn([heaps.land])
         olds, news = years.put([] if kind == "new" else before, [] if kind == "ended" else after, kind == "kept")
-        years.rows += [(olds[0], "" if kind == "ended" else news[0], False)] if kind in ("ended", "replaced", "redrawn") else []
+        years.rows += (
+            [(olds[0], "" if kind == "ended" else news[0], False)] if kind in ("ended", "replaced", "redrawn") else []
+        )
     years.done.append(kind)
 
 
 def hull(points):
     """The corners of the convex hull, counter-clockwise."""
+
     def half(points):
         way = []
         for p in points:
@@ -216,7 +234,10 @@ def by_a_line(numbers):
         way = [ends[1][0], ends[0][0]]
         if numbers.random() < 0.3:  # by way of a point near the middle
             way.insert(1, tuple((a + b) // 2 + numbers.randint(-2, 2) for a, b in zip(*way)))
-        halves = [without_repeats(ring[i + 1 : j + 1] + way), without_repeats(ring[j + 1 :] + ring[: i + 1] + way[::-1])]
+        halves = [
+            without_repeats(ring[i + 1 : j + 1] + way),
+            without_repeats(ring[j + 1 :] + ring[: i + 1] + way[::-1]),
+        ]
         if all(len(half) > 2 and shoelace(half) > 0 for half in halves):
             return [[ring]], [[[half]] for half in halves], " and ".join(sorted(kind for _, kind in ends))
 

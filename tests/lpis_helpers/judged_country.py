@@ -1,22 +1,27 @@
-"""What `lpis country` has to answer, by its definition, over whole numbers and without it: each region's own check is handed in."""
+"""What `lpis country` has to answer, by its definition, over whole numbers and without it: each region's own check
+is handed in."""
 
 import csv
 import os
 import re
 
 from lpis_helpers.exact_map import decimal
-from lpis_tools import polygons
+from lpis.formats import polygons
 
 FAR = 20_000_000_000
 MOST_REGIONS = 10_000
 
 
 class Region:
-    """The tables of a folder as lists: parcels are (identifier, polygon), pieces (identifier, parcel, class, polygon)."""
+    """The tables of a folder as lists: parcels are (identifier, polygon), pieces (identifier, parcel, class,
+    polygon)."""
 
     def __init__(self, folder):
         self.parcels = [(name, polygons.read(wkt.encode())) for name, wkt in rows(folder, "parcels", "parcel", "wkt")]
-        pieces = [(*words, polygons.read(wkt.encode())) for *words, wkt in rows(folder, "covers", "piece", "parcel", "class", "wkt")]
+        pieces = [
+            (*words, polygons.read(wkt.encode()))
+            for *words, wkt in rows(folder, "covers", "piece", "parcel", "class", "wkt")
+        ]
         self.pieces = {name: [] for name, _ in self.parcels}
         for piece in pieces:
             self.pieces.setdefault(piece[1], []).append(piece)
@@ -73,8 +78,10 @@ class At(Exception):
 
 
 class Plan:
-    """The folders and their tiles, each least x and y and greatest x and y, read as a tree. A tile ends at the least of the lines that it lies
-    before, and begins at the greatest of those that it lies behind: where that is not the lesser one, it has no land."""
+    """The folders and their tiles, each least x and y and greatest x and y, read as a tree. A tile ends at the least of
+    the lines that it lies before, and begins at the greatest of those that it lies behind: where that is not the lesser
+    one, it has no land.
+    """
 
     def __init__(self, text):
         self.lines, self.next, self.folders, self.names, self.tiles = text.split("\n"), 0, [], set(), []
@@ -146,7 +153,11 @@ class Seam:
             elif (earlier := self.met(parcel, every[:here])) is not None:
                 return "95", f"parcel {name}", earlier
         names = {name for name, _ in region.parcels}
-        lacking = [name for name, polygon in self.parcels.items() if name not in names and self.met((name, polygon), [here]) is not None]
+        lacking = [
+            name
+            for name, polygon in self.parcels.items()
+            if name not in names and self.met((name, polygon), [here]) is not None
+        ]
         return ("95", f"parcel {lacking[0]}", here) if lacking else None
 
     def add(self, region):
@@ -159,9 +170,9 @@ class Seam:
 
 
 def passing(folder, plan, classes, check, with_parcels=False):
-    """The lines of the regions that pass, and the line that refuses the first that does not, each as it is printed; the status, 0 where all pass;
-    the sums; and the parcels of all, each once, in the order in which they first stand. `check` gets a region's folder and answers text and
-    status of its own check."""
+    """The lines of the regions that pass, and the line that refuses the first that does not, each as it is printed; the
+    status, 0 where all pass; the sums; and the parcels of all, each once, in the order in which they first stand.
+    `check` gets a region's folder and answers text and status of its own check."""
     seam, text, totals = Seam(plan, classes), "", [0, 0, 0, 0]
     for name in plan.folders:
         told, status = check(os.path.join(folder, name))

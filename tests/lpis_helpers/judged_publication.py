@@ -1,5 +1,6 @@
-"""What `lpis publish-country` and `lpis exact-country` have to answer, by their definition in docs/FORMATS.md, over sets, lists and whole numbers and
-without them: each region's own check is handed in, and what the register says is read with SQLite. Shapes are compared by exact_lineage.py."""
+"""What `lpis publish-country` and `lpis exact-country` have to answer, by their definition in docs/FORMATS.md, over
+sets, lists and whole numbers and without them: each region's own check is handed in, and what the register says is
+read with SQLite. Shapes are compared by exact_lineage.py."""
 
 import collections
 import csv
@@ -8,16 +9,18 @@ import re
 
 from lpis_helpers import judged_country as judged
 from lpis_helpers.exact_lineage import Change, Row, block_fault, is_made_up
-from lpis_tools import polygons
+from lpis.formats import polygons
 
 IDENTIFIER = re.compile(r"[A-Za-z0-9._:/-]{1,40}")
 NUMBER = re.compile(r"0|-?[1-9][0-9]*")
 MOST_ROWS, MOST_FLATS, MOST_COUNT = 200_000, 2_000_000, 4_294_967_295
 MARK = "\xef\xbb\xbf"
 
-# What a register says: releases as (year, identifiers, rows as (old, new, is marked)), and the shapes of the last by identifier.
+# What a register says: releases as (year, identifiers, rows as (old, new, is marked)), and the shapes of the last by
+# identifier.
 Said = collections.namedtuple("Said", "releases shapes")
-# What comes: standard output, standard error, the status, what the register says then (None: as before), and the blocks that are wanted.
+# What comes: standard output, standard error, the status, what the register says then (None: as before), and the blocks
+# that are wanted.
 Answer = collections.namedtuple("Answer", "text told status after groups", defaults=(None, None))
 
 
@@ -102,7 +105,13 @@ class Lines:
     """The lines of a certificate of version 2 in order; its blocks `exact` are what is asked of it."""
 
     SHAPES = {"piece": 4, "t": 7, "f": 7, "parcel": 3, "exact": 4, "pairs": 2, "s": 4, "end": 1}
-    AFTER = {"": ("piece", "parcel", "exact", "pairs"), "piece": ("piece", "parcel", "exact", "pairs"), "parcel": ("parcel", "exact", "pairs"), "exact": ("exact", "pairs"), "pairs": ("end",)}
+    AFTER = {
+        "": ("piece", "parcel", "exact", "pairs"),
+        "piece": ("piece", "parcel", "exact", "pairs"),
+        "parcel": ("parcel", "exact", "pairs"),
+        "exact": ("exact", "pairs"),
+        "pairs": ("end",),
+    }
 
     def __init__(self, text):
         self.lines, self.blocks, self.declared = text.split("\n"), [], {"t": 0, "f": 0}
@@ -123,15 +132,23 @@ class Lines:
             return "50" if line != "lpis-cert 2" else None
         words = line.split(" ")
         kind = words[0]
-        if "" in words or len(words) != self.SHAPES.get(kind) or (kind == "exact" and words[1] not in ("split", "merge")):
+        if (
+            "" in words
+            or len(words) != self.SHAPES.get(kind)
+            or (kind == "exact" and words[1] not in ("split", "merge"))
+        ):
             return "51"
-        if (kind in ("piece", "parcel") and not IDENTIFIER.fullmatch(words[1])) or (kind == "exact" and not IDENTIFIER.fullmatch(words[2])):
+        if (kind in ("piece", "parcel") and not IDENTIFIER.fullmatch(words[1])) or (
+            kind == "exact" and not IDENTIFIER.fullmatch(words[2])
+        ):
             return "51"
         if kind not in (self.owed[:1] or self.AFTER[self.block]):
             return "53"
         names = {"piece": 2, "parcel": 2, "exact": 3}.get(kind, 1)
         numbers = words[names:]
-        if not all(map(self.is_coordinate if kind in "tf" else self.is_count, numbers)) or (kind == "s" and int(numbers[2]) > 5):
+        if not all(map(self.is_coordinate if kind in "tf" else self.is_count, numbers)) or (
+            kind == "s" and int(numbers[2]) > 5
+        ):
             return "52"
         return self.take(kind, words, list(map(int, numbers)))
 
@@ -150,7 +167,11 @@ class Lines:
                 self.blocks[-1][2].append(tuple(zip(numbers[::2], numbers[1::2])))
             return None
         self.block = kind
-        counts = {"piece": zip("tf", numbers), "parcel": [("f", numbers[0])] if numbers else [], "exact": [("f", numbers[0])] if numbers else []}.get(kind, [])
+        counts = {
+            "piece": zip("tf", numbers),
+            "parcel": [("f", numbers[0])] if numbers else [],
+            "exact": [("f", numbers[0])] if numbers else [],
+        }.get(kind, [])
         for shape, count in counts:
             self.declared[shape] += count
             if self.declared[shape] > MOST_FLATS:
@@ -184,8 +205,25 @@ class Release(Change):
         """What stands behind `refused 81 lineage` for the first row that does not fit, or None."""
         seen, endings, successors = set(), set(), set()
         for row in self.rows:
-            code = ("70" if row.old not in self.last else "71" if row.old in self.parcels else "72" if row.new and row.new not in self.parcels else
-                    "73" if row[:2] in seen else "74" if row.old in (successors if not row.new else endings) else None)
+            code = (
+                "70"
+                if row.old not in self.last
+                else (
+                    "71"
+                    if row.old in self.parcels
+                    else (
+                        "72"
+                        if row.new and row.new not in self.parcels
+                        else (
+                            "73"
+                            if row[:2] in seen
+                            else "74"
+                            if row.old in (successors if not row.new else endings)
+                            else None
+                        )
+                    )
+                )
+            )
             if code:
                 return f"{code} row {row.number} region {row.region}"
             seen.add(row[:2])
@@ -257,7 +295,9 @@ class Country:
             self.rows += found
 
     def pass_regions(self):
-        text, status, self.totals, parcels = judged.passing(self.folder, self.plan, judged.classes_of(self.folder), self.check, self.with_parcels)
+        text, status, self.totals, parcels = judged.passing(
+            self.folder, self.plan, judged.classes_of(self.folder), self.check, self.with_parcels
+        )
         if status == 3:
             before, _, failed = text[:-1].rpartition("\n")
             raise Ends(before + "\n" * bool(before), 3, f"{failed}\n")
@@ -329,5 +369,8 @@ def written_faults(text, groups):
 
 def said_of(register):
     """What a register that was read says, by registers.py."""
-    releases = [(year, [name for name, in names], [(old, new, is_marked) for _, old, new, is_marked in rows]) for year, names, rows in register.releases]
+    releases = [
+        (year, [name for name, in names], [(old, new, is_marked) for _, old, new, is_marked in rows])
+        for year, names, rows in register.releases
+    ]
     return Said(releases, {name: polygons.read(wkt.encode()) for name, wkt in register.texts})

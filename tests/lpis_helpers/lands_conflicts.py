@@ -1,6 +1,7 @@
-"""Lands whose conflicts hang together: along each side of each parcel the parcel's own border and that of its piece leave the side by steps of their
-own, so that overlaps, gaps and pieces outside of their parcel lie beside, along and inside one another, thin ones on wide ones, at ends, at
-junctions and as combs. What has to hold is judged by Shapely here and by audit/source.py; nothing of tools/ is used."""
+"""Lands whose conflicts hang together: along each side of each parcel the parcel's own border and that of its piece
+leave the side by steps of their own, so that overlaps, gaps and pieces outside of their parcel lie beside, along and
+inside one another, thin ones on wide ones, at ends, at junctions and as combs. What has to hold is judged by Shapely
+here and by audit/source.py; nothing of tools/ is used."""
 
 from __future__ import annotations
 
@@ -87,20 +88,27 @@ class Conflicts(Land):
         if kind == 3:  # a comb
             count = self.random.randrange(2, MOST_TEETH)
             depth, thin = self.depth(), self.random.choice(THIN)
-            return [(length * k / count, length * (k + 1) / count, sign * (thin if k % 2 else depth)) for k in range(count)]
+            return [
+                (length * k / count, length * (k + 1) / count, sign * (thin if k % 2 else depth)) for k in range(count)
+            ]
         cuts = sorted(self.random.choice([0.0, 1.0, self.random.random()]) for _ in range(self.random.randrange(2, 5)))
         if self.random.random() < 0.5:  # a short place on a thin one
             start = self.random.choice([0.0, length - 2.0, self.random.uniform(0, length - 2.0)])
             cuts = [0.0, start / length, (start + self.random.uniform(0.05, 2.0)) / length, 1.0]
         depths = [self.depth() if k % 2 else self.random.choice(THIN) for k in range(len(cuts))]
-        return [(low * length, high * length, sign * depth) for low, high, depth in zip(cuts, cuts[1:], depths) if high > low]
+        return [
+            (low * length, high * length, sign * depth)
+            for low, high, depth in zip(cuts, cuts[1:], depths)
+            if high > low
+        ]
 
     def depth(self) -> float:
         return self.random.choice(THIN[:8] if self.is_quiet else WIDE + THIN)
 
 
 def widest(land: Conflicts) -> tuple[bool, bool]:
-    """Whether some conflict is surely two centimetres wide, and whether one may be: by Shapely's buffers, over all pairs."""
+    """Whether some conflict is surely two centimetres wide, and whether one may be: by Shapely's buffers, over all
+    pairs."""
     from shapely.geometry import Polygon
     from shapely.ops import unary_union
     from shapely.validation import make_valid
@@ -124,7 +132,8 @@ def audited(source: str, out: str) -> str:
 
 
 def try_conflicts(trial, land: Conflicts, source: str) -> None:
-    """The runs over such a land: what is wide stops, and what is written keeps the promise, of a release and of a country."""
+    """The runs over such a land: what is wide stops, and what is written keeps the promise, of a release and of a
+    country."""
     is_wide, _ = widest(land)
     first = trial.prepared(source, trial.path("plain"))
     if is_wide and first.status == 0:

@@ -1,8 +1,11 @@
-"""Judges a run of `tools/prepare` over a generated land, by whole numbers and fractions of its own: nothing of tools/ is used.
+"""Judges a run of `tools/prepare` over a generated land, by whole numbers and fractions of its own: nothing of tools/
+is used.
 
 - the areas of the source and of the tables are those of balance.csv, whose columns add up
-- a row of the source is in the tables with its area, or a row of prepared.csv or report.csv has it; what was left out has its own area
-- a point inside of a row of the source is in its row of the tables, or a row of a report has it; and the other way round
+- a row of the source is in the tables with its area, or a row of prepared.csv or report.csv has it; what was left out
+has its own area
+- a point inside of a row of the source is in its row of the tables, or a row of a report has it; and the other way
+round
 - what another run over the same source wrote is the same"""
 
 import csv
@@ -21,7 +24,8 @@ NEAR = 0.5  # square metres: what a balance that adds up may miss
 DEEP = 0.006  # metres from all borders of its shape: a point that rounding takes from nobody
 SAMPLES = 150
 GONE = ("lost", "left out")  # kinds of report.csv
-CONFLICTS = {"overlap", "gap", "outside"}  # kinds that name who shares land, which is no word for a row that is changed or gone
+# kinds that name who shares land, which is no word for a row that is changed or gone
+CONFLICTS = {"overlap", "gap", "outside"}
 MOST = 1e16  # square metres: of coordinates beyond the range, whose row is left out by name
 
 
@@ -43,7 +47,10 @@ def millimetres(word):
 
 def area2(rings):
     """The doubled area, in whole square millimetres."""
-    return sum((-1 if is_hole else 1) * abs(sum(a[0] * b[1] - b[0] * a[1] for a, b in zip(ring, ring[1:]))) for ring, is_hole in rings)
+    return sum(
+        (-1 if is_hole else 1) * abs(sum(a[0] * b[1] - b[0] * a[1] for a, b in zip(ring, ring[1:])))
+        for ring, is_hole in rings
+    )
 
 
 class Written:
@@ -91,7 +98,9 @@ class Judge:
                     for number in record["row"].split():
                         self.told[layer, number].add(record["kind"])
             if record["kind"] != "column":
-                (self.told_names if record["kind"] in CONFLICTS else self.gone_names).update(record["identifiers"].split())
+                (self.told_names if record["kind"] in CONFLICTS else self.gone_names).update(
+                    record["identifiers"].split()
+                )
         self.told_names |= self.gone_names
 
     def judge(self):
@@ -117,7 +126,10 @@ class Judge:
         for group in sorted({*source, *after, *found} - {("between", "")}):
             self.line(group, found.get(group), source[group], after[group], slack)
         gaps = found.get(("between", ""))
-        if gaps and (gaps["source_m2"] != gaps["tables_m2"] or any(float(gaps[f"{name}_m2"]) for name in ("mended", "left_out", "settled", "unaccounted"))):
+        if gaps and (
+            gaps["source_m2"] != gaps["tables_m2"]
+            or any(float(gaps[f"{name}_m2"]) for name in ("mended", "left_out", "settled", "unaccounted"))
+        ):
             self.say("balance", f"land between parcels is none of the tables: {gaps}")
         if ("parcels", "") not in found:
             self.say("balance", "there is no balance of parcels")
@@ -135,7 +147,9 @@ class Judge:
             self.say("balance", f"tables of {group}: {columns['tables']:.3f}, and the judge has {after:.3f} m2")
         parts = math.fsum(columns[name] for name in ("source", "mended", "left_out", "settled"))
         if abs(parts - columns["tables"]) > NEAR:
-            self.say("uneven", f"the columns of {group} make {parts:.3f}, and the tables have {columns['tables']:.3f} m2")
+            self.say(
+                "uneven", f"the columns of {group} make {parts:.3f}, and the tables have {columns['tables']:.3f} m2"
+            )
 
     def source_areas(self):
         areas = defaultdict(float)
@@ -178,22 +192,47 @@ class Judge:
         area, slack = row.shape.area()
         if found is None:
             self.say("silent", f"{row.layer} {row.number} {name!r} of {area:.6f} m2 is in no table, and no row has it")
-        elif abs(found.area2 / 2_000_000 - area) > EDGE * row.shape.length() + slack + 0.001 and name not in self.gone_names:
-            self.say("silent", f"{row.layer} {row.number} {name!r}: {area:.6f} m2 became {found.area2 / 2_000_000:.6f}, and no row has it")
+        elif (
+            abs(found.area2 / 2_000_000 - area) > EDGE * row.shape.length() + slack + 0.001
+            and name not in self.gone_names
+        ):
+            self.say(
+                "silent",
+                (
+                    f"{row.layer} {row.number} {name!r}: {area:.6f} m2 became {found.area2 / 2_000_000:.6f}, and no row"
+                    " has it"
+                ),
+            )
 
     def left_out(self):
         """What is told as left out adds up to its column of the balance, and each of its rows has its own area."""
         shapes, sums = {(row.layer, str(row.number)): row.shape for row in self.land.rows()}, defaultdict(float)
-        gone = [record for record in records(self.out, "report.csv") if record["kind"] in GONE and (record["layer"], record["row"]) in shapes]
+        gone = [
+            record
+            for record in records(self.out, "report.csv")
+            if record["kind"] in GONE and (record["layer"], record["row"]) in shapes
+        ]
         for record in gone:
             told, (area, slack) = float(record["area_m2"] or 0), shapes[record["layer"], record["row"]].area()
             sums[record["layer"]] += told
             if 0.001 < area < MOST and (abs(told - area) > 0.01 + slack or not record["x"]):
-                self.say("left out", f"{record['layer']} {record['row']}: told with {told} m2 at {record['x']} {record['y']}, and it has {area:.3f}")
+                self.say(
+                    "left out",
+                    (
+                        f"{record['layer']} {record['row']}: told with {told} m2 at {record['x']} {record['y']}, and it"
+                        f" has {area:.3f}"
+                    ),
+                )
         for record in records(self.out, "balance.csv"):
             layer = record["layer"]
-            if not record["class"] and layer in KEYS and abs(float(record["left_out_m2"]) + sums[layer]) > NEAR + 0.001 * len(gone):
-                self.say("left out", f"{layer}: the balance has {record['left_out_m2']}, and the rows {-sums[layer]:.3f} m2")
+            if (
+                not record["class"]
+                and layer in KEYS
+                and abs(float(record["left_out_m2"]) + sums[layer]) > NEAR + 0.001 * len(gone)
+            ):
+                self.say(
+                    "left out", f"{layer}: the balance has {record['left_out_m2']}, and the rows {-sums[layer]:.3f} m2"
+                )
 
     # Points.
 
@@ -212,8 +251,18 @@ class Judge:
         holders = [other.name for other in self.tables[row.layer] if contains(other.ways, other.box, point)]
         if len(holders) > 1:
             self.say("twice", f"{row.layer} {' and '.join(holders)} have {point} both")
-        if holders != [name] and not self.told[row.layer, str(row.number)] - {"curve", "z", "m", "identifier"} and name not in self.told_names:
-            self.say("silent", f"{row.layer} {row.number} {name!r} has {point}, in the tables {' and '.join(holders) or 'nobody'}, and no row has it")
+        if (
+            holders != [name]
+            and not self.told[row.layer, str(row.number)] - {"curve", "z", "m", "identifier"}
+            and name not in self.told_names
+        ):
+            self.say(
+                "silent",
+                (
+                    f"{row.layer} {row.number} {name!r} has {point}, in the tables {' and '.join(holders) or 'nobody'},"
+                    " and no row has it"
+                ),
+            )
 
     def points_of_tables(self, draw):
         """A point of a row of the tables is in a row of the source of that name, or the row is told of."""
@@ -223,11 +272,22 @@ class Judge:
         for layer, rows in self.tables.items():
             for row in draw.sample(rows, min(SAMPLES, len(rows))):
                 point, origins = deep_point(row.ways, draw), sources[layer, row.name]
-                if not point or row.name in self.told_names | self.made_names or any(self.told[layer, str(origin.number)] - {"z", "m", "identifier"} for origin in origins):
+                if (
+                    not point
+                    or row.name in self.told_names | self.made_names
+                    or any(self.told[layer, str(origin.number)] - {"z", "m", "identifier"} for origin in origins)
+                ):
                     continue
-                ways = [[ring for ring, _ in origin.shape.rings()] for origin in origins if origin.shape.form in ("polygon", "multi")]
+                ways = [
+                    [ring for ring, _ in origin.shape.rings()]
+                    for origin in origins
+                    if origin.shape.form in ("polygon", "multi")
+                ]
                 if len(ways) == len(origins) and not any(contains(way, box_of(way), point) for way in ways):
-                    self.say("won", f"{layer} {row.name!r} has {point} in the tables and not in the source, and no row has it")
+                    self.say(
+                        "won",
+                        f"{layer} {row.name!r} has {point} in the tables and not in the source, and no row has it",
+                    )
 
 
 def plain(name):

@@ -8,9 +8,56 @@ from lpis_helpers.lands_shapes import CURVED, Shape
 
 KEYS = {"parcels": ("parcel",), "covers": ("piece", "parcel", "class")}
 # Where lands lie: in a zone of UTM, about the origin, at both ends of the range, and far from everything.
-ORIGINS = [(550_000.0, 5_400_000.0)] * 6 + [(0.0, 0.0), (-3000.0, 12_345_678.0), (19_999_000.0, 19_999_000.0), (-19_999_500.0, -19_999_500.0), (1_000.0, -2_000.0), (999_999.5, 999_999.5)]
-ODD_NAMES = ["M\u00fchle {}", "field {}", "{}  ", " {}", "\t{}", "{}.0", "p{}", "P{}", "=1+{}", "+{}", "-{}", "@{}", "a,{}", 'a"{}', "a'{}", "a;{}", "\u0141\u00f3d\u017a{}", "\u5730{}", "x" * 38 + "{}", "x" * 41 + "{}",
-             "e\u0301{}", "\u00e9{}", "a\n{}", "a\r\n{}", "\u00a0{}", "\u200b{}", "NULL", "", None, "0{}", "1e{}", "{}\u0000", "..", "/{}", "a\\{}", "\U0001f33e{}", "%s{}", "$({})", "|{}", "\ufeff{}"]
+ORIGINS = [(550_000.0, 5_400_000.0)] * 6 + [
+    (0.0, 0.0),
+    (-3000.0, 12_345_678.0),
+    (19_999_000.0, 19_999_000.0),
+    (-19_999_500.0, -19_999_500.0),
+    (1_000.0, -2_000.0),
+    (999_999.5, 999_999.5),
+]
+ODD_NAMES = [
+    "M\u00fchle {}",
+    "field {}",
+    "{}  ",
+    " {}",
+    "\t{}",
+    "{}.0",
+    "p{}",
+    "P{}",
+    "=1+{}",
+    "+{}",
+    "-{}",
+    "@{}",
+    "a,{}",
+    'a"{}',
+    "a'{}",
+    "a;{}",
+    "\u0141\u00f3d\u017a{}",
+    "\u5730{}",
+    "x" * 38 + "{}",
+    "x" * 41 + "{}",
+    "e\u0301{}",
+    "\u00e9{}",
+    "a\n{}",
+    "a\r\n{}",
+    "\u00a0{}",
+    "\u200b{}",
+    "NULL",
+    "",
+    None,
+    "0{}",
+    "1e{}",
+    "{}\u0000",
+    "..",
+    "/{}",
+    "a\\{}",
+    "\U0001f33e{}",
+    "%s{}",
+    "$({})",
+    "|{}",
+    "\ufeff{}",
+]
 
 MADE_STRAIGHT = 200  # points that one of an arc may become
 
@@ -36,7 +83,9 @@ class Land:
         self.is_clean = self.random.random() < 0.25
         self.is_large = self.random.random() < 0.05
         self.step = self.random.choice([30.0, 300.0] if self.is_clean else [300.0, 30.0, 30.0, 3.0, 0.3])
-        self.count = min(most, self.random.randrange(200, 2001) if self.is_large else int(10 ** self.random.uniform(0, 1.9)))
+        self.count = min(
+            most, self.random.randrange(200, 2001) if self.is_large else int(10 ** self.random.uniform(0, 1.9))
+        )
         self.origin = self.random.choice(ORIGINS[:6] if self.is_clean else ORIGINS)
         self.grain = self.random.choice([None, None, 0.001, 0.0005, 0.01])
         turn = self.random.choice([0.0, self.random.uniform(0, 2 * math.pi)])
@@ -47,7 +96,9 @@ class Land:
         if not self.is_clean:
             self.spoil_names()
         self.classes_given = self.random.choice(["land", "land", "land", "file", "none"])
-        self.form = self.random.choice(["package", "package", "package", "gdal", "rows", "csv", "csv", "semicolons", "utf16", "tabs"])
+        self.form = self.random.choice(
+            ["package", "package", "package", "gdal", "rows", "csv", "csv", "semicolons", "utf16", "tabs"]
+        )
         if self.form == "gdal" and {"without_shape", "elsewhere"} & set(self.parts):
             self.form = "package"  # ogr2ogr leaves such shapes out itself
         self.number_rows()
@@ -61,7 +112,12 @@ class Land:
         def corner(i, j):
             if (i, j) not in corners:
                 x, y = ((place + self.random.uniform(-0.2, 0.2)) * self.step for place in (i, j))
-                corners[i, j] = self.settled((self.origin[0] + self.turn[0] * x - self.turn[1] * y, self.origin[1] + self.turn[1] * x + self.turn[0] * y))
+                corners[i, j] = self.settled(
+                    (
+                        self.origin[0] + self.turn[0] * x - self.turn[1] * y,
+                        self.origin[1] + self.turn[1] * x + self.turn[0] * y,
+                    )
+                )
             return corners[i, j]
 
         for cell in range(self.count):
@@ -69,7 +125,9 @@ class Land:
                 break
             i, j = cell % across, cell // across
             self.hair = 10 ** self.random.uniform(-9, 0)
-            part = self.random.choice(CLEAN) if self.is_clean or self.random.random() < 0.4 else self.random.choice(pool)
+            part = (
+                self.random.choice(CLEAN) if self.is_clean or self.random.random() < 0.4 else self.random.choice(pool)
+            )
             self.parts.append(part.__name__)
             part(self, corner(i, j), corner(i + 1, j), corner(i + 1, j + 1), corner(i, j + 1))
 
@@ -103,7 +161,18 @@ class Land:
         name = f"P{len(self.parcels) + 1}"
         parcel = Row("parcels", {"parcel": name}, Shape(members, form))
         self.parcels.append(parcel)
-        rows = [Row("covers", {"piece": f"K{len(self.covers) + number + 1}", "parcel": name, "class": self.random.choice(self.classes)[0]}, Shape(piece, form)) for number, piece in enumerate(pieces)]
+        rows = [
+            Row(
+                "covers",
+                {
+                    "piece": f"K{len(self.covers) + number + 1}",
+                    "parcel": name,
+                    "class": self.random.choice(self.classes)[0],
+                },
+                Shape(piece, form),
+            )
+            for number, piece in enumerate(pieces)
+        ]
         self.covers += rows
         return parcel, rows
 
@@ -125,7 +194,9 @@ class Land:
             elif kind == 3 and len(self.parcels) > 1:
                 self.random.choice(self.parcels).fields["parcel"] = self.random.choice(self.parcels).fields["parcel"]
             elif kind == 4 and self.covers:
-                self.random.choice(self.covers).fields["parcel"] = self.random.choice([self.odd_name(), "nowhere", *(row.name() for row in self.parcels[:3])])
+                self.random.choice(self.covers).fields["parcel"] = self.random.choice(
+                    [self.odd_name(), "nowhere", *(row.name() for row in self.parcels[:3])]
+                )
             elif kind == 5 and self.covers:
                 self.spoil_class()
 
@@ -157,7 +228,11 @@ class Land:
 
     def points(self):
         """How many points all shapes have; one of an arc counts as those that it becomes."""
-        return sum(len(ring) * (MADE_STRAIGHT if row.shape.form in CURVED else 1) for row in self.rows() for ring, _ in row.shape.rings())
+        return sum(
+            len(ring) * (MADE_STRAIGHT if row.shape.form in CURVED else 1)
+            for row in self.rows()
+            for ring, _ in row.shape.rings()
+        )
 
     @classmethod
     def of_rows(cls, parcels, covers, form="package"):
@@ -186,7 +261,9 @@ def told(land):
     lines = [f"# {land.form}, {len(land.parcels)} parcels, {len(land.covers)} pieces"]
     for row in land.rows():
         more = "".join(f", {name}=True" for name in ("has_z", "has_m") if getattr(row.shape, name))
-        lines.append(f"({', '.join(map(repr, row.fields.values()))}, Shape({row.shape.members!r}, {row.shape.form!r}{more})),")
+        lines.append(
+            f"({', '.join(map(repr, row.fields.values()))}, Shape({row.shape.members!r}, {row.shape.form!r}{more})),"
+        )
     return "\n".join(lines) + "\n"
 
 

@@ -1,7 +1,8 @@
-"""The parts that generated lands are made of: what may stand in one cell of a grid whose corners are shared. Nothing of tools/ is used.
+"""The parts that generated lands are made of: what may stand in one cell of a grid whose corners are shared. Nothing of
+tools/ is used.
 
-Each part is a function of the land that is made and of the cell's corners a, b, c and d, counter-clockwise. CLEAN parts fit their neighbours;
-the others overlap, leave gaps, or are thinner than rounding can show."""
+Each part is a function of the land that is made and of the cell's corners a, b, c and d, counter-clockwise. CLEAN parts
+fit their neighbours; the others overlap, leave gaps, or are thinner than rounding can show."""
 
 import math
 
@@ -52,7 +53,10 @@ def junctions(land, a, b, c, d):
     """Many corners on each side, which the neighbours do not have."""
     ring = []
     for p, q in ((a, b), (b, c), (c, d), (d, a)):
-        ring += [p, *(on(p, q, share) for share in sorted(land.random.random() for _ in range(land.random.randrange(8))))]
+        ring += [
+            p,
+            *(on(p, q, share) for share in sorted(land.random.random() for _ in range(land.random.randrange(8)))),
+        ]
     land.parcel([closed(*ring)])
 
 
@@ -65,7 +69,10 @@ def fan(land, a, b, c, d):
 
 def islands(land, a, b, c, d):
     """Islands in islands, each a parcel or a piece of the one about it."""
-    rings = [closed(a, b, c, d), *(shrunk((a, b, c, d), 0.8 ** depth * 0.9) for depth in range(1, land.random.randrange(2, 7)))]
+    rings = [
+        closed(a, b, c, d),
+        *(shrunk((a, b, c, d), 0.8**depth * 0.9) for depth in range(1, land.random.randrange(2, 7))),
+    ]
     shapes = [[ring, inner[::-1]] for ring, inner in zip(rings, rings[1:])] + [[rings[-1]]]
     if land.random.random() < 0.5:
         for shape in shapes:
@@ -94,7 +101,17 @@ def lattice(land, a, b, c, d):
         low, high = row / rows, (row + 1) / rows
         left, right = (on(a, d, low), on(a, d, high)), (on(b, c, low), on(b, c, high))
         cuts = [0.0, *sorted(land.random.uniform(0.05, 0.95) for _ in range(land.random.randrange(4))), 1.0]
-        pieces += [[closed(on(left[0], right[0], s), on(left[0], right[0], t), on(left[1], right[1], t), on(left[1], right[1], s))] for s, t in zip(cuts, cuts[1:])]
+        pieces += [
+            [
+                closed(
+                    on(left[0], right[0], s),
+                    on(left[0], right[0], t),
+                    on(left[1], right[1], t),
+                    on(left[1], right[1], s),
+                )
+            ]
+            for s, t in zip(cuts, cuts[1:])
+        ]
     land.parcel([closed(a, b, c, d)], *pieces)
 
 
@@ -180,7 +197,13 @@ def line_like(land, a, b, c, d):
     """A parcel of one metre by less than a millimetre, alone or within another, level, upright or slanted."""
     x, y = middle((a, b, c, d))
     thin = land.random.choice([0.0001, 0.0004, 0.0005, 0.0009, land.hair])
-    ring = land.random.choice([boxed(x, y, 1.0, thin), boxed(x, y, thin, 1.0), closed((x, y), (x + 0.8, y + 0.6), (x + 0.8, y + 0.6 + thin), (x, y + thin))])
+    ring = land.random.choice(
+        [
+            boxed(x, y, 1.0, thin),
+            boxed(x, y, thin, 1.0),
+            closed((x, y), (x + 0.8, y + 0.6), (x + 0.8, y + 0.6 + thin), (x, y + thin)),
+        ]
+    )
     if land.random.random() < 0.5:
         land.parcel([closed(a, b, c, d)])
     land.parcel([ring])
@@ -214,8 +237,12 @@ def moved_fan(land, a, b, c, d):
 
 def on_pixels(land, a, b, c, d):
     """Corners on half millimetres, or a hair beside them."""
+
     def snapped(point):
-        return tuple(round(value * 2000) / 2000 + land.random.choice([0, 0, 1e-9, -1e-9, 1e-7, -1e-7]) for value in point)
+        return tuple(
+            round(value * 2000) / 2000 + land.random.choice([0, 0, 1e-9, -1e-9, 1e-7, -1e-7]) for value in point
+        )
+
     p, q = snapped(on(a, b, 0.5)), snapped(on(d, c, 0.5))
     land.parcel([closed(snapped(a), p, q, snapped(d))])
     land.parcel([closed(p, snapped(b), snapped(c), q)])
@@ -224,9 +251,14 @@ def on_pixels(land, a, b, c, d):
 def members(land, a, b, c, d):
     """A parcel of many members, or of many holes that another fills."""
     count = land.random.choice([10, 50, 200, 1000, 5000] if land.is_large else [10, 50])
-    across = math.ceil(count ** 0.5)
+    across = math.ceil(count**0.5)
     centre, width = middle((a, b, c, d)), land.step * 0.5 / across
-    boxes = [boxed(centre[0] + (k % across - across / 2) * width, centre[1] + (k // across - across / 2) * width, width * 0.6) for k in range(count)]
+    boxes = [
+        boxed(
+            centre[0] + (k % across - across / 2) * width, centre[1] + (k // across - across / 2) * width, width * 0.6
+        )
+        for k in range(count)
+    ]
     land.add([[ring] for ring in boxes], [[[ring] for ring in boxes]])
     if land.random.random() < 0.5:
         land.parcel([closed(a, b, c, d), *(ring[::-1] for ring in boxes)])
@@ -236,7 +268,16 @@ def many_points(land, a, b, c, d):
     """A round shape of many points."""
     count, (x, y) = land.random.choice([100, 1000, 5000 if land.is_large else 500]), middle((a, b, c, d))
     radius = land.step * 0.3
-    land.parcel([closed(*((x + radius * math.cos(2 * math.pi * k / count), y + radius * math.sin(2 * math.pi * k / count)) for k in range(count)))])
+    land.parcel(
+        [
+            closed(
+                *(
+                    (x + radius * math.cos(2 * math.pi * k / count), y + radius * math.sin(2 * math.pi * k / count))
+                    for k in range(count)
+                )
+            )
+        ]
+    )
 
 
 def curved(land, a, b, c, d):
@@ -254,7 +295,13 @@ def curved(land, a, b, c, d):
 def touching_hole(land, a, b, c, d):
     """A hole that touches its shell in a point, on a side or all along."""
     p = on(a, b, 0.5)
-    hole = land.random.choice([closed(a, on(a, c, 0.5), on(a, d, 0.5)), closed(p, on(p, c, 0.5), on(p, d, 0.5)), closed(on(a, b, 0.2), on(a, b, 0.6), on(p, d, 0.5))])
+    hole = land.random.choice(
+        [
+            closed(a, on(a, c, 0.5), on(a, d, 0.5)),
+            closed(p, on(p, c, 0.5), on(p, d, 0.5)),
+            closed(on(a, b, 0.2), on(a, b, 0.6), on(p, d, 0.5)),
+        ]
+    )
     land.parcel([closed(a, b, c, d), hole])
     land.parcel([hole])
 
@@ -264,15 +311,35 @@ def bow(a, b, c, d):
 
 
 def crossing(land, a, b, c, d):
-    """Rings that cross, touch or repeat themselves, turn the wrong way round, or have spikes; holes outside, alike and within holes."""
+    """Rings that cross, touch or repeat themselves, turn the wrong way round, or have spikes; holes outside, alike
+    and within holes."""
     ring, m = closed(a, b, c, d), on(a, c, 0.5)
-    small, far = shrunk((a, b, c, d), 0.4), shrunk(((a[0] + 3 * land.step, a[1]), (b[0] + 3 * land.step, b[1]), (c[0] + 3 * land.step, c[1])), 0.3)
+    small, far = shrunk((a, b, c, d), 0.4), shrunk(
+        ((a[0] + 3 * land.step, a[1]), (b[0] + 3 * land.step, b[1]), (c[0] + 3 * land.step, c[1])), 0.3
+    )
     spike = closed(a, b, on(b, c, 0.5), on(m, c, 3.0), on(b, c, 0.5), c, d)
-    members = land.random.choice([
-        [[bow(a, b, c, d)]], [[ring[::-1]]], [[ring, small]], [[ring, small, small]], [[ring, far]], [[ring, ring]], [[spike]], [[ring], [ring]], [[ring], [small]],
-        [[closed(a, b, m, c, d, m)]], [[closed(a, b, b, c, c, c, d)]], [[ring + ring[1:]]], [[ring, small, shrunk((a, b, c, d), 0.2)]], [[closed(a, b, a, b)]], [[closed(a, a, a, a)]],
-        [[closed(a, b, c), closed(a, c, d)]], [[ring, closed(a, b, c)]], [[closed(a, b, on(a, b, 0.3), c, d)]],
-    ])
+    members = land.random.choice(
+        [
+            [[bow(a, b, c, d)]],
+            [[ring[::-1]]],
+            [[ring, small]],
+            [[ring, small, small]],
+            [[ring, far]],
+            [[ring, ring]],
+            [[spike]],
+            [[ring], [ring]],
+            [[ring], [small]],
+            [[closed(a, b, m, c, d, m)]],
+            [[closed(a, b, b, c, c, c, d)]],
+            [[ring + ring[1:]]],
+            [[ring, small, shrunk((a, b, c, d), 0.2)]],
+            [[closed(a, b, a, b)]],
+            [[closed(a, a, a, a)]],
+            [[closed(a, b, c), closed(a, c, d)]],
+            [[ring, closed(a, b, c)]],
+            [[closed(a, b, on(a, b, 0.3), c, d)]],
+        ]
+    )
     other = [[ring]] if land.random.random() < 0.5 else members
     land.add(*land.random.choice([(members, [other]), (other, [members])]))
 
@@ -280,7 +347,9 @@ def crossing(land, a, b, c, d):
 def without_shape(land, a, b, c, d):
     """No shape, an empty one, a line, a point, a collection, an open or a short ring, beside one that is sound."""
     ring = closed(a, b, c, d)
-    form = land.random.choice(["null", "empty", "hollow", "line", "point", "collection", "open", "short", "one", "none"])
+    form = land.random.choice(
+        ["null", "empty", "hollow", "line", "point", "collection", "open", "short", "one", "none"]
+    )
     wrong = {"open": ring[:-1], "short": [a, b, a], "one": [a], "none": []}.get(form, ring)
     shape = Shape([[wrong]], None if form in ("open", "short", "one", "none") else form)
     parcel, (piece,) = land.add([[ring]], [[[ring]]])
@@ -290,9 +359,20 @@ def without_shape(land, a, b, c, d):
 def elsewhere(land, a, b, c, d):
     """Degrees among metres, coordinates out of range or no numbers, and a zone's number before eastings."""
     parcel, (piece,) = land.parcel([closed(a, b, c, d)])
-    move = land.random.choice([
-        lambda x, y: (9 + x % 1, 48 + y % 1), lambda x, y: (x + 2e7, y), lambda x, y: (x, y - 4e8), lambda x, y: (x * 1e300, y), lambda x, y: (x + 32_000_000, y),
-        lambda x, y: (math.nan, y), lambda x, y: (x, math.inf), lambda x, y: (y, x), lambda x, y: (x / 1e6, y / 1e6), lambda x, y: (x * 1000, y * 1000)])
+    move = land.random.choice(
+        [
+            lambda x, y: (9 + x % 1, 48 + y % 1),
+            lambda x, y: (x + 2e7, y),
+            lambda x, y: (x, y - 4e8),
+            lambda x, y: (x * 1e300, y),
+            lambda x, y: (x + 32_000_000, y),
+            lambda x, y: (math.nan, y),
+            lambda x, y: (x, math.inf),
+            lambda x, y: (y, x),
+            lambda x, y: (x / 1e6, y / 1e6),
+            lambda x, y: (x * 1000, y * 1000),
+        ]
+    )
     for row in land.random.choice([[parcel], [piece], [parcel, piece]]):
         row.shape = Shape([[[move(*point) for point in ring] for ring in member] for member in row.shape.members])
 
@@ -313,5 +393,29 @@ def bare_or_strange(land, a, b, c, d):
 
 
 CLEAN = [undivided, halved, strips, junctions, fan, islands, two_parts, pond, lattice]
-NASTY = [moved, sliver, gap, overlapping, outside, needles, long_needle, heap, grains, line_like, comb, twins, within, moved_fan, on_pixels, members, many_points, curved,
-         touching_hole, crossing, without_shape, elsewhere, heights, bare_or_strange]
+NASTY = [
+    moved,
+    sliver,
+    gap,
+    overlapping,
+    outside,
+    needles,
+    long_needle,
+    heap,
+    grains,
+    line_like,
+    comb,
+    twins,
+    within,
+    moved_fan,
+    on_pixels,
+    members,
+    many_points,
+    curved,
+    touching_hole,
+    crossing,
+    without_shape,
+    elsewhere,
+    heights,
+    bare_or_strange,
+]

@@ -1,5 +1,6 @@
-"""Runs the tools over generated lands, each run in a process of its own with bounds of time and memory. Nothing of a tool's answer is taken from
-this process: it only has loaded what every run loads, and forks, so that a run does not begin with a second of imports."""
+"""Runs the tools over generated lands, each run in a process of its own with bounds of time and memory. Nothing of a
+tool's answer is taken from this process: it only has loaded what every run loads, and forks, so that a run does not
+begin with a second of imports."""
 
 import atexit
 import io
@@ -15,7 +16,8 @@ from pathlib import Path
 from lpis_helpers import starter
 from lpis_helpers.places import TOOLS
 
-# What a run may take, by the points of its source: seconds of a processor, and megabytes beyond those of a process that has loaded all.
+# What a run may take, by the points of its source: seconds of a processor, and megabytes beyond those of a process that
+# has loaded all.
 SECONDS, SECONDS_EACH = 10.0, 0.001
 ROOM, ROOM_EACH = 500_000_000, 4_000
 WALL = 30  # times as long by the clock, beside other work
@@ -81,7 +83,9 @@ def in_child(words, out, err, seconds, room):
         os.dup2(out, 1)
         os.dup2(err, 2)
         sys.stdout = io.TextIOWrapper(os.fdopen(1, "wb", closefd=False), encoding="utf-8", errors="strict")
-        sys.stderr = io.TextIOWrapper(os.fdopen(2, "wb", closefd=False), encoding="utf-8", errors="backslashreplace", line_buffering=True)
+        sys.stderr = io.TextIOWrapper(
+            os.fdopen(2, "wb", closefd=False), encoding="utf-8", errors="backslashreplace", line_buffering=True
+        )
         begun = int(Path("/proc/self/statm").read_text(encoding="ascii").split()[0]) * resource.getpagesize()
         resource.setrlimit(resource.RLIMIT_AS, (begun + room, begun + room))
         resource.setrlimit(resource.RLIMIT_CPU, (int(seconds) + 1, int(seconds) + 1))

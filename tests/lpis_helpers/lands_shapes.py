@@ -1,8 +1,8 @@
 """Shapes of generated lands: what they are, how they are written, and their area. Nothing of tools/ is used.
 
-A shape has members, each of rings, each of (x, y) in metres. What it is written as: `polygon`, `multi`, `arcs` (each ring of arcs through
-its points), `mixed` (each ring half a line and half arcs), or what has no area at all: `null`, `empty`, `hollow` (a polygon without a
-point), `line`, `point`, `collection`."""
+A shape has members, each of rings, each of (x, y) in metres. What it is written as: `polygon`, `multi`, `arcs` (each
+ring of arcs through its points), `mixed` (each ring half a line and half arcs), or what has no area at all: `null`,
+`empty`, `hollow` (a polygon without a point), `line`, `point`, `collection`."""
 
 import math
 import struct
@@ -42,10 +42,16 @@ class Shape:
             return 0.0, 0.0
         curved, straight, slack = 0.0, Fraction(), 0.0
         for ring, is_hole in self.rings():
-            sign, twice = -1 if is_hole else 1, ring_area2(ring[0::2] + ring[-1:] * (len(ring) % 2 == 0) if self.form == "arcs" else ring)
+            sign, twice = -1 if is_hole else 1, ring_area2(
+                ring[0::2] + ring[-1:] * (len(ring) % 2 == 0) if self.form == "arcs" else ring
+            )
             if self.form in CURVED:
-                arcs = ring if self.form == "arcs" else ring[half_of(ring):]
-                curved += sign * abs(float(twice / 2) + sum(bulge(*arcs[k:k + 3]) for k in range(0, len(arcs) - 2, 2)) - chords(arcs, self.form))
+                arcs = ring if self.form == "arcs" else ring[half_of(ring) :]
+                curved += sign * abs(
+                    float(twice / 2)
+                    + sum(bulge(*arcs[k : k + 3]) for k in range(0, len(arcs) - 2, 2))
+                    - chords(arcs, self.form)
+                )
                 slack += STRAIGHTENED * length_of(ring) * 1.6
             else:
                 straight += sign * abs(twice) / 2
@@ -61,7 +67,9 @@ class Shape:
 def is_ring(ring, form):
     if len(ring) < (3 if form in CURVED else 4) or ring[0] != ring[-1]:
         return False
-    return (form != "arcs" or len(ring) % 2 == 1) and all(map(math.isfinite, (value for point in ring for value in point)))
+    return (form != "arcs" or len(ring) % 2 == 1) and all(
+        map(math.isfinite, (value for point in ring for value in point))
+    )
 
 
 def half_of(ring):
@@ -74,7 +82,7 @@ def chords(arcs, form):
     """What a mixed ring's middle points of arcs add to the ring of its chords."""
     if form == "arcs":
         return 0.0
-    return sum(orient(*arcs[k:k + 3]) / 2 for k in range(0, len(arcs) - 2, 2))
+    return sum(orient(*arcs[k : k + 3]) / 2 for k in range(0, len(arcs) - 2, 2))
 
 
 def bulge(a, b, c):
@@ -105,7 +113,9 @@ def ring_area2(ring):
 
 def points_wkb(order, points, shape):
     more = [312.5] * shape.has_z + [7.0] * shape.has_m
-    return struct.pack(f"{order}I", len(points)) + b"".join(struct.pack(f"{order}{2 + len(more)}d", x, y, *more) for x, y in points)
+    return struct.pack(f"{order}I", len(points)) + b"".join(
+        struct.pack(f"{order}{2 + len(more)}d", x, y, *more) for x, y in points
+    )
 
 
 def wkb(shape):
@@ -123,7 +133,13 @@ def wkb(shape):
             return head(8) + points_wkb(order, ring, shape)
         if shape.form == "mixed":
             at = half_of(ring)
-            return head(9, 2) + head(2) + points_wkb(order, ring[:at + 1], shape) + head(8) + points_wkb(order, ring[at:], shape)
+            return (
+                head(9, 2)
+                + head(2)
+                + points_wkb(order, ring[: at + 1], shape)
+                + head(8)
+                + points_wkb(order, ring[at:], shape)
+            )
         return points_wkb(order, ring, shape)
 
     curved = shape.form in CURVED
@@ -139,13 +155,21 @@ def wkb(shape):
         return head(1) + points_wkb(order, points[:1], shape)[4:]
     if shape.form == "collection":
         return head(7, len(members)) + b"".join(members)
-    return members[0] if len(members) == 1 and shape.form != "multi" else head(12 if curved else 6, len(members)) + b"".join(members)
+    return (
+        members[0]
+        if len(members) == 1 and shape.form != "multi"
+        else head(12 if curved else 6, len(members)) + b"".join(members)
+    )
 
 
 def field_of_package(shape, system):
     """A GeoPackage's field."""
     blob = wkb(shape)
-    return None if blob is None else b"GP\0" + bytes([17 if shape.form in ("empty", "hollow") else 1]) + struct.pack("<i", system) + blob
+    return (
+        None
+        if blob is None
+        else b"GP\0" + bytes([17 if shape.form in ("empty", "hollow") else 1]) + struct.pack("<i", system) + blob
+    )
 
 
 # Well-known text.

@@ -1,5 +1,5 @@
-"""Makes a land that fails small, while it still fails in the same way: whole parcels with their pieces are taken out, then rows, and of few rows members, rings,
-corners and the decimals of coordinates."""
+"""Makes a land that fails small, while it still fails in the same way: whole parcels with their pieces are taken out,
+then rows, and of few rows members, rings, corners and the decimals of coordinates."""
 
 import time
 
@@ -51,13 +51,13 @@ class Shrinking:
         while True:
             at = 0
             while at < len(kept):
-                gone = [keys[key] for group in kept[at:at + size] for key in group]
+                gone = [keys[key] for group in kept[at : at + size] for key in group]
                 smaller = self.land.without(gone)
                 if self.takes(smaller):
-                    names = [key for group in kept[:at] + kept[at + size:] for key in group]
+                    names = [key for group in kept[:at] + kept[at + size :] for key in group]
                     ordered = sorted(names, key=lambda key: (key[0] != "parcels", key[1]))
                     keys = dict(zip(ordered, self.land.rows()))
-                    kept = kept[:at] + kept[at + size:]
+                    kept = kept[:at] + kept[at + size :]
                 else:
                     at += size
             if size == 1 or self.left <= 0:
@@ -84,22 +84,28 @@ def smaller_shapes(shape):
     members = shape.members
     if len(members) > 1:
         for at in range(len(members)):
-            yield like(shape, members[:at] + members[at + 1:])
+            yield like(shape, members[:at] + members[at + 1 :])
     for at, member in enumerate(members):
         for place in range(1, len(member)):
-            yield like(shape, [*members[:at], member[:place] + member[place + 1:], *members[at + 1:]])
+            yield like(shape, [*members[:at], member[:place] + member[place + 1 :], *members[at + 1 :]])
         for place, ring in enumerate(member):
             if len(ring) > 4 and shape.form in ("polygon", "multi"):
                 for corner in range(1, len(ring) - 1):
-                    fewer = [*member[:place], ring[:corner] + ring[corner + 1:], *member[place + 1:]]
-                    yield like(shape, [*members[:at], fewer, *members[at + 1:]])
+                    fewer = [*member[:place], ring[:corner] + ring[corner + 1 :], *member[place + 1 :]]
+                    yield like(shape, [*members[:at], fewer, *members[at + 1 :]])
 
 
 def rounded(land, decimals):
     """The land with so many decimals in its coordinates."""
     other = land.without([])
     for row in other.rows():
-        row.shape = like(row.shape, [[[(round(x, decimals), round(y, decimals)) for x, y in ring] for ring in member] for member in row.shape.members])
+        row.shape = like(
+            row.shape,
+            [
+                [[(round(x, decimals), round(y, decimals)) for x, y in ring] for ring in member]
+                for member in row.shape.members
+            ],
+        )
     return other
 
 

@@ -2,6 +2,7 @@
 
 import contextlib
 import hashlib
+import json
 import os
 import re
 import shutil
@@ -18,23 +19,25 @@ STATUSES = {0, 1, 64}
 UNFORESEEN = 70  # the status of an error that nobody foresaw
 PROGRESS = re.compile(r"(prepare|compare|country): (reading|testing|borders|faces|tables|conflicts|comparing)")
 NO_CUT = "no cut parts them"
-KEPT = ".rounded"  # what a refused run keeps for one that accepts
+KEPT = ".cells"  # what a refused run keeps for one that accepts
+STANDING = ".lpis-standing"  # what a folder's tables are: of which run, and whether it came to its end
 MOST_TRIANGLES = 2_000_000  # of a certificate
 TABLES = ("parcels.csv", "covers.csv", "classes.csv")
 
 
 def digests(folder):
-    """The files of a folder with their digests."""
+    """The files of a folder with their digests, but for that which has the time of its run."""
     found = {}
     for where, _, names in os.walk(folder):
-        for name in names:
+        for name in set(names) - {STANDING}:
             path = os.path.join(where, name)
             found[os.path.relpath(path, folder)] = hashlib.sha256(Path(path).read_bytes()).hexdigest()
     return found
 
 
 def triangles_of(folder):
-    """How many triangles the pieces of a folder's tables want: two less than its corners for each member, and two more for each hole."""
+    """How many triangles the pieces of a folder's tables want: two less than its corners for each member, and two
+    more for each hole."""
     rings = [ring for record in records(folder, "covers.csv") for ring in rings_of(record["wkt"])]
     return sum(len(points) - 1 + (2 if is_hole else -2) for points, is_hole in rings)
 
@@ -44,10 +47,18 @@ class Enough(Exception):
 
 
 class Trial:
-    """The runs over one source. A fault is a kind and its words; where the first one alone is wanted, it ends the trial."""
+    """The runs over one source. A fault is a kind and its words; where the first one alone is wanted, it ends the
+    trial."""
 
     def __init__(self, runner, folder, points, is_first_enough=False):
-        self.runner, self.folder, self.points, self.faults, self.runs, self.is_first_enough = runner, folder, points, [], [], is_first_enough
+        self.runner, self.folder, self.points, self.faults, self.runs, self.is_first_enough = (
+            runner,
+            folder,
+            points,
+            [],
+            [],
+            is_first_enough,
+        )
 
     def path(self, name):
         return os.path.join(self.folder, name)
@@ -79,8 +90,11 @@ class Trial:
         if digests_of(source) != before:
             self.say("source", "prepare changed its source")
         names = set(os.listdir(out)) if os.path.isdir(out) else set()
-        if leftovers := sorted(name for name in names - ({KEPT} if run.status == 1 else set()) if name.startswith(".") or name.endswith(".new")):
+        own = {STANDING, *([KEPT] if run.status == 1 else [])}
+        if leftovers := sorted(name for name in names - own if name.startswith(".") or name.endswith(".new")):
             self.say("leftovers", f"prepare left {' '.join(leftovers)}")
+        if STANDING in names and (state_of(out) == "whole") != (run.status == 0):
+            self.say("standing", f"status {run.status}, and the folder is {state_of(out)}")
         there = [name for name in TABLES[:2] if name in names]
         if run.status == 0 and len(there) < 2:
             self.say("tables", f"status 0 without {' '.join(sorted(set(TABLES[:2]) - set(there)))}")
@@ -127,7 +141,8 @@ class Trial:
         self.same_balance("compare", other, out, "source_m2")
 
     def same_balance(self, tool, folder, out, source):
-        """The balance of another tool over the tables has their areas, and as its source those of one of their columns."""
+        """The balance of another tool over the tables has their areas, and as its source those of one of their
+        columns."""
         here = {(record["layer"], record["class"]): record for record in records(out, "balance.csv")}
         for record in records(folder, "balance.csv"):
             group = record["layer"], record["class"]
@@ -159,10 +174,18 @@ class Trial:
         regions = regions_of(country)
         for name in TABLES[:2]:
             wanted = {tuple(record.items()) for record in records(out, name)}
-            found = {tuple(record.items()) for region in regions for record in records(os.path.join(country, region), name)}
+            found = {
+                tuple(record.items()) for region in regions for record in records(os.path.join(country, region), name)
+            }
             if wanted != found:
-                self.say("split", f"{name}: {len(wanted - found)} rows are in no region, {len(found - wanted)} are of no table")
-        if any(records(os.path.join(country, region), "classes.csv") != records(out, "classes.csv") for region in ("", *regions)):
+                self.say(
+                    "split",
+                    f"{name}: {len(wanted - found)} rows are in no region, {len(found - wanted)} are of no table",
+                )
+        if any(
+            records(os.path.join(country, region), "classes.csv") != records(out, "classes.csv")
+            for region in ("", *regions)
+        ):
             self.say("split", "the classes of a region, or of the country, are others")
         self.same_balance("split", country, out, "tables_m2")
         for region in regions:
@@ -170,6 +193,11 @@ class Trial:
         status, text, told = lpis("country", country)
         if status != 0:
             self.say("split", f"lpis country: {(text + told).strip()[-200:]}")
+
+
+def state_of(folder):
+    """What a folder of tables is, as the file in it says."""
+    return json.loads(Path(folder, STANDING).read_text(encoding="utf-8"))["state"]
 
 
 def digests_of(path):
@@ -186,11 +214,12 @@ def last_line(*texts):
 
 
 def place_of(text):
-    """Where a traceback, here or in the file that is named, says that it happened: the innermost function of the tools."""
+    """Where a traceback, here or in the file that is named, says that it happened: the innermost function of the
+    tools."""
     named = re.search(r"the traceback is in (\S+)", text)
     if named and os.path.exists(named[1]):
         text = Path(named[1]).read_text(encoding="utf-8")
-    places = re.findall(r'File "[^"]*/tools/([^"]*)", line \d+, in (\S+)', text)
+    places = re.findall(r'File "[^"]*/(?:tools|python/src/lpis)/([^"]*)", line \d+, in (\S+)', text)
     return " ".join(places[-1]) if places else "somewhere"
 
 
@@ -221,11 +250,18 @@ def try_land(trial, land, folder):
     again(trial, land, source, words, run)
     if run.status == 0:
         if first.status == 0:
-            same(trial, "plain and accepted", {name: value for name, value in digests(plain).items() if name in TABLES}, {name: value for name, value in digests(out).items() if name in TABLES})
+            same(
+                trial,
+                "plain and accepted",
+                {name: value for name, value in digests(plain).items() if name in TABLES},
+                {name: value for name, value in digests(out).items() if name in TABLES},
+            )
         for fault in Judge(land, out).judge():
             trial.say(*fault)
         trial.proved(out)
-        is_renamed = os.path.exists(os.path.join(out, "identifiers.csv")) or any(record["kind"] == "prefix" for record in records(out, "prepared.csv"))
+        is_renamed = os.path.exists(os.path.join(out, "identifiers.csv")) or any(
+            record["kind"] == "prefix" for record in records(out, "prepared.csv")
+        )
         trial.compared(source, out, first.status == 0 and not is_renamed)
         trial.split(out)
         next_year(trial, source, out, words)
@@ -243,31 +279,52 @@ def again(trial, land, source, words, before):
 
 
 def next_year(trial, source, out, words):
-    """What a run wrote the next year's run takes: the same source has the same names then, and its tables get their yes."""
+    """What a run wrote the next year's run takes: the same source has the same names then, and its tables get their
+    yes."""
     names, later = os.path.join(out, "identifiers.csv"), trial.path("later")
-    run = trial.prepared(source, later, *words, "--accept", "--previous", out, *(["--identifiers", names] if os.path.exists(names) else []))
+    run = trial.prepared(
+        source,
+        later,
+        *words,
+        "--accept",
+        "--previous",
+        out,
+        *(["--identifiers", names] if os.path.exists(names) else []),
+    )
     if run.status != 0:
         trial.say("next year", f"the next year's run ended with {run.status}: {last_line(run.told, run.text)}")
         return
     for name, keys in (("parcels.csv", ["parcel"]), ("covers.csv", ["piece", "parcel", "class"])):
-        before, after = ({tuple(record[key] for key in keys) for record in records(folder, name)} for folder in (out, later))
+        before, after = (
+            {tuple(record[key] for key in keys) for record in records(folder, name)} for folder in (out, later)
+        )
         if before != after:
-            trial.say("next year", f"{name}: {len(before - after)} rows are gone and {len(after - before)} came, such as {sorted(before ^ after)[:2]}")
+            trial.say(
+                "next year",
+                (
+                    f"{name}: {len(before - after)} rows are gone and {len(after - before)} came, such as"
+                    f" {sorted(before ^ after)[:2]}"
+                ),
+            )
     trial.proved(later)
 
 
 def same(trial, what, one, other):
     if one != other:
-        trial.say("again", f"{what} differ in {' '.join(sorted(name for name in {*one, *other} if one.get(name) != other.get(name)))}")
+        trial.say(
+            "again",
+            f"{what} differ in {' '.join(sorted(name for name in {*one, *other} if one.get(name) != other.get(name)))}",
+        )
 
 
 def of_damaged(number, runner, folder):
-    """What does not hold of the damaged source of a number, and what was done to it: it ends as the documents say, and what is written gets its yes."""
+    """What does not hold of the damaged source of a number, and what was done to it: it ends as the documents say,
+    and what is written gets its yes."""
     shutil.rmtree(folder, ignore_errors=True)
     os.makedirs(folder)
     path, words, done, points = lands_damage.damaged(number, folder)
     trial = Trial(runner, folder, points)
-    for name, more in (("plain", []), ("accepted", ["--accept"]))[number % 3 == 0:]:
+    for name, more in (("plain", []), ("accepted", ["--accept"]))[number % 3 == 0 :]:
         out = trial.path(name)
         run = trial.prepared(path, out, *words, *more)
         if run.status == 0:

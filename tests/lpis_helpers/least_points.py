@@ -1,7 +1,9 @@
-"""A point of a convex polygon with one denominator for both coordinates, at most a million: worked out with fractions alone.
+"""A point of a convex polygon with one denominator for both coordinates, at most a million: worked out with fractions
+alone.
 
-The polygon is seen along whole directions in which it is thin. Across it lie the lines at which the direction has a fraction's value,
-those of the least denominators first; on a line, the point whose parts of that denominator are least is taken."""
+The polygon is seen along whole directions in which it is thin. Across it lie the lines at which the direction has a
+fraction's value, those of the least denominators first; on a line, the point whose parts of that denominator are
+least is taken."""
 
 from collections import deque
 from fractions import Fraction
@@ -34,7 +36,8 @@ def slice_at(corners, across, along, value):
 
 
 def on_line(corners, across, along, value):
-    """On the line the least multiple of its denominator with which a point lies in the polygon: the denominator, and both values times it."""
+    """On the line the least multiple of its denominator with which a point lies in the polygon: the denominator, and
+    both values times it."""
     low, high = slice_at(corners, across, along, value)
     if low >= high:
         return None
@@ -72,7 +75,8 @@ def in_frame(corners, f, g):
 
 
 def point_in(corners):
-    """A point (x, y, d), which is (x/d, y/d), strictly inside a convex polygon of fractions; None where none is found."""
+    """A point (x, y, d), which is (x/d, y/d), strictly inside a convex polygon of fractions; None where none is
+    found."""
     corners = [tuple(map(Fraction, p)) for p in corners]
     edges = [(q[0] - p[0], q[1] - p[1]) for p, q in zip(corners, corners[1:] + corners[:1])]
     longest = sorted(edges, key=lambda e: abs(e[0]) + abs(e[1]), reverse=True)[:3]

@@ -1,8 +1,8 @@
 #!/usr/bin/env python3
 """Writes a coverage as a GIS holds it, in doubles: parcels.csv and covers.csv with 17 digits, and classes.csv.
 
-Words: the number of parcels, the seed, and a folder. Borders meet in T-junctions that hold in doubles only; one parcel in ten
-has a pond, one in ten a piece of two parts. Rotated, so that no border lies along an axis.
+Words: the number of parcels, the seed, and a folder. Borders meet in T-junctions that hold in doubles only; one parcel
+in ten has a pond, one in ten a piece of two parts. Rotated, so that no border lies along an axis.
 """
 
 import bisect
@@ -35,7 +35,11 @@ class Row:
         return self.ys[i] + part * (self.ys[i + 1] - self.ys[i])
 
     def way(self, left, right):
-        return [(left, self.at(left))] + [(x, y) for x, y in zip(self.xs, self.ys) if left < x < right] + [(right, self.at(right))]
+        return (
+            [(left, self.at(left))]
+            + [(x, y) for x, y in zip(self.xs, self.ys) if left < x < right]
+            + [(right, self.at(right))]
+        )
 
 
 def pieces_of(numbers, low, high, left, right):
@@ -46,13 +50,20 @@ def pieces_of(numbers, low, high, left, right):
         end = cut + (right - cut) * numbers.uniform(0.4, 0.6)
         strips = [[low.way(a, b) + high.way(a, b)[::-1]] for a, b in ((left, cut), (cut, end), (end, right))]
         return [[strips[0], strips[2]], [strips[1]]]
-    foot, head, east_foot, east_head = (cut, low.at(cut)), (cut, high.at(cut)), (right, low.at(right)), (right, high.at(right))
+    foot, head, east_foot, east_head = (
+        (cut, low.at(cut)),
+        (cut, high.at(cut)),
+        (right, low.at(right)),
+        (right, high.at(right)),
+    )
     a, b = on(foot, head, numbers.uniform(0.3, 0.7)), on(east_foot, east_head, numbers.uniform(0.3, 0.7))
     first = [low.way(left, cut) + high.way(left, cut)[::-1]]
     shapes = [[first], [[low.way(cut, right) + [b, a]]], [[[a, b] + high.way(cut, right)[::-1]]]]
     if kind < 0.2:
         middle = ((left + cut) / 2, (low.at((left + cut) / 2) + high.at((left + cut) / 2)) / 2)
-        pond = [(middle[0] + 5 * math.cos(i * math.pi / 6), middle[1] + 5 * math.sin(i * math.pi / 6)) for i in range(12)]
+        pond = [
+            (middle[0] + 5 * math.cos(i * math.pi / 6), middle[1] + 5 * math.sin(i * math.pi / 6)) for i in range(12)
+        ]
         first.append(pond)
         shapes.append([[pond]])
     return shapes
@@ -62,8 +73,19 @@ def text(members):
     """The members' text, turned and moved to a place of a national grid."""
     turn, rings = (math.cos(0.3), math.sin(0.3)), []
     for member in members:
-        rings.append("(" + ",".join("(" + ",".join(
-            f"{550000 + x * turn[0] - y * turn[1]!r} {5400000 + x * turn[1] + y * turn[0]!r}" for x, y in ring + ring[:1]) + ")" for ring in member) + ")")
+        rings.append(
+            "("
+            + ",".join(
+                "("
+                + ",".join(
+                    f"{550000 + x * turn[0] - y * turn[1]!r} {5400000 + x * turn[1] + y * turn[0]!r}"
+                    for x, y in ring + ring[:1]
+                )
+                + ")"
+                for ring in member
+            )
+            + ")"
+        )
     return "MULTIPOLYGON(" + ",".join(rings) + ")"
 
 
@@ -74,8 +96,9 @@ def main():
     across = max(1, math.isqrt(count))
     width, made = across * 120.0, 0
     low = Row(numbers, 0.0, width)
-    with open(os.path.join(folder, "parcels.csv"), "w", newline="", encoding="ascii") as parcel_file, \
-            open(os.path.join(folder, "covers.csv"), "w", newline="", encoding="ascii") as cover_file:
+    with open(os.path.join(folder, "parcels.csv"), "w", newline="", encoding="ascii") as parcel_file, open(
+        os.path.join(folder, "covers.csv"), "w", newline="", encoding="ascii"
+    ) as cover_file:
         parcels, covers = csv.writer(parcel_file, lineterminator="\n"), csv.writer(cover_file, lineterminator="\n")
         parcels.writerow(["parcel", "wkt"])
         covers.writerow(["piece", "parcel", "class", "wkt"])
@@ -88,9 +111,18 @@ def main():
                 made += 1
                 parcels.writerow([f"P{made:06}", text([[low.way(left, right) + high.way(left, right)[::-1]]])])
                 for number, shape in enumerate(pieces_of(numbers, low, high, left, right), 1):
-                    covers.writerow([f"P{made:06}.{number}", f"P{made:06}", "WATER" if number == 4 else numbers.choice(["ARABLE", "GRASS", "TREES"]), text(shape)])
+                    covers.writerow(
+                        [
+                            f"P{made:06}.{number}",
+                            f"P{made:06}",
+                            "WATER" if number == 4 else numbers.choice(["ARABLE", "GRASS", "TREES"]),
+                            text(shape),
+                        ]
+                    )
             low = high
-    Path(folder, "classes.csv").write_text("class,percent\nARABLE,100\nGRASS,100\nTREES,30\nWATER,0\n", encoding="ascii")
+    Path(folder, "classes.csv").write_text(
+        "class,percent\nARABLE,100\nGRASS,100\nTREES,30\nWATER,0\n", encoding="ascii"
+    )
 
 
 if __name__ == "__main__":

@@ -1,35 +1,41 @@
 #!/usr/bin/python3
-"""Writes a release of N parcels for the cutter, from a fixed seed: make_parcels.py N FOLDER [KIND] [turned] [FAULT].
+"""Writes a release of N parcels for the cutter, from a fixed seed: make_parcels.py N FOLDER [KIND] [turned] [FAULT]; or
+of one parcel and one piece, both one polygon of about N points: make_parcels.py N FOLDER POLYGON [moved].
 
-The parcels are the cells of a grid of about 120 metres whose nodes were moved and whose borders are digitised in 1 to 12 segments, 2.85
-on average, 1.55 with `straight`: a piece has 4 to 56 points, 10.8 on average, 7.7 with `straight` (closing points are counted). A parcel
-has one piece, or two to four around its middle, or a pond in its piece; some have a second member, some a farmyard in a hole that is a
-parcel of its own. Every polygon takes up points in the middle of its edges for itself, so its neighbours, and its pieces, have T-junctions
-there. All nodes and borders are of even centimetres, so such middles lie exactly on the edge. It is sound by construction: a border keeps
-within a slim rhombus around its straight line, and a cell is divided around its middle only where the middle sees the whole ring.
+The parcels are the cells of a grid of about 120 metres whose nodes were moved and whose borders are digitised in 1 to
+12 segments, 2.85 on average, 1.55 with `straight`: a piece has 4 to 56 points, 10.8 on average, 7.7 with `straight`
+(closing points are counted). A parcel has one piece, or two to four around its middle, or a pond in its piece; some
+have a second member, some a farmyard in a hole that is a parcel of its own. Every polygon takes up points in the middle
+of its edges for itself, so its neighbours, and its pieces, have T-junctions there. All nodes and borders are of even
+centimetres, so such middles lie exactly on the edge. It is sound by construction: a border keeps within a slim rhombus
+around its straight line, and a cell is divided around its middle only where the middle sees the whole ring.
 
-With `mosaic` each border has 8 segments, a parcel has one piece of its own shape, and no polygon takes up points; `grid` is the same with a
-segment each.
+With `mosaic` each border has 8 segments, a parcel has one piece of its own shape, and no polygon takes up points;
+`grid` is the same with a segment each.
 
-With `digitised` every polygon has 5 to 60 points, a piece 18 on average, as far as a map of reference parcels shows its borders: a road or
-a ditch is one straight segment, a hedge has a few, the edge of a wood or a stream has a point each 8 to 15 metres. The pieces of a
-parcel, 1.8 on average, meet in digitised lines too, from one of its points or middles of edges to another: there its neighbours, and
-its other pieces, have T-junctions. The smaller of two pieces has at least an eighth of both. `regular` is the same with a point each 15
-metres on every border, as a receiver that is carried along records it. With `turned` the grid is turned by 30 degrees, since fields lie as their
-valley does.
+With `digitised` every polygon has 5 to 60 points, a piece 18 on average, as far as a map of reference parcels shows its
+borders: a road or a ditch is one straight segment, a hedge has a few, the edge of a wood or a stream has a point each 8
+to 15 metres. The pieces of a parcel, 1.8 on average, meet in digitised lines too, from one of its points or middles of
+edges to another: there its neighbours, and its other pieces, have T-junctions. The smaller of two pieces has at least
+an eighth of both. `regular` is the same with a point each 15 metres on every border, as a receiver that is carried
+along records it. With `turned` the grid is turned by 30 degrees, since fields lie as their valley does.
 
-With FAULT nearly every parcel is wrong: `gaps` moves a corner of each piece inwards by a centimetre; `overlaps` moves the shell of
-each parcel of one member outwards by one, and gives it one piece of its own shape. `stacked` and `spread` are N equal round parcels,
-all in one place or side by side.
+With FAULT nearly every parcel is wrong: `gaps` moves a corner of each piece inwards by a centimetre; `overlaps` moves
+the shell of each parcel of one member outwards by one, and gives it one piece of its own shape. `stacked` and `spread`
+are N equal round parcels, all in one place or side by side.
+
+POLYGON is spiral, comb, star, coast, holes (of 20 points), diamonds (holes that touch one another and the shell in
+their corners) or fan (a round field seen from its pivot). With `moved` the piece lies a centimetre further east than
+its parcel, so that all edges of the two differ.
 """
 
 import math
 import random
 import sys
 
-from lpis_helpers.make_large import round_point
 from lpis_helpers.tables import orient, shoelace, write_release
 
+SEED = 20_261_122
 STEP, JITTER = 12_000, 1_800  # centimetres
 EAST, NORTH = 40_000_000, 530_000_000
 SEGMENTS = [1] * 9 + [2] * 5 + [3, 4, 5, 6, 8, 12]
@@ -38,6 +44,10 @@ DIGITISED = [1, 1, 1, 2, 2, 3, 3, 4, 5, 6, 7, 8, 10, 14]
 REGULAR = [8]
 MOST_POINTS, LEAST_EDGE = 60, 2_000  # of a digitised polygon, of one edge that a line may end on the middle of
 SPOKES = [1] * 50 + [2] * 26 + [3] * 14 + [4] * 10  # how many pieces, of a hundred parcels without a pond or yard
+
+
+def round_point(radius, angle, x=0, y=0):
+    return x + round(radius * math.cos(angle)), y + round(radius * math.sin(angle))
 
 
 def even(value):
@@ -68,7 +78,7 @@ def keeps_off(edge, room):
 
 class Map:
     def __init__(self, count, segments, degrees=0):
-        self.numbers, self.segments, self.angle = random.Random(20_261_122), segments, math.radians(degrees)
+        self.numbers, self.segments, self.angle = random.Random(SEED), segments, math.radians(degrees)
         self.count, self.parcels, self.pieces = count, [], []
         self.columns = max(2, math.isqrt(count))
         self.nodes, self.lines, self.taken = {}, {}, set()
@@ -133,7 +143,9 @@ class Map:
         """A small ring around the middle, clockwise as holes are usually written."""
         corners, first = self.numbers.randint(5, 12), self.numbers.random()
         angles = [-2 * math.pi * (i / corners + first) for i in range(corners)]
-        return [tuple(map(even, round_point(STEP * self.numbers.uniform(0.08, 0.12), angle, *middle))) for angle in angles]
+        return [
+            tuple(map(even, round_point(STEP * self.numbers.uniform(0.08, 0.12), angle, *middle))) for angle in angles
+        ]
 
     def divided(self, ring, middle):
         """The ring cut into one to four pieces by straight lines from the middle to its points."""
@@ -211,7 +223,8 @@ class Digitised(Map):
         return dotted if points_of(dotted) <= MOST_POINTS else members
 
     def halves(self, ring):
-        """The ring divided by a line between two of its points or middles of edges, of which twenty pairs are tried; else the ring alone.
+        """The ring divided by a line between two of its points or middles of edges, of which twenty pairs are tried;
+        else the ring alone.
 
         The line keeps within a slim rhombus, which no edge of the ring may enter."""
         ends, edges = [], edges_of(ring)
@@ -246,7 +259,13 @@ class Digitised(Map):
         return [[[part]] for part in rings]
 
 
-KINDS = {"straight": (Map, STRAIGHT), "mosaic": (Mosaic, SEGMENTS), "grid": (Grid, SEGMENTS), "digitised": (Digitised, DIGITISED), "regular": (Digitised, REGULAR)}
+KINDS = {
+    "straight": (Map, STRAIGHT),
+    "mosaic": (Mosaic, SEGMENTS),
+    "grid": (Grid, SEGMENTS),
+    "digitised": (Digitised, DIGITISED),
+    "regular": (Digitised, REGULAR),
+}
 
 
 def moved(polygon, corners, sign):
@@ -261,7 +280,9 @@ def moved(polygon, corners, sign):
 def faulty(fault, parcels, pieces):
     if fault == "gaps":
         return parcels, [(name, parcel, kind, moved(polygon, 1, -1)) for name, parcel, kind, polygon in pieces]
-    grown = [(name, moved(polygon, len(polygon[0][0]), 1) if len(polygon) == 1 else polygon) for name, polygon in parcels]
+    grown = [
+        (name, moved(polygon, len(polygon[0][0]), 1) if len(polygon) == 1 else polygon) for name, polygon in parcels
+    ]
     return grown, [(f"C{name}", name, "G", polygon) for name, polygon in grown]
 
 
@@ -274,8 +295,95 @@ def round_parcels(count, step):
     return parcels, [(f"C{name}", name, "G", polygon) for name, polygon in parcels]
 
 
+def spiral(points, _):
+    """Two arms that wind side by side, with a constant gap."""
+    half, gap = points // 2, 4_000
+    turn = 2 * math.pi * max(4, half // 2_000) / half
+
+    def arm(shift):
+        return [round_point(50_000 + gap * i * turn / (2 * math.pi) + shift, i * turn) for i in range(half)]
+
+    return [arm(0)[::-1] + arm(gap // 2)]
+
+
+def comb(points, numbers):
+    """Teeth of 20 kilometres on one bar: each box of a tooth's triangles meets those of all others through the
+    bar's."""
+    teeth, height = points // 4, 2_000_000
+    ring = [(0, -1_000), (40 * teeth, -1_000)]
+    for i in reversed(range(teeth)):
+        tops = [height - numbers.randint(0, 1_000) for _ in range(2)]
+        ring += [(40 * i + 30, 0), (40 * i + 30, tops[0]), (40 * i + 10, tops[1]), (40 * i + 10, 0)]
+    return [ring]
+
+
+def star(points, numbers):
+    outer = 10**9
+
+    def radius(i):
+        return outer if i % 2 else outer // 2 + numbers.randint(0, outer // 100)
+
+    return [[round_point(radius(i), 2 * math.pi * i / points) for i in range(points)]]
+
+
+def coast(points, numbers):
+    """A hexagon whose edges are bent in their middles, again and again."""
+    ring = [complex(*round_point(10**8, 2 * math.pi * i / 6)) for i in range(6)]
+    while 2 * len(ring) <= points:
+        bent = []
+        for a, b in zip(ring, ring[1:] + ring[:1]):
+            bent += [a, (a + b) / 2 + 1j * (b - a) * numbers.uniform(-0.1, 0.1)]
+        ring = bent
+    return [[(round(point.real), round(point.imag)) for point in ring]]
+
+
+def holes(points, numbers):
+    corners, step = 20, 10_000
+    count = points // (corners + 1)
+    width = math.isqrt(count) + 1
+    side = width * step
+    rings = [[(0, 0), (side, 0), (side, side), (0, side)]]
+    for number in range(count):
+        x, y = (place * step + step // 2 + numbers.randint(-500, 500) for place in divmod(number, width))
+        first = numbers.random()
+        rings.append(
+            [
+                round_point(3_500 * numbers.uniform(0.6, 1), -2 * math.pi * (i / corners + first), x, y)
+                for i in range(corners)
+            ]
+        )
+    return rings
+
+
+def diamonds(points, _):
+    width, step = math.isqrt(points // 5), 2_000
+    side, half = width * step, step // 2
+    rings = [[(0, 0), (side, 0), (side, side), (0, side)]]
+    for number in range(width * width):
+        x, y = (place * step + half for place in divmod(number, width))
+        rings.append([(x - half, y), (x, y + half), (x + half, y), (x, y - half)])
+    return rings
+
+
+def fan(points, _):
+    arc = points - 2
+    return [[(0, 0)] + [round_point(10**9, 1.5 * i / arc) for i in range(arc + 1)]]
+
+
+POLYGONS = {kind.__name__: kind for kind in (spiral, comb, star, coast, holes, diamonds, fan)}
+
+
+def one_polygon(kind, points, east):
+    """The piece lies so many centimetres further east than the parcel."""
+    rings = POLYGONS[kind](points, random.Random(SEED))
+    return [("A", [rings])], [("C", "A", "G", [[[(x + east, y) for x, y in ring] for ring in rings]])]
+
+
 def main():
     count, folder, words = int(sys.argv[1]), sys.argv[2], sys.argv[3:]
+    if words and words[0] in POLYGONS:
+        write_release(folder, *one_polygon(words[0], count, int("moved" in words)))
+        return
     fault = next((word for word in words if word not in KINDS and word != "turned"), None)
     if fault in ("stacked", "spread"):
         parcels, pieces = round_parcels(count, 0 if fault == "stacked" else 10_000)

@@ -1,6 +1,7 @@
-"""Grids of triangles of very different widths, what heaps of them have for borders, and how a border is drawn as a polygon: in rings that touch
-themselves and one another wherever they can, with points left out and put in along straight edges, points repeated, spikes and bridges drawn, and
-rings added that cancel. None of that changes which points the polygon contains."""
+"""Grids of triangles of very different widths, what heaps of them have for borders, and how a border is drawn as a
+polygon: in rings that touch themselves and one another wherever they can, with points left out and put in along
+straight edges, points repeated, spikes and bridges drawn, and rings added that cancel. None of that changes which
+points the polygon contains."""
 
 import math
 
@@ -10,16 +11,23 @@ WIDTHS = [[1], [1, 2, 3], [1, 1, 2, 7, 1_000], [1, 40, 90_000], [5, 6, 7], [400,
 
 
 class Mesh:
-    """Counter-clockwise triangles of a grid, laid out by a map of whole numbers and perhaps with loose points. The cells of its rim are
-    nobody's: their outer points stay where they are, so that no loose point can fold the grid over itself."""
+    """Counter-clockwise triangles of a grid, laid out by a map of whole numbers and perhaps with loose points. The
+    cells of its rim are nobody's: their outer points stay where they are, so that no loose point can fold the grid
+    over itself."""
 
     def __init__(self, numbers, limit):
         self.numbers, self.limit = numbers, limit
         self.columns, self.rows = numbers.randint(3, 7), numbers.randint(3, 7)
         widths, heights = numbers.choice(WIDTHS), numbers.choice(WIDTHS)
         xs, ys = self.places(self.columns, widths), self.places(self.rows, heights)
-        a, b, c, d = numbers.choice([(1, 0, 0, 1)] * 3 + [(1, 1, 0, 1), (1, 0, -2, 1), (2, 1, -1, 1), (0, -1, 1, 0), (3, 7, -1, 5)])
-        self.points = {(i, j): (a * xs[i] + b * ys[j], c * xs[i] + d * ys[j]) for i in range(self.columns + 1) for j in range(self.rows + 1)}
+        a, b, c, d = numbers.choice(
+            [(1, 0, 0, 1)] * 3 + [(1, 1, 0, 1), (1, 0, -2, 1), (2, 1, -1, 1), (0, -1, 1, 0), (3, 7, -1, 5)]
+        )
+        self.points = {
+            (i, j): (a * xs[i] + b * ys[j], c * xs[i] + d * ys[j])
+            for i in range(self.columns + 1)
+            for j in range(self.rows + 1)
+        }
         cells = [(i, j) for i in range(self.columns) for j in range(self.rows)]
         self.triangles = [t for cell in cells if self.is_inner(*cell) for t in self.halves(*cell)]
         rim = [t for cell in cells if not self.is_inner(*cell) for t in self.halves(*cell)]
@@ -52,9 +60,14 @@ class Mesh:
         lows, highs = ([most(p[k] for p in self.points.values()) for k in (0, 1)] for most in (min, max))
         kind = self.numbers.randint(0, 5)
         if kind == 0:
-            by = [self.limit - high if self.numbers.random() < 0.5 else -self.limit - low for low, high in zip(lows, highs)]
+            by = [
+                self.limit - high if self.numbers.random() < 0.5 else -self.limit - low
+                for low, high in zip(lows, highs)
+            ]
         else:
-            by = [self.numbers.randint(-500, 500) if kind < 4 else self.numbers.randint(-(10**8), 10**8) for _ in lows]
+            by = [
+                self.numbers.randint(-500, 500) if kind < 4 else self.numbers.randint(-(10**8), 10**8) for _ in lows
+            ]
         self.points = {key: (x + by[0], y + by[1]) for key, (x, y) in self.points.items()}
 
     def neighbours(self):
@@ -83,7 +96,8 @@ class Mesh:
         return [{t for t in triangles if heap_of[t] == k} for k in range(shares)]
 
     def rings(self, triangles):
-        """The border of a set of triangles, which lies left of it, walked in rings; which way on is chosen anew in each point."""
+        """The border of a set of triangles, which lies left of it, walked in rings; which way on is chosen anew in
+        each point."""
         left = set()
         for number in triangles:
             t = self.triangles[number]
@@ -175,13 +189,16 @@ class Drawing:
         return dressed[first:] + dressed[:first]
 
     def members(self, rings):
-        """Rings with an area above 0 become shells, the others holes of whichever member; each is written in either orientation."""
+        """Rings with an area above 0 become shells, the others holes of whichever member; each is written in either
+        orientation."""
         shells = [ring for ring in rings if shoelace(ring) > 0]
         members = [[ring] for ring in shells]
         for ring in rings:
             if shoelace(ring) <= 0:
                 self.numbers.choice(members).append(ring)
-        return [[ring[::-1] if shoelace(ring) != 0 and self.some(0.5) else ring for ring in member] for member in members]
+        return [
+            [ring[::-1] if shoelace(ring) != 0 and self.some(0.5) else ring for ring in member] for member in members
+        ]
 
     def cancelled(self):
         """A member that is all hole."""

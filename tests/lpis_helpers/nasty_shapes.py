@@ -1,6 +1,7 @@
-"""Releases of nasty shapes, each from its number: the triangles of a mesh (mesh.py) are dealt out to parcels and pieces in patches or at random, and
-what each has is drawn. A release with a mutation has a change, or several, that mostly change which points a polygon contains. One half of the
-releases is of whole centimetres and of classes that are eligible or not, the other of whole millimetres and percentages."""
+"""Releases of nasty shapes, each from its number: the triangles of a mesh (mesh.py) are dealt out to parcels and pieces
+in patches or at random, and what each has is drawn. A release with a mutation has a change, or several, that mostly
+change which points a polygon contains. One half of the releases is of whole centimetres and of classes that are
+eligible or not, the other of whole millimetres and percentages."""
 
 import math
 import random
@@ -13,8 +14,8 @@ THIN = 10_000_000  # from this number on each mutation is a thin overlap
 
 
 class Release:
-    """The release of a number: `parcels` and `pieces` as write_release takes them, of so many decimals, its classes with their percentages,
-    and the name of its mutation."""
+    """The release of a number: `parcels` and `pieces` as write_release takes them, of so many decimals, its classes
+    with their percentages, and the name of its mutation."""
 
     def __init__(self, number, mutated):
         self.numbers = random.Random(number)
@@ -29,7 +30,10 @@ class Release:
         heaps = [heap for heap in self.mesh.deal(range(len(self.mesh.triangles)), self.numbers.randint(1, 4)) if heap]
         if len(heaps) > 1 and self.numbers.random() < 0.5:
             heaps.pop()  # nobody's
-        self.heaps = [[set(heap), [share for share in self.mesh.deal(heap, self.numbers.randint(1, 3)) if share]] for heap in heaps]
+        self.heaps = [
+            [set(heap), [share for share in self.mesh.deal(heap, self.numbers.randint(1, 3)) if share]]
+            for heap in heaps
+        ]
         changes = [self.numbers.choice(HEAP_MUTATIONS + POLYGON_MUTATIONS)] if mutated else []
         if mutated and number >= THIN:
             changes = [thin_overlap]
@@ -65,7 +69,9 @@ class Release:
         def scaled(polygon):
             return [[[(factor * x, factor * y) for x, y in ring] for ring in member] for member in polygon]
 
-        return [(name, scaled(polygon)) for name, polygon in self.parcels], [(*row, scaled(polygon)) for *row, polygon in self.pieces]
+        return [(name, scaled(polygon)) for name, polygon in self.parcels], [
+            (*row, scaled(polygon)) for *row, polygon in self.pieces
+        ]
 
     def any_polygon(self):
         rows = self.numbers.choice([self.parcels, self.pieces])
@@ -114,7 +120,8 @@ def corner_moved(release):
 
 
 def corner_moved_in_parcel_and_pieces(release):
-    """A parcel and its pieces agree on a corner that lies a hair's breadth beside that of the neighbours: a hair is shared, or left free."""
+    """A parcel and its pieces agree on a corner that lies a hair's breadth beside that of the neighbours: a hair is
+    shared, or left free."""
     name, polygon = release.numbers.choice(release.parcels)
     old = release.numbers.choice(release.any_ring(polygon))
     new = release.beside(old)
@@ -179,8 +186,8 @@ def replaced(release, **rings):
 
 
 def edges_cross_in_threes(release):
-    """Three edges that cross in one point which is no corner, so that the polygon turns 0 or 1 times and cannot be cut all the same; or
-    not quite in one point."""
+    """Three edges that cross in one point which is no corner, so that the polygon turns 0 or 1 times and cannot be cut
+    all the same; or not quite in one point."""
     size = release.numbers.choice([1, 3, 100, 10**7])
     ring = [(2 * size, 0), (-2 * size, 0), (-size, 2 * size), (size, -2 * size), (-size, -2 * size), (size, 2 * size)]
     if release.numbers.random() < 0.5:
@@ -198,7 +205,8 @@ def parcels_on_a_hair(release):
 
 
 def thin_overlap(release):
-    """Two parcels, triangles: they nearly share a long edge, or a corner of one is by a hair on the wrong side of an edge of the other."""
+    """Two parcels, triangles: they nearly share a long edge, or a corner of one is by a hair on the wrong side of an
+    edge of the other."""
     numbers = release.numbers
     length = numbers.choice([60, 3_000, 10**5, 10**6, 10**7, 10**9 // 3])
 
@@ -222,8 +230,8 @@ def thin_overlap(release):
 
 
 def close_point(end, off, part):
-    """A point near the line from the origin to an end: so many times as far from it as the nearest that is not on it, about that part of
-    the way along."""
+    """A point near the line from the origin to an end: so many times as far from it as the nearest that is not on it,
+    about that part of the way along."""
     x, y = end
     shared = math.gcd(x, y)
     if abs(x) <= 1 or shared == 0:

@@ -1,10 +1,12 @@
-"""What the tests of the page and of the library share: the page, built anew, the native program's answers, calls of Node, and releases."""
+"""What the tests of the page and of the library share: the page, built anew, the native program's answers, calls of
+Node, and releases."""
 
 import functools
 import importlib.util
 import json
 import os
 import pathlib
+import resource
 import shutil
 import signal
 import subprocess
@@ -13,6 +15,7 @@ from importlib.machinery import SourceFileLoader
 import pytest
 from lpis_helpers.browser import CHROMIUM  # noqa: F401 which `wanted` finds by its name
 from lpis_helpers.places import BUILT, TOP
+from lpis_helpers.starts import STARTS
 
 SOURCES, TESTS, EXAMPLES = (os.path.join(TOP, *path) for path in (("page",), ("tests", "page"), ("examples",)))
 CC, NODE, WASM_OPT = shutil.which("cc"), shutil.which("node"), shutil.which("wasm-opt")
@@ -32,8 +35,11 @@ dev_page = loaded(os.path.join(TOP, "dev", "page"))
 
 
 def crates_to_prove():
-    """How many crates below lpis_page `rt lib` would prove anew: those without its stamp, such as `rt ci` leaves them, or with a source that is newer."""
-    told = subprocess.run([os.path.join(TOP, "dev", "sources"), "--crates", "lpis_page"], capture_output=True, text=True, check=True).stdout.split()
+    """How many crates below lpis_page `rt lib` would prove anew: those without its stamp, such as `rt ci` leaves
+    them, or with a source that is newer."""
+    told = subprocess.run(
+        [os.path.join(TOP, "dev", "sources"), "--crates", "lpis_page"], capture_output=True, text=True, check=True
+    ).stdout.split()
     return sum(not is_stamped(pathlib.Path(TOP, "crates", name)) for name in told[:-1])
 
 
@@ -55,13 +61,22 @@ def built():
     unproved = crates_to_prove()
     if unproved and not WHOLE:
         return None, f"{unproved} crates below lpis_page were to be proved first, by dev/library"
-    with subprocess.Popen([os.path.join(TOP, "dev", "page")], stdout=subprocess.PIPE, stderr=subprocess.PIPE, text=True, start_new_session=True) as run:
+    before = resource.getrusage(resource.RUSAGE_CHILDREN)
+    with subprocess.Popen(
+        [os.path.join(TOP, "dev", "page")],
+        stdout=subprocess.PIPE,
+        stderr=subprocess.PIPE,
+        text=True,
+        start_new_session=True,
+    ) as run:
         try:
             told, faults = run.communicate(timeout=None if WHOLE else SECONDS)
         except subprocess.TimeoutExpired:
             os.killpg(run.pid, signal.SIGKILL)
             run.communicate()
             return None, f"the page was not built in {SECONDS} seconds: the crates below it were to be proved anew"
+    after = resource.getrusage(resource.RUSAGE_CHILDREN)
+    STARTS.apart += after.ru_utime + after.ru_stime - before.ru_utime - before.ru_stime
     if run.returncode:
         raise RuntimeError(faults)
     return told.split()[-1], ""
@@ -77,7 +92,13 @@ def wanted(*programs):
 
 
 def node(task, **words):
-    run = subprocess.run([NODE, os.path.join(TESTS, "scripts.js"), task], input=json.dumps(words), capture_output=True, text=True, check=False)
+    run = subprocess.run(
+        [NODE, os.path.join(TESTS, "scripts.js"), task],
+        input=json.dumps(words),
+        capture_output=True,
+        text=True,
+        check=False,
+    )
     if run.returncode:
         raise RuntimeError(run.stderr[-2000:])
     return json.loads(run.stdout)
@@ -93,4 +114,6 @@ def read(path):
 
 
 def releases_of(folder):
-    return sorted(place for place, _, names in os.walk(folder) if {"parcels.csv", "covers.csv", "classes.csv"} <= set(names))
+    return sorted(
+        place for place, _, names in os.walk(folder) if {"parcels.csv", "covers.csv", "classes.csv"} <= set(names)
+    )

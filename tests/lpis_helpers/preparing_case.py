@@ -7,7 +7,7 @@ import pytest
 from lpis_helpers.calls import records, tool
 from lpis_helpers import dirty
 from lpis_helpers import places
-from lpis_tools import shapely_there
+from lpis.system import shapely_there
 from lpis_helpers.spare import Spare
 
 PREPARE = os.path.join(places.TOOLS, "prepare")
@@ -30,7 +30,10 @@ class Case(Spare):
 
     def tables(self, parcels, covers, classes=CLASSES):
         """A folder of tables, of rows (parcel, wkt) and (piece, parcel, class, wkt)."""
-        for name, header, found in (("parcels.csv", ["parcel", "wkt"], parcels), ("covers.csv", ["piece", "parcel", "class", "wkt"], covers)):
+        for name, header, found in (
+            ("parcels.csv", ["parcel", "wkt"], parcels),
+            ("covers.csv", ["piece", "parcel", "class", "wkt"], covers),
+        ):
             with open(os.path.join(self.sheets, name), "w", encoding="utf-8", newline="") as file:
                 csv.writer(file).writerows([header, *found])
         self.write("classes.csv", classes)
@@ -52,4 +55,8 @@ class Case(Spare):
             assert word in run.stdout
 
     def areas(self):
-        return {row["class"]: float(row["tables_m2"]) for row in records(self.out, "balance.csv") if row["layer"] == "covers" and row["class"]}
+        return {
+            row["class"]: float(row["tables_m2"])
+            for row in records(self.out, "balance.csv")
+            if row["layer"] == "covers" and row["class"]
+        }

@@ -14,7 +14,8 @@ TOP = pathlib.Path(places.TOP)
 PYTHON, EXAMPLES = TOP / "python", TOP / "examples"
 NAMES = ("parcels", "covers", "classes")
 NO_LIBRARY = "no liblpis.so of these sources in out/library (dev/library), and LPIS_LIBRARY names none"
-ALONE = {name: value for name, value in os.environ.items() if not name.startswith(("PYTHON", "PIP_", "LPIS"))}  # nothing that leads to this clone
+# nothing that leads to this clone
+ALONE = {name: value for name, value in os.environ.items() if not name.startswith(("PYTHON", "PIP_", "LPIS"))}
 run, done = (functools.partial(call, env=ALONE) for call in (calls.run, calls.done))
 
 
@@ -29,7 +30,8 @@ def mypy():
 
 
 def library():
-    """The library that is named, or that was built here after the last change of its sources; None where there is none."""
+    """The library that is named, or that was built here after the last change of its sources; None where there is
+    none."""
     if os.environ.get("LPIS_LIBRARY"):
         return pathlib.Path(os.environ["LPIS_LIBRARY"])
     built = TOP / "out" / "library" / "liblpis.so"

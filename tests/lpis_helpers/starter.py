@@ -1,27 +1,48 @@
-"""A process that has loaded what the tools load, and forks for each start of one, as `starts.py` asks it; without a word it loads them and ends. What a
-tool meets is what it meets after a start of its own: its words, surroundings, folder and streams, and modules that nobody used before."""
+"""A process that has loaded what the tools load, and forks for each start of one, as `starts.py` asks it; without a
+word it loads them and ends. What a tool meets is what it meets after a start of its own: its words, surroundings,
+folder and streams, and modules that nobody used before."""
 
 import atexit
 import gc
 import importlib
 import json
 import os
+import pathlib
 import runpy
 import socket
 import sys
 import threading
 import traceback
 
-TOOLS = os.path.join(os.path.dirname(os.path.dirname(os.path.dirname(os.path.realpath(__file__)))), "tools")
-PRELOADED = ["numpy", "shapely.geometry", "shapely.ops", "shapely.strtree", "shapely.validation", "shapely.prepared", "pyproj", "sqlite3", "csv", "json", "tempfile"]
+PACKAGE = os.path.join(os.path.dirname(os.path.dirname(os.path.dirname(os.path.realpath(__file__)))), "python", "src")
+PRELOADED = [
+    "numpy",
+    "shapely.geometry",
+    "shapely.ops",
+    "shapely.strtree",
+    "shapely.validation",
+    "shapely.prepared",
+    "pyproj",
+    "sqlite3",
+    "csv",
+    "json",
+    "tempfile",
+]
 STREAMS = 3  # standard input, standard output and standard error: behind them comes the file that has the request
+
+
+def modules():
+    """The modules of the package."""
+    top = pathlib.Path(PACKAGE)
+    for path in sorted((top / "lpis").glob("*/*.py")):
+        yield ".".join(path.relative_to(top).with_suffix("").parts).removesuffix(".__init__")
 
 
 def preload():
     """Loads what the tools load, so that each run begins at once."""
-    if TOOLS not in sys.path:
-        sys.path.insert(0, TOOLS)
-    for name in [*PRELOADED, *(f"lpis_tools.{file[:-3]}" for file in sorted(os.listdir(os.path.join(TOOLS, "lpis_tools"))) if file.endswith(".py") and file != "__init__.py")]:
+    if PACKAGE not in sys.path:
+        sys.path.insert(0, PACKAGE)
+    for name in [*PRELOADED, *modules()]:
         try:
             importlib.import_module(name)
         except ImportError:
@@ -45,8 +66,8 @@ def become(asked, files):
 
 
 def serve(line):
-    """Forks for each request, and tells the number of the process, and then its status and its seconds of a processor. Returns in the process that is to
-    be the tool, and ends where nobody asks any more."""
+    """Forks for each request, and tells the number of the process, and then its status and its seconds of a processor.
+    Returns in the process that is to be the tool, and ends where nobody asks any more."""
     while True:
         text, files, _, _ = socket.recv_fds(line, 16, STREAMS + 1)
         if not text:
@@ -64,7 +85,8 @@ def serve(line):
 
 
 def ended():
-    """Runs the tool of `sys.argv`; the status with which Python would end, told as Python would tell it. What it would then free is not waited for."""
+    """Runs the tool of `sys.argv`; the status with which Python would end, told as Python would tell it. What it
+    would then free is not waited for."""
     status = 0
     try:
         runpy.run_path(sys.argv[0], run_name="__main__")
@@ -97,7 +119,7 @@ def leave(status):
 
 
 if __name__ == "__main__":
-    sys.path[0] = TOOLS
+    sys.path[0] = PACKAGE
     preload()
     if sys.argv[1:]:
         serve(socket.socket(fileno=int(sys.argv[1])))

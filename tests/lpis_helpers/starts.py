@@ -1,7 +1,9 @@
-"""Starts of tools without a start of Python: a process that has loaded what they load forks for each (`starter.py`). Two of them take turns, since each
-has an order of sets of its own: what hangs on that order differs from one start to the next, as between starts of Python.
+"""Starts of tools without a start of Python: a process that has loaded what they load forks for each (`starter.py`).
+Two of them take turns, since each has an order of sets of its own: what hangs on that order differs from one start to
+the next, as between starts of Python.
 
-A start that such a process could not give is one as usual: in another Python, language or home, or with other words of `subprocess.run` than these.
+A start that such a process could not give is one as usual: in another Python, language or home, or with other words of
+`subprocess.run` than these.
 """
 
 import atexit
@@ -19,8 +21,36 @@ import threading
 from lpis_helpers import starter
 
 # The beginnings of the names that Python and the libraries look for once, when they begin.
-AT_START = ("PYTHON", "LD_", "LC_", "LANG", "HOME", "TZ", "PROJ", "GDAL", "OGR", "GEOS", "OMP", "OPENBLAS", "MALLOC", "GLIBC")
-WORDS = {"capture_output", "text", "encoding", "errors", "check", "env", "cwd", "input", "stdin", "stdout", "stderr", "timeout"}
+AT_START = (
+    "PYTHON",
+    "LD_",
+    "LC_",
+    "LANG",
+    "HOME",
+    "TZ",
+    "PROJ",
+    "GDAL",
+    "OGR",
+    "GEOS",
+    "OMP",
+    "OPENBLAS",
+    "MALLOC",
+    "GLIBC",
+)
+WORDS = {
+    "capture_output",
+    "text",
+    "encoding",
+    "errors",
+    "check",
+    "env",
+    "cwd",
+    "input",
+    "stdin",
+    "stdout",
+    "stderr",
+    "timeout",
+}
 SHEBANG = b"#!/usr/bin/env python3\n"
 
 
@@ -30,8 +60,12 @@ class Starter:
     def __init__(self, python):
         self.line, other = socket.socketpair(socket.AF_UNIX, socket.SOCK_SEQPACKET)
         with other:
-            self.process = subprocess.Popen([python, starter.__file__, str(other.fileno())], pass_fds=[other.fileno()], stdin=subprocess.DEVNULL,
-                                            stdout=subprocess.DEVNULL)
+            self.process = subprocess.Popen(
+                [python, starter.__file__, str(other.fileno())],
+                pass_fds=[other.fileno()],
+                stdin=subprocess.DEVNULL,
+                stdout=subprocess.DEVNULL,
+            )
 
     def start(self, asked, streams, timeout):
         """The status of a start, None where it was out of time and ended, and its seconds of a processor."""
@@ -56,6 +90,7 @@ class Starts:
 
     def __init__(self):
         self.seconds = 0.0  # of a processor, of all starts
+        self.apart = 0.0  # of what is built for several tests, which counts for none of them
         self.count, self.starters, self.held, self.known, self.python = 0, [], threading.Lock(), None, None
 
     def begin(self):
@@ -78,13 +113,22 @@ class Starts:
             self.begin()
         surroundings = os.environ if more.get("env") is None else more["env"]
         found = shutil.which("python3", path=surroundings.get("PATH"))
-        return found is not None and os.path.realpath(found) == os.path.realpath(self.python) and at_start(surroundings) == self.known
+        return (
+            found is not None
+            and os.path.realpath(found) == os.path.realpath(self.python)
+            and at_start(surroundings) == self.known
+        )
 
     def run(self, words, env=None, cwd=None, timeout=None, check=False, **more):
         """As `subprocess.run` of a tool."""
         umask = os.umask(0)
         os.umask(umask)
-        asked = {"words": [*map(str, words)], "folder": str(cwd or os.getcwd()), "umask": umask, "surroundings": dict(os.environ if env is None else env)}
+        asked = {
+            "words": [*map(str, words)],
+            "folder": str(cwd or os.getcwd()),
+            "umask": umask,
+            "surroundings": dict(os.environ if env is None else env),
+        }
         with self.held, Streams(**more) as streams:
             self.count += 1
             status, seconds = self.starters[self.count % 2].start(asked, streams.files, timeout)
@@ -99,9 +143,20 @@ class Starts:
 
 
 class Streams:
-    """The three streams of a start, each by the words of `subprocess.run`. What is to be read or written by this process is in a file meanwhile."""
+    """The three streams of a start, each by the words of `subprocess.run`. What is to be read or written by this
+    process is in a file meanwhile."""
 
-    def __init__(self, input=None, capture_output=False, stdin=None, stdout=None, stderr=None, text=False, encoding=None, errors=None):
+    def __init__(
+        self,
+        input=None,
+        capture_output=False,
+        stdin=None,
+        stdout=None,
+        stderr=None,
+        text=False,
+        encoding=None,
+        errors=None,
+    ):
         self.encoding = (encoding or locale.getpreferredencoding(False)) if text or encoding or errors else None
         self.errors, self.kept = errors or "strict", []
         if input is not None:
@@ -132,7 +187,9 @@ class Streams:
     def text(self, file):
         file.seek(0)
         data = file.read()
-        return data.decode(self.encoding, self.errors).replace("\r\n", "\n").replace("\r", "\n") if self.encoding else data
+        return (
+            data.decode(self.encoding, self.errors).replace("\r\n", "\n").replace("\r", "\n") if self.encoding else data
+        )
 
     def __enter__(self):
         return self

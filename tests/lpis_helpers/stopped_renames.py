@@ -1,15 +1,16 @@
-"""Runs a tool again and again on copies of a folder, and stops it at one rename after the other: by a signal behind the rename, or by a full disk in its place.
+"""Runs a tool again and again on copies of a folder, and stops it at one rename after the other: by a signal behind the
+rename, or by a full disk in its place.
 
     python3 stopped_renames.py TOOL START HOW,.. WORDS..     a word that has START names the copy
 
-It prints what came of each run, as JSON: what stopped it, its status, what it said on standard error, and the digests of the tables of the copy; then the same of a
-run on it that is not stopped. The last run of each way to stop is the first one with fewer renames.
+It prints what came of each run, as JSON: what stopped it, its status, what it said on standard error, and the digests
+of the tables of the copy; then the same of a run on it that is not stopped. The last run of each way to stop is the
+first one with fewer renames.
 """
 
 import errno
 import hashlib
-import importlib.machinery
-import importlib.util
+import importlib
 import json
 import os
 import shutil
@@ -22,6 +23,7 @@ HERE = Path(__file__).resolve().parent
 sys.path[0] = str(HERE.parent)
 sys.dont_write_bytecode = True
 from lpis_helpers import starter
+
 MOST = 200
 
 
@@ -30,12 +32,33 @@ def state(folder):
     found = {}
     for path in sorted(Path(folder).rglob("*")):
         name = str(path.relative_to(folder))
-        if path.is_file() and not any(part.startswith(".") for part in name.split("/")) and name.endswith((".csv", "country.txt", "split.txt")):
+        if (
+            path.is_file()
+            and not any(part.startswith(".") for part in name.split("/"))
+            and name.endswith((".csv", "country.txt", "split.txt"))
+        ):
             found[name] = hashlib.sha256(path.read_bytes()).hexdigest()
     return found
 
 
-PLACED = ("parcels.csv", "covers.csv", "classes.csv", "country.txt", "lineage.csv", "lineage-report.csv", ".lpis-placing")
+def standings(folder):
+    """What each folder says of its last run, and whether a journal waits there."""
+    found = {}
+    for path in sorted(Path(folder).rglob(".lpis-standing")):
+        text = path.read_text(encoding="utf-8")
+        found[str(path.parent.relative_to(folder))] = json.loads(text)["state"] if text else ""
+    return found, [str(path.parent.relative_to(folder)) for path in Path(folder).rglob(".lpis-placing")]
+
+
+PLACED = (
+    "parcels.csv",
+    "covers.csv",
+    "classes.csv",
+    "country.txt",
+    "lineage.csv",
+    "lineage-report.csv",
+    ".lpis-placing",
+)
 
 
 def stopping_at(how, number):
@@ -57,19 +80,12 @@ def stopping_at(how, number):
     return count
 
 
-def loaded(tool):
-    loader = importlib.machinery.SourceFileLoader(f"tool_{tool}", str(HERE.parent.parent / "tools" / tool))
-    module = importlib.util.module_from_spec(importlib.util.spec_from_loader(loader.name, loader))
-    loader.exec_module(module)
-    return module
-
-
 def forked(module, words, folder, how="", number=0):
     """The status, what was said, and how many renames there were, of a run in a process of its own."""
     said, told = os.path.join(folder, "..", "said"), os.path.join(folder, "..", "count")
     child = os.fork()
     if not child:
-        from lpis_tools import words as of_tools
+        from lpis.system import command_line as of_tools
 
         for name in ("SIGINT", "SIGTERM", "SIGHUP"):
             signal.signal(getattr(signal, name), signal.SIG_DFL)
@@ -81,14 +97,18 @@ def forked(module, words, folder, how="", number=0):
         os._exit(status)
     Path(told).unlink(missing_ok=True)
     status = os.waitstatus_to_exitcode(os.waitpid(child, 0)[1])
-    return status, Path(said).read_text(encoding="utf-8"), int(Path(told).read_text(encoding="ascii")) if os.path.exists(told) else None
+    return (
+        status,
+        Path(said).read_text(encoding="utf-8"),
+        int(Path(told).read_text(encoding="ascii")) if os.path.exists(told) else None,
+    )
 
 
 def trials(tool, start, words, kinds):
-    sys.path.insert(0, starter.TOOLS)
-    from lpis_tools import shapely_there
+    sys.path.insert(0, starter.PACKAGE)
+    from lpis.system import shapely_there
 
-    module, found = loaded(tool), []
+    module, found = importlib.import_module(f"lpis.commands.{tool}"), []
     shapely_there.go_on_if_there()
     starter.preload()
     for how in kinds:
@@ -97,9 +117,23 @@ def trials(tool, start, words, kinds):
                 folder = shutil.copytree(start, os.path.join(spare, "copy"))
                 argv = [tool, *(word.replace(start, folder) for word in words)]
                 status, said, count = forked(module, argv, folder, how, number)
-                after = state(folder)
+                after, (stood, journals) = state(folder), standings(folder)
                 again = forked(module, argv, folder)[:2]
-                found.append({"how": how, "number": number, "status": status, "said": said, "after": after, "again": again[0], "said_again": again[1], "then": state(folder)})
+                found.append(
+                    {
+                        "how": how,
+                        "number": number,
+                        "status": status,
+                        "said": said,
+                        "after": after,
+                        "standing": stood,
+                        "journals": journals,
+                        "again": again[0],
+                        "said_again": again[1],
+                        "then": state(folder),
+                        "standing_then": standings(folder)[0],
+                    }
+                )
                 if count is not None and count < number:
                     break
     return found

@@ -1,6 +1,6 @@
-"""What the makers of releases share. A point is a pair of whole numbers, of centimetres where a maker says nothing else, since such texts
-are read by versions of `lpis` before millimetres too. A ring is a list of points without the closing one, a polygon a list of members, a
-member a list of rings of which the first is the shell."""
+"""What the makers of releases share. A point is a pair of whole numbers, of centimetres where a maker says nothing
+else, since such texts are read by versions of `lpis` before millimetres too. A ring is a list of points without the
+closing one, a polygon a list of members, a member a list of rings of which the first is the shell."""
 
 import os
 
@@ -43,12 +43,24 @@ def write_release(folder, parcels, pieces, decimals=2, classes=CLASSES):
     """Parcels are (identifier, polygon), pieces (identifier, parcel, class, polygon)."""
     os.makedirs(folder, exist_ok=True)
     write_lines(folder, "classes.csv", classes)
-    write_lines(folder, "parcels.csv", ["parcel,wkt"] + [f'{name},"{polygon_text(polygon, decimals)}"' for name, polygon in parcels])
+    write_lines(
+        folder,
+        "parcels.csv",
+        ["parcel,wkt"] + [f'{name},"{polygon_text(polygon, decimals)}"' for name, polygon in parcels],
+    )
     rows = [f'{name},{parcel},{kind},"{polygon_text(polygon, decimals)}"' for name, parcel, kind, polygon in pieces]
     write_lines(folder, "covers.csv", ["piece,parcel,class,wkt"] + rows)
 
 
 def write_squares(folder, count, wide=250):
     """So many parcels in rows, of one piece each."""
-    parcels = [(f"P{n}", [[[(x, y), (x + 1000, y), (x + 1000, y + 900), (x, y + 900)]]]) for n in range(count) for x, y in [(1000 * (n % wide), 1000 * (n // wide))]]
-    write_release(folder, parcels, [(f"C{name}", name, "GW"[number % 2], polygon) for number, (name, polygon) in enumerate(parcels)])
+    parcels = [
+        (f"P{n}", [[[(x, y), (x + 1000, y), (x + 1000, y + 900), (x, y + 900)]]])
+        for n in range(count)
+        for x, y in [(1000 * (n % wide), 1000 * (n // wide))]
+    ]
+    write_release(
+        folder,
+        parcels,
+        [(f"C{name}", name, "GW"[number % 2], polygon) for number, (name, polygon) in enumerate(parcels)],
+    )

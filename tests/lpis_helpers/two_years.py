@@ -1,6 +1,8 @@
-"""Two years of a nation's source, with dirt and with exact splits and merges, as GeoPackages: for the guide's path. By Shapely.
+"""Two years of a nation's source, with dirt and with exact splits and merges, as GeoPackages: for the guide's path. By
+Shapely.
 
-    PYTHONPATH=tests python3 -m lpis_helpers.two_years COUNT FOLDER     writes FOLDER/land-2026.gpkg and land-2027.gpkg, and FOLDER/country/country.txt with nine tiles
+    PYTHONPATH=tests python3 -m lpis_helpers.two_years COUNT FOLDER     writes FOLDER/land-2026.gpkg and land-2027.gpkg,
+        and FOLDER/country/country.txt with nine tiles
 """
 
 import os
@@ -32,21 +34,35 @@ def package(path, folder):
     """The tables of a folder, and some dirty parcels far from them."""
     with mock.patch.object(dirty, "EAST", APART):
         parcels, covers = dirty.rows_of(KINDS)
-    dirty.put(path, chain(rows(folder, "parcels", ["parcel"]), parcels), chain(rows(folder, "covers", ["piece", "parcel", "class"]), covers), CLASSES)
+    dirty.put(
+        path,
+        chain(rows(folder, "parcels", ["parcel"]), parcels),
+        chain(rows(folder, "covers", ["piece", "parcel", "class"]), covers),
+        CLASSES,
+    )
 
 
 def cuts_of(folder):
     """Two whole millimetres in x and two in y that part a land's parcels into nine tiles of about as many."""
     corners = [wkt.loads(row["wkt"]).bounds[:2] for row in records(folder, "parcels.csv")]
-    return [[int(1000 * sorted(corner[axis] for corner in corners)[len(corners) * part // 3]) for part in (1, 2)] for axis in (0, 1)]
+    return [
+        [int(1000 * sorted(corner[axis] for corner in corners)[len(corners) * part // 3]) for part in (1, 2)]
+        for axis in (0, 1)
+    ]
 
 
 def tiling(columns, lines):
     """The text of country.txt."""
-    def column(number):
-        return "".join(f"y {line}\nregion {name}{number}\n" for name, line in zip(("low", "middle"), lines)) + f"region high{number}\n"
 
-    return "lpis-country 1\n" + "".join(f"x {cut}\n{column(number)}" for number, cut in enumerate(columns, 1)) + column(3)
+    def column(number):
+        return (
+            "".join(f"y {line}\nregion {name}{number}\n" for name, line in zip(("low", "middle"), lines))
+            + f"region high{number}\n"
+        )
+
+    return (
+        "lpis-country 1\n" + "".join(f"x {cut}\n{column(number)}" for number, cut in enumerate(columns, 1)) + column(3)
+    )
 
 
 def make(count, folder):

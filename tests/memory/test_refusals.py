@@ -1,11 +1,13 @@
 """Runs commands with the Nth request for memory refused, N from 1 to the last that they make, by refuse_nth.c.
 
-Each run that met a refusal has to end with status 3, `failed memory` (or `failed store`, where the database met it) and nothing on standard output, but for
-the lines of a country's regions that had passed. A certificate that was there, and the history and the shapes in the register, have to be as before, by
-SQLite; the same command afterwards has to answer as usual. A command over a register may also answer as usual and leave what it leaves as usual: the
-database does without room that only makes it faster. Each N is tried twice: alone, and with every later request refused too. A command over a register
-makes thousands of requests. REFUSED in the environment says how many are refused: `few` of any command (FEW), which it is where nothing is said; `some`:
-all, or where they are MANY a SAMPLE from a fixed seed; `all`."""
+Each run that met a refusal has to end with status 3, `failed memory` (or `failed store`, where the database met it) and
+nothing on standard output, but for the lines of a country's regions that had passed. A certificate that was there, and
+the history and the shapes in the register, have to be as before, by SQLite; the same command afterwards has to answer
+as usual. A command over a register may also answer as usual and leave what it leaves as usual: the database does
+without room that only makes it faster. Each N is tried twice: alone, and with every later request refused too. A
+command over a register makes thousands of requests. REFUSED in the environment says how many are refused: `few` of
+any command (FEW), which it is where nothing is said; `some`: all, or where they are MANY a SAMPLE from a fixed seed;
+`all`."""
 
 import os
 import pathlib
@@ -27,7 +29,11 @@ FAST = "/dev/shm" if os.access("/dev/shm", os.W_OK) else None
 FAILURES = {(3, b"failed memory\n"): "memory", (3, b"failed store\n"): "store"}
 
 # B with each corner of its shape many times: a text of 37 KB, on pages of its own.
-LONG = f"UPDATE lpis_text SET wkt = 'POLYGON(({','.join(f'{corner},' * 749 + corner for corner in ['0.000 0.000', '5.000 0.000', '5.000 10.000', '0.000 0.000'])}))' WHERE id = 'B'"
+LONG = (
+    "UPDATE lpis_text SET wkt ="
+    f" 'POLYGON(({','.join(f'{corner},' * 749 + corner for corner in ['0.000 0.000', '5.000 0.000', '5.000 10.000', '0.000 0.000'])}))'"  # noqa: E501
+    " WHERE id = 'B'"
+)
 
 # The parcels of examples/overlap with two triangles each and no pair line: refused with 67.
 OVERLAP = """lpis-cert 2
@@ -49,7 +55,8 @@ def lpis(words, folder, **more):
 
 
 class Command:
-    """The words of a command, the files that it finds in its folder, and which of them have to be as before where it fails."""
+    """The words of a command, the files that it finds in its folder, and which of them have to be as before where it
+    fails."""
 
     def __init__(self, name, words, makers=(), *kept):
         self.name, self.words, self.makers, self.kept = name, words, makers, kept
@@ -80,6 +87,7 @@ def published(year):
     def make(folder):
         certificate(f"years/{year}")(folder)
         expect(0, lpis(["publish", "years.db", year, EXAMPLES / "years" / year, "cert.txt"], folder))
+
     return make
 
 
@@ -92,7 +100,9 @@ def marked(folder):
     release = folder / "marked"
     shutil.copytree(EXAMPLES / "years" / "2025", release)
     lines = (release / "lineage.csv").read_text().splitlines()
-    (release / "lineage.csv").write_text("".join(f"{line},{mark}\n" for line, mark in zip(lines, ["exact", 1, 1, 1, 1, ""])))
+    (release / "lineage.csv").write_text(
+        "".join(f"{line},{mark}\n" for line, mark in zip(lines, ["exact", 1, 1, 1, 1, ""]))
+    )
     expect(0, lpis(["cut", release, "cert.txt"], folder))
     expect(0, lpis(["exact", "years.db", "marked", "cert.txt", "exact.txt"], folder))
 
@@ -128,7 +138,14 @@ def pointed(folder):
 
 
 def locate(points):
-    return Command(f"locate of {points}", ["locate", EXAMPLES / "square", EXAMPLES / "square" / "cert.txt", points], [pointed])
+    return Command(
+        f"locate of {points}", ["locate", EXAMPLES / "square", EXAMPLES / "square" / "cert.txt", points], [pointed]
+    )
+
+
+def locate_alone(points):
+    words = ["locate", EXAMPLES / "square", points]
+    return Command(f"locate of {points}, without a certificate", words, [pointed])
 
 
 def land(folder):
@@ -138,16 +155,24 @@ def land(folder):
         expect(0, lpis(["cut", f"land/{region}", f"land/{region}/cert.txt"], folder))
 
 
+def without_certificates(folder):
+    """The regions lose theirs."""
+    for path in folder.glob("*/*/cert.txt"):
+        path.unlink()
+
+
 def locate_country(points):
     return Command(f"locate-country of {points}", ["locate-country", "land", points], [land, pointed])
 
 
 def country(year):
     """A year of examples/country-years in regions; the second after the first, with the blocks of its marks."""
+
     def make(folder):
         country_example.begin(folder, lambda *words: expect(0, lpis(words, folder)))
         if year == "2024":
             (folder / "years.db").unlink()
+
     return make
 
 
@@ -158,7 +183,9 @@ def unmarked_row(folder):
 
 
 def publish_country(name, year, makers, *options):
-    return Command(f"publish-country of {name}", ["publish-country", "years.db", year, year, *options], makers, "years.db")
+    return Command(
+        f"publish-country of {name}", ["publish-country", "years.db", year, year, *options], makers, "years.db"
+    )
 
 
 def publish(name, year, *makers):
@@ -166,9 +193,31 @@ def publish(name, year, *makers):
     return Command(f"publish of {name}", words, [*makers, certificate(f"years/{year}")], "years.db")
 
 
+def publish_alone(name, *makers):
+    """Of the second year, after the first, without a certificate."""
+    words = ["publish", "years.db", "2025", "release"]
+    return Command(f"publish of {name}, without a certificate", words, [published("2024"), *makers], "years.db")
+
+
+def unnamed(folder):
+    shutil.copytree(EXAMPLES / "years" / "2025", folder / "release")
+
+
+def gap(folder):
+    """The parcel of the release is larger than its pieces."""
+    shutil.copytree(EXAMPLES / "gap", folder / "release")
+    (folder / "release" / "lineage.csv").write_text("old,new\n")
+
+
 def exact(name, *makers):
     """Of the marked year, over a certificate that stands at OUT."""
-    return Command(f"exact of {name}", ["exact", "years.db", "marked", "cert.txt", "out.txt"], [published("2024"), marked, *makers, older_out], "years.db", "out.txt")
+    return Command(
+        f"exact of {name}",
+        ["exact", "years.db", "marked", "cert.txt", "out.txt"],
+        [published("2024"), marked, *makers, older_out],
+        "years.db",
+        "out.txt",
+    )
 
 
 def older_out(folder):
@@ -186,28 +235,66 @@ COMMANDS = [
     Command("a year that is none", ["publish", "years.db", "0", "release", "cert.txt"]),
     Command("a file that is missing", ["area", "missing.csv"]),
     Command("area of the square", ["area", EXAMPLES / "square.csv"]),
-    *map(cut, ["square", "pasture", "holes", "junctions", "members", "sweep", "years/2024", "bowtie", "gap", "overlap"]),
+    *map(
+        cut, ["square", "pasture", "holes", "junctions", "members", "sweep", "years/2024", "bowtie", "gap", "overlap"]
+    ),
     *map(check, ["square", "pasture", "holes", "junctions", "members"]),
     check("older", own=True),
     *map(check_alone, ["square", "pasture", "gap", "bowtie"]),
     Command("check of overlap, without pair lines", ["check", EXAMPLES / "overlap", "cert.txt"], [overlapping]),
     *map(locate, ["points.csv", "bad.csv"]),
+    *map(locate_alone, ["points.csv", "bad.csv"]),
     *map(locate_country, ["points.csv", "bad.csv"]),
+    Command(
+        "locate-country without certificates",
+        ["locate-country", "land", "points.csv"],
+        [land, without_certificates, pointed],
+    ),
     Command("country of the example, with parcels", ["country", "land", "--parcels"], [land]),
+    Command("country without certificates", ["country", "land"], [land, without_certificates]),
     publish("2024, in a new file", "2024"),
     publish("2025, after 2024", "2025", published("2024")),
-    Command("publish of 2025 with marks, after 2024", ["publish", "years.db", "2025", "marked", "exact.txt"], [published("2024"), marked], "years.db"),
-    Command("publish of 2025 with marks and without blocks", ["publish", "years.db", "2025", "marked", "cert.txt"], [published("2024"), marked], "years.db"),
+    Command(
+        "publish of 2025 with marks, after 2024",
+        ["publish", "years.db", "2025", "marked", "exact.txt"],
+        [published("2024"), marked],
+        "years.db",
+    ),
+    Command(
+        "publish of 2025 with marks and without blocks",
+        ["publish", "years.db", "2025", "marked", "cert.txt"],
+        [published("2024"), marked],
+        "years.db",
+    ),
+    publish_alone("2025, after 2024", unnamed),
+    publish_alone("a gap, after 2024", gap),
     exact("2025, after 2024"),
     exact("2025 with a split that is not exact", narrowed),
     publish("2025, a second time", "2025", published("2024"), published("2025")),
     publish_country("2024, in a new file", "2024", [country("2024")]),
     publish_country("2025, after 2024, with marks", "2025", [country("2025")], "--exact", "exact.txt", "--parcels"),
     publish_country("2025, without blocks", "2025", [country("2025")]),
-    publish_country("2025, with a row that is not marked", "2025", [country("2025"), unmarked_row], "--exact", "exact.txt"),
+    publish_country(
+        "2025, without certificates", "2025", [country("2025"), without_certificates], "--exact", "exact.txt"
+    ),
+    publish_country(
+        "2025, with a row that is not marked", "2025", [country("2025"), unmarked_row], "--exact", "exact.txt"
+    ),
     publish_country("2024, a second time", "2024", [country("2025")]),
-    Command("exact-country of 2025", ["exact-country", "years.db", "2025", "out.txt"], [country("2025"), older_out], "years.db", "out.txt"),
-    Command("exact-country of 2025 with a row that is not marked", ["exact-country", "years.db", "2025", "out.txt"], [country("2025"), unmarked_row, older_out], "years.db", "out.txt"),
+    Command(
+        "exact-country of 2025",
+        ["exact-country", "years.db", "2025", "out.txt"],
+        [country("2025"), older_out],
+        "years.db",
+        "out.txt",
+    ),
+    Command(
+        "exact-country of 2025 with a row that is not marked",
+        ["exact-country", "years.db", "2025", "out.txt"],
+        [country("2025"), unmarked_row, older_out],
+        "years.db",
+        "out.txt",
+    ),
     trace("north", "north", published("2024"), published("2025")),
     trace("an identifier in no release", "brook", published("2024"), published("2025")),
     trace("several identifiers", "north south brook", published("2024"), published("2025")),
@@ -244,14 +331,17 @@ class Refusals:
     def start(self, number, goes_on, folder):
         """The answer where the request of this number is refused, and what refuse_nth.c told."""
         end, told = os.pipe()
-        environment = dict(os.environ, LD_PRELOAD=self.library, REFUSE=str(number), REFUSE_ON=str(int(goes_on)), TOLD=str(told))
+        environment = dict(
+            os.environ, LD_PRELOAD=self.library, REFUSE=str(number), REFUSE_ON=str(int(goes_on)), TOLD=str(told)
+        )
         answer = lpis(self.command.words, folder, env=environment, pass_fds=(told,))
         os.close(told)
         with os.fdopen(end) as text:
             return (*answer, text.read())
 
     def ending(self, number, goes_on):
-        """How a run ended whose request of this number was refused: `memory`, `store`, `usual`, or what is not right."""
+        """How a run ended whose request of this number was refused: `memory`, `store`, `usual`, or what is not
+        right."""
         with calls.copy_of(self.folder) as copy:
             *answer, told = self.start(number, goes_on, copy)
             answer, refused = tuple(answer), re.match(r"refused .*", told)
@@ -259,7 +349,9 @@ class Refusals:
                 return f"met no refusal: {answer}"
             if self.failure_of(answer) is None:
                 # The database has caches that need not grow, and need not copy its log at the end.
-                as_usual = answer == self.usual and "years.db" in self.command.kept and self.command.state(copy) == self.after
+                as_usual = (
+                    answer == self.usual and "years.db" in self.command.kept and self.command.state(copy) == self.after
+                )
                 return "usual" if as_usual else f"{refused.group(0)}: {answer}"
             with calls.copy_of(copy) as seen:
                 if self.command.state(seen) != self.before:
@@ -270,9 +362,14 @@ class Refusals:
             return self.failure_of(answer)
 
     def failure_of(self, answer):
-        """Which failure a run ended with; None where it is none, or where it printed more than the lines of regions that had passed."""
+        """Which failure a run ended with; None where it is none, or where it printed more than the lines of regions
+        that had passed."""
         status, text, told = answer
-        is_progress = self.command.has_progress and self.usual[1].startswith(text) and all(line.startswith((b"region ", b"parcel ")) for line in text.splitlines())
+        is_progress = (
+            self.command.has_progress
+            and self.usual[1].startswith(text)
+            and all(line.startswith((b"region ", b"parcel ")) for line in text.splitlines())
+        )
         return FAILURES.get((status, told)) if not text or is_progress else None
 
 
@@ -286,6 +383,10 @@ def test_refused_requests(command, library):
     """Each run that met a refusal ends as it may; how many did stands in the message."""
     with tempfile.TemporaryDirectory(dir=FAST) as top:
         refusals = Refusals(command, pathlib.Path(top, "files"), library)
-        endings = {(number, goes_on): refusals.ending(number, goes_on) for number in refusals.numbers() for goes_on in (False, True)}
+        endings = {
+            (number, goes_on): refusals.ending(number, goes_on)
+            for number in refusals.numbers()
+            for goes_on in (False, True)
+        }
     wrong = {request: ending for request, ending in endings.items() if ending not in ("memory", "store", "usual")}
     assert endings and not wrong, f"{len(wrong)} of {len(endings)} runs, of {refusals.requests} requests"

@@ -1,7 +1,8 @@
-"""Tests the page that checks a release in a browser, and the library: the module beside the native program, byte for byte; the examples in C and Python;
-the page in headless Chromium. The page is built anew where the crates that it stands on are proved by `rt lib` (dev/library), in five minutes. What wants
-Node, binaryen, Chromium, a C compiler or the kit is left out where it is not there.
-It takes a sample: with WHOLE=1 200 generated releases, 60,000 parcels in the browser, and a second build of the page."""
+"""Tests the page that checks a release in a browser, and the library: the module beside the native program, byte for
+byte; the examples in C and Python; the page in headless Chromium. The page is built anew where the crates that it
+stands on are proved by `rt lib` (dev/library), in five minutes. What wants Node, binaryen, Chromium, a C compiler or
+the kit is left out where it is not there. It takes a sample: with WHOLE=1 200 generated releases, 60,000 parcels in
+the browser, and a second build of the page."""
 
 import contextlib
 import json
@@ -15,12 +16,27 @@ from pathlib import Path
 import pytest
 from lpis_helpers.spare import Spare
 from lpis_helpers.browser import Browser
-from lpis_helpers.page_case import CC, EXAMPLES, SOURCES, TESTS, TOP, WHOLE, built, native, node, read, releases_of, wanted
-from lpis_tools import explaining, report
-from lpis_helpers import nasty_shapes
+from lpis_helpers.page_case import (
+    CC,
+    EXAMPLES,
+    SOURCES,
+    TESTS,
+    TOP,
+    WHOLE,
+    built,
+    native,
+    node,
+    read,
+    releases_of,
+    wanted,
+)
+from lpis.faults import explanation
+from lpis.report import release_report
+from lpis_helpers import dirty, nasty_shapes
 from lpis_helpers.tables import write_squares
 
-RELEASES, MANY = (200, 60_000) if WHOLE else (20, 5_000)  # generated releases, of which a half has faults; parcels in the browser
+# generated releases, of which a half has faults; parcels in the browser
+RELEASES, MANY = (200, 60_000) if WHOLE else (20, 5_000)
 
 
 class Cases:
@@ -36,7 +52,9 @@ class Cases:
 
     def add(self, call, name, inputs, words, cert=""):
         status, text = native(*words)
-        self.cases.append({"name": name, "call": call, "inputs": inputs, "status": status, "text": self.file(text), "cert": cert})
+        self.cases.append(
+            {"name": name, "call": call, "inputs": inputs, "status": status, "text": self.file(text), "cert": cert}
+        )
         return status, text
 
     def tables(self, release):
@@ -108,7 +126,13 @@ class TestModule:
         native("cut", release, cert)
         status, text = native("check", release, cert)
         inputs = [os.path.join(release, f"{name}.csv") for name in ("parcels", "covers", "classes")] + [cert]
-        found = node("memory", module=os.path.join(TOP, "out", "page", "page.wasm"), inputs=inputs, pages=[0, 3, 20, 60, 100, 2000], room=1000)
+        found = node(
+            "memory",
+            module=os.path.join(TOP, "out", "page", "page.wasm"),
+            inputs=inputs,
+            pages=[0, 3, 20, 60, 100, 2000],
+            room=1000,
+        )
         assert status == 0
         for answer in found["few"]:
             assert (answer["isAnswered"], answer["status"], answer["length"]) in [(False, 3, 0), (True, 0, len(text))]
@@ -135,7 +159,8 @@ class TestLibrary(Spare):
 
     def expect_same(self, *command):
         for release, cert in self.cases():
-            environment = {**os.environ, "ASAN_OPTIONS": "detect_leaks=0"}  # an example lets go of what it read by ending
+            # an example lets go of what it read by ending
+            environment = {**os.environ, "ASAN_OPTIONS": "detect_leaks=0"}
             run = subprocess.run([*command, release, cert], capture_output=True, check=False, env=environment)
             assert (run.returncode, run.stdout) == native("check", release, cert), run.stderr
 
@@ -143,15 +168,29 @@ class TestLibrary(Spare):
         wanted("CC")
         library = os.path.join(TOP, "out", "library")
         program = os.path.join(self.folder, "check")
-        subprocess.run([CC, "-Wall", "-Wextra", "-Werror", f"{library}/check.c", f"{library}/liblpis.a", "-o", program], check=True)
+        subprocess.run(
+            [CC, "-Wall", "-Wextra", "-Werror", f"{library}/check.c", f"{library}/liblpis.a", "-o", program], check=True
+        )
         self.expect_same(program)
 
     def test_example_in_c_over_the_heap_of_the_page(self):
         """The proved code natively, with the heap of the page and AddressSanitizer in place of malloc."""
         wanted("CC")
-        program, crate = os.path.join(self.folder, "check"), os.path.join(TOP, "crates", "lpis_page", "out", "liblpis_page.a")
-        sources = [os.path.join(TOP, "library", "check.c"), os.path.join(SOURCES, "heap.c"), os.path.join(TESTS, "memory.c"), os.path.join(TESTS, "lent.c")]
-        made = subprocess.run([CC, "-g", "-O1", "-fsanitize=address", *sources, crate, "-o", program], capture_output=True, text=True, check=False)
+        program, crate = os.path.join(self.folder, "check"), os.path.join(
+            TOP, "crates", "lpis_page", "out", "liblpis_page.a"
+        )
+        sources = [
+            os.path.join(TOP, "library", "check.c"),
+            os.path.join(SOURCES, "heap.c"),
+            os.path.join(TESTS, "memory.c"),
+            os.path.join(TESTS, "lent.c"),
+        ]
+        made = subprocess.run(
+            [CC, "-g", "-O1", "-fsanitize=address", *sources, crate, "-o", program],
+            capture_output=True,
+            text=True,
+            check=False,
+        )
         if made.returncode:
             raise pytest.skip.Exception("the C compiler has no AddressSanitizer")
         self.expect_same(program)
@@ -182,7 +221,13 @@ class TestPage(Spare):
         return browser.value(f"document.getElementById({name!r}).innerText")
 
     def finish(self, browser, seconds=120):
-        browser.wait("document.getElementById('verdict').className !== 'busy' && !document.body.classList.contains('busy') && !document.getElementById('result').hidden", seconds)
+        browser.wait(
+            (
+                "document.getElementById('verdict').className !== 'busy' && !document.body.classList.contains('busy')"
+                " && !document.getElementById('result').hidden"
+            ),
+            seconds,
+        )
 
     def copied(self, name):
         release = os.path.join(self.folder, os.path.basename(name))
@@ -195,30 +240,85 @@ class TestPage(Spare):
 
     def test_a_folder_without_a_certificate(self):
         browser = self.browser()
+        folder, cert = os.path.join(EXAMPLES, "exact", "2024"), os.path.join(self.folder, "cert")
         browser.drop("#drop", [self.copied("exact/2024")])
-        browser.wait("!document.getElementById('cut').disabled && !document.getElementById('hint').hidden")
-        browser.value("document.getElementById('cut').click()")
         self.finish(browser)
-        assert "Yes: the release is a sound map" in self.text(browser, "verdict")
+        assert "Yes: the release is a sound map." in self.text(browser, "verdict")
+        assert "certificate: not needed" in self.text(browser, "have")
         assert "native program's answer is the one of record" in self.text(browser, "rests")
         assert "audit/release.py" in self.text(browser, "rests")
         facts = json.loads(browser.value("document.getElementById('facts').textContent"))
         for name in ("program", "module", "page"):
             assert facts[name] in self.text(browser, "digests")
         assert self.text(browser, "differs") + self.text(browser, "wrong") == ""
-        status, text = native("cut", os.path.join(EXAMPLES, "exact", "2024"), os.path.join(self.folder, "cert"))
-        assert browser.value("files.cert.text()") == read(os.path.join(self.folder, "cert")).decode()
-        status, text = native("check", os.path.join(EXAMPLES, "exact", "2024"), os.path.join(self.folder, "cert"))
+        status, text = native("check", folder)
         assert (status, browser.value("shown.result.text")) == (0, text.decode())
+        browser.value("document.getElementById('cut').click()")  # to hand it over
+        browser.wait("files.cert && shown?.isReport && !shown.isBusy")
+        assert "and the certificate is good for it" in self.text(browser, "verdict")
+        native("cut", folder, cert)
+        assert browser.value("files.cert.text()") == read(cert).decode()
+        assert browser.value("shown.result.text") == text.decode()
         browser.drop("#drop", [self.copied("overlap")])  # the yes was not about these files
-        browser.wait("document.getElementById('result').hidden && !files.cert")
+        browser.wait("document.getElementById('verdict').textContent.startsWith('No: the release is refused.')")
+        assert browser.value("!files.cert")
+        self.expect_quiet(browser)
+
+    def test_a_file_of_no_kind_is_told(self):
+        """A GeoPackage, a table of another name, and what is neither; beside files of a release too."""
+        package = dirty.make(os.path.join(self.folder, "land.gpkg"), [])
+        for name, text in (("klassen.csv", "Klasse;Prozent\nAcker;100\n"), ("note.pdf", "%PDF-1.4")):
+            Path(self.folder, name).write_text(text, encoding="utf-8")
+        browser = self.browser()
+        for name, words in (
+            (package, "land.gpkg is a GeoPackage, and this page reads tables: lpis-check"),
+            ("note.pdf", "note.pdf is none of the three tables"),
+            ("klassen.csv", "klassen.csv is a table with the columns Klasse, Prozent. Its name does not say"),
+        ):
+            browser.drop("#drop", [os.path.join(self.folder, name)])
+            browser.wait(f"document.getElementById('passed').innerText.includes({words!r})")
+        release = self.copied("exact/2024")
+        shutil.copy(package, release)
+        browser.drop("#drop", [release])
+        browser.wait(
+            "!document.getElementById('cut').disabled && document.getElementById('passed').innerText.includes('is a"
+            " GeoPackage')"
+        )
+        self.expect_quiet(browser)
+
+    def test_the_map_is_above_the_digests(self):
+        """It is reached by the tab key, has a label, and is moved by keys; so are rows and heads of tables."""
+        browser = self.browser()
+        browser.value("document.getElementById('good').click()")
+        self.finish(browser)
+        browser.wait("!document.getElementById('views').hidden")
+        assert browser.value(
+            "document.querySelector('canvas.map').getBoundingClientRect().top <"
+            " document.getElementById('digests').getBoundingClientRect().top"
+        )
+        assert browser.value(
+            "[document.querySelector('canvas.map').tabIndex,"
+            " document.querySelector('canvas.map').ariaLabel.startsWith('Map. Arrow keys')]"
+        ) == [0, True]
+        for keys, element in (
+            ("ArrowLeft + n p 0".split(), "canvas.map"),
+            (["Enter"], "#classes th"),
+            ([" "], "#parcels th"),
+        ):
+            for key in keys:
+                browser.value(
+                    f"document.querySelector({element!r}).dispatchEvent(new KeyboardEvent('keydown', {{ key:"
+                    f" {key!r} }}))"
+                )
         self.expect_quiet(browser)
 
     def test_tables_sort_and_are_saved(self):
         release, cert = self.copied("exact/2024"), os.path.join(self.folder, "cert.txt")
         native("cut", release, cert)
         browser = self.browser()
-        browser.choose("#files", [*(os.path.join(release, f"{name}.csv") for name in ("parcels", "covers", "classes")), cert])
+        browser.choose(
+            "#files", [*(os.path.join(release, f"{name}.csv") for name in ("parcels", "covers", "classes")), cert]
+        )
         self.finish(browser)
         browser.wait("!document.getElementById('views').hidden")
         column = "[...document.querySelectorAll('#parcels tbody tr')].map(row => row.cells[2].textContent)"
@@ -229,8 +329,10 @@ class TestPage(Spare):
         assert browser.value(column) == sorted(before, key=float, reverse=True)
         lines = browser.value("tables[1].csv()").splitlines()
         assert lines[0] == "parcel,pieces,area,eligible"
-        told, _, totals = report.report_lines(browser.value("shown.result.text"))
-        assert {line.split(",")[0]: tuple(line.split(",")[2:]) for line in lines[1:]} == {name: tuple(row.values()) for name, row in told.items()}
+        told, _, totals = release_report.report_lines(browser.value("shown.result.text"))
+        assert {line.split(",")[0]: tuple(line.split(",")[2:]) for line in lines[1:]} == {
+            name: tuple(row.values()) for name, row in told.items()
+        }
         assert totals["area"] in self.text(browser, "totals")
         assert "grass" in self.text(browser, "classes")
 
@@ -238,17 +340,29 @@ class TestPage(Spare):
         release = self.copied("overlap")
         browser = self.browser()
         browser.choose("#folder", [release])
-        browser.wait("!document.getElementById('cut').disabled")
-        browser.value("document.getElementById('cut').click()")
         self.finish(browser)
         browser.wait("!document.getElementById('views').hidden")
         assert "No: the release is refused" in self.text(browser, "verdict")
         line = "refused 41 parcels west east at 50020 23980 1"
         assert self.text(browser, "line") == line
-        assert self.text(browser, "sentences").splitlines() == [words.strip() for words in explaining.Explained(line, release).words]
-        assert browser.value("[data.map.marks.length, chart.old.names, chart.parcels.count]") == [1, ["west", "east"], 2]
-        assert self.text(browser, "line") == native("cut", release, os.path.join(self.folder, "cert"))[1].decode().strip()
-        browser.value("(() => { const s = document.getElementById('language'); s.value = 'de'; s.dispatchEvent(new Event('change')); })()")
+        assert self.text(browser, "sentences").splitlines() == [
+            words.strip() for words in explanation.Explained(line, release).words
+        ]
+        assert browser.value("[data.map.marks.length, chart.old.names, chart.parcels.count]") == [
+            1,
+            ["west", "east"],
+            2,
+        ]
+        assert (
+            self.text(browser, "line") == native("cut", release, os.path.join(self.folder, "cert"))[1].decode().strip()
+        )
+        browser.value("document.getElementById('cut').click()")
+        browser.wait("document.getElementById('verdict').textContent.includes('there is no certificate for it')")
+        assert self.text(browser, "line") == line
+        browser.value(
+            "(() => { const s = document.getElementById('language'); s.value = 'de'; s.dispatchEvent(new"
+            " Event('change')); })()"
+        )
         assert "Nein: Der Jahresstand wird abgelehnt" in self.text(browser, "verdict")
         assert "übliche Ursache" in self.text(browser, "sentences")
         self.expect_quiet(browser)
@@ -276,7 +390,9 @@ class TestPage(Spare):
         native("cut", release, cert)
         for pages, words in ((120, "No answer: out of memory"), (4000, "Yes")):
             browser = self.browser(f"--js-flags=--wasm-max-mem-pages={pages}")
-            browser.drop("#drop", [os.path.join(release, f"{name}.csv") for name in ("parcels", "covers", "classes")] + [cert])
+            browser.drop(
+                "#drop", [os.path.join(release, f"{name}.csv") for name in ("parcels", "covers", "classes")] + [cert]
+            )
             self.finish(browser)
             assert words in self.text(browser, "verdict")
 
@@ -286,7 +402,9 @@ class TestPage(Spare):
         native("cut", release, cert)
         browser = self.browser()
         browser.value("window.ticks = 0, setInterval(() => ticks++, 10)")
-        browser.drop("#drop", [os.path.join(release, f"{name}.csv") for name in ("parcels", "covers", "classes")] + [cert])
+        browser.drop(
+            "#drop", [os.path.join(release, f"{name}.csv") for name in ("parcels", "covers", "classes")] + [cert]
+        )
         self.finish(browser, 400)
         browser.wait("!document.getElementById('views').hidden", 200)
         assert browser.value("shown.result.text") == native("check", release, cert)[1].decode()
@@ -298,8 +416,14 @@ class TestPage(Spare):
         browser, square = self.browser(), os.path.join(EXAMPLES, "square.csv")
         browser.choose("#area", [square])
         self.finish(browser)
-        assert (self.text(browser, "line"), browser.value("shown.result.text").encode()) == ("", native("area", square)[1])
-        assert browser.value("tables[0].csv()").splitlines() == ["number,name,area", f"1,{browser.value('shown.result.rows[0]')},100.0000000"]
+        assert (self.text(browser, "line"), browser.value("shown.result.text").encode()) == (
+            "",
+            native("area", square)[1],
+        )
+        assert browser.value("tables[0].csv()").splitlines() == [
+            "number,name,area",
+            f"1,{browser.value('shown.result.rows[0]')},100.0000000",
+        ]
         table = os.path.join(self.folder, "shapes.csv")
         Path(table).write_text('name,wkt\nA,"POLYGON((0 0,1.2345 0,0 1,0 0))"\n', encoding="ascii")
         browser.choose("#area", [table])
@@ -308,26 +432,36 @@ class TestPage(Spare):
         self.expect_quiet(browser)
 
     def test_an_example_is_a_click_away(self):
-        """Each button's answer and map are those of its release; the files of one's own take the place of the example's."""
+        """Each button's answer and map are those of its release; the files of one's own take the place of the
+        example's."""
         browser = self.browser()
-        for button, name, words in (("good", "pasture", "Yes: the release is a sound map"), ("faulty", "overlap", "No: the release is refused"), ("good", "pasture", "Yes")):
+        for button, name, words in (
+            ("good", "pasture", "Yes: the release is a sound map"),
+            ("faulty", "overlap", "No: the release is refused"),
+            ("good", "pasture", "Yes"),
+        ):
             browser.value(f"document.getElementById('{button}').click()")
             self.finish(browser)
             browser.wait("!document.getElementById('views').hidden")
             assert words in self.text(browser, "verdict")
-            cert = os.path.join(self.folder, "cert")
-            status, text = native("cut", os.path.join(EXAMPLES, name), cert)
-            if status == 0:
-                status, text = native("check", os.path.join(EXAMPLES, name), cert)
-            assert browser.value("shown.result.text") == text.decode()
+            assert browser.value("shown.result.text") == native("check", os.path.join(EXAMPLES, name))[1].decode()
         browser.drop("#drop", [os.path.join(self.copied("holes"), "parcels.csv")])
-        browser.wait("document.getElementById('result').hidden && files.parcels && !files.covers && !files.classes && !files.cert")
+        browser.wait(
+            "document.getElementById('result').hidden && files.parcels && !files.covers && !files.classes &&"
+            " !files.cert"
+        )
         self.expect_quiet(browser)
 
     def test_what_leaves_the_page(self):
         browser = self.browser()
         assert "refused" in browser.value("fetch('https://example.com/').then(() => 'sent', () => 'refused')")
-        assert browser.value("(() => { const s = document.createElement('script'); s.textContent = 'window.ran = 1'; document.body.append(s); return window.ran ?? 0; })()") == 0
+        assert (
+            browser.value(
+                "(() => { const s = document.createElement('script'); s.textContent = 'window.ran = 1';"
+                " document.body.append(s); return window.ran ?? 0; })()"
+            )
+            == 0
+        )
 
     @pytest.mark.skipif(not WHOLE, reason="WHOLE is not set")
     def test_the_same_bytes_each_time(self):

@@ -1,8 +1,9 @@
 """Holds tools/words.txt, which has the words of a command line that are files, against the built program.
 
-Each command of `lpis --help` has a line there, and each line is a command's. Each has as many words as the program wants. Of the files that a
-command reads by that table each is missing in turn, while all others are there: the program has to fail for that name, and ./lpis to say
-its path. With all of them there it fails for none. What a command writes is handed a folder that is not there.
+Each command of `lpis --help` has a line there, and each line is a command's. Each has as many words as the program
+wants. Of the files that a command reads by that table each is missing in turn, while all others are there: the program
+has to fail for that name, and ./lpis to say its path. With all of them there it fails for none. What a command writes
+is handed a folder that is not there.
 """
 
 import pathlib
@@ -18,15 +19,20 @@ TOP = pathlib.Path(HOUSE)
 EXAMPLE = TOP / "examples" / "square"
 NO_ROWS = "; where no identifier was dropped, as in a first year, it is the line old,new alone"
 OTHER_WORDS = {"register": "register.db", "year": "2024", "id": "A"}
-ROWS = [line.split() for line in (TOP / "tools" / "words.txt").read_text(encoding="utf-8").splitlines() if line and not line.startswith("#")]
+ROWS = [
+    line.split()
+    for line in (TOP / "tools" / "words.txt").read_text(encoding="utf-8").splitlines()
+    if line and not line.startswith("#")
+]
 COMMANDS = {head: rest for head, *rest in ROWS if not head.endswith("/")}
 FOLDERS = {head: rest for head, *rest in ROWS if head.endswith("/")}
 
 
 def words_of(command):
-    """The names of the words that the program wants of a command, or takes, in brackets as [OPTIONS] are, which are none of them."""
+    """The names of the words that the program wants of a command, or takes, in brackets as [OPTIONS] are, which are
+    none of them."""
     usage = re.search(r"(?m)^Usage: .*$", lpis(command, "--help")[1])
-    return re.findall(r"[<[]([a-z]+)[]>]", usage[0]) if usage else []
+    return re.findall(r"[<[]([a-z-]+)[]>]", usage[0]) if usage else []
 
 
 def make_land(folder):
@@ -41,15 +47,19 @@ def make_land(folder):
 
 def make_file(path):
     """A file that is read by this name: where its text is not what the command wants, that is no failure."""
-    shutil.copy({"area": TOP / "examples" / "square.csv", "cert": EXAMPLE / "cert.txt"}.get(path.stem, EXAMPLE / "parcels.csv"), path)
+    shutil.copy(
+        {"area": TOP / "examples" / "square.csv", "cert": EXAMPLE / "cert.txt"}.get(path.stem, EXAMPLE / "parcels.csv"),
+        path,
+    )
     return path
 
 
 class Case:
-    """A command in a folder of its own: its words, and what it reads and writes by the table, as (name, region, path)."""
+    """A command in a folder of its own: its words, and what it reads and writes by the table, as (name, region,
+    path)."""
 
     def __init__(self, top, command):
-        self.top, self.words, self.reads, self.writes = top, [command], [], []
+        self.top, self.words, self.reads, self.writes, self.loose = top, [command], [], [], []
         names = words_of(command)
         for number, kind in enumerate(word.strip("[]") for word in COMMANDS[command]):
             path = top / f"{number}"
@@ -67,7 +77,10 @@ class Case:
                 self.words.append(path / "none" / "out.txt")
             elif kind.endswith("/"):
                 make_land(path)
-                self.reads += [self.of_folder(path, file) for file in FOLDERS.get(kind, [])]
+                self.reads += [self.of_folder(path, file) for file in FOLDERS.get(kind, []) if not file.startswith("[")]
+                self.loose += [
+                    self.of_folder(path, file.strip("[]")) for file in FOLDERS.get(kind, []) if file.startswith("[")
+                ]
                 self.words.append(path)
             else:
                 self.reads.append((kind, "", make_file(path / f"{kind}.txt")))
@@ -101,9 +114,30 @@ def test_files(command, tmp_path):
     for name, region, path in case.reads:
         away = path.rename(path.with_suffix(".away"))
         ours = f"{name} of region {region}" if region else name
-        assert case.told() == [f"failed read {name}{' region ' if region else ''}{region}", f"lpis: {ours} is {path}: it is missing{NO_ROWS * (name == 'lineage')}"]
+        assert case.told() == [
+            f"failed read {name}{' region ' if region else ''}{region}",
+            f"lpis: {ours} is {path}: it is missing{NO_ROWS * (name == 'lineage')}",
+        ]
         away.rename(path)
+    for *_, path in case.loose:
+        path.unlink()
     told = case.told()
     assert [line for line in told if line.startswith("failed read")] == []
     for name, path in case.writes:
-        assert told == [f"failed write {name}", f"lpis: {name} is {path}: it is missing, and so is the folder {path.parent}"]
+        assert told == [
+            f"failed write {name}",
+            f"lpis: {name} is {path}: it is missing, and so is the folder {path.parent}",
+        ]
+
+
+@pytest.mark.parametrize("command, name", [("check", ""), ("locate", "points"), ("publish", "")])
+def test_left_out(command, name, tmp_path):
+    """Where the certificate is not named it is no file that fails, and the words behind it are told by their paths."""
+    case = Case(tmp_path, command)
+    _, _, cert = next(read for read in case.reads if read[0] == "cert")
+    case.words.remove(cert)
+    assert [line for line in case.told() if line.startswith("failed read")] == []
+    for read, _, path in case.reads:
+        if read == name:
+            path.unlink()
+            assert case.told() == [f"failed read {name}", f"lpis: {name} is {path}: it is missing"]

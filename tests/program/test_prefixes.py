@@ -1,11 +1,14 @@
-"""Runs the built program over the worked examples' inputs, each cut off at each byte: no beginning of an input gets the answer of the whole, but where only its
-last line end or the quote before it is missing. A series is the beginnings of one input: how many there are stands in its message.
+"""Runs the built program over the worked examples' inputs, each cut off at each byte: no beginning of an input gets the
+answer of the whole, but where only its last line end or the quote before it is missing. A series is the beginnings of
+one input: how many there are stands in its message.
 
-A beginning of a certificate, of either version and with blocks of exact splits and merges or without, is refused as 54, at the line behind its last line end.
-One of a table is refused, but where a percentage at its end is cut off behind a digit: that is another one, and so is the report. One of a lineage table is
-refused, by `exact` too, which writes nothing, and the register is as before. One of a table for `area` has the areas of no row that is not whole. One of a
-region's lineage table is refused by `publish-country` and `exact-country`, at whatever place of the country it stands; one of the certificate with the
-country's blocks as 54, and one of country.txt as 90, both at the line behind its last line end.
+A beginning of a certificate, of either version and with blocks of exact splits and merges or without, is refused as 54,
+at the line behind its last line end. One of a table is refused, but where a percentage at its end is cut off behind a
+digit: that is another one, and so is the report. One of a lineage table is refused, by `exact` too, which writes
+nothing, and the register is as before. One of a table for `area` has the areas of no row that is not whole. One of a
+region's lineage table is refused by `publish-country` and `exact-country`, at whatever place of the country it stands;
+one of the certificate with the country's blocks as 54, and one of country.txt as 90, both at the line behind its last
+line end.
 """
 
 import pathlib
@@ -23,11 +26,17 @@ NEAR, STEP = 2, 17  # bytes: about a line's end, and from one beginning to the n
 
 @pytest.fixture
 def expect_series(request):
-    """Tests that of each beginning the answer is what is wanted: without --long of those alone that end at a line's end or beside it, and of some others."""
+    """Tests that of each beginning the answer is what is wanted: without --long of those alone that end at a line's
+    end or beside it, and of some others."""
     is_long = request.config.getoption("long")
 
     def expect(whole, answer_of, wanted_of):
-        expect_each(whole, [length for length in range(len(whole)) if is_long or is_near_an_end(whole, length) or length % STEP == 0], answer_of, wanted_of)
+        expect_each(
+            whole,
+            [length for length in range(len(whole)) if is_long or is_near_an_end(whole, length) or length % STEP == 0],
+            answer_of,
+            wanted_of,
+        )
 
     return expect
 
@@ -40,7 +49,11 @@ def is_near_an_end(whole, length):
 def expect_each(whole, lengths, answer_of, wanted_of):
     """Of beginnings of these lengths the answer is what is wanted."""
     found = [(length, answer_of(whole[:length]), wanted_of(length)) for length in lengths]
-    wrong = [f"{length} bytes: {answer} in place of {wanted}" for length, answer, wanted in found if not (wanted(answer) if callable(wanted) else answer == wanted)]
+    wrong = [
+        f"{length} bytes: {answer} in place of {wanted}"
+        for length, answer, wanted in found
+        if not (wanted(answer) if callable(wanted) else answer == wanted)
+    ]
     assert found and not wrong, f"{len(wrong)} of {len(lengths)} beginnings"
 
 
@@ -75,10 +88,16 @@ def certificate_of(release, folder):
     return kept.read_bytes()
 
 
-@pytest.mark.parametrize("release", ["square", "older", "pasture", "holes", "junctions", "members", "sweep", "years/2024", "years/2025"])
+@pytest.mark.parametrize(
+    "release", ["square", "older", "pasture", "holes", "junctions", "members", "sweep", "years/2024", "years/2025"]
+)
 def test_certificates(release, tmp_path, expect_series):
     whole = certificate_of(release, tmp_path)
-    expect_series(whole, lambda data: lpis("check", EXAMPLES / release, written(tmp_path / "cut.txt", data)), refused("54 cert", whole))
+    expect_series(
+        whole,
+        lambda data: lpis("check", EXAMPLES / release, written(tmp_path / "cut.txt", data)),
+        refused("54 cert", whole),
+    )
 
 
 @pytest.mark.parametrize("release", ["square", "older"])
@@ -108,16 +127,23 @@ def test_areas(tmp_path, expect_series):
     def wanted(length):
         if length < 5:
             return (2, "refused 31 area row 0\n", "") if length < 3 else (0, "", "")
-        return (0, "100.0000000\n", "") if is_as_good(whole, length) else lambda answer: is_refused(answer) and answer[1].startswith("refused 38 area row 1 wkt ")
+        return (
+            (0, "100.0000000\n", "")
+            if is_as_good(whole, length)
+            else lambda answer: is_refused(answer) and answer[1].startswith("refused 38 area row 1 wkt ")
+        )
 
     expect_series(whole, lambda data: lpis("area", written(tmp_path / "area.csv", data)), wanted)
 
 
 def marked(lineage):
-    """The same lineage, its endings first, with a mark in each other row: a last mark that is cut off leaves its merge marked in part."""
+    """The same lineage, its endings first, with a mark in each other row: a last mark that is cut off leaves its
+    merge marked in part."""
     header, *rows = lineage.decode().splitlines()
     rows.sort(key=lambda row: not row.endswith(","))
-    return "".join(f"{row},{'exact' if row == header else '' if row.endswith(',') else 1}\n" for row in [header, *rows]).encode()
+    return "".join(
+        f"{row},{'exact' if row == header else '' if row.endswith(',') else 1}\n" for row in [header, *rows]
+    ).encode()
 
 
 @pytest.mark.parametrize("is_marked", [False, True], ids=["lineage", "marks"])
@@ -138,14 +164,19 @@ def test_lineage(is_marked, tmp_path, expect_series):
 
     def wanted(length):
         if is_as_good(whole, length):
-            return lambda found: found[0][0] == found[1][0] == 0 and found[2] == blocks.read_bytes() and found[3] == (0, "north-1\nnorth-2\n", "")
+            return (
+                lambda found: found[0][0] == found[1][0] == 0
+                and found[2] == blocks.read_bytes()
+                and found[3] == (0, "north-1\nnorth-2\n", "")
+            )
         return lambda found: found[0] == found[1] and is_refused(found[1]) and found[2:] == (None, (0, "north\n", ""))
 
     expect_series(whole, answer, wanted)
 
 
 def years(folder, out, exact, publish, name):
-    """The answers of two commands over a copy of a register, what the first wrote, and what is traced of an identifier then."""
+    """The answers of two commands over a copy of a register, what the first wrote, and what is traced of an
+    identifier then."""
     out.unlink(missing_ok=True)
     copy = shutil.copy(folder / "years.db", folder / "copy.db")
     made = exact and lpis(exact[0], copy, *exact[1:])
@@ -183,10 +214,16 @@ def country(tmp_path_factory):
     return folder
 
 
-@pytest.mark.parametrize("name", ["country.txt", "exact.txt", "west/lineage.csv", "southeast/lineage.csv", "northeast/lineage.csv"])
+@pytest.mark.parametrize(
+    "name", ["country.txt", "exact.txt", "west/lineage.csv", "southeast/lineage.csv", "northeast/lineage.csv"]
+)
 def test_countries(name, country, tmp_path, expect_series):
     """By `publish-country`, and by `exact-country`, which does not read the certificate."""
-    cut, whole, blocks = shutil.copytree(country / "2025", tmp_path / "2025"), (country / "2025" / name).read_bytes(), (country / "2025" / "exact.txt").read_bytes()
+    cut, whole, blocks = (
+        shutil.copytree(country / "2025", tmp_path / "2025"),
+        (country / "2025" / name).read_bytes(),
+        (country / "2025" / "exact.txt").read_bytes(),
+    )
     out = tmp_path / "out.txt"
     shutil.copy(country / "years.db", tmp_path)
     line = refused("54 cert" if name == "exact.txt" else "90 country", whole)
@@ -198,12 +235,21 @@ def test_countries(name, country, tmp_path, expect_series):
 
     def is_refused_there(found):
         last = found[1].splitlines()[-1:]
-        return found[0] in (1, 2) and last[0].startswith("refused ") and (last[0].endswith(f" region {name.split('/')[0]}") or last[0].startswith("refused 81 ")) and not found[2]
+        return (
+            found[0] in (1, 2)
+            and last[0].startswith("refused ")
+            and (last[0].endswith(f" region {name.split('/')[0]}") or last[0].startswith("refused 81 "))
+            and not found[2]
+        )
 
     def wanted(length):
         if name.endswith("lineage.csv") and is_as_good(whole, length):
-            return lambda found: found[0][0] == found[1][0] == 0 and found[2] == blocks and found[3] == (0, "lane\n", "")
+            return (
+                lambda found: found[0][0] == found[1][0] == 0 and found[2] == blocks and found[3] == (0, "lane\n", "")
+            )
         is_right = is_refused_there if name.endswith("lineage.csv") else line(length).__eq__
-        return lambda found: is_right(found[1]) and found[0] in (None, found[1]) and found[2:] == (None, (0, "mill\n", ""))
+        return (
+            lambda found: is_right(found[1]) and found[0] in (None, found[1]) and found[2:] == (None, (0, "mill\n", ""))
+        )
 
     expect_series(whole, answer, wanted)

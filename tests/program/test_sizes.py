@@ -1,16 +1,20 @@
-"""Runs the built program over inputs of growing sizes: one row, two, and one more than each power of two. Each is answered, and as the sums say:
-a contract allows `failed memory` for any input, so that none is told as too long while there is memory is seen here alone.
+"""Runs the built program over inputs of growing sizes: one row, two, and one more than each power of two. Each is
+answered, and as the sums say: a contract allows `failed memory` for any input, so that none is told as too long while
+there is memory is seen here alone.
 
-    MOST=100000 pytest tests/program/test_sizes.py      so many rows at most, in place of 40,000
+    MOST=100000 pytest --long tests/program/test_sizes.py      so many rows at most, in place of 40,000; without --long
+        10,000
 
-Of each size: `area` of a table, and of one row whose ring has as many corners; `cut`, `check` and `locate` of a release with as many parcels and
-points; `publish` of it, then of a second year that renames each parcel, and `trace` of the first and the last one.
+Of each size: `area` of a table, and of one row whose ring has as many corners; `cut`, `check` and `locate` of a release
+with as many parcels and points; `publish` of it, then of a second year that renames each parcel, and `trace` of the
+first and the last one.
 """
 
 import os
 
 from lpis_helpers import calls
 import pytest
+from lpis_helpers.spare import exhaustive
 from lpis_helpers.tables import polygon_text, write_lines, write_release
 
 MOST_CORNERS = 99_000
@@ -42,16 +46,25 @@ def saw(corners):
 def write(folder, count, year):
     parcels = [(f"{year}-{k}", square(k)) for k in range(count)]
     write_release(folder, parcels, [(f"p{name}", name, "G", shape) for name, shape in parcels])
-    write_lines(folder, "lineage.csv", ["old,new", *(f"2024-{k},2025-{k}" for k in range(count if year == 2025 else 0))])
+    write_lines(
+        folder, "lineage.csv", ["old,new", *(f"2024-{k},2025-{k}" for k in range(count if year == 2025 else 0))]
+    )
 
 
-@pytest.fixture(params=sizes(int(os.environ.get("MOST", "40000"))))
+FEW = 10_000  # sizes beyond it wait for --long
+
+
+@pytest.fixture(
+    params=[size if size <= FEW else exhaustive(size) for size in sizes(int(os.environ.get("MOST", "40000")))]
+)
 def count(request):
     return request.param
 
 
 def test_area(count, tmp_path):
-    (tmp_path / "areas.csv").write_text("\n".join(["wkt", *(f'"{polygon_text(square(k))}"' for k in range(count))]) + "\n")
+    (tmp_path / "areas.csv").write_text(
+        "\n".join(["wkt", *(f'"{polygon_text(square(k))}"' for k in range(count))]) + "\n"
+    )
     assert lpis(tmp_path, "area", "areas.csv") == (0, "100.0000000\n" * count, "")
     if 4 <= count <= MOST_CORNERS:
         ring, twice = saw(count)

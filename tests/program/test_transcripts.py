@@ -6,11 +6,12 @@ A transcript (*.md beside this file) is a page with commands and what they print
     2> failed read area
     status 3
 
-The line after `$` goes to bash. Then come the lines of standard output, of which none is empty, those of standard error behind `2> `, and the status where it
-is not 0. Lines without indentation are remarks. The commands of one transcript run one after the other in one folder of their own, where `examples` is the
-repository's. The lines of README.md are run too, in one shell, by the script ./lpis and the tools, but for those that load, install or test: of them what goes
-to standard output counts. Its land.gpkg is a sound one, and what shows a page counts the maps in it. A command that does not end in ten minutes, which a loaded
-machine keeps, is stopped, and is one that failed.
+The line after `$` goes to bash. Then come the lines of standard output, of which none is empty, those of standard error
+behind `2> `, and the status where it is not 0. Lines without indentation are remarks. The commands of one transcript
+run one after the other in one folder of their own, where `examples` is the repository's. The lines of README.md are run
+too, in one shell, by the script ./lpis and the tools, but for those that load, install or test: of them what goes to
+standard output counts. Its land.gpkg is a sound one, and what shows a page counts the maps in it. A command that does
+not end in ten minutes, which a loaded machine keeps, is stopped, and is one that failed.
 """
 
 import contextlib
@@ -23,7 +24,7 @@ import subprocess
 import pytest
 from lpis_helpers import dirty
 from lpis_helpers.places import BUILT, TOP as HOUSE
-from lpis_tools import shapely_there
+from lpis.system import shapely_there
 
 HERE, TOP = pathlib.Path(__file__).resolve().parent, pathlib.Path(HOUSE)
 SECONDS = 600  # of one command
@@ -45,7 +46,8 @@ def commands_of(page):
 
 
 def commands_of_readme():
-    """Those that compute or show something: what each gives stands below it, or behind it as a remark where it is installed."""
+    """Those that compute or show something: what each gives stands below it, or behind it as a remark where it is
+    installed."""
     page, heading, commands = TOP / "README.md", "", []
     lines = page.read_text(encoding="utf-8").splitlines()
     for number, command, wanted in commands_of(page):
@@ -67,7 +69,13 @@ README = commands_of_readme()
 def each(page, commands):
     lacking = pytest.mark.skipif(not shapely_there.python(), reason=shapely_there.LACKING)
     return [
-        pytest.param(page, place, wanted, id=f"{page}:{number}: {command}", marks=[lacking] * command.startswith(("tools/check", PAGE)))
+        pytest.param(
+            page,
+            place,
+            wanted,
+            id=f"{page}:{number}: {command}",
+            marks=[lacking] * command.startswith(("tools/check", PAGE)),
+        )
         for place, (number, command, wanted) in enumerate(commands)
     ]
 
@@ -82,7 +90,14 @@ def lines_of(text, mark):
 @contextlib.contextmanager
 def shell(script, folder, **more):
     """A shell that runs a script. Where it has not ended when it is left, it is stopped, with what it runs."""
-    with subprocess.Popen(["bash", "-c", script], cwd=folder, stdin=subprocess.DEVNULL, stdout=subprocess.PIPE, start_new_session=True, **more) as running:
+    with subprocess.Popen(
+        ["bash", "-c", script],
+        cwd=folder,
+        stdin=subprocess.DEVNULL,
+        stdout=subprocess.PIPE,
+        start_new_session=True,
+        **more,
+    ) as running:
         try:
             yield running
         finally:
@@ -102,13 +117,18 @@ def given_by(command, folder):
 
 
 def given_by_readme(folder):
-    """What README.md's lines give, without blanks at their ends, in a folder that has script, tools and examples. One that does not end is the last."""
+    """What README.md's lines give, without blanks at their ends, in a folder that has script, tools and examples.
+    One that does not end is the last."""
     for name in ("lpis", "tools", "examples"):
         (folder / name).symlink_to(TOP / name)
     dirty.make(folder / "land.gpkg", [])
     # Behind each command a line, to say that it has ended.
-    script = "\n".join([MAPS, *(f"exec 8>&1 >{number}.out\n{command}\nexec >&8 8>&-; echo" for number, command, _ in README)])
-    with shell(script, folder, env=dict(os.environ, TMPDIR=str(folder), LC_ALL="C"), stderr=subprocess.DEVNULL) as running:
+    script = "\n".join(
+        [MAPS, *(f"exec 8>&1 >{number}.out\n{command}\nexec >&8 8>&-; echo" for number, command, _ in README)]
+    )
+    with shell(
+        script, folder, env=dict(os.environ, TMPDIR=str(folder), LC_ALL="C"), stderr=subprocess.DEVNULL
+    ) as running:
         for number, *_ in README:
             if not select.select([running.stdout], [], [], SECONDS)[0]:
                 yield [f"(no end after {SECONDS} seconds; the lines below it were not run)"]
@@ -140,6 +160,9 @@ def given(tmp_path_factory):
     return given
 
 
-@pytest.mark.parametrize("page, place, wanted", [case for page, commands in [("README.md", README), *PAGES.items()] for case in each(page, commands)])
+@pytest.mark.parametrize(
+    "page, place, wanted",
+    [case for page, commands in [("README.md", README), *PAGES.items()] for case in each(page, commands)],
+)
 def test_command(page, place, wanted, given):
     assert given(page)[place] == wanted

@@ -1,16 +1,16 @@
-"""Tests of what lies along a border: cases by hand, webs of edges with Shapely's buffer as the judge, and that crowds and bundles cost no square of them. Wants
-Shapely and numpy."""
+"""Tests of what lies along a border: cases by hand, webs of edges with Shapely's buffer as the judge, and that crowds
+and bundles cost no square of them. Wants Shapely and numpy."""
 
 import math
 import random
 
 import pytest
-from lpis_tools import shapely_there
+from lpis.system import shapely_there
 
 if shapely_there.is_there():
     import numpy
-    from lpis_tools import outcome
-    from lpis_tools.along import Along
+    from lpis.preparation import row_outcomes
+    from lpis.rounding.border_distance import Along
     from shapely.geometry import LineString, MultiLineString, Polygon
 
 WIDTH = 0.0015
@@ -21,7 +21,11 @@ NEAR = 128  # pairs looked at for each line, and how often it is put into a cell
 def moved(line, turn, east, north):
     """A line (in millimetres) turned about the origin, in metres from a place."""
     c, s = math.cos(turn), math.sin(turn)
-    return [value for x, y in (line[:2], line[2:]) for value in (east + (c * x - s * y) / 1000, north + (s * x + c * y) / 1000)]
+    return [
+        value
+        for x, y in (line[:2], line[2:])
+        for value in (east + (c * x - s * y) / 1000, north + (s * x + c * y) / 1000)
+    ]
 
 
 # In millimetres an edge, the segments of a border, and whether the edge lies along within one and a half.
@@ -43,7 +47,11 @@ CASES = {
     "over a gap that two discs leave": ((0, 0, 50, 0), [(0, 0, 20, 0), (23.1, 0, 50, 0)], False),
     "from one segment to another": ((0, 1, 50, 1), [(0, 0, 26, 0), (24, 2, 50, 2)], True),
     "over a border of many corners": ((0, 0, 50, 0), [(k, k % 2, k + 1, (k + 1) % 2) for k in range(50)], True),
-    "in a crossing of many, but for a place": ((-10, 0, 10, 0), [(3 * k, -9, 3 * k, 9) for k in range(-3, 4) if k], False),
+    "in a crossing of many, but for a place": (
+        (-10, 0, 10, 0),
+        [(3 * k, -9, 3 * k, 9) for k in range(-3, 4) if k],
+        False,
+    ),
     "in a crossing of many": ((-10, 0, 10, 0), [(2.9 * k, -9, 2.9 * k, 9) for k in range(-4, 5)], True),
     "beside a needle": ((0, 1, 9e7, 1), [(0, 0, 9e7, 0)], True),
     "beside a needle that leaves it": ((0, 0, 9e7, 0), [(0, 1.4, 9e7, 1.6)], False),
@@ -56,7 +64,8 @@ CASES = {
 
 
 def webs(draw):
-    """Edges and segments, in metres near the origin: of a web, of which some are moved a little, some are parts, and some lie anywhere."""
+    """Edges and segments, in metres near the origin: of a web, of which some are moved a little, some are parts, and
+    some lie anywhere."""
     for count, size in ((12, 6), (12, 60), (30, 60), (30, 1000)):
         corners = [(draw.randint(0, size), draw.randint(0, size)) for _ in range(count)]
         border = [(*draw.choice(corners), *draw.choice(corners)) for _ in range(count)]
@@ -64,10 +73,14 @@ def webs(draw):
         edges = []
         for line in border:
             a, b = sorted(draw.choice((0, 1, draw.random())) for _ in range(2))
-            way, apart = (line[2] - line[0], line[3] - line[1]), [draw.choice((0, 0.7, 1.5, 2)) * draw.uniform(-1, 1) for _ in range(4)]
+            way, apart = (line[2] - line[0], line[3] - line[1]), [
+                draw.choice((0, 0.7, 1.5, 2)) * draw.uniform(-1, 1) for _ in range(4)
+            ]
             edges.append(tuple(line[k % 2] + way[k % 2] * (a, b)[k // 2] + apart[k] for k in range(4)))
         edges += [tuple(draw.uniform(0, size) for _ in range(4)) for _ in range(count // 4)]
-        yield [[value / 1000 for value in line] for line in edges], [[value / 1000 for value in line] for line in border]
+        yield [[value / 1000 for value in line] for line in edges], [
+            [value / 1000 for value in line] for line in border
+        ]
 
 
 def bundle(count, apart, length, turn=0.0):
@@ -78,15 +91,23 @@ def bundle(count, apart, length, turn=0.0):
 def crowds(count):
     """Many edges that are near to few others each, in metres."""
     draw, side = random.Random(3), 30 * math.ceil(count**0.5)
-    heap = [[value / 1000 for value in (x, y, x + draw.uniform(-5, 5), y + draw.uniform(-5, 5))] for x, y in ((draw.uniform(0, side), draw.uniform(0, side)) for _ in range(count))]
+    heap = [
+        [value / 1000 for value in (x, y, x + draw.uniform(-5, 5), y + draw.uniform(-5, 5))]
+        for x, y in ((draw.uniform(0, side), draw.uniform(0, side)) for _ in range(count))
+    ]
     yield "a heap", heap
     yield "a heap with needles", heap + bundle(20, 10, 9e7, 0.3)
     yield "a heap, and one of all in a spot far away", heap + [[value + 90_000 for value in line] for line in heap]
     for turn in (0.0, 0.3, math.pi / 4, 1.6):
         yield f"a bundle turned by {turn}", bundle(count, 5, 60_000, turn)
         yield f"needles turned by {turn}", bundle(count, 5, 9e7, turn)
-    yield "a ring", [[2 * math.cos(way) if k % 2 == 0 else 2 * math.sin(way) for k, way in enumerate((turn, turn, turn + 2 * math.pi / count, turn + 2 * math.pi / count))]
-                     for turn in (2 * math.pi * number / count for number in range(count))]
+    yield "a ring", [
+        [
+            2 * math.cos(way) if k % 2 == 0 else 2 * math.sin(way)
+            for k, way in enumerate((turn, turn, turn + 2 * math.pi / count, turn + 2 * math.pi / count))
+        ]
+        for turn in (2 * math.pi * number / count for number in range(count))
+    ]
 
 
 @pytest.mark.skipif(not shapely_there.is_there(), reason=shapely_there.LACKING)
@@ -94,7 +115,11 @@ class TestEdges:
     """What lies along, and how much is looked at for it."""
 
     def along(self, edges, border, width=WIDTH):
-        return Along(numpy.array(edges, float).reshape(-1, 4), numpy.array(border, float).reshape(-1, 4), width).are().tolist()
+        return (
+            Along(numpy.array(edges, float).reshape(-1, 4), numpy.array(border, float).reshape(-1, 4), width)
+            .are()
+            .tolist()
+        )
 
     def test_cases(self):
         for name, (edge, border, wanted) in CASES.items():
@@ -108,8 +133,14 @@ class TestEdges:
         draw, told = random.Random(1), {True: 0, False: 0, None: 0}
         for _ in range(4):
             for edges, border in webs(draw):
-                found = self.along([[value + (EAST, NORTH)[k % 2] for k, value in enumerate(line)] for line in edges], [[value + (EAST, NORTH)[k % 2] for k, value in enumerate(line)] for line in border])
-                less, more = (MultiLineString([(line[:2], line[2:]) for line in border]).buffer(WIDTH * part, 16) for part in (0.99, 1.01))
+                found = self.along(
+                    [[value + (EAST, NORTH)[k % 2] for k, value in enumerate(line)] for line in edges],
+                    [[value + (EAST, NORTH)[k % 2] for k, value in enumerate(line)] for line in border],
+                )
+                less, more = (
+                    MultiLineString([(line[:2], line[2:]) for line in border]).buffer(WIDTH * part, 16)
+                    for part in (0.99, 1.01)
+                )
                 for line, lies in zip(edges, found):
                     way = LineString([line[:2], line[2:]])
                     wanted = True if less.contains(way) else None if more.contains(way) else False
@@ -133,7 +164,8 @@ class TestEdges:
         assert Along(lines, lines, WIDTH).are().all()
 
     def test_parts(self):
-        """Parts of a change beside the shape that came of it: what leads away, and what lies along its border or a hole's."""
+        """Parts of a change beside the shape that came of it: what leads away, and what lies along its border or a
+        hole's."""
         ring = [(0, 0), (10, 0), (10, 10), (0, 10)]
         after = Polygon(ring, [[(4, 4), (6, 4), (6, 6), (4, 6)]])
         parts = {
@@ -142,7 +174,12 @@ class TestEdges:
             "a sliver": ([(0, 10), (10, 10), (5, 10.0007)], False),
             "a sliver of a hole": ([(4, 4), (6, 4), (5, 4.0007)], False),
             "a sliver that goes on": ([(0, 10), (11, 10), (5, 10.0007)], True),
-            "a sliver round a corner": ([(9, 10.0005), (10.0005, 10.0005), (10.0005, 9), (10, 9), (10, 10), (9, 10)], False),
+            "a sliver round a corner": (
+                [(9, 10.0005), (10.0005, 10.0005), (10.0005, 9), (10, 9), (10, 10), (9, 10)],
+                False,
+            ),
         }
-        assert outcome.lead_away(after, [Polygon(way) for way, _ in parts.values()]) == [wanted for _, wanted in parts.values()]
-        assert outcome.lead_away(after, []) == []
+        assert row_outcomes.lead_away(after, [Polygon(way) for way, _ in parts.values()]) == [
+            wanted for _, wanted in parts.values()
+        ]
+        assert row_outcomes.lead_away(after, []) == []

@@ -1,7 +1,8 @@
-"""Tests the balance of land and the reports of each path to the tables, over a source with all kinds of dirt, by a judge that shares no code with the
-tools (lands_judge.py, lands_trial.py): tools/prepare and tools/country split.
+"""Tests the balance of land and the reports of each path to the tables, over a source with all kinds of dirt, by a
+judge that shares no code with the tools (lands_judge.py, lands_trial.py): tools/prepare and tools/country split.
 
-    PARCELS=20000 pytest -s tests/tools/test_balance.py      a coverage of so many parcels, of which a fifth is dirty, in place of a small source; times are
+    PARCELS=20000 pytest -s tests/tools/test_balance.py      a coverage of so many parcels, of which a fifth is dirty,
+        in place of a small source; times are
     printed
 """
 
@@ -19,7 +20,8 @@ from lpis_helpers.lands_land import KEYS, Land
 from lpis_helpers.lands_shapes import Shape
 from lpis_helpers.lands_trial import Trial
 from lpis_helpers import registers
-from lpis_tools import balance, shapely_there
+from lpis.preparation import land_balance
+from lpis.system import shapely_there
 
 PARCELS = int(os.environ.get("PARCELS", "0"))
 
@@ -30,7 +32,9 @@ def planted(path, blocks):
     for number in range(blocks):
         dirty.EAST, dirty.NORTH = east + 0.1234567 + 40 * number, north + 0.7654321
         for found, names, more in zip(rows, (1, 2), dirty.rows_of(dirty.ALL)):
-            found += [(*(None if name is None else f"b{number}-{name}" for name in row[:names]), *row[names:]) for row in more]
+            found += [
+                (*(None if name is None else f"b{number}-{name}" for name in row[:names]), *row[names:]) for row in more
+            ]
     dirty.EAST, dirty.NORTH = east, north
     return dirty.put(path, *rows)
 
@@ -56,7 +60,15 @@ def shape_of(data):
 def land_of(path):
     """The rows of a GeoPackage that dirty.py wrote, for the judge."""
     queries = (f"SELECT geom, {', '.join(columns)} FROM {layer} ORDER BY fid" for layer, columns in KEYS.items())
-    return Land.of_rows(*([(*names, shape_of(blob[8:]) if blob else Shape(form="null")) for blob, *names in registers.rows(path, query)] for query in queries))
+    return Land.of_rows(
+        *(
+            [
+                (*names, shape_of(blob[8:]) if blob else Shape(form="null"))
+                for blob, *names in registers.rows(path, query)
+            ]
+            for query in queries
+        )
+    )
 
 
 @pytest.fixture(scope="module")
@@ -70,7 +82,9 @@ def trial(tmp_path_factory):
     land = land_of(dirty.make_large(path, PARCELS, share=0.2) if PARCELS else planted(path, 2))
     found = Trial(lands_run.Runner(str(folder)), str(folder), land.points())
     found.land, run = land, found.prepared(path, found.path("accepted"), "--accept")
-    assert (run.status, "the balance adds up to the square metre" in run.text, found.faults) == (0, True, []), run.text[-2000:] + run.told[-2000:]
+    assert (run.status, "the balance adds up to the square metre" in run.text, found.faults) == (0, True, []), (
+        run.text[-2000:] + run.told[-2000:]
+    )
     print(f"prepare: {run.seconds:.1f} s of a processor")
     return found
 
@@ -89,33 +103,80 @@ def test_split(trial):
 @pytest.mark.parametrize("name", ("GRASS", "a class whose name is longer than its column"))
 def test_columns(size, name):
     """Columns never run together, however large the land and however long the name of a class."""
-    whole = balance.Balance({})
+    whole = land_balance.Balance({})
     for group in (("covers", name), ("parcels", "")):
-        for column, area in zip(balance.COLUMNS, (size, -size / 3, -size / 3, 0.0, size / 3)):
+        for column, area in zip(land_balance.COLUMNS, (size, -size / 3, -size / 3, 0.0, size / 3)):
             whole.add(group, column, area)
     whole.between = size
     first, *lines, _ = whole.words()
-    assert first.split() == ["balance", "of", "land", "in", "hectares", "source", "mended", "left", "out", "settled", "tables"]
+    assert first.split() == [
+        "balance",
+        "of",
+        "land",
+        "in",
+        "hectares",
+        "source",
+        "mended",
+        "left",
+        "out",
+        "settled",
+        "tables",
+    ]
     for line, start in zip(lines, (name, "all pieces", "parcels", "between parcels, nobody")):
-        assert (line.strip().startswith(start), len({len(line) for line in lines}), len(line.strip()[len(start) :].split())) == (True, 1, 2 if "nobody" in start else 5), line
+        assert (
+            line.strip().startswith(start),
+            len({len(line) for line in lines}),
+            len(line.strip()[len(start) :].split()),
+        ) == (True, 1, 2 if "nobody" in start else 5), line
 
 
 @pytest.mark.skipif(PARCELS > 0, reason="a source of another kind")
-@pytest.mark.parametrize("name, edit, words", [
-    ("accepted/balance.csv", lambda text: re.sub(r"covers,GRASS,\d", "covers,GRASS,9", text), "source of ('covers', 'GRASS')"),
-    ("accepted/balance.csv", lambda text: re.sub(r"(?m)^covers,TREES.*\n", "", text), "no line of ('covers', 'TREES')"),
-    ("accepted/balance.csv", lambda text: re.sub(r"parcels,,\d", "parcels,,9", text), "source of ('parcels', '')"),
-    ("accepted/balance.csv", lambda text: re.sub(r"(?m)^(parcels,,[\d.]+),", r"\1,1", text), "the columns of ('parcels', '') make"),
-    ("accepted/parcels.csv", lambda text: text.replace(" 5400010.765", " 5400009.765", 1), "tables of ('parcels', '')"),
-    ("accepted/report.csv", lambda text: re.sub(r"(?m)^lost,covers.*\n", "", text, count=1), "is in no table, and no row has it"),
-    ("accepted/report.csv", lambda text: re.sub(r"(?m)^changed,covers.*\n", "", text), "and no row has it"),
-    ("accepted/report.csv", lambda text: re.sub(r"(?m)^(lost,covers,.*?,,)[\d.]+", r"\g<1>7.0", text, count=1), "told with 7.0 m2"),
-    ("accepted/covers.csv", lambda text: re.sub(r"(?m)^b0-clean1\.1.*\n", "", text), "covers 1 'b0-clean1.1' of 50.000000 m2 is in no table"),
-    ("country/r0001/covers.csv", lambda text: text.split("\n")[0] + "\n", "rows are in no region"),
-    ("country/r0001/covers.csv", lambda text: text.replace("GRASS", "WATER", 1), "are of no table"),
-    ("country/r0001/classes.csv", lambda text: text.replace("30", "31"), "the classes of a region"),
-    ("country/balance.csv", lambda text: re.sub(r"covers,GRASS,\d", "covers,GRASS,9", text), "split has 9"),
-])
+@pytest.mark.parametrize(
+    "name, edit, words",
+    [
+        (
+            "accepted/balance.csv",
+            lambda text: re.sub(r"covers,GRASS,\d", "covers,GRASS,9", text),
+            "source of ('covers', 'GRASS')",
+        ),
+        (
+            "accepted/balance.csv",
+            lambda text: re.sub(r"(?m)^covers,TREES.*\n", "", text),
+            "no line of ('covers', 'TREES')",
+        ),
+        ("accepted/balance.csv", lambda text: re.sub(r"parcels,,\d", "parcels,,9", text), "source of ('parcels', '')"),
+        (
+            "accepted/balance.csv",
+            lambda text: re.sub(r"(?m)^(parcels,,[\d.]+),", r"\1,1", text),
+            "the columns of ('parcels', '') make",
+        ),
+        (
+            "accepted/parcels.csv",
+            lambda text: text.replace(" 5400010.765", " 5400009.765", 1),
+            "tables of ('parcels', '')",
+        ),
+        (
+            "accepted/report.csv",
+            lambda text: re.sub(r"(?m)^lost,covers.*\n", "", text, count=1),
+            "is in no table, and no row has it",
+        ),
+        ("accepted/report.csv", lambda text: re.sub(r"(?m)^changed,covers.*\n", "", text), "and no row has it"),
+        (
+            "accepted/report.csv",
+            lambda text: re.sub(r"(?m)^(lost,covers,.*?,,)[\d.]+", r"\g<1>7.0", text, count=1),
+            "told with 7.0 m2",
+        ),
+        (
+            "accepted/covers.csv",
+            lambda text: re.sub(r"(?m)^b0-clean1\.1.*\n", "", text),
+            "covers 1 'b0-clean1.1' of 50.000000 m2 is in no table",
+        ),
+        ("country/r0001/covers.csv", lambda text: text.split("\n")[0] + "\n", "rows are in no region"),
+        ("country/r0001/covers.csv", lambda text: text.replace("GRASS", "WATER", 1), "are of no table"),
+        ("country/r0001/classes.csv", lambda text: text.replace("30", "31"), "the classes of a region"),
+        ("country/balance.csv", lambda text: re.sub(r"covers,GRASS,\d", "covers,GRASS,9", text), "split has 9"),
+    ],
+)
 def test_judge(name, edit, words, trial):
     """The judge notices what is wrong in a report or in a table."""
     if not os.path.exists(trial.path("country")):

@@ -1,5 +1,5 @@
-"""Tests that a source is known by its bytes: what was kept of an earlier one is taken for no other, whatever its size and
-times are. Wants Shapely."""
+"""Tests that a source is known by its bytes: what was kept of an earlier one is taken for no other, whatever its size
+and times are. Wants Shapely."""
 
 import contextlib
 import os
@@ -12,7 +12,9 @@ from lpis_helpers import dirty
 from lpis_helpers.calls import ended_with, records, tool
 from lpis_helpers.registers import made
 from lpis_helpers.spare import Spare
-from lpis_tools import contents, land, parts, shapely_there
+from lpis.country import source_parts
+from lpis.source import file_digests, land
+from lpis.system import shapely_there
 
 TREES = "UPDATE covers SET class = 'TREES' WHERE piece = 'clean1.1'"
 VRT = """<OGRVRTDataSource>
@@ -47,36 +49,36 @@ class TestContents(Spare):
 
     def test_digest(self):
         """Bytes alone make a digest: not the time, nor the place, nor an empty log; and it is held against them."""
-        known = contents.Contents()
+        known = file_digests.Contents()
         first = known.digest(self.file)
         Path(f"{self.file}-wal").write_bytes(b"")
         os.utime(self.file, (1, 1))
         known.hold()
-        assert contents.Contents().digest(shutil.copy(self.file, self.path("copy"))) == first
+        assert file_digests.Contents().digest(shutil.copy(self.file, self.path("copy"))) == first
         with in_silence(self.file):
             Path(self.file).write_bytes(b"two")
-        assert contents.Contents().digest(self.file) != first
+        assert file_digests.Contents().digest(self.file) != first
         with pytest.raises(land.Trouble, match="changed while it was read"):
             known.hold()
 
     def test_log(self):
         """The rows of a database stand in its log too."""
         Path(f"{self.file}-wal").write_bytes(b"a")
-        one = contents.Contents().digest(self.file)
+        one = file_digests.Contents().digest(self.file)
         Path(f"{self.file}-wal").write_bytes(b"b")
-        assert contents.Contents().digest(self.file) != one
+        assert file_digests.Contents().digest(self.file) != one
 
     def test_signs(self):
         """Who reads a file sees that it was written since, though its size and time are as they were."""
-        known = contents.Contents()
+        known = file_digests.Contents()
         signs = [known.signs(self.file)]
-        parts.hold([self.file], signs)
+        source_parts.hold([self.file], signs)
         with in_silence(self.file):
             Path(self.file).write_bytes(b"two")
-        while contents.signs_of(self.file) == signs[0]:  # within a tick of the clock
+        while file_digests.signs_of(self.file) == signs[0]:  # within a tick of the clock
             os.utime(self.file, ns=(0, signs[0][1]))
         with pytest.raises(land.Trouble, match="changed while it was read"):
-            parts.hold([self.file], signs)
+            source_parts.hold([self.file], signs)
 
 
 @pytest.mark.skipif(not shapely_there.python(), reason=shapely_there.LACKING)

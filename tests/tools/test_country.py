@@ -1,5 +1,5 @@
-"""Tests `lpis country` against a judge of its definition (judged_country.py), over countries split from generated and worked releases and over
-faults planted at their seams."""
+"""Tests `lpis country` against a judge of its definition (judged_country.py), over countries split from generated and
+worked releases and over faults planted at their seams."""
 
 import contextlib
 import itertools
@@ -13,14 +13,16 @@ from lpis_helpers.calls import run, tool
 from lpis_helpers.country_case import BUILT, CLASSES, HEADS, Case, Land, generated, lines, read, write, write_text
 from lpis_helpers import judged_country as judged
 from lpis_helpers.places import TOP
-from lpis_tools import polygons
+from lpis.formats import polygons
 
 
 class TestReleases(Case):
     """Countries that are split from a release."""
 
     def test_lands(self):
-        for seed, (columns, count, roads, is_shuffled) in enumerate([(9, 9, (), False), (12, 12, (5,), True), (30, 4, (1, 3), False), (5, 30, (0, 10, 29), True)]):
+        for seed, (columns, count, roads, is_shuffled) in enumerate(
+            [(9, 9, (), False), (12, 12, (5,), True), (30, 4, (1, 3), False), (5, 30, (0, 10, 29), True)]
+        ):
             shutil.rmtree(self.out, ignore_errors=True)
             Land(seed, columns, count, roads).write(self.source, is_shuffled)
             assert int(self.split("--parcels", 16)[1]) > 4
@@ -28,7 +30,11 @@ class TestReleases(Case):
 
     def test_limits(self):
         Land(7, 10, 10).write(self.source)
-        for option, most, table in (("--parcels", 20, "parcels"), ("--covers", 45, "covers"), ("--points", 200, "covers")):
+        for option, most, table in (
+            ("--parcels", 20, "parcels"),
+            ("--covers", 45, "covers"),
+            ("--points", 200, "covers"),
+        ):
             self.split(option, most, "--anew")
             for name in self.regions():
                 rows = lines(os.path.join(self.out, name), table)[1:]
@@ -41,14 +47,32 @@ class TestReleases(Case):
         self.split("--parcels", 60, "--anew", source=source)
         self.assertIsRelease(source)
 
-    @pytest.mark.parametrize("name", ("holes", "junctions", "members", "pasture", "square", "sweep", "years/2024", "years/2025", "exact/2024", "exact/2025", "older"))
+    @pytest.mark.parametrize(
+        "name",
+        (
+            "holes",
+            "junctions",
+            "members",
+            "pasture",
+            "square",
+            "sweep",
+            "years/2024",
+            "years/2025",
+            "exact/2024",
+            "exact/2025",
+            "older",
+        ),
+    )
     def test_worked(self, name):
         """Four tiles around the middle of the land."""
         source = os.path.join(TOP, "examples", name)
         box = polygons.box([members for _, members in judged.Region(source).parcels])
         x, y = (box[0] + box[2]) // 2, (box[1] + box[3]) // 2
         os.makedirs(self.out)
-        write_text(self.path("country", "country.txt"), f"lpis-country 1\nx {x}\ny {y}\nregion a\nregion b\ny {y - 1}\nregion c\nregion d\n")
+        write_text(
+            self.path("country", "country.txt"),
+            f"lpis-country 1\nx {x}\ny {y}\nregion a\nregion b\ny {y - 1}\nregion c\nregion d\n",
+        )
         self.split(source=source)
         self.assertIsRelease(source)
 
@@ -66,7 +90,20 @@ class TestReleases(Case):
         names = self.regions()
         for name, column in (("parcels", 0), ("covers", 1)):
             rows = [row.split(",", column + 1) for row in lines(source, name)]
-            write(self.source, name, [",".join([*row[:column], f"{row[column]}-2" if place and row[column].endswith("7") else row[column], *row[column + 1 :]]) for place, row in enumerate(rows)])
+            write(
+                self.source,
+                name,
+                [
+                    ",".join(
+                        [
+                            *row[:column],
+                            f"{row[column]}-2" if place and row[column].endswith("7") else row[column],
+                            *row[column + 1 :],
+                        ]
+                    )
+                    for place, row in enumerate(rows)
+                ],
+            )
         shutil.copy(os.path.join(source, "classes.csv"), self.source)
         self.split("--parcels", 50)
         assert self.regions() == names
@@ -112,13 +149,18 @@ class TestPlanted(Case):
 
     def change(self, number, parcel, covers=lambda rows: rows, parcels=lambda rows: rows):
         """Changes the rows of one parcel in a region."""
+
         def changed(rows, column, change):
             mine = change([row for row in rows if row.split(",")[column] == parcel])
             first = next(place for place, row in enumerate(rows) if row.split(",")[column] == parcel)
             rest = [row for row in rows if row.split(",")[column] != parcel]
             return [*rest[:first], *mine, *rest[first:]]
 
-        self.edit(number, ("parcels", lambda rows: changed(rows, 0, parcels)), ("covers", lambda rows: changed(rows, 1, covers)))
+        self.edit(
+            number,
+            ("parcels", lambda rows: changed(rows, 0, parcels)),
+            ("covers", lambda rows: changed(rows, 1, covers)),
+        )
 
     def refused(self, code, what, number, *words):
         """The answer, and words of tools/explain about it."""
@@ -142,9 +184,17 @@ class TestPlanted(Case):
         for number in found:
             with self.put_back(number):
                 self.change(number, name, lambda rows: [], lambda rows: [])
-                # In the first region the parcel is new in the second, whose tiles before it are looked at; the first of these lacks it.
+                # In the first region the parcel is new in the second, whose tiles before it are looked at; the first of
+                # these lacks it.
                 others = ", ".join(self.names[other] for other in found if other != number)
-                self.refused("95", f"parcel {name}", number, f"region {self.names[number]} has the tile x ", f"parcel {name} is in {others}\n", f"in {self.names[found[number == found[0]]]}: ")
+                self.refused(
+                    "95",
+                    f"parcel {name}",
+                    number,
+                    f"region {self.names[number]} has the tile x ",
+                    f"parcel {name} is in {others}\n",
+                    f"in {self.names[found[number == found[0]]]}: ",
+                )
 
     def test_first_lacking_comes_first(self):
         number = self.doubles[-1][1][-1]
@@ -164,8 +214,17 @@ class TestPlanted(Case):
             return [*rows[:-1], f'{head}"POLYGON(({",".join([*points[1:], points[1]])}))"']
 
         changes = {
-            "has another class": lambda number: self.change(number, name, lambda rows: [rows[0].replace("GRASS", "TREES") if "GRASS" in rows[0] else rows[0].replace("TREES", "GRASS"), *rows[1:]]),
-            "its pieces in": lambda number: self.change(number, name, lambda rows: [rows[0].replace("/1,", "/one,"), *rows[1:]]),
+            "has another class": lambda number: self.change(
+                number,
+                name,
+                lambda rows: [
+                    rows[0].replace("GRASS", "TREES") if "GRASS" in rows[0] else rows[0].replace("TREES", "GRASS"),
+                    *rows[1:],
+                ],
+            ),
+            "its pieces in": lambda number: self.change(
+                number, name, lambda rows: [rows[0].replace("/1,", "/one,"), *rows[1:]]
+            ),
             "has another polygon": lambda number: self.change(number, name, turned),
             "its polygon differs": lambda number: self.change(number, name, parcels=turned),
             "its pieces in ": lambda number: self.change(number, name, lambda rows: rows[::-1]),
@@ -179,16 +238,35 @@ class TestPlanted(Case):
         last = len(self.names) - 1
         old = next(name for name, found in self.places.items() if found == [last])
         new = next(name for name, found in self.places.items() if found == [0])
-        self.edit(last, *((table, lambda rows: [row.replace(f"{old},", f"{new},").replace(f"{old}/", f"{new}/") for row in rows]) for table in ("parcels", "covers")))
+        self.edit(
+            last,
+            *(
+                (table, lambda rows: [row.replace(f"{old},", f"{new},").replace(f"{old}/", f"{new}/") for row in rows])
+                for table in ("parcels", "covers")
+            ),
+        )
         self.refused("93", f"parcel {new}", last, f"parcel {new} is in {self.names[0]}\n")
 
     def test_identifier_of_an_open_row(self):
         """A parcel that is still kept, under whose name another one comes: the copies differ."""
-        name, found = next((name, found) for name, found in self.doubles if found[-1] < len(self.names) - 1 or len(found) > 2)
+        name, found = next(
+            (name, found) for name, found in self.doubles if found[-1] < len(self.names) - 1 or len(found) > 2
+        )
         number = found[1]
         other = next(it for it, places in self.places.items() if places == [number])
         self.change(number, name, lambda rows: [], lambda rows: [])
-        self.edit(number, *((table, lambda rows: [row.replace(f"{other},", f"{name},").replace(f"{other}/", f"{name}/") for row in rows]) for table in ("parcels", "covers")))
+        self.edit(
+            number,
+            *(
+                (
+                    table,
+                    lambda rows: [
+                        row.replace(f"{other},", f"{name},").replace(f"{other}/", f"{name}/") for row in rows
+                    ],
+                )
+                for table in ("parcels", "covers")
+            ),
+        )
         self.refused("94", f"parcel {name}", number)
 
     def test_stray(self):
@@ -214,13 +292,22 @@ class TestPlanted(Case):
 
     def test_classes(self):
         changes = [
-            (1, lambda rows: ["GRASS,99", *rows[1:]]), (2, lambda rows: [rows[0], rows[2], rows[1]]), (3, lambda rows: [*rows[:2], "WATER,1"]),
-            (4, lambda rows: [*rows, "STONE,0"]), (1, lambda rows: ["STONE,0", *rows]),
+            (1, lambda rows: ["GRASS,99", *rows[1:]]),
+            (2, lambda rows: [rows[0], rows[2], rows[1]]),
+            (3, lambda rows: [*rows[:2], "WATER,1"]),
+            (4, lambda rows: [*rows, "STONE,0"]),
+            (1, lambda rows: ["STONE,0", *rows]),
         ]
         for number, (row, change) in itertools.product((0, 1, len(self.names) - 1), changes):
             with self.put_back(number):
                 self.edit(number, ("classes", change))
-                self.refused("96", f"classes row {row}", number, f"{os.path.join(self.out, 'classes.csv')}: row {row}: ", f"{os.path.join(self.region(number), 'classes.csv')}: row {row}: ")
+                self.refused(
+                    "96",
+                    f"classes row {row}",
+                    number,
+                    f"{os.path.join(self.out, 'classes.csv')}: row {row}: ",
+                    f"{os.path.join(self.region(number), 'classes.csv')}: row {row}: ",
+                )
         write(self.out, "classes", [HEADS["classes"], *CLASSES, "STONE,0"])
         self.refused("96", "classes row 4", 0)
 
@@ -240,7 +327,11 @@ class TestPlanted(Case):
             kind, _, word = line.partition(" ")
             if kind not in ("x", "y"):
                 continue
-            for other in (f"{'y' if kind == 'x' else 'x'} {word}", f"{kind} {int(word) + 90_000}", f"{kind} {int(word) - 90_000}"):
+            for other in (
+                f"{'y' if kind == 'x' else 'x'} {word}",
+                f"{kind} {int(word) + 90_000}",
+                f"{kind} {int(word) - 90_000}",
+            ):
                 changed = text.splitlines()
                 changed[place] = other
                 write_text(path, "".join(f"{it}\n" for it in changed))
@@ -257,8 +348,17 @@ class TestPlanted(Case):
         good = read(cert)
         triangle = next(line for line in good.splitlines() if line.startswith("t "))
         changes = {
-            "refused 50 cert line 1": good.replace("lpis-cert 2", "lpis-cert 3"), "refused 54 cert line": good[:-4], "refused 55 cert line": good + "\n",
-            "refused 60 piece": good.replace("piece ", "piece x", 1), "refused 62 piece": good.replace(triangle, " ".join([*triangle.split()[:1], *triangle.split()[3:], *triangle.split()[1:3]][:7]).replace("t", "t", 1), 1),
+            "refused 50 cert line 1": good.replace("lpis-cert 2", "lpis-cert 3"),
+            "refused 54 cert line": good[:-4],
+            "refused 55 cert line": good + "\n",
+            "refused 60 piece": good.replace("piece ", "piece x", 1),
+            "refused 62 piece": good.replace(
+                triangle,
+                " ".join([*triangle.split()[:1], *triangle.split()[3:], *triangle.split()[1:3]][:7]).replace(
+                    "t", "t", 1
+                ),
+                1,
+            ),
         }
         for start, text in changes.items():
             write_text(cert, text)
@@ -267,7 +367,12 @@ class TestPlanted(Case):
                 assert found.splitlines()[-1].startswith(start), found[-200:]
             self.assertCountry(found.splitlines()[-1], status, is_certified=False)
         write_text(cert, good)
-        for table, row, code in (("parcels", "a b,POLYGON", "33"), ("parcels", 'one,"POINT(0 0)"', "38"), ("covers", "one,two,three", "30"), ("classes", "CLAY,101", "3b")):
+        for table, row, code in (
+            ("parcels", "a b,POLYGON", "33"),
+            ("parcels", 'one,"POINT(0 0)"', "38"),
+            ("covers", "one,two,three", "30"),
+            ("classes", "CLAY,101", "3b"),
+        ):
             saved = lines(self.region(number), table)
             write(self.region(number), table, [*saved, row])
             found, status = self.answer()
@@ -286,21 +391,36 @@ class TestFailures(Case):
         self.split("--parcels", 12)
         self.certify()
         told = run(BUILT, "country", self.out).stdout.splitlines()
-        tables = ("parcels.csv", "covers.csv", "classes.csv", "cert.txt")
-        files = [(os.path.join(name, table), f" region {name}", told[:number]) for number, name in enumerate(self.regions()) for table in tables]
+        tables = ("parcels.csv", "covers.csv", "classes.csv")  # a certificate that is not there is made
+        files = [
+            (os.path.join(name, table), f" region {name}", told[:number])
+            for number, name in enumerate(self.regions())
+            for table in tables
+        ]
         for name, region, passed in (*files, ("country.txt", "", []), ("classes.csv", "", [])):
             path = os.path.join(self.out, name)
             os.rename(path, path + ".away")
             ended = run(BUILT, "country", self.out)
-            assert (ended.returncode, ended.stdout.splitlines(), ended.stderr) == (3, passed, f"failed read {Path(name).stem}{region}\n")
+            assert (ended.returncode, ended.stdout.splitlines(), ended.stderr) == (
+                3,
+                passed,
+                f"failed read {Path(name).stem}{region}\n",
+            )
             os.rename(path + ".away", path)
 
     def test_classes(self):
         Land(3, 4, 4).write(self.source)
         self.split("--parcels", 6)
         self.certify()
-        for rows, line in ((["class,percent,percent"], "refused 32 classes row 0"), (["class"], "refused 31 classes row 0"), (["class,percent", "a b,1"], "refused 33 classes row 1"),
-                           (["class,percent", "A,1", "A,1"], "refused 34 classes row 2"), (["class,percent", "A,x"], "refused 3b classes row 1"), (["class,percent", "A"], "refused 30 classes row 1"), ([], "refused 31 classes row 0")):
+        for rows, line in (
+            (["class,percent,percent"], "refused 32 classes row 0"),
+            (["class"], "refused 31 classes row 0"),
+            (["class,percent", "a b,1"], "refused 33 classes row 1"),
+            (["class,percent", "A,1", "A,1"], "refused 34 classes row 2"),
+            (["class,percent", "A,x"], "refused 3b classes row 1"),
+            (["class,percent", "A"], "refused 30 classes row 1"),
+            ([], "refused 31 classes row 0"),
+        ):
             write(self.out, "classes", rows)
             ended = run(BUILT, "country", self.out)
             assert (ended.stdout, ended.returncode) == (f"{line}\n", 2)
@@ -310,5 +430,7 @@ class TestFailures(Case):
         self.split("--parcels", 6)
         self.certify()
         with open("/dev/full", "w", encoding="ascii") as full:
-            ended = subprocess.run([BUILT, "country", self.out], stdout=full, stderr=subprocess.PIPE, text=True, check=False)
+            ended = subprocess.run(
+                [BUILT, "country", self.out], stdout=full, stderr=subprocess.PIPE, text=True, check=False
+            )
         assert (ended.returncode, ended.stderr) == (3, "failed write out\n")

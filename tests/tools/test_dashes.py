@@ -7,7 +7,7 @@ from pathlib import Path
 import pytest
 from lpis_helpers.calls import done, ended_with, tool
 from lpis_helpers.places import BUILT, TOP
-from lpis_helpers.spare import Spare
+from lpis_helpers.spare import Spare, exhaustive
 
 
 @pytest.mark.skipif(not BUILT, reason="the program is not built")
@@ -21,7 +21,7 @@ class TestDashes(Spare):
         for cert in Path(folder).glob("*/cert.txt"):
             cert.unlink()
 
-    @pytest.mark.parametrize("words", ([], ["--snakemake"]))
+    @pytest.mark.parametrize("words", ([], exhaustive(["--snakemake"])))
     def test_region(self, words):
         if words and not shutil.which("snakemake"):
             pytest.skip("there is no snakemake")
@@ -35,8 +35,11 @@ class TestDashes(Spare):
         """Folders and a register of such names, in the folder where the tools run."""
         shutil.copytree(os.path.join(TOP, "examples", "exact", "2024"), self.path("-release"))
         shutil.copyfile(self.path("-release", "lineage.csv"), self.path("lineage.csv"))
-        run = ended_with(0, tool("year", "--new", "--year-anyway", "--lpis", BUILT, "--", "-db", 2024, "-release",
-                                 cwd=self.folder))
+        run = ended_with(
+            0, tool("year", "--new", "--year-anyway", "--lpis", BUILT, "--", "-db", 2024, "-release", cwd=self.folder)
+        )
         assert "published 2024" in run.stdout
-        run = ended_with(0, tool("report", "--lpis", BUILT, "--", "-release", "-release/cert.txt", cwd=self.folder))
+        ended_with(0, tool("report", "--lpis", BUILT, "--", "-release", cwd=self.folder))
+        done(BUILT, "cut", "--", "-release", "-cert.txt", cwd=self.folder)
+        run = ended_with(0, tool("report", "--lpis", BUILT, "--", "-release", "-cert.txt", cwd=self.folder))
         assert "yes" in run.stdout

@@ -1,4 +1,5 @@
-"""Tests that a tool that is stopped by a signal ends what it runs, and what that runs. The programs are stand-ins that end by no means of their own."""
+"""Tests that a tool that is stopped by a signal ends what it runs, and what that runs. The programs are stand-ins
+that end by no means of their own."""
 
 import os
 import shutil
@@ -11,7 +12,7 @@ from lpis_helpers import dirty
 from lpis_helpers import stopping
 from lpis_helpers.places import TOOLS, TOP
 from lpis_helpers.spare import Spare, write_script
-from lpis_tools import ending, shapely_there
+from lpis.system import processes, shapely_there
 
 # Runs a program of its own in the background, which hears no INT, and waits for it.
 STANDIN = """#!/bin/sh
@@ -24,7 +25,10 @@ EXACT = os.path.join(TOP, "examples", "exact", "2024")
 REGION = "lpis-country 1\nregion only\n"
 # A tool, its words, and the program that it runs; {0} is a folder with a source and a country.
 CASES = (
-    ("faults", f"{EXACT} {{0}}/f.geojson", "lpis"), ("report", f"{EXACT} {{0}}/land.gpkg --html {{0}}/r.html", "lpis"), ("country", "cut {0}/country --jobs 2", "lpis"), ("country", "check {0}/country", "lpis"),
+    ("faults", f"{EXACT} {{0}}/f.geojson", "lpis"),
+    ("report", f"{EXACT} {{0}}/land.gpkg --html {{0}}/r.html", "lpis"),
+    ("country", "cut {0}/country --jobs 2", "lpis"),
+    ("country", "check {0}/country", "lpis"),
     ("year", f"{{0}}/new.db 2024 {EXACT} --new", "lpis"),
 )
 OF_SHAPELY = (("prepare", "{0}/land.gml {0}/out", "ogr2ogr"),)
@@ -44,11 +48,26 @@ class TestEnding(Spare):
 
     def pids(self):
         """Of the stand-ins that have begun."""
-        return [int(word) for path in Path(self.folder).glob("pids.*") for word in path.read_text(encoding="ascii").split()]
+        return [
+            int(word) for path in Path(self.folder).glob("pids.*") for word in path.read_text(encoding="ascii").split()
+        ]
 
     def start(self, tool, words, program, ready=stopping.hears_signals):
-        surroundings = {**os.environ, "PATH": f"{self.path('bin')}:{os.environ['PATH']}", "LPIS": self.path("bin/lpis"), "PIDS": self.folder, "TMPDIR": self.path("tmp")}
-        run = subprocess.Popen([os.path.join(TOOLS, tool), *words.format(self.folder).split()], env=surroundings, preexec_fn=ready, stdout=subprocess.DEVNULL, stderr=subprocess.PIPE, text=True)
+        surroundings = {
+            **os.environ,
+            "PATH": f"{self.path('bin')}:{os.environ['PATH']}",
+            "LPIS": self.path("bin/lpis"),
+            "PIDS": self.folder,
+            "TMPDIR": self.path("tmp"),
+        }
+        run = subprocess.Popen(
+            [os.path.join(TOOLS, tool), *words.format(self.folder).split()],
+            env=surroundings,
+            preexec_fn=ready,
+            stdout=subprocess.DEVNULL,
+            stderr=subprocess.PIPE,
+            text=True,
+        )
         stopping.until(lambda: self.pids() or run.poll() is not None, f"{tool} runs {program}")
         return run
 
@@ -56,9 +75,18 @@ class TestEnding(Spare):
         run = self.start(tool, words, program)
         run.send_signal(number)
         told = run.communicate()[1]
-        assert (run.returncode, "Traceback" in told, f"stopped by {number.name}" in told) == (128 + number, False, True), told
-        assert (bool(self.pids()), [pid for pid in self.pids() if ending.stat_of(pid)]) == (True, []), told
-        left = [os.path.join(at, name) for at, folders, files in os.walk(self.folder) for name in folders + files if name.endswith(".new") or name.startswith((".new-", ".prepare-"))]
+        assert (run.returncode, "Traceback" in told, f"stopped by {number.name}" in told) == (
+            128 + number,
+            False,
+            True,
+        ), told
+        assert (bool(self.pids()), [pid for pid in self.pids() if processes.stat_of(pid)]) == (True, []), told
+        left = [
+            os.path.join(at, name)
+            for at, folders, files in os.walk(self.folder)
+            for name in folders + files
+            if name.endswith(".new") or name.startswith((".new-", ".prepare-"))
+        ]
         assert (os.listdir(self.path("tmp")), left) == ([], [])
 
     def all_of(self, cases):
@@ -79,6 +107,7 @@ class TestEnding(Spare):
 
     def test_ignored(self):
         """A signal that the parent ignores stays ignored: nohup."""
+
         def ready():
             stopping.hears_signals()
             signal.signal(signal.SIGHUP, signal.SIG_IGN)
@@ -87,7 +116,7 @@ class TestEnding(Spare):
         for number in (signal.SIGHUP, signal.SIGTERM):
             run.send_signal(number)
         run.communicate()
-        assert (run.returncode, [pid for pid in self.pids() if ending.stat_of(pid)]) == (128 + signal.SIGTERM, [])
+        assert (run.returncode, [pid for pid in self.pids() if processes.stat_of(pid)]) == (128 + signal.SIGTERM, [])
 
     def test_stubborn(self):
         """A program that hears neither INT nor TERM."""

@@ -7,7 +7,9 @@ import pytest
 from lpis_helpers import dirty
 from lpis_helpers.calls import ended_with, records, tool
 from lpis_helpers.spare import Spare, exhaustive
-from lpis_tools import identifiers, naming, shapely_there
+from lpis.formats import identifiers
+from lpis.preparation import identifier_passes
+from lpis.system import shapely_there
 
 EAST, NORTH = dirty.EAST, dirty.NORTH
 
@@ -21,14 +23,26 @@ def arc(value):
 
 
 SHAPES = [
-    ("far", triangle(1e16)), ("far", triangle(1e300)), ("far", triangle(-1.7e308)), ("far", triangle(2e15)),
-    ("far", arc(8e307)), ("far", dirty.polygon(dirty.box(10, 0), [(1e300, 0), (0, 1e300), (1, 1), (1e300, 0)])),
-    ("shape", triangle(math.inf)), ("shape", triangle(math.nan)), ("shape", arc(1.5e308)),
+    ("far", triangle(1e16)),
+    ("far", triangle(1e300)),
+    ("far", triangle(-1.7e308)),
+    ("far", triangle(2e15)),
+    ("far", arc(8e307)),
+    ("far", dirty.polygon(dirty.box(10, 0), [(1e300, 0), (0, 1e300), (1, 1), (1e300, 0)])),
+    ("shape", triangle(math.inf)),
+    ("shape", triangle(math.nan)),
+    ("shape", arc(1.5e308)),
 ]
 
 
 # By tools/country two of three wait for --long.
-CASES = [*((["prepare"], *case) for case in SHAPES), *((exhaustive if number % 3 else pytest.param)(["country", "prepare"], *case) for number, case in enumerate(SHAPES))]
+CASES = [
+    *((["prepare"], *case) for case in SHAPES),
+    *(
+        (exhaustive if number % 3 else pytest.param)(["country", "prepare"], *case)
+        for number, case in enumerate(SHAPES)
+    ),
+]
 
 
 @pytest.mark.skipif(not shapely_there.python(), reason=shapely_there.LACKING)
@@ -51,7 +65,9 @@ class TestFar(Spare):
         run = ended_with(0, tool(*words, land, out, "--accept"))
         found = [row for row in records(out, "prepared.csv") if row["kind"] == kind]
         assert [(row["layer"], row["identifier"], len(row["x"]) < 20) for row in found] == [
-            ("parcels", "1", True), ("covers", "1", True)], run.stdout
+            ("parcels", "1", True),
+            ("covers", "1", True),
+        ], run.stdout
         assert "a coordinate is" in found[0]["words"]
         assert "the balance adds up to the square metre" in run.stdout
 
@@ -60,5 +76,5 @@ def test_numbered():
     """A name with a number behind it is an identifier, however many there are."""
     for name in ("a" * 40, "a" * 36, "b"):
         for number in (2, 999, 1000, 123_456, 10**9):
-            made = naming.numbered(name, number)
+            made = identifier_passes.numbered(name, number)
             assert (identifiers.is_one(made), made.endswith(f"-{number}"), len(made) <= 40) == (True, True, True)

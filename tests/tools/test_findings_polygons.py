@@ -1,10 +1,12 @@
-"""Tests that each row that settles, mends, leaves out, makes or changes has in findings.gpkg the polygon of what it is about, whether the run stops or
-not; and that outside of these the tables say what the source says. Wants Shapely."""
+"""Tests that each row that settles, mends, leaves out, makes or changes has in findings.gpkg the polygon of what it is
+about, whether the run stops or not; and that outside of these the tables say what the source says. Wants Shapely."""
 
 import os
+import re
 import shutil
 import sqlite3
 import sys
+from collections import Counter
 from pathlib import Path
 
 import pytest
@@ -12,16 +14,34 @@ from lpis_helpers import dirty
 from lpis_helpers.calls import ended_with, records, run
 from lpis_helpers.places import TOP
 from lpis_helpers.preparing_case import Case
-from lpis_tools import shapely_there
+from lpis.system import shapely_there
 
 if shapely_there.is_there():
     from lpis_helpers import found_layers
     from shapely import wkt
     from shapely.ops import unary_union
 
-COLUMNS = ["fid", "geom", "kind", "layer", "row", "identifiers", "width_m", "area_m2", "x", "y", "stops", "done", "words"]
+COLUMNS = [
+    "fid",
+    "geom",
+    "kind",
+    "layer",
+    "row",
+    "identifiers",
+    "width_m",
+    "area_m2",
+    "x",
+    "y",
+    "stops",
+    "done",
+    "words",
+    "number",
+    "state",
+    "comes_of",
+]
 NOTES = {"curve", "z", "m", "identifier", "column", "blanks", "alike", "prefix", "system"}
-PLACELESS = {"null.2", "empty", "line.2", "short.2", "open", "flat.2"}  # no shape, one that cannot be read, or one without an area
+# no shape, one that cannot be read, or one without an area
+PLACELESS = {"null.2", "empty", "line.2", "short.2", "open", "flat.2"}
 BOW = (0, 0), (10, 10), (10, 0), (0, 10), (0, 0)
 
 
@@ -35,7 +55,11 @@ def box(x, y, width=10.0, height=10.0):
 
 def same(shape, *texts):
     """Whether a shape is the land of texts, to a square decimetre."""
-    return shape is not None and shape.is_valid and shape.symmetric_difference(unary_union([wkt.loads(text).buffer(0) for text in texts])).area < 0.01
+    return (
+        shape is not None
+        and shape.is_valid
+        and shape.symmetric_difference(unary_union([wkt.loads(text).buffer(0) for text in texts])).area < 0.01
+    )
 
 
 class Polygons(Case):
@@ -58,16 +82,27 @@ class Polygons(Case):
 
 class TestFormat(Polygons):
     def test_of_dirt(self):
-        """Of every kind of dirt, whether the run stops or not: rows that stop have polygons, notes have none, and the rows are those of both tables."""
+        """Of every kind of dirt, whether the run stops or not: rows that stop have polygons, notes have none, and
+        the rows are those of both tables; those with a number are the findings."""
         source = dirty.make(self.path("land.gpkg"), dirty.ALL)
         for words, status in (((), 1), (("--accept",), 0)):
             ended_with(status, self.run_on(source, *words))
             rows = found_layers.rows_of(self.out)
-            tables = [*self.found(), *(records(self.out, "report.csv") if not status else ())]
+            tables = [*self.found(), *records(self.out, "report.csv")]
             key = [(row["kind"], row["layer"], row["row"], row["area_m2"] or "0") for row in tables]
-            assert sorted((kind, layer, number, round(float(area), 3)) for kind, layer, number, area in key) == sorted((row["kind"], row["layer"], row["row"], round(row["area_m2"] or 0, 3)) for row in rows)
+            assert sorted((kind, layer, number, round(float(area), 3)) for kind, layer, number, area in key) == sorted(
+                (row["kind"], row["layer"], row["row"], round(row["area_m2"] or 0, 3)) for row in rows
+            )
+            key = ("number", "state", "comes_of", "kind", "layer", "row")
+            assert sorted([row[name] for name in key] for row in records(self.out, "findings.csv")) == sorted(
+                [str(row[name]) for name in key] for row in rows if row["number"] is not None
+            )
             for row in rows:
-                is_placed = not (row["kind"] in NOTES or row["identifiers"] in PLACELESS and row["kind"] in ("shape", "invalid", "left out"))
+                is_placed = not (
+                    row["kind"] in NOTES
+                    or row["identifiers"] in PLACELESS
+                    and row["kind"] in ("shape", "invalid", "left out")
+                )
                 assert (row["geom"] is not None) == is_placed, row
                 assert row["geom"] is None or row["geom"].is_valid, row
             assert all(row["stops"] == 0 for row in rows if row["kind"] in NOTES)
@@ -80,7 +115,9 @@ class TestFormat(Polygons):
         """The names are those of the tables."""
         ended_with(0, self.run_on(dirty.make(self.path("land.gpkg"), ["umlaut", "doubled", "crossing"]), "--accept"))
         rows = found_layers.rows_of(self.out)
-        assert {row["identifiers"] for row in rows if row["kind"] == "identifier" and row["layer"] == "parcels"} == {row["parcel"] for row in records(self.out, "parcels.csv") if row["parcel"].startswith("Muehle")}
+        assert {row["identifiers"] for row in rows if row["kind"] == "identifier" and row["layer"] == "parcels"} == {
+            row["parcel"] for row in records(self.out, "parcels.csv") if row["parcel"].startswith("Muehle")
+        }
 
     def test_bytes(self):
         """The same source gives the same bytes."""
@@ -91,17 +128,24 @@ class TestFormat(Polygons):
             found.append(Path(found_layers.path_of(self.out)).read_bytes())
         assert found[0] == found[1]
 
+    def read_by_gdal(self):
+        """What ogrinfo prints of findings.gpkg, without a warning: each row, and a style for each layer."""
+        ran = ended_with(0, run("ogrinfo", "-al", found_layers.path_of(self.out)))
+        rows = Counter(row["kind"].replace(" ", "_") for row in found_layers.rows_of(self.out))
+        styles = Counter(re.findall(r"f_table_name \(String\) = (\w+)", ran.stdout))
+        found = Counter(re.findall(r"OGRFeature\((\w+)\)", ran.stdout))
+        assert (ran.stderr, styles, found.pop("layer_styles", 0), found) == ("", Counter({*rows}), len(rows), rows)
+        return ran.stdout
+
     @pytest.mark.skipif(not shutil.which("ogrinfo"), reason="no ogrinfo")
     def test_read_by_gdal(self):
         """GDAL reads all rows, and the system where there is one; and a file without layers."""
         for kinds, words in ((dirty.ALL, ("overlap", "left_out", "EPSG", "25832")), ([], ())):
             ended_with(0, self.run_on(dirty.make(self.path("land.gpkg"), kinds), "--accept"))
-            ran = ended_with(0, run("ogrinfo", "-al", found_layers.path_of(self.out)))
-            assert all(word in ran.stdout for word in words)
-            assert (ran.stderr, ran.stdout.count("OGRFeature(")) == ("", len(found_layers.rows_of(self.out)))
+            told = self.read_by_gdal()
+            assert all(word in told for word in words)
         self.prepared([("A", box(0, 0))], [("1", "A", "GRASS", box(0, 0, 4))], "--accept")
-        ran = ended_with(0, run("ogrinfo", "-al", found_layers.path_of(self.out)))
-        assert (ran.stderr, ran.stdout.count("OGRFeature(")) == ("", len(found_layers.rows_of(self.out)))
+        self.read_by_gdal()
 
 
 class TestKinds(Polygons):
@@ -128,7 +172,8 @@ class TestKinds(Polygons):
         self.both(self.WHOLE, [self.PIECES[0], ("2", "B", "GRASS", box(10, 0, 11))], "outside", box(20, 0, 1))
 
     def test_invalid(self):
-        """What the border encloses, whoever reads it: both halves of a bow, a hole outside of its shell, the hole that two holes share; not a sound hole."""
+        """What the border encloses, whoever reads it: both halves of a bow, a hole outside of its shell, the hole
+        that two holes share; not a sound hole."""
         bow, ring_of = polygon(BOW), [(0, 0), (10, 0), (10, 10), (0, 10), (0, 0)]
         halves = [polygon([(0, 0), (5, 5), (0, 10), (0, 0)]), polygon([(10, 10), (5, 5), (10, 0), (10, 10)])]
         self.both(self.WHOLE, [("1", "A", "GRASS", bow), self.PIECES[1]], "invalid", *halves)
@@ -150,12 +195,20 @@ class TestKinds(Polygons):
         assert same(self.only(rows, "left out")["geom"], box(30, 0))
         rows = self.both([*self.WHOLE, ("", box(30, 0))], self.PIECES, "nameless", box(30, 0))
         assert same(self.only(rows, "left out")["geom"], box(30, 0))
-        degrees = polygon([(9 - dirty.EAST, 48 - dirty.NORTH), (9.1 - dirty.EAST, 48 - dirty.NORTH), (9.1 - dirty.EAST, 48.1 - dirty.NORTH), (9 - dirty.EAST, 48 - dirty.NORTH)])
+        degrees = polygon(
+            [
+                (9 - dirty.EAST, 48 - dirty.NORTH),
+                (9.1 - dirty.EAST, 48 - dirty.NORTH),
+                (9.1 - dirty.EAST, 48.1 - dirty.NORTH),
+                (9 - dirty.EAST, 48 - dirty.NORTH),
+            ]
+        )
         row = self.only(self.prepared(self.WHOLE, [*self.PIECES, ("3", "A", "GRASS", degrees)], status=1), "degrees")
         assert row["geom"].area == pytest.approx(0.005, rel=0.01)
 
     def test_rows_that_change(self):
-        """A piece without a name, a piece and a parcel of a name that another has: their whole shapes; a parcel that is made of its pieces: what it has then."""
+        """A piece without a name, a piece and a parcel of a name that another has: their whole shapes; a parcel that
+        is made of its pieces: what it has then."""
         self.both(self.WHOLE, [self.PIECES[0], ("", "B", "GRASS", box(10, 0))], "nameless", box(10, 0))
         self.both(self.WHOLE, [self.PIECES[0], ("1", "B", "GRASS", box(10, 0))], "doubled", box(10, 0))
         self.both([("A", box(0, 0)), ("A", box(10, 0))], [("1", "A", "GRASS", box(0, 0, 20))], "doubled", box(10, 0))
@@ -165,30 +218,50 @@ class TestKinds(Polygons):
         self.assert_promise()
 
     def test_zone(self):
-        """A zone's number that was taken off is off the polygons too, of rows that are left out and of those that cross themselves."""
+        """A zone's number that was taken off is off the polygons too, of rows that are left out and of those that
+        cross themselves."""
+
         def far(text):
             return "SRID=25832;" + text.replace("5500", "325500")
 
-        rows = self.prepared([(name, far(text)) for name, text in self.WHOLE], [("1", "A", "GRASS", far(polygon(BOW))), ("2", "B", "GRASS", far(box(10, 0))), ("3", "C", "GRASS", far(box(10, 0)))], "--accept")
+        rows = self.prepared(
+            [(name, far(text)) for name, text in self.WHOLE],
+            [
+                ("1", "A", "GRASS", far(polygon(BOW))),
+                ("2", "B", "GRASS", far(box(10, 0))),
+                ("3", "C", "GRASS", far(box(10, 0))),
+            ],
+            "--accept",
+        )
         assert {row["kind"] for row in rows if row["geom"]} >= {"invalid", "stranger", "left out", "gap"}
         assert all(row["geom"] is None or 550_000 <= row["geom"].bounds[0] < 551_000 for row in rows), rows
 
     def test_what_comes_of_another(self):
         """A gap that comes of a piece which is left out, and that piece: both have polygons."""
-        rows = self.prepared(self.WHOLE, [self.PIECES[0], ("2", "B", "GRASS", box(10, 0, 5)), ("3", "b", "GRASS", box(15, 0, 5))], "--accept")
+        rows = self.prepared(
+            self.WHOLE,
+            [self.PIECES[0], ("2", "B", "GRASS", box(10, 0, 5)), ("3", "b", "GRASS", box(15, 0, 5))],
+            "--accept",
+        )
         assert "it comes of piece 3" in self.only(rows, "gap")["words"]
         assert all(same(self.only(rows, kind)["geom"], box(15, 0, 5)) for kind in ("gap", "stranger", "left out"))
         self.assert_promise()
 
     def test_what_is_lost(self):
         """A piece whose whole place another has is lost, and the tables say so of its whole shape."""
-        rows = self.prepared([self.WHOLE[0]], [("1", "A", "GRASS", box(0, 0)), ("2", "A", "TREES", box(2, 2, 3, 3))], "--accept")
+        rows = self.prepared(
+            [self.WHOLE[0]], [("1", "A", "GRASS", box(0, 0)), ("2", "A", "TREES", box(2, 2, 3, 3))], "--accept"
+        )
         assert same(self.only(rows, "lost")["geom"], box(2, 2, 3, 3))
         assert same(self.only(rows, "overlap")["geom"], box(2, 2, 3, 3))
         self.assert_promise()
 
     def test_notes_excuse_nothing(self):
-        """A row whose name or heights alone were changed, or that was rounded alone, has no polygon of its land: nothing else is excused there."""
-        rows = self.prepared([("M\u00fchle", "POLYGON Z((550000 5400000 1,550010 5400000 1,550010 5400010 1,550000 5400000 1))")], [("1", "M\u00fchle", "GRASS", "POLYGON((550000 5400000,550010 5400000,550010 5400010,550000 5400000))")])
+        """A row whose name or heights alone were changed, or that was rounded alone, has no polygon of its land:
+        nothing else is excused there."""
+        rows = self.prepared(
+            [("M\u00fchle", "POLYGON Z((550000 5400000 1,550010 5400000 1,550010 5400010 1,550000 5400000 1))")],
+            [("1", "M\u00fchle", "GRASS", "POLYGON((550000 5400000,550010 5400000,550010 5400010,550000 5400000))")],
+        )
         assert {row["kind"] for row in rows} == {"z", "identifier", "changed"}
         assert all(row["geom"] is None or row["geom"].area < 0.001 for row in rows)

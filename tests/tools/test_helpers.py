@@ -1,4 +1,5 @@
-"""The helpers of tests and benches are found where other modules of their names are installed: PyTables, for one, is called `tables`."""
+"""The helpers of tests and benches are found where other modules of their names are installed: PyTables, for one, is
+called `tables`."""
 
 import os
 import subprocess
@@ -27,7 +28,12 @@ def started(folder, *words):
     code = "import os, runpy, site, sys; site.addsitedir(sys.argv[1]); sys.argv = sys.argv[2:]; "
     code += "sys.path.insert(0, os.path.dirname(sys.argv[0])); runpy.run_path(sys.argv[0], run_name='__main__')"
     return subprocess.run(
-        [sys.executable, "-B", "-c", code, folder, *words], cwd=TOP, capture_output=True, text=True, timeout=120, check=False
+        [sys.executable, "-B", "-c", code, folder, *words],
+        cwd=TOP,
+        capture_output=True,
+        text=True,
+        timeout=120,
+        check=False,
     )
 
 

@@ -1,4 +1,5 @@
-"""Tests that tables take their place together: a tool is stopped at each of its renames, by each signal, by KILL and by a full disk."""
+"""Tests that tables take their place together: a tool is stopped at each of its renames, by each signal, by KILL and
+by a full disk."""
 
 import csv
 import json
@@ -12,8 +13,8 @@ from lpis_helpers import dirty, places
 from lpis_helpers.calls import tool
 from lpis_helpers.country_case import Land
 from lpis_helpers.spare import Spare, exhaustive, write_script
-from lpis_tools import files, placing, shapely_there
-from lpis_tools.trouble import Trouble
+from lpis.system import files, placing, shapely_there
+from lpis.system.trouble import Trouble
 
 DRIVER = os.path.join(places.TESTS, "lpis_helpers", "stopped_renames.py")
 SIGNALS = {"TERM": 143, "INT": 130, "HUP": 129, "KILL": -9}
@@ -23,7 +24,13 @@ lacks_shapely = pytest.mark.skipif(not shapely_there.python(), reason=shapely_th
 
 def trials(tool, start, how, *words):
     python = shapely_there.python() or "python3"
-    ran = subprocess.run([python, DRIVER, tool, str(start), how, *map(str, words)], capture_output=True, text=True, check=False, timeout=500)
+    ran = subprocess.run(
+        [python, DRIVER, tool, str(start), how, *map(str, words)],
+        capture_output=True,
+        text=True,
+        check=False,
+        timeout=500,
+    )
     assert ran.returncode == 0, ran.stdout + ran.stderr
     return json.loads(ran.stdout)
 
@@ -42,14 +49,29 @@ def judge(found, names):
         if trial["how"] in SIGNALS and trial["status"] == SIGNALS[trial["how"]] and trial["how"] != "KILL":
             is_new = after == last
             assert is_new or after == first, told
-            assert ("written" in trial["said"].splitlines()[-1] and "no table is written" not in trial["said"]) == is_new, told
+            assert (
+                "written" in trial["said"].splitlines()[-1] and "no table is written" not in trial["said"]
+            ) == is_new, told
         elif trial["how"] == "full" and trial["status"]:
-            assert (trial["status"], after, "No space left" in trial["said"], "Traceback" in trial["said"]) == (64, first, True, False), told
+            assert (trial["status"], after, "No space left" in trial["said"], "Traceback" in trial["said"]) == (
+                64,
+                first,
+                True,
+                False,
+            ), told
         elif trial["how"] == "KILL" and trial["status"]:
-            assert not any(after.get(name) not in (first.get(name), last.get(name), None) for name in {*first, *last}), told
+            assert not any(
+                after.get(name) not in (first.get(name), last.get(name), None) for name in {*first, *last}
+            ), told
         elif trial["how"] == "fuller" and trial["status"]:
             assert (trial["status"], "Traceback" in trial["said"]) == (64, False), told
         assert (trial["again"], tables_of(trial["then"], names)) == (0, last), (told, trial["said_again"])
+        assert (
+            after == last
+            or trial["standing"].get("out") != "whole"
+            and ("out" in trial["standing"] or "out" in trial["journals"])
+        ), told
+        assert trial["standing_then"]["out"] == "whole"
 
 
 @lacks_shapely
@@ -60,9 +82,24 @@ class TestPrepare(Spare):
         os.mkdir(start)
         for year, width in (("then", 10), ("now", 12)):
             shape = dirty.polygon(dirty.box(0, 0, width))
-            dirty.put(os.path.join(start, f"{year}.gpkg"), [("A", shape)], [("A.1", "A", "GRASS" if year == "then" else "TREES", shape)])
+            dirty.put(
+                os.path.join(start, f"{year}.gpkg"),
+                [("A", shape)],
+                [("A.1", "A", "GRASS" if year == "then" else "TREES", shape)],
+            )
         Path(start, "classes.csv").write_text("class,percent\nGRASS,100\nTREES,30\n", encoding="ascii")
-        run = subprocess.run([os.path.join(places.TOOLS, "prepare"), os.path.join(start, "then.gpkg"), os.path.join(start, "out"), "--classes", os.path.join(start, "classes.csv")], capture_output=True, text=True, check=False)
+        run = subprocess.run(
+            [
+                os.path.join(places.TOOLS, "prepare"),
+                os.path.join(start, "then.gpkg"),
+                os.path.join(start, "out"),
+                "--classes",
+                os.path.join(start, "classes.csv"),
+            ],
+            capture_output=True,
+            text=True,
+            check=False,
+        )
         assert run.returncode == 0, run.stdout + run.stderr
         Path(start, "out", "notes.csv").write_text("own\n", encoding="ascii")
         return start
@@ -71,7 +108,7 @@ class TestPrepare(Spare):
         Path(start, "classes.csv").write_text("class,percent\nGRASS,100\nTREES,40\n", encoding="ascii")
         return f"{start}/now.gpkg", f"{start}/out", "--classes", f"{start}/classes.csv", "--quiet"
 
-    @pytest.mark.parametrize("how", ("TERM", "KILL", "full", *map(exhaustive, ("INT", "HUP", "fuller"))))
+    @pytest.mark.parametrize("how", ("KILL", "full", *map(exhaustive, ("TERM", "INT", "HUP", "fuller"))))
     def test_each_rename(self, how):
         start = self.start()
         found = trials("prepare", start, how, *self.words(start))
@@ -100,17 +137,25 @@ class TestSplit(Spare):
 class TestLineage(Spare):
     @pytest.mark.parametrize("how", ("TERM", "KILL"))
     def test_each_rename(self, how):
-        """Both tables, or none: a run that is told that one is there stops at it, so the next is asked only where none is."""
+        """Both tables, or none: a run that is told that one is there stops at it, so the next is asked only where
+        none is."""
         start = self.path("start")
         for year, names in (("old", "ab"), ("new", "bc")):
             os.makedirs(os.path.join(start, year))
             with open(os.path.join(start, year, "parcels.csv"), "w", newline="", encoding="ascii") as file:
-                csv.writer(file).writerows([["parcel", "wkt"], *([name, f"POLYGON(({n} 0,{n + 1} 0,{n + 1} 1,{n} 1,{n} 0))"] for n, name in enumerate(names))])
+                csv.writer(file).writerows(
+                    [
+                        ["parcel", "wkt"],
+                        *([name, f"POLYGON(({n} 0,{n + 1} 0,{n + 1} 1,{n} 1,{n} 0))"] for n, name in enumerate(names)),
+                    ]
+                )
         for trial in trials("lineage", start, how, f"{start}/old", f"{start}/new", f"{start}/new", "--workers", "1"):
             assert len([name for name in trial["then"] if "lineage" in name]) == 2, trial
             if how != "KILL":
                 there = [name for name in trial["after"] if "lineage" in name]
-                assert len(there) in (0, 2) and (len(there) == 2) == ("are written" in trial["said"] or trial["status"] == 0), trial
+                assert len(there) in (0, 2) and (len(there) == 2) == (
+                    "are written" in trial["said"] or trial["status"] == 0
+                ), trial
 
 
 class Placed(Spare):
@@ -124,7 +169,10 @@ class Placed(Spare):
             Path(self.made, name).write_text("new", encoding="ascii")
 
     def texts(self):
-        return [Path(self.out, name).read_text(encoding="ascii") if os.path.exists(os.path.join(self.out, name)) else "" for name in TABLES]
+        return [
+            Path(self.out, name).read_text(encoding="ascii") if os.path.exists(os.path.join(self.out, name)) else ""
+            for name in TABLES
+        ]
 
 
 class TestJournals(Placed):
@@ -146,7 +194,10 @@ class TestJournals(Placed):
         os.mkdir(os.path.join(self.out, "covers.csv"))
         with pytest.raises(IsADirectoryError):
             placing.put(self.made, self.out, TABLES)
-        assert (Path(self.out, "parcels.csv").read_text(encoding="ascii"), os.path.isdir(os.path.join(self.out, "covers.csv"))) == ("old", True)
+        assert (
+            Path(self.out, "parcels.csv").read_text(encoding="ascii"),
+            os.path.isdir(os.path.join(self.out, "covers.csv")),
+        ) == ("old", True)
 
     def test_the_next_run_ends_it(self, capsys):
         self.begin()
@@ -159,7 +210,9 @@ class TestJournals(Placed):
     def test_any_tool_ends_it(self):
         """Also one that reads alone, and of a folder in it."""
         self.begin()
-        subprocess.run([os.path.join(places.TOOLS, "explain"), self.out], input="", text=True, check=False, capture_output=True)
+        subprocess.run(
+            [os.path.join(places.TOOLS, "explain"), self.out], input="", text=True, check=False, capture_output=True
+        )
         assert self.texts() == ["new"] * 3
 
     def test_what_is_gone(self):
@@ -174,7 +227,16 @@ class TestJournals(Placed):
         other = self.path("other")
         os.mkdir(other)
         Path(other, "parcels.csv").write_text("other", encoding="ascii")
-        for text in ("", "[]", "7", '["../other", ["parcels.csv"]]', '[".x", ["../out/parcels.csv"]]', json.dumps([self.path("other"), ["parcels.csv"]]), '["covers.csv", []]', '[".prepare", [1]]'):
+        for text in (
+            "",
+            "[]",
+            "7",
+            '["../other", ["parcels.csv"]]',
+            '[".x", ["../out/parcels.csv"]]',
+            json.dumps([self.path("other"), ["parcels.csv"]]),
+            '["covers.csv", []]',
+            '[".prepare", [1]]',
+        ):
             Path(self.out, placing.JOURNAL).write_text(text, encoding="ascii")
             with pytest.raises(Trouble):
                 placing.end(self.out)
@@ -195,7 +257,9 @@ class TestJournals(Placed):
         """A journal that is locked is waited for, and then it is gone."""
         self.begin()
         path = os.path.join(self.out, placing.JOURNAL)
-        with subprocess.Popen(["flock", path, "sh", "-c", f"echo; sleep 1; rm {path}"], stdout=subprocess.PIPE) as other:
+        with subprocess.Popen(
+            ["flock", path, "sh", "-c", f"echo; sleep 1; rm {path}"], stdout=subprocess.PIPE
+        ) as other:
             other.stdout.readline()
             placing.end(self.out)
         assert self.texts()[2] == ""
@@ -203,13 +267,23 @@ class TestJournals(Placed):
 
 @pytest.mark.skipif(not places.BUILT, reason="the program is not built")
 class TestYears(Spare):
-    @pytest.mark.parametrize("command, words", (("publish", "2024 is published in {}, and its line is in the log"), ("cut", "nothing was published")))
-    def test_a_signal_at_a_command(self, command, words):
+    @pytest.mark.parametrize(
+        "command, words, more",
+        (
+            ("publish", "2024 is published in {}, and its line is in the log", ()),
+            ("check", "nothing was published", ()),
+            ("cut", "nothing was published", ("--certificate",)),
+        ),
+    )
+    def test_a_signal_at_a_command(self, command, words, more):
         """Behind a publication the log gets its line, whatever comes."""
         base, release, standin = self.path("lpis.db"), self.path("release"), self.path("lpis")
         shutil.copytree(os.path.join(places.TOP, "examples", "exact", "2024"), release)
-        write_script(f'#!/bin/sh\n{places.BUILT} "$@"\nstatus=$?\n[ "$1" = {command} ] && kill -TERM $PPID\nexit $status\n', standin)
-        run = tool("year", base, "2024", release, "--new", "--year-anyway", "--lpis", standin)
+        write_script(
+            f'#!/bin/sh\n{places.BUILT} "$@"\nstatus=$?\n[ "$1" = {command} ] && kill -TERM $PPID\nexit $status\n',
+            standin,
+        )
+        run = tool("year", base, "2024", release, "--new", "--year-anyway", *more, "--lpis", standin)
         assert (run.returncode, words.format(base) in run.stderr) == (143, True), run.stdout + run.stderr
         assert os.path.exists(base) == (command == "publish")
         if command == "publish":
@@ -228,7 +302,10 @@ class TestReports(Spare):
                     file.write("new")
             assert Path(one).read_text(encoding="ascii") == "old"
             print(1 // 0)
-        assert ([Path(name).read_text(encoding="ascii") for name in (one, other)], len(os.listdir(self.folder))) == (["old"] * 2, 2)
+        assert ([Path(name).read_text(encoding="ascii") for name in (one, other)], len(os.listdir(self.folder))) == (
+            ["old"] * 2,
+            2,
+        )
         with files.together():
             for name in (one, other):
                 with files.anew(name) as file:

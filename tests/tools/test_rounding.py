@@ -1,19 +1,21 @@
-"""Tests the rounding of all borders: the pixels that edges meet and cross in against fractions; over generated lands that are hard to round that no two
-edges cross or touch but in corners, that no border moves by more than 0.708 mm, that the order of rows changes nothing, and that each parcel alone,
-with the rows beside it, has the very text that it has in the whole land. Wants Shapely."""
+"""Tests the rounding of all borders: the pixels that edges meet and cross in against fractions; over generated lands
+that are hard to round that no two edges cross or touch but in corners, that no border moves by more than 0.708 mm, that
+the order of rows changes nothing, and that each parcel alone, with the rows beside it, has the very text that it has
+in the whole land. Wants Shapely."""
 
 import random
 from fractions import Fraction
 
 import pytest
 from lpis_helpers import hard
-from lpis_tools import shapely_there
+from lpis.system import shapely_there
 from lpis_helpers.tables import orient
 
 if shapely_there.is_there():
     import numpy
-    from lpis_tools import rounding, snapping, wkb
-    from lpis_tools.snapping import HALF, WHOLE
+    from lpis.formats import wkb
+    from lpis.rounding import coverage, snap_rounding
+    from lpis.rounding.snap_rounding import HALF, WHOLE
 STEPS = (0.002, 0.02, 0.3, 3.0, 30.0)  # metres: the cells of the lands
 MOST = 0.708  # millimetres that a border moves
 
@@ -48,12 +50,14 @@ def crossing(one, other):
 
 def texts(parcels, covers):
     """The text of each parcel, of the pieces that the rows have, and of each piece."""
-    land, numbers = rounding.Map(parcels, covers, lambda words: None), {}
+    land, numbers = coverage.Map(parcels, covers, lambda words: None), {}
     for row in covers:
         numbers.setdefault(row["parcel"], len(numbers))
     of_piece = numpy.array([numbers[row["parcel"]] for row in covers] + [-1], int)
     found = dict(land.polygons(of_piece[land.pieces]))
-    return {name: found.get(number) for name, number in numbers.items()}, {covers[number]["piece"]: text for number, text in land.polygons(land.pieces)}
+    return {name: found.get(number) for name, number in numbers.items()}, {
+        covers[number]["piece"]: text for number, text in land.polygons(land.pieces)
+    }
 
 
 def grown(row, by):
@@ -63,19 +67,34 @@ def grown(row, by):
 
 def beside(rows, boxes):
     """The rows whose boxes meet one of some boxes."""
-    return [row for row in rows if any(left <= box[2] and low <= box[3] and box[0] <= right and box[1] <= high for box in (row.found.box(),) for left, low, right, high in boxes)]
+    return [
+        row
+        for row in rows
+        if any(
+            left <= box[2] and low <= box[3] and box[0] <= right and box[1] <= high
+            for box in (row.found.box(),)
+            for left, low, right, high in boxes
+        )
+    ]
 
 
 @pytest.mark.skipif(not shapely_there.is_there(), reason=shapely_there.LACKING)
 class TestPixels:
-    """Edges over few pixels, many of them along their sides and through their corners, as short ones and as numbers of any size."""
+    """Edges over few pixels, many of them along their sides and through their corners, as short ones and as numbers
+    of any size."""
 
     @pytest.fixture(autouse=True)
     def begin(self):
         numbers = random.Random(3)
 
         def value():
-            return numbers.choice([numbers.randrange(-3000, 3000), numbers.randrange(-6, 7) * HALF, numbers.randrange(-3, 4) * WHOLE + numbers.choice([-1, 0, 1])])
+            return numbers.choice(
+                [
+                    numbers.randrange(-3000, 3000),
+                    numbers.randrange(-6, 7) * HALF,
+                    numbers.randrange(-3, 4) * WHOLE + numbers.choice([-1, 0, 1]),
+                ]
+            )
 
         edges = [[value() for _ in range(4)] for _ in range(12_000)]
         self.edges = [edge for edge in edges if edge[:2] != edge[2:]]
@@ -85,7 +104,7 @@ class TestPixels:
         wanted = [meets(edge, pixel) for edge, pixel in zip(self.edges, self.pixels)]
         assert sum(wanted) > 500
         for kind in (numpy.int64, object):
-            assert snapping.meets(numpy.array(self.edges), numpy.array(self.pixels), kind).tolist() == wanted
+            assert snap_rounding.meets(numpy.array(self.edges), numpy.array(self.pixels), kind).tolist() == wanted
 
     def test_crossings(self):
         half = len(self.edges) // 2
@@ -93,12 +112,15 @@ class TestPixels:
         wanted = [found for found in map(crossing, first, second) if found]
         assert len(wanted) > 500
         for kind in (numpy.int64, object):
-            assert list(map(tuple, snapping.crossing_pixels(numpy.array(first), numpy.array(second), kind).tolist())) == wanted
+            assert (
+                list(map(tuple, snap_rounding.crossing_pixels(numpy.array(first), numpy.array(second), kind).tolist()))
+                == wanted
+            )
 
     def test_points(self):
         """A point on a side belongs to the greater pixel, on either side of naught."""
         points = numpy.array([[0.0005, -0.0005], [0.000499, -0.000501], [-0.0015, 1.2345], [0.0004996, 0.0]])
-        assert snapping.pixels_of(points).tolist() == [[1, 0], [0, -1], [-1, 1235], [1, 0]]
+        assert snap_rounding.pixels_of(points).tolist() == [[1, 0], [0, -1], [-1, 1235], [1, 0]]
 
 
 @pytest.mark.skipif(not shapely_there.is_there(), reason=shapely_there.LACKING)
@@ -111,7 +133,7 @@ class TestLands:
     def test_no_two_edges_meet(self):
         """But in corners of both: looked for among all pairs, in whole numbers."""
         for land in self.lands(10):
-            network = snapping.network_of([row.found for row in land.parcels + land.covers], print)
+            network = snap_rounding.network_of([row.found for row in land.parcels + land.covers])
             ends = numpy.hstack([network.points[network.first], network.points[network.last]]).tolist()
             order = sorted(range(len(ends)), key=lambda n: min(ends[n][0], ends[n][2]))
             for place, number in enumerate(order):
@@ -125,14 +147,16 @@ class TestLands:
                     sides = orient(a, b, c), orient(a, b, d), orient(c, d, a), orient(c, d, b)
                     assert not (sides[0] * sides[1] < 0 and sides[2] * sides[3] < 0), (a, b, c, d)
                     for side, (p, q), point in zip(sides, ((a, b), (a, b), (c, d), (c, d)), (c, d, a, b)):
-                        is_between = min(p[0], q[0]) <= point[0] <= max(p[0], q[0]) and min(p[1], q[1]) <= point[1] <= max(p[1], q[1])
+                        is_between = min(p[0], q[0]) <= point[0] <= max(p[0], q[0]) and min(p[1], q[1]) <= point[
+                            1
+                        ] <= max(p[1], q[1])
                         assert not (side == 0 and is_between and point not in (p, q)), (p, q, point)
 
     def test_borders_stay_near(self):
         """Each corner of the way of an edge lies within the bound of the edge."""
         for land in self.lands(5):
-            edges = snapping.Edges.of([row.found for row in land.parcels + land.covers])
-            corners, edge, corner, _ = snapping.drawn(edges)
+            edges = snap_rounding.Edges.of([row.found for row in land.parcels + land.covers])
+            corners, edge, corner, _ = snap_rounding.drawn(edges)
             ends, points = edges.ends[edge] / WHOLE, corners.points[corner]
             way, from_start = ends[:, 2:] - ends[:, :2], points - ends[:, :2]
             along = numpy.clip((from_start * way).sum(axis=1) / (way * way).sum(axis=1), 0, 1)
@@ -152,12 +176,14 @@ class TestLands:
             own = [row for row in land.covers if row["parcel"] == name]
             boxes = [grown(row, reach) for row in own]
             found, its = texts(beside(land.parcels, boxes), beside(land.covers, boxes))
-            is_same = found.get(name) == whole[name] and all(its.get(row["piece"]) == pieces.get(row["piece"]) for row in own)
+            is_same = found.get(name) == whole[name] and all(
+                its.get(row["piece"]) == pieces.get(row["piece"]) for row in own
+            )
             count, different = count + 1, different + (not is_same)
         return count, different
 
     def test_alone(self):
-        found = [self.alone(land, snapping.REACH) for land in self.lands(20)]
+        found = [self.alone(land, snap_rounding.REACH) for land in self.lands(20)]
         assert sum(count for count, _ in found) > 250
         assert sum(different for _, different in found) == 0
 
@@ -169,12 +195,16 @@ class TestLands:
     def test_long_edges(self, length):
         """Of three and of forty kilometres, whose products do not fit 64 bits: by numbers of any size."""
         land = hard.Land(1, 9, length / 3)
-        network = snapping.network_of([row.found for row in land.covers], print)
+        network = snap_rounding.network_of([row.found for row in land.covers])
         assert len(network.first)
-        assert self.alone(land, snapping.REACH)[1] == 0
+        assert self.alone(land, snap_rounding.REACH)[1] == 0
 
     def test_nothing(self):
         """A land without edges, and one whose shapes are points."""
         assert texts([], []) == ({}, {})
-        row = hard.Row(0, {"piece": "K", "parcel": "P", "class": "A"}, wkb.Found([[[(1.0, 1.0), (1.0000001, 1.0), (1.0, 1.0000001), (1.0, 1.0)]]]))
+        row = hard.Row(
+            0,
+            {"piece": "K", "parcel": "P", "class": "A"},
+            wkb.Found([[[(1.0, 1.0), (1.0000001, 1.0), (1.0, 1.0000001), (1.0, 1.0)]]]),
+        )
         assert texts([], [row]) == ({"P": None}, {})

@@ -9,10 +9,28 @@ import pytest
 from lpis_helpers import dirty
 from lpis_helpers.calls import ended_with, records, tool
 from lpis_helpers.spare import Spare
-from lpis_tools import shapely_there, shares
+from lpis.source import percentages
+from lpis.system import shapely_there
 
 ODD = ["100%", " 50", "50\u00a0%", "050", "+50", "1E+02", "5e1"]
-NONE = ["33.5", "0,5 %", "101", "150", "200", "-0", "-1", "1_00", "inf", "nan", "5 0", "50 %%", "%", "ja", "\u0665", "1e400"]
+NONE = [
+    "33.5",
+    "0,5 %",
+    "101",
+    "150",
+    "200",
+    "-0",
+    "-1",
+    "1_00",
+    "inf",
+    "nan",
+    "5 0",
+    "50 %%",
+    "%",
+    "ja",
+    "\u0665",
+    "1e400",
+]
 NONE += ["9" * 5000, ".", "1/2", "0x10", "1,000,000"]
 
 # Texts of a table's column percent, what each is taken for (None: it stops), and which of them are told.
@@ -46,19 +64,22 @@ TABLES = [
 
 @pytest.mark.parametrize(("texts", "percents", "told"), TABLES)
 def test_percent(texts, percents, told):
-    taken = shares.read(texts, "percent")
+    taken = percentages.read(texts, "percent")
     assert [one.percent for one in taken] == percents
     assert [text for text, one in zip(texts, taken) if one.words] == told
 
 
-@pytest.mark.parametrize(("texts", "percents", "told"), [
-    (["1", "0"], [100, 0], []),
-    (["1.0", "0,0", " 1"], [100, 0, 100], ["1.0", "0,0", " 1"]),
-    (["0.5", "1"], [50, 100], ["0.5"]),
-    (["50", "1", "1 %", "", "true", "-0"], [None, 100, None, None, None, None], ["50", "1 %", "", "true", "-0"]),
-])
+@pytest.mark.parametrize(
+    ("texts", "percents", "told"),
+    [
+        (["1", "0"], [100, 0], []),
+        (["1.0", "0,0", " 1"], [100, 0, 100], ["1.0", "0,0", " 1"]),
+        (["0.5", "1"], [50, 100], ["0.5"]),
+        (["50", "1", "1 %", "", "true", "-0"], [None, 100, None, None, None, None], ["50", "1 %", "", "true", "-0"]),
+    ],
+)
 def test_eligible(texts, percents, told):
-    taken = shares.read(texts, "eligible")
+    taken = percentages.read(texts, "eligible")
     assert [one.percent for one in taken] == percents
     assert [text for text, one in zip(texts, taken) if one.words] == told
 
@@ -84,7 +105,10 @@ class TestPrepared(Spare):
 
     def assert_stopped(self, run, *words):
         ended_with(1, run)
-        assert (records(self.out, "classes.csv"), [word for word in words if word not in run.stdout]) == ([], []), run.stdout
+        assert (records(self.out, "classes.csv"), [word for word in words if word not in run.stdout]) == (
+            [],
+            [],
+        ), run.stdout
 
     def assert_taken(self, run, *percents):
         ended_with(0, run)
@@ -101,21 +125,28 @@ class TestPrepared(Spare):
         words = [self.land, self.out, *self.tables("class;percent\nGRASS;1\nTREES;0,5\n")]
         run = tool("prepare", *words)
         self.assert_taken(run, "100", "50")
-        for line in ("GRASS: its percent is '1': taken as 100, as all of", "TREES: its percent is '0,5': taken as 50, as all of"):
+        for line in (
+            "GRASS: its percent is '1': taken as 100, as all of",
+            "TREES: its percent is '0,5': taken as 50, as all of",
+        ):
             assert f"percent: classes {line} the table are shares" in run.stdout
         found = [(row["kind"], row["identifier"], row["done"][:11]) for row in records(self.out, "prepared.csv")]
         assert found == [("percent", "GRASS", "taken as 10"), ("percent", "TREES", "taken as 50")]
 
-    @pytest.mark.parametrize(("kind", "values", "percents", "words"), [
-        ("REAL", (100.0, 30.0, 0.0), ["100", "30", "0"], ""),
-        ("REAL", (1.0, 0.5, 0.0), ["100", "50", "0"], "GRASS: its percent is '1.0': taken as 100"),
-        ("REAL", (1.0, 100.0, 0.0), [], "GRASS: its percent is '1.0', which reads as a share"),
-        ("REAL", (1.0, 0.0, -0.0), [], "GRASS: its percent is '1.0', which reads as shares do"),
-        ("REAL", (100.0, 50.0, None), [], "WATER: its percent is empty"),
-        ("INTEGER", (1, 100, 0), ["1", "100", "0"], ""),
-    ])
+    @pytest.mark.parametrize(
+        ("kind", "values", "percents", "words"),
+        [
+            ("REAL", (100.0, 30.0, 0.0), ["100", "30", "0"], ""),
+            ("REAL", (1.0, 0.5, 0.0), ["100", "50", "0"], "GRASS: its percent is '1.0': taken as 100"),
+            ("REAL", (1.0, 100.0, 0.0), [], "GRASS: its percent is '1.0', which reads as a share"),
+            ("REAL", (1.0, 0.0, -0.0), [], "GRASS: its percent is '1.0', which reads as shares do"),
+            ("REAL", (100.0, 50.0, None), [], "WATER: its percent is empty"),
+            ("INTEGER", (1, 100, 0), ["1", "100", "0"], ""),
+        ],
+    )
     def test_numbers_of_a_package(self, kind, values, percents, words):
-        """A column of numbers has 1.0 for one percent and for the whole, and stops; 1 of whole numbers is one percent."""
+        """A column of numbers has 1.0 for one percent and for the whole, and stops; 1 of whole numbers is one
+        percent."""
         self.type_percent(kind, *values)
         run = ended_with(0 if percents else 1, tool("prepare", self.land, self.out))
         assert [row["percent"] for row in records(self.out, "classes.csv")] == percents

@@ -1,4 +1,5 @@
-"""Tests that a tool which is forked (`lpis_helpers/starts.py`) answers as after a start of Python, and what then is such a start after all."""
+"""Tests that a tool which is forked (`lpis_helpers/starts.py`) answers as after a start of Python, and what then is
+such a start after all."""
 
 import os
 import shutil
@@ -9,14 +10,14 @@ from lpis_helpers.calls import run, tool
 from lpis_helpers.places import BUILT, TOOLS, TOP
 from lpis_helpers.spare import Spare, write, write_script
 from lpis_helpers.starts import STARTS
-from lpis_tools import installed
+from lpis.system import installation
 
 # Over copies of examples in the folder of each run.
 CASES = [
-    *([name, word] for name in installed.COMMANDS for word in ("--help", "--none")),
+    *([name, word] for name in installation.COMMANDS for word in ("--help", "--none")),
     ["explain", "square"],
     ["faults", "overlap", "faults.geojson"],
-    ["report", "square", "cert.txt", "--json", "report.json"],
+    ["report", "square", "--json", "report.json"],
     ["prepare", "square", "prepared"],
     ["lineage", "square", "square", "lineage.csv"],
     ["country", "split", "square", "country"],
@@ -24,7 +25,10 @@ CASES = [
     ["year", "lpis.db", "1", "square"],
     ["recipes/compare", "square", "square"],
 ]
-PROBE = "#!/usr/bin/env python3\nimport atexit, os, sys\nprint({!r})\nsys.stdout.flush()\natexit.register(print, 'the end')\n{}\n"
+PROBE = (
+    "#!/usr/bin/env python3\nimport atexit, os, sys\nprint({!r})\nsys.stdout.flush()\natexit.register(print, 'the"
+    " end')\n{}\n"
+)
 
 
 class TestStarts(Spare):
@@ -33,16 +37,22 @@ class TestStarts(Spare):
     def test_equal(self, words):
         """Status, texts and files."""
         found = []
-        for name, start in (("forked", tool), ("started", lambda name, *rest, **more: run(os.path.join(TOOLS, name), *rest, **more))):
+        for name, start in (
+            ("forked", tool),
+            ("started", lambda name, *rest, **more: run(os.path.join(TOOLS, name), *rest, **more)),
+        ):
             os.mkdir(folder := self.path(name))
             for example in ("square", "overlap"):
                 shutil.copytree(os.path.join(TOP, "examples", example), os.path.join(folder, example))
-            assert run(BUILT, "cut", "square", "cert.txt", cwd=folder).returncode == 0
             before = STARTS.count
             ended = start(*words, cwd=folder, input="refused 40 piece A\n")
             assert STARTS.count - before == (name == "forked")
-            files = sorted(os.path.relpath(os.path.join(top, file), folder) for top, _, files in os.walk(folder) for file in files)
-            found.append((ended.returncode, ended.stdout, ended.stderr, files))
+            files = sorted(
+                os.path.relpath(os.path.join(top, file), folder) for top, _, files in os.walk(folder) for file in files
+            )
+            # a run of over ten seconds tells its steps
+            said = [line for line in ended.stderr.splitlines() if not line.startswith("country: ")]
+            found.append((ended.returncode, ended.stdout, said, files))
         assert found[0] == found[1]
 
     def probe(self, code, **more):
@@ -52,10 +62,19 @@ class TestStarts(Spare):
         assert STARTS.can(path, more)
         return STARTS.run([path, "a", "b c"], **{"capture_output": True, "text": True, **more})
 
-    @pytest.mark.parametrize("text, status, out", (
-        ("", 0, ""), ("sys.exit(3)", 3, ""), ("sys.exit('no')", 1, ""), ("raise ValueError('no')", 1, ""), ("os.kill(os.getpid(), 15)", -15, None), ("print(sys.argv[1:])", 0, "['a', 'b c']\n"),
-        ("print(sys.stdin.read())", 0, "told\n\n"), ("os.system('echo from below')", 0, "from below\n"),
-    ))
+    @pytest.mark.parametrize(
+        "text, status, out",
+        (
+            ("", 0, ""),
+            ("sys.exit(3)", 3, ""),
+            ("sys.exit('no')", 1, ""),
+            ("raise ValueError('no')", 1, ""),
+            ("os.kill(os.getpid(), 15)", -15, None),
+            ("print(sys.argv[1:])", 0, "['a', 'b c']\n"),
+            ("print(sys.stdin.read())", 0, "told\n\n"),
+            ("os.system('echo from below')", 0, "from below\n"),
+        ),
+    )
     def test_ends(self, text, status, out):
         ended = self.probe(text, input="told\n")
         assert (ended.returncode, ended.stdout) == (status, "begun\n" + ("" if out is None else out + "the end\n"))
@@ -63,14 +82,24 @@ class TestStarts(Spare):
 
     def test_streams(self):
         text = "print('out'); print('err', file=sys.stderr)"
-        assert self.probe(text, capture_output=False, stdout=subprocess.PIPE, stderr=subprocess.STDOUT).stdout.count("err\n") == 1
-        assert self.probe(text, capture_output=False, stdout=subprocess.DEVNULL, stderr=subprocess.PIPE).stderr == "err\n"
+        assert (
+            self.probe(text, capture_output=False, stdout=subprocess.PIPE, stderr=subprocess.STDOUT).stdout.count(
+                "err\n"
+            )
+            == 1
+        )
+        assert (
+            self.probe(text, capture_output=False, stdout=subprocess.DEVNULL, stderr=subprocess.PIPE).stderr == "err\n"
+        )
         assert self.probe(text, text=False).stderr == b"err\n"
 
     def test_surroundings(self):
         """Its own, as is the folder; nothing of them stays for the next start."""
         text = "print(os.environ.get('LPIS_PROBE'), os.getcwd()); os.environ['LPIS_PROBE'] = 'left'"
-        assert self.probe(text, env={**os.environ, "LPIS_PROBE": "given"}, cwd=self.folder).stdout.splitlines()[1] == f"given {os.path.realpath(self.folder)}"
+        assert (
+            self.probe(text, env={**os.environ, "LPIS_PROBE": "given"}, cwd=self.folder).stdout.splitlines()[1]
+            == f"given {os.path.realpath(self.folder)}"
+        )
         assert self.probe(text).stdout.splitlines()[1] == f"None {os.getcwd()}"
 
     def test_order_of_sets(self):
@@ -91,6 +120,11 @@ class TestStarts(Spare):
         write("#!/bin/sh\n", self.folder, "other")
         os.mkdir(self.path("bin"))
         os.symlink("/bin/true", self.path("bin", "python3"))
-        for more in ({"env": {**os.environ, "PYTHONPATH": self.folder}}, {"env": {**os.environ, "LC_ALL": "C"}}, {"env": {**os.environ, "PATH": self.path("bin")}}, {"start_new_session": True}):
+        for more in (
+            {"env": {**os.environ, "PYTHONPATH": self.folder}},
+            {"env": {**os.environ, "LC_ALL": "C"}},
+            {"env": {**os.environ, "PATH": self.path("bin")}},
+            {"start_new_session": True},
+        ):
             assert not STARTS.can(path, more), more
         assert not STARTS.can(self.path("other"), {})

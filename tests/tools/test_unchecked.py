@@ -1,5 +1,5 @@
-"""Tests that nothing unchecked is published: `publish` of a release that no check said yes to, and of parcels that no seam joined, do not compile.
-Each is tried in a copy of the crates, of which nothing is proved."""
+"""Tests that nothing unchecked is published: `publish` of a release that no check said yes to, and of parcels that no
+seam joined, do not compile. Each is tried in a copy of the crates, of which nothing is proved."""
 
 import os
 import pathlib
@@ -29,16 +29,30 @@ def tried(room, crate, name, old, new):
     assert text.count(old) == 1, f"{name} has no such text: {old}"
     path.write_text(text.replace(old, new), encoding="utf-8")
     words = [RT, "try", "--", "--version"]
-    run = subprocess.run(words, cwd=room / "crates" / "lpis", stdin=subprocess.DEVNULL, capture_output=True, text=True, timeout=SECONDS, check=False)
+    run = subprocess.run(
+        words,
+        cwd=room / "crates" / "lpis",
+        stdin=subprocess.DEVNULL,
+        capture_output=True,
+        text=True,
+        timeout=SECONDS,
+        check=False,
+    )
     assert run.returncode != 0
     return run.stdout + run.stderr
 
 
 def test_a_release_without_a_yes(tmp_path):
-    said = tried(tmp_path, "lpis_run_publish", "publish.rt", "            &yes,\n", "            &said.release,\n")
+    said = tried(tmp_path, "lpis_run_publish", "publish.rt", "&yes, cert, rows)", "release, cert, rows)")
     assert "error[mismatched-types]: expected `&Yes`, found `&Release`" in said
 
 
 def test_a_country_that_was_not_joined(tmp_path):
-    said = tried(tmp_path, "lpis_run_publish_country", "publish_country.rt", ".accept(year, &parcels,", ".accept(year, &parcels.parcels(),")
+    said = tried(
+        tmp_path,
+        "lpis_run_publish_country",
+        "publish_country.rt",
+        ".accept(year, &parcels,",
+        ".accept(year, &parcels.parcels(),",
+    )
     assert "error[unsatisfied-bound]: the trait bound `&[Parcel]: SoundParcels` is not satisfied" in said

@@ -7,9 +7,9 @@ import subprocess
 
 import pytest
 from lpis_helpers import dirty
-from lpis_helpers.places import BUILT, TOOLS, TOP
+from lpis_helpers.places import BUILT, PACKAGE, TOOLS, TOP
 from lpis_helpers.spare import Spare
-from lpis_tools import shapely_there
+from lpis.system import shapely_there
 
 UNHEARD = ("2>/dev/full", "2>&-", "<&- 2>&-")
 FAILING = (">/dev/full", ">&-", ">/dev/full 2>/dev/full", ">&- 2>&-")
@@ -18,8 +18,14 @@ FAILING = (">/dev/full", ">&-", ">/dev/full 2>/dev/full", ">&- 2>&-")
 def status_of(words, streams, **more):
     """The status of a command whose streams lead elsewhere, and its standard output."""
     script = 'streams=$1; shift; eval "\\"\\$@\\" $streams"'
-    ended = subprocess.run(["bash", "-c", script, "bash", streams, *map(str, words)], capture_output=True, text=True,
-                           check=False, timeout=300, **more)
+    ended = subprocess.run(
+        ["bash", "-c", script, "bash", streams, *map(str, words)],
+        capture_output=True,
+        text=True,
+        check=False,
+        timeout=300,
+        **more,
+    )
     return ended.returncode, ended.stdout
 
 
@@ -38,8 +44,10 @@ class TestLauncher(Spare):
     def test_published(self, streams):
         """A year is published, and what is said of a new register and of the source is lost."""
         release = shutil.copytree(os.path.join(TOP, "examples", "exact", "2024"), self.path("release"))
-        for name, text in (("prepared.csv", "kind,layer,done\nshape,parcels,left out\n"),
-                           ("report.csv", "kind,layer,stops,area_m2\nleft out,parcels,1,1.0\n")):
+        for name, text in (
+            ("prepared.csv", "kind,layer,done\nshape,parcels,left out\n"),
+            ("report.csv", "kind,layer,stops,area_m2\nleft out,parcels,1,1.0\n"),
+        ):
             with open(os.path.join(release, name), "w", encoding="ascii") as file:
                 file.write(text)
         cert = self.path("cert.txt")
@@ -66,14 +74,18 @@ class TestTools(Spare):
         assert (status, is_written, told.splitlines()[-1:]) == (0, True, ["the balance adds up to the square metre"])
         assert self.prepared(streams, ["null"])[0] == 1
 
-    @pytest.mark.parametrize("streams", FAILING)
+    @pytest.mark.parametrize("streams", (*FAILING, "| true"))
     def test_output(self, streams):
-        assert self.prepared(streams)[0] == 64
+        """A standard output that takes no more is no success, and no reason to lose the tables."""
+        status, is_written, _ = self.prepared(f"{streams}; exit ${{PIPESTATUS[0]}}")
+        assert (status, is_written) == (64, True)
 
     def test_numbers(self):
         """What a tool opens gets no number of a stream that was closed: what it runs would write there."""
-        code = ("import os, sys; sys.path.insert(0, sys.argv[1]); from lpis_tools import printing; printing.begin(); "
-                "found = os.open(os.devnull, os.O_RDONLY); "
-                "sys.exit(0 if found > 2 else 1)")
+        code = (
+            "import os, sys; sys.path.insert(0, sys.argv[1]); from lpis.system import printing; printing.begin(); "
+            "found = os.open(os.devnull, os.O_RDONLY); "
+            "sys.exit(0 if found > 2 else 1)"
+        )
         for streams in ("2>&-", "<&- >&- 2>&-", "<&- 2>&-"):
-            assert status_of([shapely_there.python(), "-c", code, TOOLS], streams)[0] == 0, streams
+            assert status_of([shapely_there.python(), "-c", code, PACKAGE], streams)[0] == 0, streams

@@ -1,6 +1,7 @@
-"""Tests tools/year: two years in one command each, what it stops at, and what --verify finds. Wants the program, built or named by LPIS, for all but
-the log."""
+"""Tests tools/year: two years in one command each, what it stops at, and what --verify finds. Wants the program, built
+or named by LPIS, for all but the log."""
 
+import argparse
 import datetime
 import json
 import os
@@ -12,7 +13,8 @@ from lpis_helpers.registers import made
 from lpis_helpers.calls import ended_with, tool
 from lpis_helpers.places import BUILT, TOP
 from lpis_helpers.spare import Spare, read
-from lpis_tools import files, ledger, yearly
+from lpis.register import ledger, publication_steps
+from lpis.system import files
 
 EXAMPLES = os.path.join(TOP, "examples", "exact")
 
@@ -34,10 +36,42 @@ class Case(Spare):
         Path(ledger.path_of(self.base)).write_bytes(b"".join(line + b"\n" for line in lines))
 
 
+def is_taken(year, last, tmp_path, monkeypatch):
+    """Whether a year is taken behind the last one of a register that is there, asking nothing."""
+    register = tmp_path / "lpis.db"
+    register.touch()
+    monkeypatch.setattr(publication_steps, "year_before", lambda *_: last)
+    monkeypatch.setattr(ledger, "faults_of", lambda _: [])
+    said = argparse.Namespace(register=str(register), year=year, new=False, year_anyway=False, register_anyway=False)
+    try:
+        return publication_steps.last_year(said) == last
+    except publication_steps.Stop as stop:
+        assert f"next year is {datetime.date.today().year + 1}; --year-anyway" in str(stop)
+        return False
+
+
+def test_a_year_past_next_year(tmp_path, monkeypatch):
+    """However near the last one is, a year past next year wants a word."""
+    today = datetime.date.today().year
+    found = [is_taken(year, today, tmp_path, monkeypatch) for year in (today + 1, today + 2, today + 3)]
+    assert found == [True, False, False]
+
+
+def test_a_year_far_from_the_last_one(tmp_path, monkeypatch):
+    """One to three years behind the last one, and no more."""
+    assert [is_taken(2010 + step, 2010, tmp_path, monkeypatch) for step in (1, 2, 3, 4)] == [True, True, True, False]
+
+
 class TestLogs(Case):
     def set_up(self):
         super().set_up()
-        made(self.base, "CREATE TABLE lpis_release (year INTEGER PRIMARY KEY); CREATE TABLE lpis_span (id TEXT PRIMARY KEY, since INTEGER, until INTEGER);")
+        made(
+            self.base,
+            (
+                "CREATE TABLE lpis_release (year INTEGER PRIMARY KEY); CREATE TABLE lpis_span (id TEXT PRIMARY KEY,"
+                " since INTEGER, until INTEGER);"
+            ),
+        )
         for year in (2024, 2025, 2026):
             made(self.base, f"INSERT INTO lpis_release VALUES ({year})")
             made(self.base, f"INSERT INTO lpis_span VALUES ('p{year}', {year}, 0)")
@@ -50,7 +84,11 @@ class TestLogs(Case):
     def test_a_log_agrees(self):
         assert [] == ledger.faults_of(self.base)
         made(self.base, "VACUUM")
-        assert (0, [], True) == (run("--verify", self.base).returncode, ledger.faults_of(self.base), "3 lines" in run("--verify", self.base).stdout)
+        assert (0, [], True) == (
+            run("--verify", self.base).returncode,
+            ledger.faults_of(self.base),
+            "3 lines" in run("--verify", self.base).stdout,
+        )
 
     def test_an_edited_register_is_found(self):
         made(self.base, "UPDATE lpis_span SET since = 2023 WHERE id = 'p2024'")
@@ -77,7 +115,13 @@ class TestLogs(Case):
             assert words in self.faults()
 
     def test_words(self):
-        for words in ([], [self.base], [self.base, "2027"], ["--verify", self.base, "2027", self.folder], [self.base, "next", self.folder]):
+        for words in (
+            [],
+            [self.base],
+            [self.base, "2027"],
+            ["--verify", self.base, "2027", self.folder],
+            [self.base, "next", self.folder],
+        ):
             assert 64 == run(*words).returncode, words
 
 
@@ -94,20 +138,52 @@ class TestYears(Case):
 
     def test_two_years(self):
         ended_with(0, self.year(2024, "--new"))
-        ran = ended_with(0, self.year(2025))
+        assert not {"cert.txt", "exact.txt"} & set(self.files("2024"))
+        ran = ended_with(0, self.year(2025, "--certificate"))
         assert "exact 2" in ran.stdout
-        assert {"cert.txt", "exact.txt", "published-2025.txt", "report-2025.json", "report-2025.html"} <= set(self.files("2025"))
+        assert {"cert.txt", "exact.txt", "published-2025.txt", "report-2025.json", "report-2025.html"} <= set(
+            self.files("2025")
+        )
         assert read(self.folder, "2025", "published-2025.txt").endswith("lineage yard merged exact\npublished 2025\n")
+        for year, gone in ((2024, None), (2025, {"yard"})):  # the page of a later year shows what became of each parcel
+            page, facts = (read(self.folder, str(year), f"report-{year}.{ending}") for ending in ("html", "json"))
+            found = json.loads(facts).get("difference")
+            assert f"<title>Year {year}: {year}</title>" in page
+            assert (found and {row["parcel"] for row in found["gone"]} >= gone, "Since " in page) == (
+                gone and True,
+                bool(gone),
+            )
         entries, faults = ledger.entries_of(self.lines())
-        assert ([2024, 2025], [], entries[0]["content"]) == ([entry["year"] for entry in entries], faults, entries[1]["content_before"])
-        assert entries[1]["certificate"] == files.digest(os.path.join(self.folder, "2025", "exact.txt"))
+        assert ([2024, 2025], [], entries[0]["content"]) == (
+            [entry["year"] for entry in entries],
+            faults,
+            entries[1]["content_before"],
+        )
+        assert [entry["certificate"] for entry in entries] == [
+            "",
+            files.digest(os.path.join(self.folder, "2025", "exact.txt")),
+        ]
         assert 0 == run("--verify", self.base).returncode
         copy = f"{self.base}.before-2025"
         assert entries[0]["content"] == ledger.content_of(copy)
         assert f"{files.digest(copy)}  lpis.db.before-2025\n" == Path(f"{copy}.sha256").read_text(encoding="ascii")
-        with pytest.raises(yearly.Stop, match="published already"):  # by another run, while this one waited
-            yearly.back_up(self.base, 2025)
+        with pytest.raises(publication_steps.Stop, match="published already"):  # by another run, while this one waited
+            publication_steps.back_up(self.base, 2025)
         assert entries[0]["content"] == ledger.content_of(copy)
+
+    def test_no_certificate_is_left(self):
+        """Of marked rows neither; one that lies there is not used, and stays as it is, unless one is to be kept."""
+        ended_with(0, self.year(2024, "--new"))
+        shutil.copytree(os.path.join(EXAMPLES, "2025"), folder := os.path.join(self.folder, "2025"))
+        Path(folder, "cert.txt").write_text("of other tables\n", encoding="ascii")
+        ran = ended_with(0, self.year(2025))
+        assert "exact 2" in ran.stdout
+        assert f"cert.txt in {folder}: not used" in ran.stdout
+        assert read(folder, "cert.txt") == "of other tables\n"
+        assert "exact.txt" not in os.listdir(folder)
+        assert not [name for name in os.listdir(folder) if name.startswith(".year-")]
+        assert read(folder, "published-2025.txt").endswith("lineage yard merged exact\npublished 2025\n")
+        assert "certificate" not in json.loads(read(folder, "report-2025.json"))["files"]
 
     def test_what_it_stops_at(self):
         this = datetime.date.today().year
@@ -117,10 +193,21 @@ class TestYears(Case):
         before = ledger.content_of(self.base)
         shutil.copytree(os.path.join(EXAMPLES, "2025"), os.path.join(self.folder, "next"))
         for words, status in (
-            (["2025", "next", "--new"], 1), (["2025", "2024/parcels.csv"], 64), (["2028", "next"], 1), (["2024", "next"], 1), (["2024", "next", "--year-anyway"], 1), (["2023", "next"], 1), (["2205", "next"], 1), ([str(this + 2), "next"], 1), (["2025", "none"], 64),
+            (["2025", "next", "--new"], 1),
+            (["2025", "2024/parcels.csv"], 64),
+            (["2028", "next"], 1),
+            (["2024", "next"], 1),
+            (["2024", "next", "--year-anyway"], 1),
+            (["2023", "next"], 1),
+            (["2205", "next"], 1),
+            ([str(this + 2), "next"], 1),
+            (["2025", "none"], 64),
         ):
             ran = run(self.base, words[0], os.path.join(self.folder, words[1]), *words[2:])
-            assert (status, before, 1) == (ran.returncode, ledger.content_of(self.base), len(self.lines())), (words, ran.stderr)
+            assert (status, before, 1) == (ran.returncode, ledger.content_of(self.base), len(self.lines())), (
+                words,
+                ran.stderr,
+            )
             assert "Traceback" not in ran.stderr
         assert not os.path.exists(f"{self.base}.before-2024")
         made(self.base, "UPDATE lpis_text SET wkt = replace(wkt, '.000', '.0')")
@@ -142,11 +229,17 @@ class TestYears(Case):
         os.remove(ledger.path_of(self.base))
         ran = self.year(2025)
         assert (1, True) == (ran.returncode, "no line: the register has no log" in ran.stderr), ran.stderr
-        assert (0, True) == (self.year(2025, "--register-anyway").returncode, json.loads(self.lines()[0])["register_anyway"])
+        assert (0, True) == (
+            self.year(2025, "--register-anyway").returncode,
+            json.loads(self.lines()[0])["register_anyway"],
+        )
 
     def test_places_that_are_none(self):
-        for base, year, folder, words in ((os.path.join(self.folder, "no", "lpis.db"), "2024", self.folder, "no is not there"), (self.folder, "2024", self.folder, "is a folder, and no register"),
-                                          (self.base, "2024", os.path.join(self.folder, "none"), "none is not there")):
+        for base, year, folder, words in (
+            (os.path.join(self.folder, "no", "lpis.db"), "2024", self.folder, "no is not there"),
+            (self.folder, "2024", self.folder, "is a folder, and no register"),
+            (self.base, "2024", os.path.join(self.folder, "none"), "none is not there"),
+        ):
             ran = run(base, year, folder, "--new")
             assert (64, True, []) == (ran.returncode, words in ran.stderr, os.listdir(self.folder)), ran.stderr
 
