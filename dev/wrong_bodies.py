@@ -46,14 +46,10 @@ def due(crate):
     return [edit for edit in edits(crate) if before.get(edit.stem) != digest(edit)]
 
 
-def note(crate, refused):
-    """Writes into `wrong/tried` that these edits were refused; what is no longer there goes."""
+def note(crate, found):
+    """Writes what edits came to into `wrong/tried`: by name the digest of one that was refused, and else ''."""
     names = {edit.stem for edit in edits(crate)}
-    after = {
-        name: sum
-        for name, sum in (tried(crate) | {edit.stem: digest(edit) for edit in refused}).items()
-        if name in names
-    }
+    after = {name: sum for name, sum in (tried(crate) | found).items() if sum and name in names}
     text = "".join(f"{name} {sum}\n" for name, sum in sorted(after.items()))
     (CRATES / crate / LATER / "tried").write_text(text, encoding="utf-8")
 
