@@ -1,5 +1,5 @@
-"""Runs what is packed, each from its own file and as those do who have nothing else: archive, package, wheel, plugin
-and page. Of a packing of this tree, and of release/, which has the last version; what of that one is known to fall
+"""Runs what is packed, each from its own file and as those do who have nothing else: archive, package, wheel, plugin,
+page and site. Of a packing of this tree, and of release/, which has the last version; what of that one is known to fall
 has to be seen here."""
 
 import json
@@ -12,7 +12,7 @@ import zipfile
 from pathlib import Path
 
 import pytest
-from lpis_helpers import dirty, page_case
+from lpis_helpers import dirty, page_case, site_links
 from lpis_helpers.browser import Browser
 from lpis_helpers.calls import done, ended_with, run
 from lpis_helpers.packing import house
@@ -24,11 +24,12 @@ from lpis.system import shapely_there
 pytestmark = pytest.mark.finds_program
 RELEASE, EXAMPLES = Path(TOP, "release"), Path(TOP, "examples")
 PATTERNS = {
-    "archive": "*.tar.gz",
+    "archive": "*-linux-x86_64.tar.gz",
     "package": "*.deb",
     "wheel": "*.whl",
     "plugin": "lpis-qgis-*.zip",
     "page": "lpis-*.html",
+    "site": "lpis-*-site.zip",
 }
 FALLS = {"lpis-qgis-0.3.0.zip": "IsADirectoryError"}  # the plugin at its first fault
 REFUSED = (1, "refused 41 parcels west east at 50020 23980 1\n")
@@ -210,6 +211,17 @@ class Packed(Kept):
                 browser.value(f"document.getElementById({button!r}).click()")
                 browser.wait(f"document.body.innerText.includes({words!r})")
             assert browser.errors() == []
+
+    def test_site(self):
+        """It is one folder in which every link and picture is there; the sums and the facts have the file."""
+        path = self.of("site")
+        with zipfile.ZipFile(path) as file:
+            file.extractall(self.path("site"))
+        assert os.listdir(self.path("site")) == [path.stem]
+        site_links.expect_whole(Path(self.path("site", path.stem)))
+        digits = done("sha256sum", path).split()[0]
+        told = [(path.parent / name).read_text(encoding="utf-8") for name in ("SHA256SUMS", "facts")]
+        assert (f"{digits}  {path.name}\n" in told[0], f"\nsite {digits}\n" in told[1]) == (True, True)
 
 
 @pytest.mark.skipif(not BUILT, reason="the program is not built")

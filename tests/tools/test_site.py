@@ -1,29 +1,15 @@
 """The site of the pages, dev/site: each link and each picture is there, and the search knows the pages."""
 
-import html.parser
 import json
-import os
 import shutil
 import subprocess
 from pathlib import Path
 
 import pytest
+from lpis_helpers import site_links
+from lpis_helpers.places import TOP
 
-TOP = Path(__file__).resolve().parent.parent.parent
-
-
-class Links(html.parser.HTMLParser):
-    """What a page links and loads, and the places in it that can be linked."""
-
-    def __init__(self, path):
-        super().__init__()
-        self.named, self.places = [], {""}
-        self.feed(path.read_text(encoding="utf-8"))
-
-    def handle_starttag(self, _, attrs):
-        found = dict(attrs)
-        self.named += [found[key] for key in ("href", "src") if found.get(key)]
-        self.places |= {found[key] for key in ("id", "name") if found.get(key)}
+SITE = Path(TOP, "dev", "site")
 
 
 @pytest.fixture(scope="module", name="site")
@@ -31,24 +17,22 @@ def made(tmp_path_factory):
     if not shutil.which("mkdocs"):
         pytest.skip("there is no mkdocs (dev/packages)")
     folder = tmp_path_factory.mktemp("site")
-    done = subprocess.run([TOP / "dev" / "site", folder], capture_output=True, text=True, check=False)
+    done = subprocess.run([SITE, folder], capture_output=True, text=True, check=False)
     assert (done.returncode, done.stderr) == (0, "")
     return folder
 
 
 def test_links(site):
-    pages = {path: Links(path) for path in site.rglob("*.html") if path.name != "404.html"}
-    lost = []
-    for path, page in pages.items():
-        for link in page.named:
-            name, _, place = link.partition("#")
-            target = Path(os.path.normpath(path.parent / name)) if name else path
-            if ":" not in link and (
-                not target.exists() or place not in pages.get(target, page).places and target in pages
-            ):
-                lost.append(f"{path.relative_to(site)}: {link}")
-    assert lost == []
-    assert len(pages) > 40 and sum(len(page.named) for page in pages.values()) > 1_000
+    site_links.expect_whole(site)
+
+
+def test_a_lost_link_is_seen(tmp_path):
+    (tmp_path / "one.html").write_text('<a href="#here"></a><a href="two.html#there"></a>', encoding="utf-8")
+    (tmp_path / "two.html").write_text(
+        '<h1 id="here"></h1><img src="none.png"><a href="https://x"></a>', encoding="utf-8"
+    )
+    lost = site_links.lost_links(tmp_path, site_links.pages_of(tmp_path))
+    assert sorted(lost) == ["one.html: #here", "one.html: two.html#there", "two.html: none.png"]
 
 
 def test_search(site):
@@ -59,4 +43,4 @@ def test_search(site):
 
 
 def test_words():
-    assert subprocess.run([TOP / "dev" / "site", "one", "two"], capture_output=True, check=False).returncode == 64
+    assert subprocess.run([SITE, "one", "two"], capture_output=True, check=False).returncode == 64
