@@ -1,5 +1,5 @@
-"""Runs that are stopped and go on while they print, as by Ctrl-Z and `fg`: a write of which the system took a part is no
-failed one, and the rest follows. No clause says so, since an output may fail at any write."""
+"""Runs that are stopped and go on while they print, as by Ctrl-Z and `fg`: a write of which the system took a part is
+no failed one, and the rest follows. No clause says so, since an output may fail at any write."""
 
 import array
 import fcntl
