@@ -107,7 +107,7 @@ def test_what_is_no_longer_refused_is_due(tree):
 
 
 def test_a_stop_loses_no_batch(tree):
-    tree.crate("a", **{f"edit_{number}": REFUSED for number in range(20)})
+    tree.crate("a", **{f"edit_{number}": REFUSED for number in range(50)})
     tree.crate("b", good=REFUSED)
     tree.crate("c", last="hold")
     with subprocess.Popen([tree.top / "dev" / "wrong"], stdout=subprocess.PIPE, text=True, **tree.words()) as run:
@@ -115,7 +115,7 @@ def test_a_stop_loses_no_batch(tree):
         run.terminate()
         told = run.stdout.read().splitlines()
     assert (run.returncode, told[-1]) == (130, "stopped: what the batches before came to is recorded")
-    assert len(tree.recorded("a")) == 20
+    assert len(tree.recorded("a")) == 50
     assert tree.run("--list")[1] == ["b/good", "c/last", "2 due"]
     assert not [*tree.folder.glob("lpis-wrong-*")]
 
