@@ -20,7 +20,7 @@ A_MINUTE = 160
 PAGE_WORDS = {
     "README.md": 700,
     "docs/IDEA.md": 1_240,
-    "docs/GUIDE.md": 7_370,
+    "docs/GUIDE*.md": 7_370,
     "docs/FORMATS.md": 8_300,
     "docs/WINDOWS.md": 520,
     "docs/ARCHITECTURE.md": 4_700,

@@ -77,7 +77,7 @@ say_before() {
   [[ -n $unfinished ]] || has_register "$@" || return 0
   remarks 2 before "$@" || status=$?
   [[ -n $unfinished && $status -ne 0 ]] || return 0
-  [[ $status -eq 64 ]] || say "$unfinished is unfinished: its last run did not come to its end, so the tables there are of an earlier run: run it again"
+  [[ $status -eq 64 ]] || say "$unfinished is unfinished: its last run did not finish, so the tables there are from an earlier run: run it again"
   exit 64
 }
 

@@ -323,11 +323,11 @@ def test_country_publish(tmp_path):
         False,
     ), ended.stderr
     assert (
-        re.search(f"the second checker says of {wrong} and {out}: no", ended.stderr)
+        re.search(f"the second checker says about {wrong} and {out}: no", ended.stderr)
         and last.split(",")[0] in ended.stderr
     )
     ended = calls.ended_with(0, calls.tool(*words, source_of_it))
-    assert f"the second checker says of {source_of_it} and {out}: yes\n" in ended.stdout, ended.stderr
+    assert f"the second checker says about {source_of_it} and {out}: yes\n" in ended.stdout, ended.stderr
 
 
 @pytest.mark.parametrize("tool", ["year", "report"])
@@ -346,5 +346,5 @@ def test_tools(tool, tmp_path):
     assert re.search("the second checker says of .*a land and .*: no at .* class arable .* class grass", ended.stderr)
     ended = calls.tool(tool, *words, "--source", f"{exact} --classes {exact}/classes.csv --previous")
     assert (
-        ended.returncode == 0 and f"the second checker says of {exact} and {out}: yes\n" in ended.stdout
+        ended.returncode == 0 and f"the second checker says about {exact} and {out}: yes\n" in ended.stdout
     ), ended.stderr

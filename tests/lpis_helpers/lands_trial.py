@@ -18,7 +18,7 @@ from lpis_helpers.lands_judge import Judge, Written, rings_of
 STATUSES = {0, 1, 64}
 UNFORESEEN = 70  # the status of an error that nobody foresaw
 PROGRESS = re.compile(r"(prepare|compare|country): (reading|testing|borders|faces|tables|conflicts|comparing)")
-NO_CUT = "no cut parts them"
+NO_CUT = "no cut separates them"
 KEPT = ".cells"  # what a refused run keeps for one that accepts
 STANDING = ".lpis-standing"  # what a folder's tables are: of which run, and whether it came to its end
 MOST_TRIANGLES = 2_000_000  # of a certificate

@@ -13,7 +13,7 @@ from lpis_helpers.preparing_case import Case
 from lpis.preparation import acceptance
 
 KINDS = ("null", "crossing", "wide", "narrow", "twin")
-TAKEN = "the borders are those that the run before has rounded"
+TAKEN = "the borders are taken from the last run, which rounded them"
 
 
 class TestAccepted(Case):
@@ -49,7 +49,7 @@ class TestAccepted(Case):
     def test_kinds(self):
         """Kinds that are accepted pass, and the last line names what still stops; --accept alone is all of them,
         before or behind the others."""
-        every, more = "shape,invalid,overlap,gap,lost", ", and 5 that come of others"
+        every, more = "shape,invalid,overlap,gap,lost", ", and 5 that come from others"
         for words, status, told in (
             (
                 [],
@@ -104,11 +104,11 @@ class TestAccepted(Case):
             assert (run.returncode, told in run.stderr) == (64, True), (words, run.stderr)
 
     def test_rows(self):
-        """Rows that somebody marked pass, and those alone; what comes of them goes with them."""
-        more = ", and 5 that come of others"
+        """Rows that somebody marked pass, and those alone; what comes from them goes with them."""
+        more = ", and 5 that come from others"
         self.run_on(self.source)
         first, every = self.marked("findings.csv", lambda row: "twin" not in row["identifiers"]), self.marked(
-            "findings.csv", lambda row: not row["comes_of"], "every.csv"
+            "findings.csv", lambda row: not row["comes_from"], "every.csv"
         )
         run = self.run_on(self.source, "--accept-from", first)
         assert (

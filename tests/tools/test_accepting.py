@@ -245,10 +245,10 @@ class TestRun(Case):
             out.writerows({**row, "accepted": "1"} for row in found)
         words = ["--accept-from", self.path("marked.csv"), "--accept", "changed"]
         for covers, told in (
-            (pieces[::-1], "to look at: 1, accepted, and 4 that come of others"),
+            (pieces[::-1], "to look at: 1, accepted, and 4 that come from others"),
             (
                 [(*first[:3], f"POLYGON(({ring(0, 0, 15)}))"), pieces[1]],
-                "to look at: 1 (overlap 1 2), and 4 that come of others: ",
+                "to look at: 1 (overlap 1 2), and 4 that come from others: ",
             ),
         ):
             self.tables(whole, covers)

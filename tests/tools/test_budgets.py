@@ -102,7 +102,8 @@ class TestBudgets(Spare):
         unsearched = [loss for loss in told if loss.shape is None]
         assert sorted(name for loss in unsearched for name in loss.names) == ["A", "B"]
         assert all(
-            "lie in heaps: land between parcels was not looked for" in loss.words and not loss.stops()
+            "lie among too many others: next to them land between parcels was not looked for" in loss.words
+            and not loss.stops()
             for loss in unsearched
         )
 

@@ -216,7 +216,7 @@ def test_full_disks(said, monkeypatch, line, wanted, words):
 
 @pytest.mark.parametrize(
     "after, wanted",
-    (("| :", "its reader went away before the end"), (">/dev/full", "its device takes no more")),
+    (("| :", "the program that reads it ended early"), (">/dev/full", "its device takes no more")),
 )
 def test_outputs(house, after, wanted):
     ended = house.run("bash", "-c", f"house/lpis check release old.txt 2>err {after}; cat err", LINE="failed write out")

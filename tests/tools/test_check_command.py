@@ -89,9 +89,9 @@ class TestDirt(Kept):
             if row[0] in ("stops", "told") and row[1] not in BELOW
         ]
         for before, row in zip(rows, rows[1:]):
-            if row[8].startswith("comes of "):
+            if row[8].startswith("comes from "):
                 assert (
-                    row[8] == f"comes of {before[1]} {before[4]}".strip() or before[8] == row[8] or before[1] in BELOW
+                    row[8] == f"comes from {before[1]} {before[4]}".strip() or before[8] == row[8] or before[1] in BELOW
                 )
         assert self.page.count("<figure ") == finding_views.MOST_PICTURES
         assert order == sorted(order)
@@ -192,7 +192,7 @@ class TestRuns(Spare):
         assert "sha256 of certificate" in read(self.out, "index.html")
         ran = ended_with(0, checked(self.land, "--out", self.out))
         assert not os.path.exists(cert)
-        assert f"{cert} goes: it was the certificate of the tables before" in ran.stderr
+        assert f"{cert} is removed: it was the certificate of the earlier tables" in ran.stderr
 
     def test_a_land_without_percentages(self):
         """It stops and says what to write; once that is written, it is a yes."""
@@ -231,7 +231,7 @@ class TestRuns(Spare):
         dirty.put(self.land, [("A", None), ("B", shapes[1])], covers)
         ran = ended_with(1, checked(self.land, "--out", self.out))
         assert "class FALLOW, at 550025.000 5400005.000: 1 piece has this class, B1 (fid 2), and the" in ran.stdout
-        assert "give that table the line FALLOW,?, with its percentage in place of the ?" in ran.stdout
+        assert "add the line FALLOW,? to that table, with its percentage in place of the ?" in ran.stdout
         page = read(self.out, "index.html")
         assert '"class FALLOW"' in page and '"shape A"' in page
 
@@ -399,7 +399,7 @@ class TestCountries(Spare):
         ran = ended_with(1, self.checked())
         assert (
             ran.stdout.splitlines()[-1]
-            == "no: 3 findings stop (1 gap, 1 overlap, 1 shape), and 4 that come of them"
+            == "no: 3 findings stop (1 gap, 1 overlap, 1 shape), and 4 that come from them"
             == ended_with(1, checked(self.land, "--out", self.path("release"))).stdout.splitlines()[-1]
         ), ran.stdout
         shown = data_of(read(self.out, "index.html"))["map"]["findings"]["names"]

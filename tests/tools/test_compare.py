@@ -423,7 +423,7 @@ class TestCompare(Case):
             " fails)\nexcept land.Trouble as trouble: print(trouble)"
         )
         run = with_shapely(code, PACKAGE)
-        assert "the overlap of covers A.1 (row 7) cannot be worked out: mend the shape" in run.stdout
+        assert "the overlap of covers A.1 (row 7) cannot be computed: mend the shape" in run.stdout
 
 
 @pytest.mark.skipif(not shapely_there.python(), reason=shapely_there.LACKING)
@@ -445,12 +445,12 @@ class TestNames(Case):
                 f'{head}\n{row},"POLYGON((9.1 48.1,9.2 48.1,9.2 48.2,9.1 48.1))"\n', encoding="utf-8"
             )
         run = tool("recipes/compare", folder, self.out)
-        assert (run.returncode, "reads as degrees" in run.stderr) == (64, True), run.stderr
+        assert (run.returncode, "looks like degrees" in run.stderr) == (64, True), run.stderr
 
     def test_tables_of_classes(self):
         dirty.make(self.land, [])
         for text, words in (
-            ("class,share\nGRASS,100\n", "it wants the columns class and percent"),
+            ("class,share\nGRASS,100\n", "it needs the columns class and percent"),
             ("class,percent,PERCENT\nGRASS,100,0\n", "each once"),
             ("class,percent\nGRASS\n", "has 1 field, and"),
             ("", "none"),

@@ -22,8 +22,8 @@ def finding(kind, names, members=None, row="1", layer="covers", done="left out")
     return Finding(kind, layer, row, names, "words", done, blob=members and wkb.written(members))
 
 
-def one(kind, names, members=None, state=STOPS, row="1", layer="covers", area=1.0, number=None, comes_of=""):
-    return Found(kind, layer, row, names, "words", state, "do", area, None, None, members, number, comes_of)
+def one(kind, names, members=None, state=STOPS, row="1", layer="covers", area=1.0, number=None, comes_from=""):
+    return Found(kind, layer, row, names, "words", state, "do", area, None, None, members, number, comes_from)
 
 
 OVERLAP, GAP = finding("overlap", "a b", box(0, 0), "1 2"), finding(
@@ -92,8 +92,8 @@ class TestCauses:
 class TestPicture:
     def test_order(self):
         rows = [
-            one("far", "x", box(3e7, 0), area=9e9, row="7", number=1, comes_of="3"),
-            one("bare", "P", row="2", layer="parcels", number=2, comes_of="3"),
+            one("far", "x", box(3e7, 0), area=9e9, row="7", number=1, comes_from="3"),
+            one("bare", "P", row="2", layer="parcels", number=2, comes_from="3"),
             one("system", "", row="", area=None, number=3),
             one("gap", "P", box(500, 500), number=4),
         ]
@@ -103,13 +103,13 @@ class TestPicture:
         """What goes with another is counted apart; what is lost is to be decided, and stands below it all the same."""
         picture = Picture(
             [
-                one("changed", "b", box(0, 0), number=3, comes_of="1"),
+                one("changed", "b", box(0, 0), number=3, comes_from="1"),
                 one("gap", "P", box(500, 500, 900, 900), area=3.0, number=2),
-                one("changed", "B", box(0, 0), layer="parcels", number=4, comes_of="1 2"),
+                one("changed", "B", box(0, 0), layer="parcels", number=4, comes_from="1 2"),
                 one("overlap", "a b", box(0, 0), area=2.0, number=1),
-                one("lost", "c", box(0, 0), number=5, comes_of="2"),
+                one("lost", "c", box(0, 0), number=5, comes_from="2"),
                 one("changed", "d", box(0, 0), TOLD),
-                one("changed", "e", box(0, 0), ACCEPTED, number=6, comes_of="7"),
+                one("changed", "e", box(0, 0), ACCEPTED, number=6, comes_from="7"),
             ]
         )
         assert [row.title() for row in picture.all if row.state == STOPS] == [
@@ -119,16 +119,17 @@ class TestPicture:
             "changed B",
             "changed b",
         ]
-        assert picture.last_line() == "no: 3 findings stop (1 gap, 1 lost, 1 overlap), and 2 that come of them"
-        assert [line for line in picture.lines(5) if line.startswith(" ")] == ["  of this comes: changed B; changed b"]
+        assert picture.last_line() == "no: 3 findings stop (1 gap, 1 lost, 1 overlap), and 2 that come from them"
+        below = [line for line in picture.lines(5) if line.startswith(" ")]
+        assert below == ["  this also causes: changed B; changed b"]
         assert [row[8] for row in picture.tables()[0].rows if row[0] == STOPS] == [
             "do",
             "do",
             "do",
-            "comes of overlap a b",
-            "comes of overlap a b",
+            "comes from overlap a b",
+            "comes from overlap a b",
         ]
-        assert "  changed: it comes of another, and goes with it; or --accept changed" in picture.todo()
+        assert "  changed: it comes from another finding, and is settled with it; or --accept changed" in picture.todo()
 
 
 class TestRuns(preparing_case.Case):
@@ -142,6 +143,6 @@ class TestRuns(preparing_case.Case):
         ran = tool("check", self.package(squares, covers), "--out", self.out)
         assert (ran.returncode, ran.stdout.splitlines()[-1]) == (
             1,
-            "no: 2 findings stop (1 gap, 1 overlap), and 3 that come of them",
+            "no: 2 findings stop (1 gap, 1 overlap), and 3 that come from them",
         ), ran.stdout
-        assert "  of this comes: changed B; changed B1\n" in ran.stdout
+        assert "  this also causes: changed B; changed B1\n" in ran.stdout

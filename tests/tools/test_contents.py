@@ -143,8 +143,8 @@ class TestRounded(Spare):
         source.write_text(VRT.format(self.land), encoding="utf-8")
         ended_with(1, tool("prepare", source, self.out))
         taken = shutil.copytree(self.out, self.path("taken"))
-        assert "the run before has rounded" in ended_with(0, tool("prepare", source, taken, "--accept")).stderr
+        assert "taken from the last run" in ended_with(0, tool("prepare", source, taken, "--accept")).stderr
         with in_silence(self.land):
             made(self.land, TREES)
         run = ended_with(0, tool("prepare", source, self.out, "--accept"))
-        assert ("the run before has rounded" in run.stderr, class_of(self.out)) == (False, {"TREES"})
+        assert ("taken from the last run" in run.stderr, class_of(self.out)) == (False, {"TREES"})

@@ -103,33 +103,33 @@ class TestSources(Case):
         assert whole == country
         assert "mend the source, or take the tables as they are by --accept" in other.stdout
         assert any(
-            row["kind"] == "gap" and re.search(r"; it comes of piece \S+ \(fid \d+, stranger\)", row["words"])
+            row["kind"] == "gap" and re.search(r"; it comes from piece \S+ \(fid \d+, stranger\)", row["words"])
             for row in self.rows[1]
         )
 
     def test_one_round(self):
-        """The run that reports tells all that the run that accepts takes, what comes of others too; what it found is
+        """The run that reports tells all that the run that accepts takes, what comes from others too; what it found is
         kept beside what the accepting run writes, under a number, and once."""
         told = re.search(
-            r"(?m)^to look at: (\d+) \(.*, and (\d+) that come of others: ", self.runs["refused"][1].stdout
+            r"(?m)^to look at: (\d+) \(.*, and (\d+) that come from others: ", self.runs["refused"][1].stdout
         )
         accepted = re.search(
-            r"(?m)^to look at: (\d+), accepted, and (\d+) that come of others$", self.runs["accepted"][1].stdout
+            r"(?m)^to look at: (\d+), accepted, and (\d+) that come from others$", self.runs["accepted"][1].stdout
         )
         assert told.groups() == accepted.groups()
         assert self.rows[0] == self.rows[1] and len(self.rows[0]) == sum(map(int, told.groups()))
         later = [records(folder, "findings.csv") for folder in (self.whole, self.country)]
         assert later[0] == later[1]
         for one, other in zip(self.rows[0], later[0]):
-            assert (one["number"], one["comes_of"], one["place"]) == (
+            assert (one["number"], one["comes_from"], one["place"]) == (
                 other["number"],
-                other["comes_of"],
+                other["comes_from"],
                 other["place"],
             )
             assert (one["state"], other["state"]) == ("open", "accepted")
         for folder, findings, ran in zip((self.whole, self.country), self.findings, self.runs["accepted"]):
             assert read(folder, "prepared-1.csv") == findings
-            assert f"{folder}/prepared.csv of the run before is {folder}/prepared-1.csv now\n" in ran.stderr
+            assert f"{folder}/prepared.csv of the last run is {folder}/prepared-1.csv now\n" in ran.stderr
         for _ in range(2):
             assert tool("prepare", self.land, self.path("again")).returncode == 1
         assert [name for name in os.listdir(self.path("again")) if name.startswith("prepared")] == ["prepared.csv"]
@@ -137,7 +137,7 @@ class TestSources(Case):
     def test_taken_up(self):
         """The run that accepts reads no row again, and takes up what was rounded without looking at a cell."""
         told = self.runs["accepted"][1].stderr
-        assert "are those that the run before has rounded\n" in told
+        assert "are taken from the last run, which rounded them\n" in told
         assert "rounding" not in told
         cells = os.listdir(os.path.join(self.country, ".cells"))
         assert {"cells.json", "gaps.json"} <= set(cells)
@@ -153,7 +153,7 @@ class TestSources(Case):
         ended = ended_with(0, tool("country", "prepare", source, folder, "--accept", "--parcels", 30))
         assert re.search(r"cells as they were: \d+ of \d+, rounded: 1\n", ended.stderr)
         again = tool("country", "prepare", source, folder, "--accept", "--parcels", 30, "--between", 2)
-        assert (again.returncode, "are those that the run before has rounded\n" in again.stderr) == (
+        assert (again.returncode, "are taken from the last run, which rounded them\n" in again.stderr) == (
             0,
             True,
         ), again.stderr
@@ -362,7 +362,7 @@ class TestSources(Case):
                 Path(folder, f"{name}.csv").write_text(f'{row},"{text.format(x)}"\n', encoding="ascii")
         for words, status, told in (
             ((bare, self.path("out"), "--previous", self.path("none")), 1, "has no table covers.csv of last year"),
-            ((fine, self.path("out"), "--previous", far), 64, "is it of another place"),
+            ((fine, self.path("out"), "--previous", far), 64, "is it another area"),
             (
                 (fine, self.path("out"), "--previous", wrong),
                 64,

@@ -296,7 +296,7 @@ class TestSplits(Case):
             assert self.times() == before
             assert [name for name in os.listdir(self.out) if name.startswith(".")] == [table_standing.FILE]
         counts = read(self.out, "split.txt")
-        with unittest.mock.patch.object(placing.Move, "go", fails), pytest.raises(Trouble, match="stands there still"):
+        with unittest.mock.patch.object(placing.Move, "go", fails), pytest.raises(Trouble, match="is still there"):
             region_split.split(
                 table_streams.Folder(self.source),
                 self.out,
@@ -370,7 +370,7 @@ class TestSplits(Case):
         many = len(self.regions())
         Land(8, 4, 4).write(self.source)
         ended = country("split", self.source, self.out, "--parcels", "16", "--anew")
-        assert (len(self.regions()), "no regions now: r0002 r0003" in ended.stderr) == (1, True), ended.stderr
+        assert (len(self.regions()), "not regions now: r0002 r0003" in ended.stderr) == (1, True), ended.stderr
         assert 1 < many
         Land(8, 40, 4).write(self.source)
         ended = country("split", self.source, self.out, "--parcels", "16")

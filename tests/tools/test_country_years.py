@@ -69,7 +69,7 @@ class TestLineage(Case):
             assert self.lineage() == [head + "".join(part) for part in wanted]
         region_split.MOST_ROWS = 2
         before = self.lineage()
-        with pytest.raises(table_streams.Trouble, match="2 rows a region are too few"):
+        with pytest.raises(table_streams.Trouble, match="2 rows for each region are too few"):
             region_split.split(table_streams.Folder(self.source), self.out, MOST, False, lambda words: None)
         assert self.lineage() == before
         assert [name for name in os.listdir(self.out) if name.startswith(".")] == []
@@ -299,7 +299,7 @@ class TestPublishing(Case):
 
     def test_what_it_stops_at(self):
         self.split(os.path.join(YEARS, "2024"))
-        self.refused(2024, 1, "a first year wants --new")
+        self.refused(2024, 1, "a first year needs --new")
         write("", self.out, "years")
         self.refused(2024, 64, "years", options=["--new"])
         os.remove(self.path("country", "years"))

@@ -72,13 +72,13 @@ class TestTables(Spare):
             ("accepted", "m.csv", "m.csv", digest, "", "=2"),
             ("open", "", "", "", "", ""),
             ("accepted", "--accept", "", "", "", ""),
-            ("accepted", "what it comes of", "", "", "", ""),
+            ("accepted", "its cause", "", "", "", ""),
         ]
         assert ",'=2," in read(self.folder, "findings.csv")  # no formula of a spreadsheet
         assert sha256(self.folder, decisions.name_of(digest)) == digest
         assert (
             decisions.in_words(decisions.counts(self.folder))
-            == "accepted by Ada: 1, by m.csv: 1, by --accept: 1, for what it comes of: 1"
+            == "accepted by Ada: 1, by m.csv: 1, by --accept: 1, with its cause: 1"
         )
         assert (decisions.faults_of(self.folder, {}), decisions.left_over(self.folder)) == ([], [])
         write("other", self.folder, decisions.name_of(digest))
@@ -171,7 +171,7 @@ class TestRuns(Spare):
         told = (
             f"accepted by Ada Muster: {len(mine)}, by --accept: {len(theirs)}"
             + (
-                f", for what it comes of: {len(found) - len(mine) - len(theirs)}"
+                f", with its cause: {len(found) - len(mine) - len(theirs)}"
                 if len(found) > len(mine) + len(theirs)
                 else ""
             )

@@ -160,7 +160,7 @@ class TestSystems(Case):
         """Degrees that extend over many degrees, degrees in a layer of metres, and where most rows are degrees."""
         wide = "POLYGON((0 40,40 40,40 60,0 60,0 40))"
         self.tables([("A", wide)], [("1", "A", "GRASS", wide)])
-        self.assert_refused(self.run_on(self.sheets, "--accept"), "the whole layer reads as degrees")
+        self.assert_refused(self.run_on(self.sheets, "--accept"), "the whole layer looks like degrees")
         small = "POLYGON((9 48,9.1 48,9.1 48.1,9 48))"
         self.tables(
             [("A", small), ("B", small), ("C", f"POLYGON(({ring(0, 0)}))")],
@@ -271,7 +271,7 @@ class TestShapes(Case):
             [("A", dirty.polygon(dirty.box(0, 0))), ("B", dirty.polygon(dirty.box(10, 0)))],
             [("1", "A", "GRASS", dirty.polygon(bow)), ("2", "B", "TREES", dirty.polygon(dirty.box(10, 0)))],
         )
-        self.assert_refused(self.run_on(source), "mended it lies on 50.000 m2 of 2")
+        self.assert_refused(self.run_on(source), "once mended it overlaps 50.000 m2 of 2")
 
     def test_greatest_change(self):
         """The greatest change of a parcel is that from the source, not from the mended shape."""
@@ -295,12 +295,12 @@ class TestGaps(Case):
     )
     CASES = {
         "none": (None, None, ""),
-        "empty": ("empty", "", "; it may come of piece {0} (row {0}, shape)"),
-        "degrees": ("degrees", DEGREES, "; it may come of piece {0} (row {0}, degrees)"),
-        "nameless": ("", HALF, "; it comes of piece {0} (row {0}, nameless)"),
-        "stranger": ("nowhere", HALF, "; it comes of piece {0} (row {0}, stranger)"),
+        "empty": ("empty", "", "; it may come from piece {0} (row {0}, shape)"),
+        "degrees": ("degrees", DEGREES, "; it may come from piece {0} (row {0}, degrees)"),
+        "nameless": ("", HALF, "; it comes from piece {0} (row {0}, nameless)"),
+        "stranger": ("nowhere", HALF, "; it comes from piece {0} (row {0}, stranger)"),
         "elsewhere": ("nowhere", [(x + 200, y + 200) for x, y in HALF], ""),
-        "crossing": ("crossing", BOW, "; it may come of piece {0} (row {0}, invalid)"),
+        "crossing": ("crossing", BOW, "; it may come from piece {0} (row {0}, invalid)"),
     }
 
     def test_causes(self):
@@ -386,10 +386,10 @@ class TestNames(Case):
         run = self.run_on(self.sheets)
         self.assert_refused(
             run,
-            "the parcels A and a differ in case",
-            "the classes GRASS and Grass differ in case",
-            "its parcel 7.0 is not there; 7 is, which differs in case, or in .0, alone",
-            "and the table of classes has not; it has GRASS, which differs",
+            "the parcels A and a differ only in case",
+            "the classes GRASS and Grass differ only in case",
+            "its parcel 7.0 is not there; 7 is, which differs only in case, or in .0",
+            "which the table of classes does not have; it has GRASS, which differs",
         )
 
     def test_nameless(self):

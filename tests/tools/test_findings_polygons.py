@@ -37,7 +37,7 @@ COLUMNS = [
     "words",
     "number",
     "state",
-    "comes_of",
+    "comes_from",
 ]
 NOTES = {"curve", "z", "m", "identifier", "column", "blanks", "alike", "prefix", "system"}
 # no shape, one that cannot be read, or one without an area
@@ -93,7 +93,7 @@ class TestFormat(Polygons):
             assert sorted((kind, layer, number, round(float(area), 3)) for kind, layer, number, area in key) == sorted(
                 (row["kind"], row["layer"], row["row"], round(row["area_m2"] or 0, 3)) for row in rows
             )
-            key = ("number", "state", "comes_of", "kind", "layer", "row")
+            key = ("number", "state", "comes_from", "kind", "layer", "row")
             assert sorted([row[name] for name in key] for row in records(self.out, "findings.csv")) == sorted(
                 [str(row[name]) for name in key] for row in rows if row["number"] is not None
             )
@@ -236,14 +236,14 @@ class TestKinds(Polygons):
         assert {row["kind"] for row in rows if row["geom"]} >= {"invalid", "stranger", "left out", "gap"}
         assert all(row["geom"] is None or 550_000 <= row["geom"].bounds[0] < 551_000 for row in rows), rows
 
-    def test_what_comes_of_another(self):
+    def test_what_comes_from_another(self):
         """A gap that comes of a piece which is left out, and that piece: both have polygons."""
         rows = self.prepared(
             self.WHOLE,
             [self.PIECES[0], ("2", "B", "GRASS", box(10, 0, 5)), ("3", "b", "GRASS", box(15, 0, 5))],
             "--accept",
         )
-        assert "it comes of piece 3" in self.only(rows, "gap")["words"]
+        assert "it comes from piece 3" in self.only(rows, "gap")["words"]
         assert all(same(self.only(rows, kind)["geom"], box(15, 0, 5)) for kind in ("gap", "stranger", "left out"))
         self.assert_promise()
 

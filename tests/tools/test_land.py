@@ -286,7 +286,7 @@ class TestTables(Files):
             (f"{COLUMNS}\n{PIECE}\n2,A\n", 2, "line 3 has 2 fields"),
             (f"{COLUMNS}\n\n{PIECE}\n2,A,GRASS,POLYGON({RING})\n", 2, "has 8 fields"),
             (f"{COLUMNS}\n{PIECE[:-1]}\n2,A,GRASS,x\n", 0, "a quotation mark that is not closed"),
-            (f'{COLUMNS}\n1,A,"GRASS"x,y\n', 0, "it cannot be read behind line 2"),
+            (f'{COLUMNS}\n1,A,"GRASS"x,y\n', 0, "it cannot be read after line 2"),
             (f"{COLUMNS},wkt,wkt\n", 0, "two columns are called wkt"),
             (f"{COLUMNS}\n1,M\x81hle\n".encode("latin-1"), 0, "bytes that are not cp1252"),
         ]
@@ -297,7 +297,7 @@ class TestTables(Files):
     def test_whole(self):
         layer, faults = self.faults(f"{COLUMNS},,note\n{PIECE},,x\n,,,,,\n\n{PIECE.replace('1,', '2,', 1)},,\n")
         assert (faults, [row.number for row in layer.rows], layer.others) == ([], [1, 3], ["''", "note"])
-        assert layer.notes == ["1 records without any field passed over"]
+        assert layer.notes == ["1 records without any field were skipped"]
 
     def test_chosen(self):
         self.write("covers.csv", f"{COLUMNS},CLASS\n{PIECE},WATER\n")
@@ -451,7 +451,7 @@ class TestPackages(Files):
         assert "no layer parcels: there are blocks (" in raised.value.reasons[0]
         assert "no column class" in raised.value.reasons[1]
         assert raised.value.reasons[2] == (
-            "all of it at once: --name parcels=LAYER --name parcels.parcel=COLUMN --name covers.class=COLUMN"
+            "all names at once: --name parcels=LAYER --name parcels.parcel=COLUMN --name covers.class=COLUMN"
         )
         layers = land.read(
             self.path("l.gpkg"), {"parcels": "blocks", "parcels.parcel": "BLOCK_ID", "covers.class": "parcel"}

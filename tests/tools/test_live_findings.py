@@ -116,7 +116,7 @@ class TestTable(Spare):
         assert row["place"].startswith("d")
         assert [row["number"] for row in self.run_of(found[1:])] == ["1"]
 
-    def test_what_it_comes_of(self):
+    def test_what_it_comes_from(self):
         """It stands below its cause and is accepted with it; what is lost is accepted for itself."""
         found = [
             overlap(0, kind="changed", names=["b"]),
@@ -128,25 +128,25 @@ class TestTable(Spare):
         ]
         wanted = [("overlap", ""), ("changed", "1"), ("lost", "1"), ("overlap", ""), ("shape", ""), ("left out", "5")]
         rows = self.run_of(found)
-        assert [(row["kind"], row["comes_of"]) for row in rows] == wanted
+        assert [(row["kind"], row["comes_from"]) for row in rows] == wanted
         assert [row["number"] for row in rows] == ["1", "2", "3", "4", "5", "6"]
         rows = self.run_of(found, kinds=frozenset(["overlap"]))
         assert [(row["state"], row["accepted_by"]) for row in rows] == [
             ("accepted", "--accept"),
-            ("accepted", "what it comes of"),
+            ("accepted", "its cause"),
             ("open", ""),
             ("accepted", "--accept"),
             ("open", ""),
             ("open", ""),
         ]
-        assert [row["comes_of"] for row in self.run_of(found[4:])][:2] == ["", "5"]
+        assert [row["comes_from"] for row in self.run_of(found[4:])][:2] == ["", "5"]
 
     def test_two_causes(self):
         """Both are wanted for what comes of both."""
         change = overlap(0, kind="changed")
         change.shape = box(0, 0, 1, 1).union(box(30, 0, 31, 1))
         found = [overlap(0), overlap(30), change]
-        assert self.run_of(found)[1]["comes_of"] == "1 3"
+        assert self.run_of(found)[1]["comes_from"] == "1 3"
         for marked, state in (("1",), "open"), (("1", "3"), "accepted"):
             self.mark("m.csv", marked)
             rows = {row["kind"]: row["state"] for row in self.run_of(found, ["m.csv"])}
@@ -265,7 +265,7 @@ class TestRuns(Spare):
         assert [row["number"] for row in rows] == [str(number) for number in range(1, len(rows) + 1)]
         assert {row["district"] for row in rows} == {"A", "B", "C", "A / B"}
         assert all(row["district"] for row in rows)
-        below = [row for row in rows if row["comes_of"]]
+        below = [row for row in rows if row["comes_from"]]
         assert {row["kind"] for row in below} == {"left out", "changed"} and len(below) == 11
         sheets = []
         for district in "ABC":
@@ -274,11 +274,11 @@ class TestRuns(Spare):
             with open(sheets[-1], "w", newline="", encoding="utf-16") as file:
                 table = csv.DictWriter(file, [*some[0]], delimiter=";")
                 table.writeheader()
-                table.writerows({**row, "accepted": "" if row["comes_of"] else "1", "who": district} for row in some)
+                table.writerows({**row, "accepted": "" if row["comes_from"] else "1", "who": district} for row in some)
         then = self.both(0, land_of(self.path("one.gpkg"), 1_000_000), "--keep", "District", *sheets)
         assert [(row["number"], row["state"]) for row in then] == [(row["number"], "accepted") for row in rows]
         assert all(int(row["row"].split()[0]) > 1_000_000 for row in then)
-        assert {row["accepted_by"] for row in then} == {"A", "B", "C", "what it comes of"}
+        assert {row["accepted_by"] for row in then} == {"A", "B", "C", "its cause"}
         os.rename(self.path("country"), self.path("2026-country"))
         os.rename(self.path("whole"), self.path("2026"))
         land = land_of(self.path("next.gpkg"), 7, is_mended=True)
@@ -300,7 +300,7 @@ class TestRuns(Spare):
         ended_with(0, tool("report", out, "--html", page, "--lpis", BUILT))
         text = read(page)
         data = json.loads(re.search(r'<script id="data" type="application/json">(.*?)</script>', text, re.DOTALL)[1])
-        own = [row for row in records(out, "findings.csv") if not row["comes_of"]]
+        own = [row for row in records(out, "findings.csv") if not row["comes_from"]]
         districts = {row[0]: row[1:3] for row in data["tables"][0]["rows"]}
         assert districts == {
             name: [0, sum(row["district"] == name for row in own)] for name in ("A", "B", "C", "A / B")

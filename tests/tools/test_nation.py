@@ -29,7 +29,7 @@ CAN = shapely_there.is_there() and BUILT and shutil.which("ogrinfo")
 
 def lines_of_guide():
     """The lines of the path: the block that begins with ogrinfo."""
-    part = Path(TOP, "docs", "GUIDE.md").read_text(encoding="utf-8").split("\n## A country at once\n")[1]
+    part = Path(TOP, "docs", "GUIDE-COUNTRY.md").read_text(encoding="utf-8")
     return [line.strip() for line in part[part.index("    ogrinfo") :].split("\n\n")[0].splitlines()]
 
 
@@ -88,7 +88,7 @@ class TestNation(Kept):
         assert not [line for line in self.told if line.startswith("tools/country check")]
         assert "\nyes\npublished 2026\n" in self.ended("tools/country publish register.db 2026").stdout
         assert (
-            "are those that the run before has rounded\n"
+            "are taken from the last run, which rounded them\n"
             in self.ended("tools/country prepare land-2026.gpkg country --accept").stderr
         )
 

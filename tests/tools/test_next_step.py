@@ -22,7 +22,7 @@ from lpis.system.trouble import Trouble
 
 lacks_shapely = pytest.mark.skipif(not shapely_there.python(), reason=shapely_there.LACKING)
 ALL = (
-    "all of it at once: --name parcels=LAYER --name parcels.parcel=COLUMN --name covers=LAYER --name"
+    "all names at once: --name parcels=LAYER --name parcels.parcel=COLUMN --name covers=LAYER --name"
     " covers.piece=COLUMN --name covers.parcel=COLUMN --name covers.class=COLUMN"
 )
 
@@ -65,7 +65,7 @@ class TestSources(Spare):
     def test_names_that_are_known(self):
         reasons = ["no layer covers: there are B (nr) (--name covers=LAYER says which it is)"]
         assert layer_guesses.all_names(reasons, {"covers.parcel": "flik"}) == [
-            "all of it at once: --name covers=LAYER --name covers.piece=COLUMN --name covers.class=COLUMN"
+            "all names at once: --name covers=LAYER --name covers.piece=COLUMN --name covers.class=COLUMN"
         ]
         assert layer_guesses.all_names(["no column x (--name covers.piece=COLUMN says which it is)"], {}) == []
 

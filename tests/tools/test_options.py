@@ -84,13 +84,13 @@ class TestForms:
             (
                 "epsg = 25832\nlayer = 'x'\n",
                 2,
-                "nothing knows the key layer: there are classes, epsg, between, keep, layers.parcels",
+                "there is no key layer; there are classes, epsg, between, keep, layers.parcels",
             ),
-            ("[layers]\nepsg = 25832\n", 2, "nothing knows the key layers.epsg"),
-            ("[layers]\nparcels.parcel = 'x'\n", 2, "nothing knows the key layers.parcels.parcel"),
-            ("[columns]\nparcels = 'x'\n", 2, "nothing knows the key columns.parcels"),
-            ("[columns]\nparcels.piece = 'x'\n", 2, "nothing knows the key columns.parcels.piece"),
-            ("\n[names]\n", 2, "nothing knows the section [names]: there are layers, columns"),
+            ("[layers]\nepsg = 25832\n", 2, "there is no key layers.epsg"),
+            ("[layers]\nparcels.parcel = 'x'\n", 2, "there is no key layers.parcels.parcel"),
+            ("[columns]\nparcels = 'x'\n", 2, "there is no key columns.parcels"),
+            ("[columns]\nparcels.piece = 'x'\n", 2, "there is no key columns.parcels.piece"),
+            ("\n[names]\n", 2, "there is no section [names]; there are layers, columns"),
             ("epsg = '25832'\n", 1, "epsg is 25832, and not the number of a system"),
             ("epsg = 1.5\n", 1, "epsg is 1.5"),
             ("epsg = -1\n", 1, "-1 is neither a text in quotation marks nor a number above 0"),
@@ -99,12 +99,12 @@ class TestForms:
             ("classes = 7\n", 1, "7 is no text"),
             ("classes = ''\n", 1, "'' is no text"),
             ("[layers]\nparcels = ''\n", 2, "'' is no text"),
-            ("epsg = 1\nepsg = 2\n", 2, "epsg stands twice"),
-            ("[layers]\n[layers]\n", 2, "layers stands twice"),
+            ("epsg = 1\nepsg = 2\n", 2, "epsg is there twice"),
+            ("[layers]\n[layers]\n", 2, "layers is there twice"),
             (
                 "[columns]\nparcels.parcel = 'a'\n[columns.parcels]\nparcel = 'b'\n",
                 4,
-                "columns.parcels.parcel stands twice",
+                "columns.parcels.parcel is there twice",
             ),
             ("epsg\n", 1, "epsg is neither [SECTION] nor KEY = VALUE"),
             ("epsg = \n", 1, "is neither"),
@@ -233,10 +233,8 @@ class TestRuns(preparing_case.Case):
             "--source",
             self.land,
         )
-        assert (ran.returncode, f"the second checker says of {self.land} and {self.path('y')}: yes" in ran.stdout) == (
-            0,
-            True,
-        ), (
+        said = f"the second checker says about {self.land} and {self.path('y')}: yes"
+        assert (ran.returncode, said in ran.stdout) == (0, True), (
             ran.stdout + ran.stderr
         )
         os.remove(self.toml)
@@ -310,7 +308,7 @@ class TestRuns(preparing_case.Case):
             "covers.wkt=geom",
         )
         told = (
-            "stays as it is; to keep these words too, write there: epsg = 25832; between = 2.0; [columns]; covers.wkt ="
+            "stays as it is; to keep these options too, add to it: epsg = 25832; between = 2.0; [columns]; covers.wkt ="
             ' "geom"\n'
         )
         assert (ran.returncode, told in ran.stderr, records(self.out, "classes.csv")[0]["percent"]) == (
@@ -327,7 +325,7 @@ class TestRuns(preparing_case.Case):
             ran = tool(name, self.land, *([self.out] if name == "prepare" else ["--out", self.out]))
             assert (
                 ran.returncode,
-                f"{self.toml} line 2: nothing knows the key layers" in ran.stderr,
+                f"{self.toml} line 2: there is no key layers" in ran.stderr,
                 os.path.exists(self.out),
             ) == (64, True, False), ran.stderr
 

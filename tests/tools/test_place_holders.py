@@ -173,7 +173,7 @@ class TestSource:
 class TestRemedies:
     def test_kinds(self):
         """What helps against a hole would make an overlap where others have the place."""
-        assert remedies.of("overlap", "parcels").startswith("take the place out of the parcel that has no piece there")
+        assert remedies.of("overlap", "parcels").startswith("cut the place out of the parcel that has no piece there")
         assert remedies.of("overlap", "covers").startswith("draw the border between the two once")
         assert remedies.of("gap", "parcels").startswith("where nobody else has the place, stretch a piece over it")
         assert "where no other parcel has the place" in remedies.of("outside", "covers")
@@ -239,7 +239,7 @@ class TestRuns(preparing_case.Case):
         ran = tool("check", land_of_it, "--out", self.out)
         assert ran.returncode == 1 and "\nno: 1 finding stops (1 overlap)" in ran.stdout, ran.stdout
         assert f": B has no piece here, and parcel A (5.000 m2) has the place too, {FILLED}" in ran.stdout
-        assert "\n  overlap of parcels: take the place out of the parcel that has no piece there; or" in ran.stdout
+        assert "\n  overlap of parcels: cut the place out of the parcel that has no piece there; or" in ran.stdout
         ran = tool("check", land_of_it, "--out", self.out, "--accept", "overlap,changed")
         assert (ran.returncode, ran.stdout.splitlines()[-1]) == (0, "yes"), ran.stdout
         (found,) = (one for one in records(self.out, "report.csv") if one["kind"] == "overlap")

@@ -33,11 +33,11 @@ WANTED = [
     ("shape", "parcels", "open", "a ring is open", "made of its pieces"),
     ("invalid", "covers", "flat.2", "nothing of it has an area", "left out"),
     ("shape", "covers", "short.2", "a ring has 3 points", "left out"),
-    ("degrees", "parcels", "degrees", "reads as degrees", "made of its pieces"),
+    ("degrees", "parcels", "degrees", "looks like degrees", "made of its pieces"),
     ("invalid", "covers", "crossing.2", "Self-intersection", "made valid"),
-    ("identifier", "parcels", "field 7", "is no identifier", "now field_7_"),
-    ("identifier", "parcels", "M\u00fchle", "is no identifier", "now Muehle_"),
-    ("identifier", "parcels", "a" * 41, "is no identifier", "now aaaaa"),
+    ("identifier", "parcels", "field 7", "is not a valid identifier", "now field_7_"),
+    ("identifier", "parcels", "M\u00fchle", "is not a valid identifier", "now Muehle_"),
+    ("identifier", "parcels", "a" * 41, "is not a valid identifier", "now aaaaa"),
     ("nameless", "parcels", "", "no parcel identifier", "left out"),
     ("doubled", "parcels", "doubled", "fid 15 has this identifier too", "joined"),
     ("stranger", "covers", "stranger.3", "parcel nowhere is not there", "left out"),
@@ -205,7 +205,7 @@ class TestSources(Spare):
 
     def test_feet(self):
         run = tool("prepare", dirty.make(self.path("l.gpkg"), [], 2263), self.out)
-        units = "units of 0.304800609601219 m; areas and widths are in these units meanwhile"
+        units = "units of 0.304800609601219 m; until then areas and widths are in these units"
         words = f"EPSG:2263 ({units}): name a system in metres by --epsg, such as 32618"
         assert (run.returncode, run.stdout.count(words)) == (1, 2), run.stdout
 
@@ -306,14 +306,15 @@ class TestSources(Spare):
             (
                 "class,percent\nGRASS,100\n",
                 (
-                    "4 pieces have this class, clean1.2 (fid 2), clean2.2 (fid 4), clean3.2 (fid 6) .., and the table"
-                    " of classes has not: give that table the line TREES,?, with its percentage in place of the ?"
+                    "4 pieces have this class, clean1.2 (fid 2), clean2.2 (fid 4), clean3.2 (fid 6) .., which the table"
+                    " of classes does not have: add the line TREES,? to that table, with its percentage in place of"
+                    " the ?"
                 ),
             ),
             ("class,percent\nGRASS,33.5\nTREES,30\n", "'33.5', no whole number"),
             ("class,percent\nTREES,30\nWATER,0\n", "4 pieces have this class"),
             ("class,percent\nGRASS,1_00\nTREES,30\n", "'1_00', no whole number"),
-            ("class,percent\nGRASS,1\nTREES,0\n", "reads as shares"),
+            ("class,percent\nGRASS,1\nTREES,0\n", "which may be a share"),
         ):
             Path(self.path("classes.csv")).write_text(text, encoding="ascii")
             run = tool("prepare", path, self.out, "--classes", self.path("classes.csv"), "--accept")
@@ -325,7 +326,7 @@ class TestSources(Spare):
             "kind,old,new\nparcel,M\u00fchle,Mill\nparcel,clean1,clean2\n", encoding="utf-8"
         )
         run = tool("prepare", path, self.out, "--identifiers", self.path("names.csv"))
-        assert (run.returncode, "would be clean2, which is another's" in run.stdout) == (1, True), run.stdout
+        assert (run.returncode, "would become clean2, which another row has" in run.stdout) == (1, True), run.stdout
         Path(self.path("names.csv")).write_text("kind,old,new\nparcel,M\u00fchle,Mill\n", encoding="utf-8")
         ended_with(0, tool("prepare", path, self.out, "--identifiers", self.path("names.csv")))
         assert "Mill" in {row["parcel"] for row in records(self.out, "parcels.csv")}

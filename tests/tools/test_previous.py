@@ -207,7 +207,7 @@ class TestFolders(Spare):
     def test_another_place(self):
         assert 0 == self.prepared("last").returncode
         self.refused(
-            self.path("last"), "is it of another place, or of another system?", SOURCE.replace("54000", "54100")
+            self.path("last"), "is it another area, or another system of coordinates?", SOURCE.replace("54000", "54100")
         )
 
     def test_another_system(self):

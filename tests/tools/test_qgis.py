@@ -366,7 +366,7 @@ class TestAlgorithms(Kept):
         rows = {row["kind"]: row for row in layer(self.path("polygons of findings.gpkg"))}
         assert (1, {"overlap", "gap"}, 25832) == (
             found["STATUS"],
-            {kind for kind in rows if kind != "changed"},  # what comes of them
+            {kind for kind in rows if kind != "changed"},  # what comes from them
             system(self.path("polygons of findings.gpkg")),
         )
         assert (0.2, 50.0) == (round(rows["overlap"]["area_m2"], 3), round(rows["gap"]["area_m2"], 3))

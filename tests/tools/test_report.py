@@ -253,7 +253,7 @@ class TestReports(Spare):
             "no row of lineage explains it",
             "</i>new: 2</span>",
             "</i>of another area: 1</span>",
-            "</i>gone, as it was: 2</span>",
+            "</i>gone, with its last shape: 2</span>",
         ):
             assert words in self.html()
         assert "</i>moved" not in self.html()
@@ -333,7 +333,7 @@ class TestReports(Spare):
         assert [row["parcel"] for row in told["difference"]["moved"]] == ["A", "B", "C"], run.stderr
         assert ["share nothing" in row["words"] for row in told["difference"]["moved"]] == [True, True, False]
         assert "moved C: its old and its new shape share 40 percent" in run.stdout
-        assert "</i>moved, with its identifier: 6</span>" in self.html()
+        assert "</i>moved, with the same identifier: 6</span>" in self.html()
         assert self.shapes()["old"]["words"] == ["before it moved"] * 3
 
     def test_names_are_text(self):

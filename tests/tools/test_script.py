@@ -16,9 +16,9 @@ pytestmark = pytest.mark.finds_program
 TRACE = """if [[ $0 == house/lpis ]]; then exec 9>traced && BASH_XTRACEFD=9 PS4='+$BASH_SUBSHELL ' && set -x; fi
 """
 COMMANDS = ("lpis", *(f"lpis-{it}" for it in "check country explain faults lineage prepare report year".split()))
-PAGES = """BELIEVE.md CHANGELOG.md FORMATS.md GUIDE.md IDEA.md PROOF.md WINDOWS.md believe examples idea-border.svg
-idea-cancel.svg idea-examples.svg idea-lineage.svg idea-pieces.svg idea-walk.svg parcel.svg qgis-fault.png
-qgis-faults.png qgis-lineage.png qgis-parcels.png"""
+PAGES = """BELIEVE.md CHANGELOG.md FORMATS.md GUIDE-COUNTRY.md GUIDE.md IDEA.md PROOF.md WINDOWS.md believe examples
+idea-border.svg idea-cancel.svg idea-examples.svg idea-lineage.svg idea-pieces.svg idea-walk.svg parcel.svg
+qgis-fault.png qgis-faults.png qgis-lineage.png qgis-parcels.png"""
 COMPLETING = """. place/share/bash-completion/completions/lpis
 read -ra COMP_WORDS <<<"$1" && [[ $1 != *' ' ]] || COMP_WORDS+=('')
 COMP_CWORD=$((${#COMP_WORDS[@]} - 1))

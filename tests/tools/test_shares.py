@@ -117,7 +117,7 @@ class TestPrepared(Spare):
     def test_one_beside_percentages(self):
         """A share among percentages stops, whatever is accepted, in the whole and in parts."""
         words = [self.land, self.out, *self.tables("class;percent\nGRASS;1,0\nTREES;100\n"), "--accept"]
-        told = "its percent is '1,0', which reads as a share, and '100' of the same table is a percentage"
+        told = "its percent is '1,0', which looks like a share, and '100' in the same table is a percentage"
         for run in (tool("prepare", *words), tool("country", "prepare", *words)):
             self.assert_stopped(run, f"percent: classes GRASS: {told}")
 
@@ -126,8 +126,8 @@ class TestPrepared(Spare):
         run = tool("prepare", *words)
         self.assert_taken(run, "100", "50")
         for line in (
-            "GRASS: its percent is '1': taken as 100, as all of",
-            "TREES: its percent is '0,5': taken as 50, as all of",
+            "GRASS: its percent is '1': taken as 100, since all values of",
+            "TREES: its percent is '0,5': taken as 50, since all values of",
         ):
             assert f"percent: classes {line} the table are shares" in run.stdout
         found = [(row["kind"], row["identifier"], row["done"][:11]) for row in records(self.out, "prepared.csv")]
@@ -138,8 +138,8 @@ class TestPrepared(Spare):
         [
             ("REAL", (100.0, 30.0, 0.0), ["100", "30", "0"], ""),
             ("REAL", (1.0, 0.5, 0.0), ["100", "50", "0"], "GRASS: its percent is '1.0': taken as 100"),
-            ("REAL", (1.0, 100.0, 0.0), [], "GRASS: its percent is '1.0', which reads as a share"),
-            ("REAL", (1.0, 0.0, -0.0), [], "GRASS: its percent is '1.0', which reads as shares do"),
+            ("REAL", (1.0, 100.0, 0.0), [], "GRASS: its percent is '1.0', which looks like a share"),
+            ("REAL", (1.0, 0.0, -0.0), [], "GRASS: its percent is '1.0', which may be a share"),
             ("REAL", (100.0, 50.0, None), [], "WATER: its percent is empty"),
             ("INTEGER", (1, 100, 0), ["1", "100", "0"], ""),
         ],

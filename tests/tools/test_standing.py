@@ -24,7 +24,7 @@ from lpis.system.trouble import Trouble
 lacks_shapely = pytest.mark.skipif(not shapely_there.python(), reason=shapely_there.LACKING)
 lacks_program = pytest.mark.skipif(not BUILT, reason="the program is not built")
 SQUARE = "POLYGON((55{0:04} 5400000,55{1:04} 5400000,55{1:04} 5400010,55{0:04} 5400010,55{0:04} 5400000))"
-SAID = "the tables there, if any, are of an earlier run"
+SAID = "the tables there, if any, are from an earlier run"
 
 
 def write_land(folder, width=10, classes="class,percent\nG,100\n"):
@@ -234,7 +234,7 @@ class TestFiles(Case):
             with pytest.raises(Trouble, match="another run works in"):
                 table_standing.begin(self.path("other"), self.then, {})
             other.kill()
-        assert "did not come to its end, so" in table_standing.why_not(self.path("other"))
+        assert "did not finish, so" in table_standing.why_not(self.path("other"))
 
 
 @lacks_shapely
@@ -261,7 +261,7 @@ class TestReleases(Case):
         self.tool("prepare", self.then, self.path("other"))
         tables = {name: read(self.out, name) for name in ("parcels.csv", "covers.csv")}
         refused = self.prepared(self.now, status=1)
-        assert f"no table is written in {self.out} (those that stand there are of an earlier run)" in refused.stdout
+        assert f"no table is written in {self.out} (the tables there are from an earlier run)" in refused.stdout
         assert ({name: read(self.out, name) for name in tables}, state_of(self.out)) == (tables, "refused")
         for name, words in self.takers().items():
             self.refused(
@@ -291,7 +291,7 @@ class TestReleases(Case):
             self.prepared(self.then)
             self.prepared(self.now, *words, status=64)
             assert state_of(self.out) == "unfinished", words
-            self.refused(self.tool("report", self.out, "x"), "did not come to its end")
+            self.refused(self.tool("report", self.out, "x"), "did not finish")
         before = sorted(os.listdir(self.then))
         self.tool("prepare", self.then, self.then)
         self.tool("prepare", self.now, self.path("new"), "--previous", self.path("new"))
@@ -309,7 +309,7 @@ class TestReleases(Case):
             started.send_signal(number)
             terminal.whole()
         assert state_of(self.out) == "unfinished"
-        self.refused(self.tool("faults", self.out, self.path("f.geojson")), "did not come to its end")
+        self.refused(self.tool("faults", self.out, self.path("f.geojson")), "did not finish")
         told = ended_with(1, self.tool("year", "--status", self.out)).stdout
         assert f"made: unfinished, by tools/prepare {self.now} {self.out} --accept" in told
         assert "\nstops: " in told
@@ -460,7 +460,7 @@ class TestCountries(Case):
             terminal.whole()
         assert state_of(self.out) == "unfinished"
         for command in ("cut", "check"):
-            self.refused(self.tool("country", command, self.out), "did not come to its end")
+            self.refused(self.tool("country", command, self.out), "did not finish")
         self.refused(self.tool("country", "publish", self.base, 2026, self.out, "--new"))
         assert not os.path.exists(self.base)
         self.prepared(self.now, "--accept")

@@ -436,7 +436,7 @@ class TestSilent(Case):
                 table_streams.Trouble,
             ),
         ):
-            with pytest.raises(kind, match="cannot be read behind line"):
+            with pytest.raises(kind, match="cannot be read after line"):
                 read()
 
     def test_unreadable(self):

@@ -67,12 +67,12 @@ class TestStops(Spare):
         """The line that mends the table is told, and mends it."""
         write("class,percent\nNONE,100\n", self.folder, "classes.csv")
         ended = ended_with(1, tool("prepare", self.land, self.path("first"), "--classes", self.path("classes.csv")))
-        lines = re.findall(r"give that table the line (\S+,)\?, with its percentage in place of the \?", ended.stdout)
+        lines = re.findall(r"add the line (\S+,)\? to that table, with its percentage in place of the \?", ended.stdout)
         assert lines
         self.stops(
             "--classes",
             self.path("classes.csv"),
-            says=[f"give that table the line {lines[0]}?, with its percentage in place of the ?"],
+            says=[f"add the line {lines[0]}? to that table, with its percentage in place of the ?"],
         )
         write("class,percent\nNONE,100\n" + "".join(f"{line}100\n" for line in lines), self.folder, "classes.csv")
         assert (

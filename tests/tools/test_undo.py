@@ -94,7 +94,7 @@ class TestReleases(Spare):
             (None, 2028, "is not the last year"),
             ("register", 2027, "changed since 2027 was published"),
             ("copy", 2027, "is not there"),
-            ("other", 2027, "has not what the register held before"),
+            ("other", 2027, "does not have what the register held before"),
             ("log", 2027, "line 1 was changed since"),
         ):
             folder = self.path(f"copy-{what}-{number}")

@@ -246,7 +246,7 @@ class TestUnusual(Case):
         )
         made(source, *(f"UPDATE {name} SET geom = x'{degrees.hex()}' WHERE fid = 1" for name in ("parcels", "covers")))
         status, told = self.told(source)
-        assert (status, told.count("which reads as degrees among metres") >= 2) == (1, True), told
+        assert (status, told.count("which looks like degrees among metres") >= 2) == (1, True), told
         status, told = self.told(source, "--accept")
         balance = {row["layer"]: row for row in records(self.out, "balance.csv")}
         assert (

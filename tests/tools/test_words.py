@@ -116,6 +116,7 @@ class TestWords(Spare):
         (
             "BELIEVE",
             "GUIDE",
+            "GUIDE-COUNTRY",
             "FORMATS",
             "IDEA",
             "PROOF",

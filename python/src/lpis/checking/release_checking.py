@@ -50,7 +50,7 @@ MADE = (
 OF_COUNTRY = ("country.txt", "split.txt")  # of one that was checked there before
 GIVEN = ("classes.csv", "lineage.csv", "identifiers.csv")  # what somebody may have put into the folder before
 MARK = "<!-- lpis-check -->"  # the page's last line: the folder is one that this tool made
-ASKED, MOST_REASONS = "all of it at once: ", 3  # what begins a line of words to copy; reasons in the last line
+ASKED, MOST_REASONS = "all names at once: ", 3  # what begins a line of words to copy; reasons in the last line
 
 
 class Source(preparation_run.Run):
@@ -203,7 +203,7 @@ class Check:
         """Tables without percentages are no release."""
         used = sorted(country_passes.classes_used(run.base))
         words = (
-            f"no percentages: {self.words.land} has no table classes, and none is named: its classes are"
+            f"no percentages: {self.words.land} has no table of classes, and --classes names none; its classes are"
             f" {', '.join(used)}"
         )
         path = self.outer("classes.csv")
@@ -289,9 +289,9 @@ class Check:
         names = sorted(name for name in os.listdir(self.made) if not name.startswith("."))
         old, new = self.outer("prepared.csv"), self.inner("prepared.csv")
         if os.path.isfile(old) and not filecmp.cmp(old, new, shallow=False):
-            self.say(progress.Note(f"{old} of the run before is {files.aside(old)} now"))
+            self.say(progress.Note(f"{old} of the last run is {files.aside(old)} now"))
         if os.path.isfile(self.outer(CERT)) and CERT not in names:
-            self.say(progress.Note(f"{self.outer(CERT)} goes: it was the certificate of the tables before"))
+            self.say(progress.Note(f"{self.outer(CERT)} is removed: it was the certificate of the earlier tables"))
         placing.put(
             self.made,
             self.out,
@@ -371,7 +371,7 @@ def checked(command: list, words: argparse.Namespace, names: dict, say: Callable
             placing.clear(check.spare)
         if answer.status != COUNTRY:
             return answer
-    say(progress.Note(f"{words.land} has more than {most} rows: it goes by regions, as a country"))
+    say(progress.Note(f"{words.land} has more than {most} rows: it is checked in regions, as a country"))
     status, lines = country_checking.Country(command, words, say, again, title_of(words.land)).go()
     return Answer(status, lines[-1], lines[:-1])
 

@@ -8,22 +8,23 @@ into no register.
 LAND is what tools/prepare reads, with its options: a GeoPackage, shapefiles or anything else that ogr2ogr reads, or a
 folder with parcels.csv and covers.csv, each with a column wkt. Its layers are parcels (parcel) and covers (piece,
 parcel, class), and it may have a table classes (class, percent);
---name says what they are called otherwise, --classes names a table of classes. The first run keeps both in lpis.toml
-beside LAND, from which later ones take them. A layer that no name fits is the one that alone has polygons and the
-columns.
+--name says what they are called if they have other names, --classes names a table of classes. The first run keeps both
+in lpis.toml next to LAND, and later runs take them from there. If no layer has the name, the only layer that has
+polygons and these columns is used.
 
 It tests the source, rounds all borders together, and has lpis check the tables. DIR, else LAND-check, gets
 
-    index.html      a page with the map of all findings, what stops first and the largest first: row, identifiers, area,
-        width, words, what to do
+    index.html      a page with the map of all findings, first those that stop, the largest on top: row, identifiers,
+        area, width, words, what to do
     findings.gpkg   the same for QGIS, a layer for each kind
 
-and, of a yes, the tables, report.txt with the areas, and what tools/prepare reports: DIR is then a release for
-tools/year. With --certificate it has cert.txt too, for whoever the certificate is handed over to. Everything takes its
-place at the end, all of it or nothing. --accept takes what can be mended or settled; without it, it stops.
+and, after a yes, the tables, report.txt with the areas, and what tools/prepare reports: DIR is then a release for
+tools/year. With --certificate it also has cert.txt, to hand over. All files are put in place together at the end, or
+none of them. --accept accepts what can be mended or settled; without it such findings stop the run.
 
-Status: 0 and the last line yes; 1 and what stops; 2 the source cannot be read, and nothing is written; 64 trouble of
-its own; 70 it failed, or there is no lpis; 128 and the number of a signal that stopped it.
+Status: 0 and the last line yes; 1 and what stops; 2 the source cannot be read, and nothing is written; 64 a wrong
+option, or a file that cannot be used; 70 the tool failed, or there is no lpis; 128 plus the number of the signal that
+stopped it.
 """
 
 import gc
@@ -47,7 +48,7 @@ def arguments():
     parser.add_argument(
         "--certificate", action="store_true", help="keep the certificate, in DIR/cert.txt: a yes needs none"
     )
-    parser.add_argument("--quiet", action="store_true", help="say nothing of how much is done")
+    parser.add_argument("--quiet", action="store_true", help="show no progress")
     parser.add_lpis()
     words = acceptance.parsed(parser, sys.argv[1:])
     progress.Quiet.is_quiet = words.quiet

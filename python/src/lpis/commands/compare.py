@@ -1,7 +1,7 @@
-"""compare LAND OUT [--epsg N] [--accept]: what became of a source, by it and the tables that somebody made of it.
+"""compare LAND OUT [--epsg N] [--accept]: what became of a source in tables that somebody made from it.
 
 Writes OUT/report.csv, OUT/report.geojson and OUT/balance.csv: parcels and pieces of the source that are lost; each
-place that two pieces have, or a parcel and none of its pieces, or a piece and not its parcel, a millimetre wide or more
+overlap of two pieces, each gap in a parcel and each place of a piece outside of its parcel, a millimetre wide or more
 (area over length), and who has it in the tables; each parcel and piece that changed by more than its border times a
 millimetre; the balance of land.
 """

@@ -1,5 +1,5 @@
-"""A country at once: from a nation's source, or tables of any size, to regions; makes their certificates, many at once,
-has all of it checked, and publishes a year.
+"""A whole country: splits a nation's source, or tables of any size, into regions; makes their certificates, many at
+once, has the country checked, and publishes a year.
 
     tools/country prepare LAND DIR [--accept [KIND,..]] [--accept-from FILE].. [--classes FILE] [--epsg N] [--name
         WHAT=FOUND].. [--identifiers FILE] [--previous FOLDER] [--between METRES] [--keep COLUMN]..
@@ -12,46 +12,47 @@ has all of it checked, and publishes a year.
     tools/country publish DB YEAR DIR [--lineage FILE] [--source LAND] [--new] [--year-anyway] [--register-anyway]
         [--source-anyway] [--previous FOLDER] [--jump PERCENT[,PERCENT]] [--accept-from FILE]..
 
-prepare: tests, mends and rounds a source as tools/prepare does, with the same words, findings and texts, and splits the
-tables. Rows are read in parts and borders rounded cell by cell, as many at once as there are processors, or by
-Snakemake: a parcel's text hangs on the rows beside it alone. DIR/.cells keeps what parts and cells gave: a run that was
-stopped goes on there, and a source that changed costs the cells of what changed. Land that nobody has between parcels
-is joined over cells, up to --between METRES, else a metre. prepared.csv, identifiers.csv, report.csv, report.geojson,
-between.geojson, balance.csv and findings.gpkg, which has the polygons of what was found, are those of the whole
-country.
+prepare: tests, mends and rounds a source as tools/prepare does, with the same options, findings and coordinates, and
+splits the tables. Rows are read in parts and borders are rounded cell by cell, by one process for each processor, or by
+Snakemake: a parcel's coordinates depend only on the rows next to it. DIR/.cells keeps the results of parts and cells: a
+run that was stopped goes on there, and after a change of the source only the cells that changed are made again. Land
+that nobody has between parcels is joined across cells, up to --between METRES, or else a metre. prepared.csv,
+identifiers.csv, report.csv, report.geojson, between.geojson, balance.csv and findings.gpkg, which has the polygons of
+what was found, are those of the whole country.
 
 split: SOURCE has parcels.csv, covers.csv and classes.csv, as tools/prepare writes them. The land is cut into tiles
 until no region has over 60,000 rows of parcels, 190,000 of covers or 1,900,000 points of covers. Each row is written to
 the folder of each tile that its parcel's box meets. If DIR has a tiling already, it is used again, and files that would
-not change keep their time: a changed district then costs the certificates of its folders alone. The rows of
-lineage.csv, of SOURCE or by --lineage, are dealt out in their order: the first 200,000 to the first region. The tables
-of the others have the header alone.
+not change keep their time: after a change in a district only its folders need new certificates. The rows of
+lineage.csv, of SOURCE or by --lineage, are given to the regions in their order: the first 200,000 to the first region.
+The tables of the others have only the header.
 
 cut: writes DIR/Makefile and DIR/Snakefile, and by one of them runs `lpis cut` on each region whose tables are newer
-than its certificate. A yes needs none: made so, many at once, it comes sooner. The faults of a region that is refused
-are reported with the identifiers of the source, and are in DIR/faults.geojson.
+than its certificate. A yes needs no certificates, but comes sooner with them, since many are made at once. The faults
+of a region that is refused are reported with the identifiers of the source, and are in DIR/faults.geojson.
 
 check: runs `lpis country DIR`, and then compares the counts that it reports with those of the source. Only its yes is
 proved: it refuses a wrong tiling, a missing parcel and a wrong certificate.
 
 publish: runs cut and check, copies the register (DB.before-YEAR), runs `lpis exact-country` where rows are marked and
-then `lpis publish-country`, and adds a line to DB.log, as tools/year does of a release. With --lineage it deals out the
-rows of FILE first. DIR gets exact.txt and published-YEAR.txt, and DIR/years/YEAR all that was published, which is a
-country itself and stays when DIR gets the next year. It stops before anything is done where the counts are not those of
-the source or DIR has none to compare them with (split.txt), and where tools/year would: `tools/year --help` has its
-options. --source LAND asks the second checker whether the tables of all regions say of each point what LAND, their
-source, says, before anything is done; words of audit/source.py stand behind LAND in the same text.
+then `lpis publish-country`, and adds a line to DB.log, as tools/year does of a release. With --lineage it first gives
+the regions the rows of FILE. DIR gets exact.txt and published-YEAR.txt, and DIR/years/YEAR all that was published,
+which is a country itself and stays when DIR gets the next year. It stops before anything is done if the counts are not
+those of the source, if DIR has none to compare them with (split.txt), and where tools/year would: `tools/year --help`
+has its options. --source LAND has the second checker test, before anything is done, that the tables of all regions say
+the same as their source LAND at each point; options of audit/source.py follow LAND in the same quoted text.
 
-The first act of prepare and split marks DIR as unfinished, their last one as whole. Of a DIR whose last run was refused
-or stopped the tables are those of an earlier run: cut, check, publish and all other tools refuse it, and say why.
+prepare and split first mark DIR as unfinished, and at the end as finished. If the last run in DIR was refused or
+stopped, the tables there are from an earlier run: cut, check, publish and all other tools refuse them, and say why.
 status says what DIR is: the run that made it, its source with the sha256, which steps are done, what stops, what was
-published, and what changed since. publish stops too where the source changed since the tables were made of it, and
-where the tables are, byte for byte, those of the last year.
+published, and what changed since. publish also stops if the source changed since the tables were made from it, and if
+the tables are, byte for byte, those of the last year.
 
-One run at a time works in DIR. A step of over ten seconds tells its share and the time left; --quiet, of each command,
-tells nothing of it.
+Only one run at a time works in DIR. A step of more than ten seconds shows how far it is and the time left, unless
+--quiet is given.
 
-Status: 0 done or yes; 1 there is something to look at; of check and publish that of lpis; 64 trouble of its own.
+Status: 0 done or yes; 1 there is something to look at; for check and publish that of lpis; 64 a wrong option, or a file
+that cannot be used.
 """
 
 import contextlib
@@ -105,7 +106,7 @@ def add_prepare(commands):
         help="put the tables of the whole country there too, as tools/lineage and split take them",
     )
     prepare.add_argument(
-        "--workers", metavar="N", type=int, help="how many round at once; without it as many as there are processors"
+        "--workers", metavar="N", type=int, help="how many processes round at once; without it one for each processor"
     )
     prepare.add_argument(
         "--snakemake", action="store_true", help="run the jobs by Snakemake in place of processes of its own"
@@ -135,12 +136,14 @@ def add_certified(commands):
     publish.add_argument("register", metavar="DB")
     publish.add_argument("year", metavar="YEAR", type=int)
     publish.add_argument("folder", metavar="DIR")
-    publish.add_argument("--lineage", metavar="FILE", help="deal out the rows of this table of lineage first")
+    publish.add_argument(
+        "--lineage", metavar="FILE", help="first give the rows of this table of lineage to the regions"
+    )
     second_checker.add_source(publish)
     publication_steps.add_options(publish)
     for command in (cut, publish):
         command.add_argument(
-            "--jobs", metavar="N", type=int, help="how many at once; without it as many as there are processors"
+            "--jobs", metavar="N", type=int, help="how many regions at once; without it one for each processor"
         )
         command.add_argument("--snakemake", action="store_true", help="run them by Snakemake in place of make")
         command.add_argument(
@@ -151,7 +154,7 @@ def add_certified(commands):
             "--lpis",
             metavar="COMMAND",
             default=os.environ.get("LPIS", ""),
-            help="the command that is lpis (or LPIS in the environment)",
+            help="the command that runs lpis (or LPIS in the environment)",
         )
 
 
@@ -166,7 +169,7 @@ def arguments():
     prepare, split = add_prepare(commands), add_split(commands)
     add_certified(commands)
     for command in set(commands.choices.values()):
-        command.add_argument("--quiet", action="store_true", help="say nothing of how much is done")
+        command.add_argument("--quiet", action="store_true", help="show no progress")
     said = acceptance.parsed(parser, sys.argv[1:]) if sys.argv[1:2] == ["prepare"] else parser.parse_args()
     if said.command in ("prepare", "split"):
         if min(said.parcels, said.covers, said.points) < 1:

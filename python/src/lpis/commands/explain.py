@@ -11,7 +11,7 @@ of lpis.
     lpis country DIR | tools/explain DIR --svg fault.svg
     lpis publish-country DB YEAR DIR --exact FILE | tools/explain DIR --cert FILE --register DB
     tools/explain 43                    what a code means, without a release
-    tools/explain refused 41 ..         what a line means that lpis printed; behind the folder DIR with its shapes
+    tools/explain refused 41 ..         what a line means that lpis printed; with its shapes, if DIR stands before it
     tools/explain DIR --name NAME       the identifier that a parcel of the source has in the tables, by
         DIR/identifiers.csv
 """

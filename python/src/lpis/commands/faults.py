@@ -2,13 +2,13 @@
 
     tools/faults DIR OUT.geojson [--html FILE]
 
-It calls `lpis cut` on each parcel with its pieces, and on each two parcels whose boxes overlap, many in one call. It
-reports the first fault of each row, the first fault of each parcel with its pieces, and each two parcels that overlap.
-Each is the polygon of the overlap, of the gap or of what is outside of its parcel, with width and area, or the whole
-shape that is wrong; a point where Shapely is not there, or nothing has an area. It proves nothing: a release without
-faults here still has to pass `lpis cut` and `lpis check`.
+It calls `lpis cut` on each parcel with its pieces, and on each pair of parcels whose boxes overlap, many in one call.
+It reports the first fault of each row, the first fault of each parcel with its pieces, and each pair of parcels that
+overlap. Each fault is the polygon of the overlap, of the gap or of what is outside of its parcel, with width and area,
+or the whole shape that is wrong; it is a point if Shapely is not there or the fault has no area. This proves nothing: a
+release without faults here still has to pass `lpis check`.
 
-Status: 0 no faults; 1 faults; 64 trouble of its own.
+Status: 0 no faults; 1 faults; 64 a wrong option, or a file that cannot be used.
 """
 
 from collections import Counter

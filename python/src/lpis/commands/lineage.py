@@ -4,18 +4,19 @@
     tools/lineage --register DB NEW OUT      the same, from the shapes that a register keeps of its last release
     tools/lineage --check OLD NEW            all faults of NEW/lineage.csv at once, and kept parcels that moved
     tools/lineage --check --register DB NEW
-    tools/lineage --check .. --rows FILE     the same of the table FILE
-    .. [--workers N] [--quiet]               as many processes as there are processors, unless N is named
+    tools/lineage --check .. --rows FILE     the same for the table FILE
+    .. [--workers N] [--quiet]               N processes; without it one for each processor
 
 OLD and NEW are folders with parcels.csv, or countries of any size, whose parcels are read one by one. A dropped parcel
-gets a row for each new parcel that has a tenth or more of it, or of which it has a tenth or more. If no new parcel has
-its land, it gets an ending. If that is not clear (it shares a hundredth to a tenth, or less than half of it is found
-again), it gets no row and is listed: `publish` refuses the release (75) until somebody writes its row. Splits and
+gets a row for each new parcel with which it shares a tenth or more of one of the two. If no new parcel has its land, it
+gets the row of an ending. If that is not clear (they share a hundredth to a tenth, or new parcels have less than half
+of its land), it gets no row and is listed: `publish` refuses the release (75) until somebody writes its row. Splits and
 merges are marked exact where their borders agree to the millimetre. OUT-report.csv has what each dropped parcel shares
-with each new one. A table that is there is never written over. Identifiers of earlier years (76) are looked for with
---register alone. Nothing is written to a register.
+with each new one. A table that is there is never overwritten. Identifiers of earlier years (76) are found only with
+--register. Nothing is written to a register.
 
-Status: 0 all rows are proposed, or no fault; 1 something is left to do, or there are faults; 64 trouble of its own.
+Status: 0 all rows are proposed, or no fault; 1 something is left to do, or there are faults; 64 a wrong option, or a
+file that cannot be used.
 """
 
 import os
@@ -45,14 +46,14 @@ def arguments():
         "--workers",
         metavar="N",
         type=int,
-        help="how many processes at once; without it as many as there are processors",
+        help="how many processes at once; without it one for each processor",
     )
-    parser.add_argument("--quiet", action="store_true", help="say nothing of how much is done")
+    parser.add_argument("--quiet", action="store_true", help="show no progress")
     words = parser.parse_args()
     if words.workers is not None and words.workers < 1:
         parser.error("--workers is 1 or more")
     if words.rows and not words.check:
-        parser.error("--rows is of --check")
+        parser.error("--rows needs --check")
     wanted = 1 + (not words.register) + (not words.check)
     if len(words.places) != wanted:
         parser.error(

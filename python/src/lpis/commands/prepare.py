@@ -8,31 +8,31 @@ by identifier.
 LAND is a GeoPackage, anything else that ogr2ogr reads, or a folder with parcels.csv and covers.csv as a spreadsheet
 writes them (semicolons, UTF-16), each with a column wkt. It has the layers parcels (parcel) and covers (piece, parcel,
 class), and may have a table classes (class, percent). Heights, arcs, zone numbers before eastings, other systems of
-coordinates and names that are no identifiers are mended and reported. What would lose or change land (no shape, a shape
-that crosses itself, degrees, an identifier twice, a piece without parcel, a parcel without pieces) is reported, and no
-table is written; with --accept it is mended or left out, and reported. Then all borders are rounded together. An
+coordinates and names that are not valid identifiers are mended and reported. What would lose or change land (no shape,
+a shape that crosses itself, degrees, an identifier twice, a piece without parcel, a parcel without pieces) is reported,
+and no table is written; with --accept it is mended or left out, and reported. Then all borders are rounded together. An
 overlap or a gap of two centimetres or more is settled only with --accept. Either all tables are written or none.
 
-With --previous a border that did not change since last year's tables is as it is there, to the millimetre: so a split
+With --previous a border that did not change keeps the coordinates of last year's tables, to the millimetre: so a split
 or a merge along corners that were there stays exact.
 
---accept takes all, or the kinds behind it; --accept-from the rows of a copy of findings.csv that have 1 in the column
-accepted, and what comes of them. --keep COLUMN has a column of the source, such as the district, go with each row, so
-that a sheet goes to each district and comes back. The first act marks OUT as unfinished: where the run ends without
-tables, those that stand there are of an earlier one, and all tools refuse them.
+--accept accepts all findings, or the kinds that follow it; --accept-from accepts the rows of a copy of findings.csv
+that have 1 in the column accepted, and the findings that they cause. --keep COLUMN adds a column of the source, such as
+the district, to each row, so that each district gets its sheet and returns it. The run first marks OUT as unfinished:
+if it ends without tables, the tables there are from an earlier run, and all tools refuse them.
 
-OUT/findings.csv has a row for each finding that stops, whose number holds from run to run and from year to year, and
-who accepted it, OUT/prepared.csv all that the tests found, OUT/identifiers.csv the names that were changed,
+OUT/findings.csv has a row for each finding that stops, with a number that stays from run to run and from year to year,
+and who accepted it. OUT/prepared.csv has all that the tests found, OUT/identifiers.csv the names that were changed,
 OUT/report.csv and OUT/report.geojson what was settled or left out, OUT/between.geojson land between parcels that nobody
-has, and OUT/balance.csv the balance of land, by class. OUT/findings.gpkg has a layer for each kind of finding, with the
-polygon of the land of which the tables say other than the source; it is written where the run stops too.
+has, and OUT/balance.csv the balance of land, by class. OUT/findings.gpkg has a layer for each kind of finding, with
+polygons of the land where the tables differ from the source; it is also written if the run stops.
 
-lpis.toml beside LAND keeps --name, --classes, --epsg, --between and --keep: the first run with --name writes it, later
-ones take it, words of the command line go before it. A layer that no name fits is the one that alone has polygons and
-the columns.
+lpis.toml next to LAND keeps --name, --classes, --epsg, --between and --keep: the first run with --name writes it, and
+later runs read it; options on the command line win over it. If no layer has the name, the only layer that has polygons
+and these columns is used.
 
-Status: 0 the tables are written; 1 there is something to look at; 64 trouble of its own, or no layer or column of that
-name; 128 and the number of a signal that stopped it.
+Status: 0 the tables are written; 1 there is something to look at; 64 a wrong option, a file that cannot be used, or no
+layer or column of that name; 128 plus the number of the signal that stopped it.
 """
 
 import contextlib
@@ -53,7 +53,7 @@ def arguments():
     parser.add_argument(
         "--previous", metavar="FOLDER", help="last year's tables: borders that did not change stay as they are there"
     )
-    parser.add_argument("--quiet", action="store_true", help="say nothing of how much is done")
+    parser.add_argument("--quiet", action="store_true", help="show no progress")
     words = acceptance.parsed(parser, sys.argv[1:])
     progress.Quiet.is_quiet = words.quiet
     return words, source_options.names_of(parser, words)

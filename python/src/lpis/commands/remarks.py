@@ -25,9 +25,7 @@ OUT, TOLD = 1, 3
 STALE = 64
 FAILED = re.compile(r"failed (read|write) ([a-z]+)(?: region ([A-Za-z0-9_-]+))?")
 NO_ROWS = "; where no identifier was dropped, as in a first year, it is the line old,new alone"
-UNFINISHED = (
-    "{} is unfinished: its last run did not come to its end, so the tables there are of an earlier run: run it again"
-)
+UNFINISHED = "{} is unfinished: its last run did not finish, so the tables there are from an earlier run: run it again"
 UNSUMMED = "prepared.csv and report.csv have what was left out of the source, and could not be summed"
 
 

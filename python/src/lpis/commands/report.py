@@ -11,26 +11,26 @@ JSON has
 - date, version, commit and kit of the program, sha256 of the program, the tables and the certificate, if CERT is named
 - answer and status, parcels, pieces, area and eligible area in all and by class (the sums are compared with those of
 lpis)
-- what was left out, changed and accepted before the tables, by prepared.csv, report.csv and balance.csv beside them
+- what was left out, changed and accepted before the tables, by prepared.csv, report.csv and balance.csv next to them
 - the extent in metres, and parcels that lie far from all others; for a refusal its words, identifiers and place
 - with --diff the parcels that are new, gone, moved (for which it needs Shapely) or of another area than in the folder
 OLD, with the rows of
   lineage.csv that explain them; with --register how many years a register has.
 
-HTML is the same in one file, with the map; it loads nothing from the network. Of a refused release it has all faults of
-tools/faults, as polygons. Where no certificate is named, or CERT is not there since `lpis cut` refuses the release,
-these are printed too. Of a country it has what `lpis country` answered, and what was accepted, left out and changed, by
-regions, and the map of their tiles. Nothing here is part of a yes.
+HTML is the same as one page with the map; it loads nothing from the network. For a refused release it has all faults of
+tools/faults, as polygons; they are also printed if no certificate is named, or CERT is not there because `lpis cut`
+refuses the release. For a country it has the answer of `lpis country`, what was accepted, left out and changed in each
+region, and the map of the tiles. The report is no part of the proof: only the answer of lpis is a yes.
 
---audit asks the second checker too, a program that shares nothing with lpis, and says that two programs agree; 64 where
-they do not. --source LAND asks it whether the tables say of each point what LAND, their source, says: 1 where not;
-words of audit/source.py stand behind LAND in the same text. A step of over ten seconds tells its share and the time
-left; --quiet tells nothing of it.
+--audit asks the second checker too, a program that shares nothing with lpis, and says whether the two programs agree;
+if not, the status is 64. --source LAND has it test that the tables say the same as their source LAND at each point; if
+not, the status is 1. Options of audit/source.py follow LAND in the same quoted text. A step of more than ten seconds
+shows how far it is and the time left, unless --quiet is given.
 
---diff tells too what changed by more than it may, as tools/year does (percentages, sums, parcels that jump or moved):
-FILE of --changes has these rows.
+--diff also reports what changed beyond the bounds, as tools/year does (percentages, sums, parcels that jump or moved):
+the FILE of --changes has these rows.
 
-The status is that of lpis; 1 where such a row is not accepted; or 64 for trouble of its own.
+The status is that of lpis; 1 if such a row is not accepted; 64 for a wrong option or a file that cannot be used.
 """
 
 import json
@@ -62,24 +62,22 @@ def arguments():
     parser.add_argument("--json", metavar="FILE", help="write the report for programs")
     parser.add_argument("--html", metavar="FILE", help="write the report as a page with the map")
     parser.add_argument("--diff", metavar="OLD", help="the folder of an older release, to report what changed")
-    parser.add_argument(
-        "--changes", metavar="FILE", help="write what changed since OLD by more than it may, as a table"
-    )
+    parser.add_argument("--changes", metavar="FILE", help="write what changed since OLD beyond the bounds, as a table")
     parser.add_argument("--register", metavar="DB", help="a register, to report how many years it has")
     parser.add_argument(
         "--year",
         metavar="YEAR",
         type=int,
-        help="the year as which the release is published: the page is called so, and what jumped since OLD is left to"
+        help="the year as which the release is published: the title of the page; what jumped since OLD is looked for by"
         " tools/year",
     )
-    parser.add_argument("--quiet", action="store_true", help="say nothing of how much is done")
+    parser.add_argument("--quiet", action="store_true", help="show no progress")
     year_comparison.add_options(parser)
     second_checker.add_option(parser)
     parser.add_lpis()
     words = parser.parse_args()
     if (words.changes or words.accept_from) and not words.diff:
-        parser.error("--changes and --accept-from are of --diff")
+        parser.error("--changes and --accept-from need --diff")
     words.is_country = words.cert is None and country_report.is_one(words.folder)
     if (
         words.diff
@@ -94,7 +92,7 @@ def arguments():
     ):
         parser.error(f"{words.folder} is a country: name no certificate CERT")
     if words.is_country and words.audit:
-        parser.error("--audit is of a release, and not of a country")
+        parser.error("--audit is for a release, not for a country")
     return words
 
 
@@ -119,7 +117,7 @@ def compared(facts, words, workers=1):
 def ended(facts, told, words):
     """Prints what changed, and answers the status."""
     if words.diff and not words.year and not told:
-        print("what changed by more than it may is not looked for, since lpis refuses this one")
+        print("changes beyond the bounds are not looked for, since lpis refuses this one")
     if told:
         print("\n".join(told.lines))
         if told.left:

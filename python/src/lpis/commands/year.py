@@ -1,5 +1,5 @@
 """The year of an agency in one command: backup, check, exact where rows are marked, publish, report, and a line in the
-log beside the register.
+log next to the register.
 
     tools/year DB YEAR DIR|LAND [--new] [--year-anyway] [--register-anyway] [--source-anyway] [--audit] [--source LAND]
         [--previous FOLDER] [--jump PERCENT[,PERCENT]] [--accept-from FILE].. [--certificate]
@@ -7,37 +7,37 @@ log beside the register.
     tools/year --verify DB
     tools/year --status DIR
 
-DIR has the tables of the release, with lineage.csv (of a first year it is made, if it is not there). LAND is a source
-in its place, such as a GeoPackage: tools/check makes a release of it first, in LAND-YEAR, and it stops where that has
-no yes; words of tools/check stand behind LAND in the same text: "land.gpkg --classes classes.csv --out 2026". It makes
+DIR has the tables of the release, with lineage.csv (in a first year it is made if it is not there). In place of DIR
+you may name a source LAND, such as a GeoPackage: tools/check then makes a release from it first, in LAND-YEAR, and the
+run stops if that gets no yes; options of tools/check follow LAND in the same quoted text:
+"land.gpkg --classes classes.csv --out 2026". The run makes
 DB.before-YEAR, a copy of the register as it was, with its sha256; in DIR published-YEAR.txt (what `publish` printed),
-report-YEAR.json and report-YEAR.html (of a later year this page shows what became of each parcel, where last year's
-tables are there), and with --certificate cert.txt and, if rows are marked, exact.txt, for whoever the certificate is
-handed over to: without it none is left. It ends with the last lines of the balance of land beside the tables, and with
-how many rows were accepted on the way to them. DB.log gets a line: time, user, program with commit and sha256, sha256
+report-YEAR.json and report-YEAR.html (in later years this page shows what became of each parcel, if last year's tables
+are there), and with --certificate cert.txt and, if rows are marked, exact.txt, to hand over: without that option no
+certificate is kept. It ends with the last lines of the balance of land next to the tables, and with how many rows were
+accepted before them. DB.log gets a line: time, user, program with commit and sha256, sha256
 of the tables, of a certificate that is kept, of what was printed, of the register's content before and after, and of
 the line before.
 
 It stops before anything is done if DB is not there (a first year wants --new); if YEAR is not the last one plus one to
 three, or is past next year (--year-anyway); if the last run that made tables in DIR was refused or stopped, or their
 source changed since (--source-anyway); if the tables are, byte for byte, those of the last year (--year-anyway); or if
-the register is not as the last line of the log has it, or has no log (--register-anyway, which the line records).
+the register is not as the last line of the log says, or has no log (--register-anyway, which the line records).
 
 A later year is compared with the register and with last year's tables, in the folder that the log names, or FOLDER. It
-stops, and nothing is published, where a class has another percentage; where an area or an eligible area of all jumps by
-more than a percent, or so of a class, by more than 100 m2; where a parcel jumps by more than 20 percent and 100 m2;
-where an identifier has other land. DIR/against-LAST.csv has these rows. A copy of it with 1 in a column accepted, named
-by
---accept-from, accepts these rows with these figures.
+stops, and nothing is published, if a class has another percentage; if the area or the eligible area of all jumps by
+more than a percent, or that of a class by more than a percent and 100 m2; if that of a parcel jumps by more than 20
+percent and 100 m2; if an identifier has other land. DIR/against-LAST.csv has these rows. A copy of it with 1 in a
+column accepted, named by --accept-from, accepts these rows with these figures.
 
---audit asks the second checker too, a program that shares nothing with lpis: of the release and its marks before it is
-published, and of the register behind it. It stops where two programs do not agree. --source LAND asks it whether the
-tables say of each point what LAND, their source, says, before anything is done; words of audit/source.py stand behind
-LAND in the same text: --source "land.gpkg --previous".
+--audit asks the second checker too, a program that shares nothing with lpis: about the release and its marks before it
+is published, and about the register afterwards. It stops if the two programs do not agree. --source LAND has it test,
+before anything is done, that the tables say the same as their source LAND at each point; options of audit/source.py
+follow LAND in the same quoted text: --source "land.gpkg --previous".
 
---undo takes the last year back, where nothing changed since: the register gets what DB.before-YEAR has, which stays;
-what it held is DB.undone-YEAR then; the log gets a line that says so; and years/YEAR of a country, or
-published-YEAR.txt of a release, gets a name with undone in it. A run that was killed is ended by the same words.
+--undo takes the last year back, if nothing changed since: the register gets the content of DB.before-YEAR, which stays;
+what it held is kept in DB.undone-YEAR; the log gets a line that says so; and years/YEAR of a country, or
+published-YEAR.txt of a release, gets a name with undone in it. If that run is killed, the same command finishes it.
 
 --verify finds a register that was edited since, a line that was changed or taken out, and in the folder of each year an
 accepted row whose table of marks is not there. If somebody wrote the whole log anew, only the digest
@@ -46,8 +46,8 @@ of its last line shows it: each run prints it at its end, so keep it elsewhere.
 --status says what DIR is: the run that made its tables, their source with its sha256, which steps are done, what stops,
 what was published, what changed since.
 
-Status: that of lpis where it refuses; 0 published, or the log agrees; 1 stopped, or the log does not agree; 64 trouble
-of its own.
+Status: that of lpis if it refuses; 0 published, or the log agrees; 1 stopped, or the log does not agree; 64 a wrong
+option, or a file that cannot be used.
 """
 
 import contextlib
@@ -149,7 +149,7 @@ def place_of_certificates(words):
         return
     if left:
         print(
-            f"{' and '.join(left)} in {words.folder}: not used, since lpis makes a certificate and lets it go; with"
+            f"{' and '.join(left)} in {words.folder}: not used, since lpis makes a certificate and deletes it; with"
             " --certificate it is kept there"
         )
     spare = files.folder(words.folder, ".year-")

@@ -130,9 +130,7 @@ def done(folder, kind, plan):
 def judge(names, kind):
     lacking = sum(name is None for name in names)
     if lacking:
-        raise land.Trouble(
-            f"{lacking} of {len(names)} {kind}s were not done: run it again, and what is done is taken over"
-        )
+        raise land.Trouble(f"{lacking} of {len(names)} {kind}s were not done: run it again, and what is done is kept")
 
 
 def begin(folder):

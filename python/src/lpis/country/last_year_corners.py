@@ -21,7 +21,7 @@ THEN = (
 )
 NUMBERS = bytes.maketrans(b"(),", b"   ")
 END = 1 << 62  # in the place of a point, between rings
-ELSEWHERE = "no piece of its tables lies where this source does: is it of another place, or of another system?"
+ELSEWHERE = "none of its pieces lies where this source lies: is it another area, or another system of coordinates?"
 SYSTEM = re.compile(r"EPSG::(\d+)")
 
 

@@ -244,13 +244,13 @@ def write_lineage(path, folders, made, say):
     Answers their names, and how many rows there are."""
     stream, count = None, 0
     if path:
-        say(f"dealing out the rows of {path}")
+        say(f"giving the regions the rows of {path}")
         stream = Stream(OneFile(path), "lineage", ["old", "new"])
     writer = Writer(made, folders, "lineage", stream.header if stream else "old,new\n")
     for count, _, raw in stream or ():
         region = (count - 1) // MOST_ROWS
         if region == len(folders):
-            raise Trouble(f"{path}: {MOST_ROWS} rows a region are too few: it has more")
+            raise Trouble(f"{path}: {MOST_ROWS} rows for each region are too few: it has more")
         writer.add((region,), ended(raw))
     writer.flush()
     return writer.names, count
@@ -376,7 +376,7 @@ def split(source, out, most, anew, say, lineage=None, made=None, of_source=None,
             )
         )
     if others := strays(out, tiling):
-        say(progress.Note(f"folders of a split before, which are no regions now: {' '.join(others[:MOST_TOLD])}"))
+        say(progress.Note(f"folders of an earlier split that are not regions now: {' '.join(others[:MOST_TOLD])}"))
     counts = f"parcels {len(land.boxes)} pieces {land.sums.rows['covers']}"
     return [
         *whole.words(),

@@ -102,7 +102,7 @@ def best_parts(boxes, most, numbers, share):
     if max(len(left), len(right)) > STUCK * len(numbers):
         count, axis, cut = by_all_places(boxes, numbers)
         if count == len(numbers):
-            raise NoCut(numbers, f"the boxes of {len(numbers)} parcels share a place, and no cut parts them")
+            raise NoCut(numbers, f"the boxes of {len(numbers)} parcels share a place, and no cut separates them")
         left, right = parted(boxes, numbers, axis, cut)
     return ("xy"[axis], cut), left, right
 
@@ -117,7 +117,7 @@ def part(boxes, most, tell):
         if share <= 1:
             count += 1
             if count > MOST_REGIONS:
-                raise NoCut(numbers, f"more than {MOST_REGIONS} regions: too many boxes lie over many others")
+                raise NoCut(numbers, f"more than {MOST_REGIONS} regions: too many bounding boxes overlap many others")
             nodes.append(("region", f"r{count:04}"))
             tell(count - 1, numbers)
         elif len(numbers) == 1:

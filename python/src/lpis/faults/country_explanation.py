@@ -170,7 +170,7 @@ class OfCountry:
 
     def say_unlike(self, folder, found, here):
         if polygons.read(found["parcels"][0][1]) != polygons.read(here["parcels"][0][1]):
-            self.say(f"  its polygon differs from that in {folder}: other points, or the same from another one on")
+            self.say(f"  its polygon differs from that in {folder}: other points, or the same from another first point")
         before, now = ([shown(row[0]) for row in rows["covers"]] for rows in (found, here))
         if before != now:
             self.say(f"  its pieces in {folder}: {' '.join(before)}; here: {' '.join(now)}")

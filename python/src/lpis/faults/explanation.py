@@ -246,7 +246,7 @@ class Explained(OfGroups, OfCountry):
         ]
         self.say(
             f"  {table.path} has {counted(len(table.records) - 1, 'row')}, none of {name} {quoted(value)}"
-            + (f"; {alike[0]} differs in case alone" if alike else "")
+            + (f"; {alike[0]} differs only in case" if alike else "")
         )
 
     def say_text(self, text):

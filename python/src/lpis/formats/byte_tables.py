@@ -72,7 +72,7 @@ class Table:
                     self.lines.append(line)
                 line = reader.line_num + 1
         except csv.Error as error:
-            raise OSError(errno.EBADMSG, f"it cannot be read behind line {line} ({error})", path) from None
+            raise OSError(errno.EBADMSG, f"it cannot be read after line {line} ({error})", path) from None
         self.header = self.records[0] if self.records else []
         self.names = [field.decode("latin-1").lower() for field in self.header]
 

@@ -24,7 +24,7 @@ POLYGON_TEXTS = {
         "`ST_AsText(ST_Force2D(geom), 3)`; by ogr2ogr `AsWKT(geom, 3)`, which writes no Z",
     ),
     "13": (
-        "this is no plain number; exponents are not read",
+        "this is not a plain number; exponents are not read",
         "`OGR_WKT_PRECISION=3` (that is digits, not decimals), a decimal comma, `nan`",
         "write three decimals by `ST_AsText(geom, 3)` or `AsWKT(geom, 3)`, after rounding all borders together",
     ),
@@ -80,7 +80,7 @@ TABLES = {
         "name the columns in the export's SELECT",
     ),
     "33": (
-        "this is no identifier: 1 to 40 of `A-Z a-z 0-9 . _ : / -`",
+        "this is not a valid identifier, which has 1 to 40 of `A-Z a-z 0-9 . _ : / -`",
         "a blank, an umlaut, a NULL written as an empty field, a name with more than 40 letters",
         "replace such letters by a rule that keeps identifiers different, the same rule each year",
     ),
@@ -111,7 +111,7 @@ TABLES = {
     ),
     "39": (
         "`eligible` is neither 0 nor 1",
-        "`true`, `yes`, `t`, a percentage, a quoted blank",
+        "`true`, `yes`, `t`, a percentage, a blank in quotation marks",
         "write 0 or 1 (in SQL: `eligible::int`), or name the column `percent` and write percentages",
     ),
     "3a": (
@@ -126,13 +126,13 @@ TABLES = {
     ),
     "3c": (
         "`exact` in lineage.csv is neither empty nor 0 nor 1",
-        "`yes`, `true`, `x`, a quoted blank",
+        "`yes`, `true`, `x`, a blank in quotation marks",
         "write 1 in each row of a split or merge that is exact, and nothing else; or leave the column out",
     ),
     "3d": (
         (
-            "`x` or `y` of a point is no coordinate; the column and a second code follow: 13 no plain number, 14 more"
-            " than nine decimals, 15 beyond 20,000,000 m"
+            "`x` or `y` of a point is not a coordinate; the column and a second code follow: 13 no plain number, 14"
+            " more than nine decimals, 15 beyond 20,000,000 m"
         ),
         "a decimal comma, an exponent, an empty field, more decimals than a receiver has",
         "write metres of the parcels' system, with at most nine decimals (`ROUND(ST_X(geom)::numeric, 9)`)",
@@ -140,7 +140,7 @@ TABLES = {
 }
 
 NUMBERS = {
-    "13": ("this is no plain number; exponents are not read",),
+    "13": ("this is not a plain number; exponents are not read",),
     "14": ("this has more than nine decimals",),
     "15": ("this is beyond 20,000,000 m",),
 }
@@ -149,16 +149,16 @@ CUTS = {
     "40": (
         "no cut into triangles was found for this piece",
         (
-            "it crosses itself (a bow tie), covers a place twice, or has no area; or the pieces up to it want more than"
-            " 2,000,000 triangles"
+            "it crosses itself (a bow tie), covers a place twice, or has no area; or this piece and those before it"
+            " need more than 2,000,000 triangles"
         ),
         (
-            "repair it (`ST_MakeValid`, `v.clean`) before rounding all borders together; a release so large goes into"
-            " regions (`tools/country split`)"
+            "repair it (`ST_MakeValid`, `v.clean`) before rounding all borders together; split a release that large"
+            " into regions (`tools/country split`)"
         ),
     ),
     "41": (
-        "two parcels, or two pieces, overlap: the place is inside both (on a border: a hair to the right and above)",
+        "two parcels, or two pieces, overlap: the place is inside both (on a border: just right of it and above)",
         "each shape was rounded by itself, or the source overlaps",
         "round all borders together; where the overlap is wider than a millimetre or two, correct the source",
     ),
@@ -168,10 +168,10 @@ CUTS = {
             " triangles are near each other"
         ),
         (
-            "as 41, too thin to be shown by a place; or thousands of corners on one straight border, as of a comb, or"
-            " of strips aslant in one box"
+            "as 41, but too thin for a place to be named; or thousands of corners on one straight border, like a"
+            " comb, or many slanted strips side by side"
         ),
-        "as 41; a polygon with so many corners goes into several, a release into regions (`tools/country split`)",
+        "as 41; split a polygon with so many corners into several, or the release into regions (`tools/country split`)",
     ),
     "43": (
         "a parcel and its pieces disagree: the place is in one and not in the other",
@@ -180,16 +180,16 @@ CUTS = {
     ),
     "44": (
         "a parcel's border is not that of its pieces, and no place was found",
-        "as 43, too thin to be shown by a place",
+        "as 43, but too thin for a place to be named",
         "as 43",
     ),
     "45": (
         (
-            "a marked split or merge is not exact: no flats were found that make its parts up to the whole, or a"
-            " certificate would have too many"
+            "a marked split or merge is not exact: no flats were found with which its parts make up the whole, or a"
+            " certificate would need too many of them"
         ),
         (
-            "each year was rounded by itself, a new corner lies a millimetre beside the old border, or land was gained"
+            "each year was rounded by itself, a new corner lies a millimetre off the old border, or land was gained"
             " or lost"
         ),
         (
@@ -203,11 +203,15 @@ CERTIFICATE_TEXTS = {
     "50": (
         "line 1 is neither `lpis-cert 1` nor `lpis-cert 2`",
         "Windows line ends, a byte order mark, another file than a certificate",
-        "take the certificate as `lpis cut` wrote it; transfer it as binary",
+        "use the certificate as `lpis cut` wrote it, and transfer it as a binary file",
     ),
-    "51": ("this is no line of a certificate", "the file was edited, or its line ends changed", "cut again"),
-    "52": ("this is no number, or one out of its range", "the file was edited", "cut again"),
-    "53": ("this line cannot come here", "the file was edited, or two certificates were joined", "cut again"),
+    "51": ("this is not a line of a certificate", "the file was edited, or its line ends changed", "cut again"),
+    "52": ("this is not a number, or it is out of range", "the file was edited", "cut again"),
+    "53": (
+        "this line is not allowed at this place",
+        "the file was edited, or two certificates were joined",
+        "cut again",
+    ),
     "54": (
         "the certificate ends too early",
         "the disk was full, or a copy broke off",
@@ -227,7 +231,7 @@ CERTIFICATE_TEXTS = {
 
 CERTIFICATES = {
     "60": (
-        "the certificate is of another release: identifiers differ, or its pair lines are out of order",
+        "the certificate belongs to another release: identifiers differ, or its pair lines are out of order",
         "the tables were exported anew after the cut",
         "cut again from these tables",
     ),
@@ -249,7 +253,7 @@ CERTIFICATES = {
     ),
     "65": (
         "the triangles do not have this piece's border",
-        "the tables changed after the cut (a corner came or went)",
+        "the tables changed after the cut (a corner was added or removed)",
         "cut again from these tables",
     ),
     "66": (
@@ -374,11 +378,11 @@ REGISTERS = {
     ),
     "84": (
         (
-            "this database is no register that can be read: its tables hold no lawful history, or a shape in it is no"
+            "this database cannot be read as a register: its tables hold no valid history, or a shape in it is not the"
             " polygon of a live parcel"
         ),
         "a later version, a file that was edited",
-        "name the right file, or take it from its last copy",
+        "name the right file, or restore its last copy",
     ),
     "85": (
         "the certificate does not show that a marked split or merge is exact; a second code follows",
@@ -390,8 +394,8 @@ REGISTERS = {
 COUNTRIES = {
     "90": (
         (
-            "this line cannot stand here in country.txt: it begins with another word than `region`, `x` or `y`, its"
-            " number or name is not allowed, or a line is missing or too many"
+            "this line is not allowed here in country.txt: it does not begin with `region`, `x` or `y`, its"
+            " number or name is not allowed, or there is a line too few or too many"
         ),
         (
             "a name with a blank or a dot, a name twice, Windows line ends, a last line without its line feed, more"
@@ -405,12 +409,12 @@ COUNTRIES = {
         "give each region the parcels whose boxes meet its rectangle, and no others",
     ),
     "93": (
-        "this identifier stood in an earlier region, for a parcel that does not reach this one",
+        "this identifier is in an earlier region too, for a parcel that does not reach this one",
         "two regions that number their parcels alike",
         "give identifiers that differ over the whole country",
     ),
     "94": (
-        "this parcel stood in an earlier region with another polygon or other pieces",
+        "this parcel is in an earlier region too, with another polygon or other pieces",
         "the regions were exported on different days, rounded apart, or in another order of rows",
         "export all regions from one table, rounded once, with rows in one order",
     ),

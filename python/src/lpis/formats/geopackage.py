@@ -32,7 +32,7 @@ COLUMNS = {
     "words": "TEXT",
     "number": "INTEGER",
     "state": "TEXT",
-    "comes_of": "TEXT",
+    "comes_from": "TEXT",
 }
 TABLES = f"""
 PRAGMA journal_mode = OFF; PRAGMA synchronous = OFF;

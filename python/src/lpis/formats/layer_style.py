@@ -7,7 +7,7 @@ STATES = {  # as on a page
     "open": ("#d00000", "stops"),
     "new": ("#d00000", "stops, new since the last run"),
     "accepted": ("#b06500", "accepted"),
-    "told": ("#2166ac", "told"),
+    "told": ("#2166ac", "reported"),
 }
 WIDTHS = {"new": 1.2}  # of the border, in millimetres
 USUAL = 0.6

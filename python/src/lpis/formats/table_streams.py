@@ -69,7 +69,7 @@ def records(lines):
             if record:
                 yield record, raw
     except csv.Error as error:
-        raise Trouble(f"it cannot be read behind line {before}: {error}") from None
+        raise Trouble(f"it cannot be read after line {before}: {error}") from None
 
 
 class Stream:

@@ -287,7 +287,7 @@ def rows_of(path, region=""):
         old, new, mark = (table.field(record, name) for name in ("old", "new", "exact"))
         if not is_identifier(old) or (new and not is_identifier(new)) or mark not in (b"", b"0", b"1"):
             raise Trouble(
-                f"{path} row {number}: an old identifier, a new one or none, and a mark 1, 0 or none are wanted"
+                f"{path} row {number}: an old identifier, a new one or none, and a mark 1, 0 or none are needed"
             )
         rows.append(Row(f"{number} region {region}" if region else number, shown(old), shown(new), mark == b"1"))
     return rows

@@ -59,14 +59,14 @@ def add_to(parser, done):
         "--accept",
         metavar="KIND,..",
         type=kinds_of,
-        help=f"{done}: all that is wrong, or of these kinds alone, such as gap,invalid",
+        help=f"{done}: all findings, or these kinds alone, such as gap,invalid",
     )
     parser.add_argument(
         "--accept-from",
         metavar="FILE",
         action="append",
         default=[],
-        help="accept the rows of a copy of findings.csv that have 1 in the column accepted; several tables are taken",
+        help="accept the rows of a copy of findings.csv that have 1 in the column accepted; may be given several times",
     )
 
 

@@ -192,7 +192,7 @@ def by_geos(what, rows, operation, *shapes):
     except (ShapelyError, ValueError) as error:
         named = ", ".join(f"{layer} {name}" + (f" (row {row.number})" if row else "") for layer, name, row in rows)
         raise land.Trouble(
-            f"{what} of {named} cannot be worked out: mend the shape ({str(error).splitlines()[0][:80]})"
+            f"{what} of {named} cannot be computed: mend the shape ({str(error).splitlines()[0][:80]})"
         ) from None
 
 
@@ -329,7 +329,7 @@ def find_names(source):
             Loss(
                 "identifier",
                 [who],
-                f"this {column} is no identifier, in {counted(len(found), 'row')}: lpis refuses it (33)",
+                f"this {column} is not a valid identifier, in {counted(len(found), 'row')}: lpis refuses it (33)",
                 layer=name,
                 rows=found,
             )
@@ -475,12 +475,12 @@ def between_of(gap):
             "between",
             gap.names,
             (
-                f"{counted(gap.unsearched, 'border')} of this parcel lie in heaps: land between parcels was not looked"
-                " for beside them"
+                f"{counted(gap.unsearched, 'border')} of this parcel lie among too many others: next to them land"
+                " between parcels was not looked for"
             ),
             layer="parcels",
         )
-    more = f", with {len(gap.names) - 2} more parcels beside it" if len(gap.names) > 2 else ""
+    more = f", with {len(gap.names) - 2} more parcels next to it" if len(gap.names) > 2 else ""
     return Loss(
         "between",
         gap.names[:2],

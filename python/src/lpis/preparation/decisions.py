@@ -23,7 +23,7 @@ from ..system.printing import escaped
 
 FILE = "findings.csv"
 OPEN, NEW, ACCEPTED, GONE = "open", "new", "accepted", "gone"  # states
-BY_OPTION, BY_OTHERS = "--accept", "what it comes of"  # who accepted a row that no table of marks has
+BY_OPTION, BY_OTHERS = "--accept", "its cause"  # who accepted a row that no table of marks has
 WHO = "who"  # the column of a table of marks that names who accepted
 COLUMNS = [
     "number",
@@ -35,7 +35,7 @@ COLUMNS = [
     "layer",
     "row",
     "identifiers",
-    "comes_of",
+    "comes_from",
     "width_m",
     "area_m2",
     "x",
@@ -226,7 +226,7 @@ def states(folder: str) -> dict[str, int]:
 def in_words(found: dict[str, int]) -> str:
     """accepted by NAME: 12, by --accept: 77."""
     told = [f"by {escaped(name)}: {count}" for name, count in found.items() if name != BY_OTHERS]
-    told += [f"for {BY_OTHERS}: {found[BY_OTHERS]}"] if found.get(BY_OTHERS) else []
+    told += [f"with {BY_OTHERS}: {found[BY_OTHERS]}"] if found.get(BY_OTHERS) else []
     return f"accepted {', '.join(told)}" if told else ""
 
 

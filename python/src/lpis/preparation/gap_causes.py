@@ -38,7 +38,7 @@ class Causes:
         pieces = ", ".join(
             f"piece {readable(name)} ({self.key} {number}, {kind})" for number, name, kind in found[:MOST_NAMED]
         )
-        return f"; it {'comes' if certain else 'may come'} of {pieces}" + (
+        return f"; it {'comes' if certain else 'may come'} from {pieces}" + (
             f", and {len(found) - MOST_NAMED} more" if len(found) > MOST_NAMED else ""
         )
 

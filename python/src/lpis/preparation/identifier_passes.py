@@ -187,7 +187,9 @@ class Names:
                     layer,
                     row.number,
                     old,
-                    f"{column} {old!r} is no identifier" if not identifiers.is_one(old) else f"{column} {old!r}",
+                    f"{column} {old!r} is not a valid identifier"
+                    if not identifiers.is_one(old)
+                    else f"{column} {old!r}",
                     f"now {new}",
                     True,
                     key=key,
@@ -200,8 +202,8 @@ class Names:
                     layer,
                     row,
                     (
-                        f"{column} {old!r} would be {new}, which is another's or no identifier: name another by"
-                        " --identifiers"
+                        f"{column} {old!r} would become {new}, which another row has or which is not valid: give it a"
+                        " name by --identifiers"
                     ),
                     "",
                 )
@@ -217,8 +219,8 @@ class Names:
                     None,
                     names[0],
                     (
-                        f"the {column}{'es' if column == 'class' else 's'} {' and '.join(names)} differ in case, or in"
-                        " .0, alone"
+                        f"the {column}{'es' if column == 'class' else 's'} {' and '.join(names)} differ only in case,"
+                        " or in .0"
                     ),
                     "kept as they are",
                     True,
@@ -239,7 +241,7 @@ def tell_strangers(work, rows, known):
             "covers",
             row,
             f"its parcel {row['parcel']} is not there"
-            + (f"; {other} is, which differs in case, or in .0, alone" if other else ""),
+            + (f"; {other} is, which differs only in case, or in .0" if other else ""),
         )
 
 
@@ -423,7 +425,7 @@ def classes(work, names, table, used):
         elif taken.percent is None:
             tell("percent", old, f"its {column} {taken.words}")
         elif new in rows:
-            tell("doubled", old, "it stands twice")
+            tell("doubled", old, "it is there twice")
         elif taken.words:
             tell("percent", old, f"its {column} is {record[column]!r}", taken.words)
         rows[new] = taken.percent
@@ -434,10 +436,10 @@ def classes(work, names, table, used):
         named = ", ".join(f"{readable(row['piece'])} ({layer.key} {row.number})" for row in some)
         words = (
             f"{counted(used[name], 'piece')} {'has' if used[name] == 1 else 'have'} this class, {named}"
-            f"{' ..' if used[name] > len(some) else ''}, and the table of classes has not"
-            + (f"; it has {other}, which differs in case, or in .0, alone" if other else "")
+            f"{' ..' if used[name] > len(some) else ''}, which the table of classes does not have"
+            + (f"; it has {other}, which differs only in case, or in .0" if other else "")
         )
-        words += f": give that table the line {line_of_class(name)}, with its percentage in place of the ?"
+        words += f": add the line {line_of_class(name)} to that table, with its percentage in place of the ?"
         place = next((point for row in some if (point := point_in(row))), None)
         work.findings.append(Finding("class", "covers", None, name, words, place=place))
     return rows

@@ -30,7 +30,7 @@ class Row:
     causes: list[int] = field(default_factory=list)  # places of other rows
     number: int = 0
     state: str = OPEN
-    comes_of: str = ""  # the numbers of its causes
+    comes_from: str = ""  # the numbers of its causes
     decision: Decision | None = None
     notes: dict[str, str] = field(default_factory=dict)  # what somebody wrote beside it
     kept: dict[str, str] = field(default_factory=dict)  # columns of the source
@@ -60,7 +60,7 @@ class Row:
 
     def told(self) -> tuple:
         """Its values in the last columns of findings.gpkg."""
-        return self.number, self.state, self.comes_of
+        return self.number, self.state, self.comes_from
 
     def record(self) -> dict:
         """Its row of the table."""
@@ -78,7 +78,7 @@ class Row:
             "layer": layer,
             "row": str(row),
             "identifiers": names,
-            "comes_of": self.comes_of,
+            "comes_from": self.comes_from,
             "words": self.words,
             PLACE: self.place,
         }
@@ -121,7 +121,7 @@ class Table:
         for at in self.order():
             self.tell(self.rows[at], before.get(at))
         for row in self.rows:
-            row.comes_of = " ".join(str(number) for number in sorted(self.rows[at].number for at in row.causes))
+            row.comes_from = " ".join(str(number) for number in sorted(self.rows[at].number for at in row.causes))
         if self.kept:
             for row, values in zip(self.rows, self.kept.of_rows([row.key_words()[1:3] for row in self.rows])):
                 row.kept = values
@@ -192,7 +192,7 @@ class Table:
     def following(self) -> str:
         """How many come of others, in words behind a count."""
         count = sum(not row.is_own() for row in self.rows)
-        return f", and {count} that {'comes' if count == 1 else 'come'} of others" if count else ""
+        return f", and {count} that {'comes' if count == 1 else 'come'} from others" if count else ""
 
 
 def is_hopeless(found: Any) -> bool:

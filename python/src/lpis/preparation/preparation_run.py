@@ -72,7 +72,7 @@ class Run(source_run.SourceRun):
         if self.before and filecmp.cmp(self.before, self.path(FINDINGS), shallow=False):
             os.remove(self.before)
         elif self.before:
-            self.say(progress.Note(f"{self.path(FINDINGS)} of the run before is {self.before} now"))
+            self.say(progress.Note(f"{self.path(FINDINGS)} of the last run is {self.before} now"))
         self.before = None
 
     def refused(self, work):
@@ -99,7 +99,7 @@ class Run(source_run.SourceRun):
         kinds = sorted({finding.kind for finding in work.hopeless()})
         return (
             f"not looked for yet: overlaps, gaps, pieces outside of their parcel, since {' and '.join(kinds)}"
-            f" {'stops' if len(kinds) == 1 else 'stop'} the run before: mend that, and run it again"
+            f" {'stops' if len(kinds) == 1 else 'stop'} the run first: mend that, and run it again"
         )
 
     def refusal(self):
@@ -149,7 +149,7 @@ class Run(source_run.SourceRun):
         before kept the names, no cell is looked at; else each cell is read, and those that changed are rounded."""
         names = jobs.kept(self.results, "cell", digest)
         if names is not None and len(names) == count:
-            self.say(progress.Note(f"{self.borders_of(count)} are those that the run before has rounded"))
+            self.say(progress.Note(f"{self.borders_of(count)} are taken from the last run, which rounded them"))
             return names
         before = set(filter(jobs.OWN.fullmatch, os.listdir(self.results)))
         is_first = not any(name.endswith(".jsonl") for name in before)
@@ -157,7 +157,7 @@ class Run(source_run.SourceRun):
             f"rounding {counted(count, 'cell')}"
             if is_first
             else (
-                f"comparing {counted(count, 'cell')} with those that a run before has rounded, and rounding what"
+                f"comparing {counted(count, 'cell')} with those that an earlier run has rounded, and rounding what"
                 " changed"
             )
         )
@@ -174,7 +174,7 @@ class Run(source_run.SourceRun):
     def tell_cells(self, names, before):
         """Says that all cells are as they were, where it is so."""
         if before.issuperset(names):
-            self.say(progress.Note(f"{self.borders_of(len(names))} are those that the run before has rounded"))
+            self.say(progress.Note(f"{self.borders_of(len(names))} are taken from the last run, which rounded them"))
 
     def jobs_done(self, kind, count, what=""):
         """The names of the files that the jobs of a kind gave, one for each cell."""

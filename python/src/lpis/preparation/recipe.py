@@ -22,7 +22,7 @@ SOUND = (
 COMPARING = f"""{REPORT}
 
 status 0: {SOUND}, or --accept.
-1: there is something to look at. 64: trouble of its own.
+1: there is something to look at. 64: a wrong option, or a file that cannot be used.
 {command_line.FAILED}"""
 
 
@@ -44,7 +44,7 @@ def add_between(parser):
         "--between",
         metavar="METRES",
         type=width,
-        help="name land between parcels that nobody has, up to this width (default 1)",
+        help="report land between parcels that nobody has, up to this width in metres (default 1)",
     )
 
 
@@ -111,7 +111,7 @@ def compared(name, text):
 def unwritten(out):
     """What is said where no table takes its place."""
     return f"no table is written in {out}" + (
-        " (those that stand there are of an earlier run)" if os.path.exists(os.path.join(out, "parcels.csv")) else ""
+        " (the tables there are from an earlier run)" if os.path.exists(os.path.join(out, "parcels.csv")) else ""
     )
 
 
@@ -132,7 +132,7 @@ def suited(layers):
             reasons.append(f"layer {name} is in {system} ({system.why}): tools/prepare transforms it by --epsg N")
         elif system is None and is_in_degrees(layers[name]):
             reasons.append(
-                f"layer {name} has no system of coordinates, and reads as degrees: transform it to a system in metres"
+                f"layer {name} has no system of coordinates, and looks like degrees: transform it to a system in metres"
             )
         numbers[name] = system.number if system else None
     if not reasons and len(set(filter(None, numbers.values()))) > 1:
@@ -188,7 +188,7 @@ def table_of(path):
     records, names = [*sheet.records], [name.lower() for name in sheet.columns]
     faults = [fault.words + (f" (row {fault.row})" if fault.row else "") for fault in sheet.faults]
     if not faults and (names.count("class") != 1 or (names.count("percent") or names.count("eligible")) != 1):
-        faults = [f"it wants the columns class and percent, each once: there are {', '.join(sheet.columns) or 'none'}"]
+        faults = [f"it needs the columns class and percent, each once: there are {', '.join(sheet.columns) or 'none'}"]
     if faults:
         raise land.Trouble(*(f"{path}: {words}" for words in faults))
     return [{name.lower(): value for name, value in record.items()} for record in records]

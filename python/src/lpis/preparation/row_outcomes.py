@@ -292,7 +292,7 @@ class Outcome:
                     Loss("spike", [row[column]], words, part, None, part.area, name, [row.number])
                 )
         if rest := [part for _, part in found[MOST_SPIKES:]]:
-            words = f"{len(rest)} more spikes and notches of this row are not in the tables: they are told together"
+            words = f"{len(rest)} more spikes and notches of this row are not in the tables: they are reported together"
             self.source.losses.append(
                 Loss(
                     "spike",

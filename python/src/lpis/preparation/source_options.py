@@ -27,7 +27,7 @@ def add_options(parser):
         metavar="COLUMN",
         action="append",
         default=[],
-        help="a column of LAND that goes with each finding, such as the district; several are taken",
+        help="a column of LAND that is added to each finding, such as the district; may be given several times",
     )
     recipe.add_between(parser)
     parser.add_argument(

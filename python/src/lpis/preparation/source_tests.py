@@ -75,7 +75,7 @@ class Tests:
                 "prefix",
                 name,
                 row,
-                f"its eastings have the number {zone} of their zone before them",
+                f"its eastings begin with the number of their zone, {zone}",
                 f"taken off, {zone * ZONE:,.0f} m",
                 True,
             )
@@ -86,7 +86,7 @@ class Tests:
             hint = (
                 ""
                 if self.epsg or not FAR < box[2] < 61 * ZONE
-                else "; where that is a zone's number before the eastings, name its system by --epsg, such as 25832"
+                else "; if that begins with a zone's number, name its system by --epsg, such as 25832"
             )
             self.without_shape(
                 "far", name, row, f"a coordinate is beyond 20,000,000 m ({max(map(abs, box)):.10g}){hint}"
@@ -130,7 +130,7 @@ def taken_words(row, others):
     for other in others:
         area = shape.intersection(polygons_by(other.found.members)).area
         taken += [f"{area:.3f} m2 of {other['piece']}"] if area >= 0.001 else []
-    return f"; mended it lies on {', '.join(taken)}" if taken else ""
+    return f"; once mended it overlaps {', '.join(taken)}" if taken else ""
 
 
 def take_shapes(rows, transformed):

@@ -91,12 +91,12 @@ class Preparation(source_tests.Tests):
                 "system",
                 name,
                 None,
-                f"it is in {system}, whose eastings have a zone's number before them",
+                f"it is in {system}, whose eastings begin with a zone's number",
                 f"taken off, now EPSG:{self.epsg}",
                 True,
             )
         elif self.epsg is not None and system.number is None and not system.is_degrees and system.is_unknown:
-            self.find("system", name, None, system.why, f"taken to be EPSG:{self.epsg}, as --epsg has it", True)
+            self.find("system", name, None, system.why, f"taken to be EPSG:{self.epsg}, as --epsg says", True)
         elif self.epsg is None or system.number is None:
             if system.why:
                 self.find(
@@ -130,7 +130,7 @@ class Preparation(source_tests.Tests):
 
     def reason(self, name, system):
         """Why a system does not suit, and in what the lengths are that are told meanwhile."""
-        units = "; areas and widths are in these units meanwhile" if system.why.startswith("units of") else ""
+        units = "; until then areas and widths are in these units" if system.why.startswith("units of") else ""
         return system.at(self.first_place(name)) + units
 
     def zone(self, name, system):
@@ -175,7 +175,7 @@ class Preparation(source_tests.Tests):
             "degrees",
             name,
             None,
-            "the whole layer reads as degrees: transform it to a system in metres (or move it, where these are metres)",
+            "the whole layer looks like degrees: transform it to a system in metres (or move it, if these are metres)",
             "",
         )
 

@@ -35,12 +35,12 @@ def add_options(parser):
     parser.add_argument(
         "--year-anyway",
         action="store_true",
-        help="take a year that is far from the last one, or past next year, or whose tables are those of the last one",
+        help="allow a year that is far from the last one, or past next year, or whose tables are those of the last one",
     )
     parser.add_argument(
         "--register-anyway",
         action="store_true",
-        help="go on with a register that changed since the last line of the log, or has no log",
+        help="allow a register that changed since the last line of the log, or has no log",
     )
     parser.add_argument(
         "--source-anyway",
@@ -81,7 +81,7 @@ def last_year(said):
     is_there = os.path.isfile(said.register)
     if is_there == said.new:
         raise Stop(
-            f"{said.register} is {'there: without --new' if is_there else 'not there: a first year wants --new'}"
+            f"{said.register} is {'there: without --new' if is_there else 'not there: a first year needs --new'}"
         )
     last = year_before(said.register, said.year) if is_there else 0
     most = datetime.date.today().year + 1

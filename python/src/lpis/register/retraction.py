@@ -71,13 +71,13 @@ def restored(register: str, year: int, entry: dict) -> list[str]:
         return [f"{register} was new: it is {aside} now"]
     copy = f"{register}.before-{year}"
     if not os.path.isfile(copy) or ledger.content_of(copy) != before:
-        what = "has not what the register held before" if os.path.isfile(copy) else "is not there"
-        raise Stop(f"{copy}, the copy of before, {what}: nothing was taken back")
+        what = "does not have what the register held before" if os.path.isfile(copy) else "is not there"
+        raise Stop(f"{copy}, the earlier copy, {what}: nothing was taken back")
     with files.beside(aside, os.stat(register).st_mode & 0o777) as name:
         put(register, name)
     put(copy, register)
     if ledger.content_of(register) != before:
-        raise Stop(f"{register} has not the rows of {copy} now; what it held is in {aside}")
+        raise Stop(f"{register} does not have the rows of {copy} now; what it held is in {aside}")
     return [f"{register} has what {copy} has, which stays; what it held is in {aside}"]
 
 

@@ -32,7 +32,7 @@ class Broken(Trouble):
 
 def add_option(parser):
     parser.add_argument(
-        "--audit", action="store_true", help="ask the second checker too, and stop where two programs do not agree"
+        "--audit", action="store_true", help="ask the second checker too, and stop if the two programs do not agree"
     )
     add_source(parser)
 
@@ -42,8 +42,8 @@ def add_source(parser):
         "--source",
         metavar="LAND",
         help=(
-            "the source of the tables: ask it whether they say of each point what LAND says; words of audit/source.py"
-            " stand behind LAND"
+            "the source of the tables: have it test that they say the same as LAND at each point; options of"
+            " audit/source.py follow LAND in the same quoted text"
         ),
     )
 
@@ -90,7 +90,7 @@ def of_source(said: str, folder: str) -> str:
     """What the second checker says of tables and their source: its path, or one text of it and of further words."""
     land, *more = [said] if os.path.exists(said) else shlex.split(said) or [said]
     status, text = asked("source.py", land, folder, *source_settings.words_of(land, more), *more)
-    answer = f"the second checker says of {land} and {folder}: {text.rstrip()}"
+    answer = f"the second checker says about {land} and {folder}: {text.rstrip()}"
     if status != 0:
         raise Broken(answer, status)
     return answer
@@ -117,5 +117,5 @@ def of_register(register, folder):
     """What the second checker says of a register that keeps the shapes of a release."""
     status, text = asked("register.py", register, "--shapes", folder)
     if status != 0:
-        raise Disagree(f"the second checker says of {register}: {text.rstrip()}")
-    return f"the second checker says of {register}: {text.rstrip()}"
+        raise Disagree(f"the second checker says about {register}: {text.rstrip()}")
+    return f"the second checker says about {register}: {text.rstrip()}"

@@ -48,8 +48,8 @@ def lines_of_run(folder: str, found: table_standing.Standing | None, stops: list
         yield "made: nothing is known of the run that made it, nor of its source"
         return
     yield (
-        f"made: {found.state}, by {found.run or 'a run of which nothing is known'}, begun"
-        f" {found.began or 'no one knows when'}" + (f", ended {found.ended}" if found.ended else "")
+        f"made: {found.state}, by {found.run or 'an unknown run'}, begun"
+        f" {found.began or 'at an unknown time'}" + (f", ended {found.ended}" if found.ended else "")
     )
     for source in found.sources:
         change = source.change()

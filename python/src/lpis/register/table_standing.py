@@ -36,7 +36,7 @@ FILE = ".lpis-standing"
 UNFINISHED, REFUSED, WHOLE = "unfinished", "refused", "whole"
 STOPPED = 1  # the status of a tool that is given a folder whose tables are of an earlier run
 REGION = re.compile(r"r[0-9]{4,}")  # what a split calls its regions
-EARLIER = "the tables there, if any, are of an earlier run"
+EARLIER = "the tables there, if any, are from an earlier run"
 
 
 class Unfinished(Trouble):
@@ -80,7 +80,7 @@ class Source:
     def change(self) -> str:
         """What is to be said of it now: nothing where its bytes are those that the tables were made of."""
         if not self.paths:
-            return f"{self.name} is no file: nobody can tell whether its rows are still those"
+            return f"{self.name} is not a file: whether its rows changed cannot be seen"
         if not self.is_there():
             return f"{self.name} is gone from {os.path.dirname(self.paths[0])}: it had sha256 {self.digest}"
         now = dataclasses.replace(self)
@@ -113,7 +113,7 @@ class Standing:
         who = f"`{self.run}` of {self.began}" if self.run else "its last run"
         if self.state == REFUSED:
             return f"{who} ended without tables ({self.why})"
-        return f"{who} did not come to its end{f' ({self.why})' if self.why else ''}"
+        return f"{who} did not finish{f' ({self.why})' if self.why else ''}"
 
 
 def digest_of_lines(found: Iterable[tuple[str, str]]) -> str:

@@ -40,9 +40,9 @@ COLUMNS = [
     "#area m\u00b2",
     "#width m",
     "words",
-    "what to do, or was done",
+    "what to do, or what was done",
 ]
-LAST = ["#number", "x,y: QGIS goes there where it is pasted into the box Coordinate"]
+LAST = ["#number", "x,y: paste it into QGIS's box Coordinate to go there"]
 STATE_AND_KIND = (0, 1)  # the columns by which the table and the map are narrowed
 WIDTH = re.compile(r"^[0-9.]+ m wide: ")  # before the words of a conflict; it has a column of its own
 STOPS, ACCEPTED, TOLD = "stops", "accepted", "told"
@@ -66,12 +66,12 @@ class Found:
     place: tuple | None = None
     members: list | None = None
     number: int | None = None
-    comes_of: str = ""  # numbers of others
+    comes_from: str = ""  # numbers of others
     kept: dict[str, str] = field(default_factory=dict)  # columns of the source
 
     def is_own(self) -> bool:
         """Whether it is to be decided, and does not go with what it comes of."""
-        return not self.comes_of or self.kind == ON_ITS_OWN
+        return not self.comes_from or self.kind == ON_ITS_OWN
 
     def order(self) -> tuple:
         is_part = self.kind not in WHOLE or bool(self.row)
@@ -130,18 +130,20 @@ def of_package(path: str, is_settled: bool) -> list[Found]:
 
 
 def rows_of(base: sqlite3.Connection, layer: str) -> Iterator[tuple]:
-    columns = "kind, layer, row, identifiers, width_m, area_m2, x, y, stops, done, words, number, state, comes_of, geom"
+    columns = (
+        "kind, layer, row, identifiers, width_m, area_m2, x, y, stops, done, words, number, state, comes_from, geom"
+    )
     return base.execute(f'SELECT {columns} FROM "{layer}"')
 
 
 def found_of(row: tuple, is_settled: bool) -> Found:
-    kind, layer, number, names, width, area, x, y, stops, done, words, own, decided, comes_of, shape = row
+    kind, layer, number, names, width, area, x, y, stops, done, words, own, decided, comes_from, shape = row
     state = TOLD if not stops else ACCEPTED if decided == ACCEPTED or is_settled else STOPS
     todo = remedies.of(kind, layer, not number) if state == STOPS else done
     words = WIDTH.sub("", words) if width is not None else words
     members = wkb.unpacked(shape[geopackage.HEAD.size :]) if shape else None
     place = None if x is None else (x, y)
-    return Found(kind, layer, number, names, words, state, todo, area, width, place, members, own, comes_of or "")
+    return Found(kind, layer, number, names, words, state, todo, area, width, place, members, own, comes_from or "")
 
 
 def in_order(findings: list[Found]) -> list[tuple[Found, Found | None]]:
@@ -150,7 +152,7 @@ def in_order(findings: list[Found]) -> list[tuple[Found, Found | None]]:
     below: dict[int, list[Found]] = {}
     tops = []
     for one in sorted(findings, key=Found.order):
-        cause = next((numbered[int(word)] for word in one.comes_of.split() if int(word) in numbered), None)
+        cause = next((numbered[int(word)] for word in one.comes_from.split() if int(word) in numbered), None)
         if cause:
             below.setdefault(id(cause), []).append(one)
         else:
@@ -236,7 +238,7 @@ class Picture:
         self.below: dict[int, list[Found]] = {}  # what comes of a finding that stops
         for one, cause in ordered:
             if cause and not one.is_own():
-                one.todo = f"comes of {cause.title()}" + (f"; {one.todo}" if one.state != STOPS and one.todo else "")
+                one.todo = f"comes from {cause.title()}" + (f"; {one.todo}" if one.state != STOPS and one.todo else "")
                 self.below.setdefault(id(cause), []).append(one)
         told = [one for one in every if one.is_of_map()]
         self.shown, self.left = told[:MOST], max(0, len(told) - MOST)
@@ -324,7 +326,7 @@ class Picture:
             for (kind, layer), some in sorted(groups.items())
         ]
         columns = ["kind", "layer", "#rows", "the first", "words", "done"]
-        return html_page.Table("Told, and mended without asking", columns, rows, is_mixed=True)
+        return html_page.Table("Reported, and mended without asking", columns, rows, is_mixed=True)
 
     def todo(self) -> list[str]:
         """What to do, for each kind that stops."""
@@ -335,7 +337,7 @@ class Picture:
             one.kind for one in self.following() if one.kind not in {one.kind for one in self.stopping}
         )
         below = [
-            f"  {kind}: it comes of another, and goes with it"
+            f"  {kind}: it comes from another finding, and is settled with it"
             + (f"; or --accept {kind}" if kind in remedies.TAKEN else "")
             for kind in kinds
         ]
@@ -348,7 +350,9 @@ class Picture:
     def last_line(self) -> str:
         count, more = len(self.stopping), len(self.following())
         below = (
-            f", and {more} that {'comes' if more == 1 else 'come'} of {'it' if count == 1 else 'them'}" if more else ""
+            f", and {more} that {'comes' if more == 1 else 'come'} from {'it' if count == 1 else 'them'}"
+            if more
+            else ""
         )
         return f"no: {counted(count, 'finding')} {'stops' if count == 1 else 'stop'} ({self.counts()}){below}"
 
@@ -357,7 +361,7 @@ class Picture:
         below = self.below.get(id(cause), [])
         more = f" and {len(below) - MOST_NAMED} more" if len(below) > MOST_NAMED else ""
         if below:
-            yield f"  of this comes: {'; '.join(one.title() for one in below[:MOST_NAMED])}{more}"
+            yield f"  this also causes: {'; '.join(one.title() for one in below[:MOST_NAMED])}{more}"
 
     def lines(self, most: int) -> Iterator[str]:
         """What stops, in words: so many of each kind, the largest first."""

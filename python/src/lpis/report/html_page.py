@@ -54,13 +54,13 @@ WORDS = {
     "parcel": "border of a parcel",
     "chosen": "chosen by a click",
     "new": "new",
-    "changed": "of another area",
-    "moved": "moved, with its identifier",
-    "gone": "gone, as it was",
+    "changed": "with another area",
+    "moved": "moved, with the same identifier",
+    "gone": "gone, with its last shape",
     "region": "border of a region",
     "stops": "stops",
     "accepted": "accepted",
-    "told": "told",
+    "told": "reported",
 }
 LAYERS = ("parcels", "pieces", "old", "tiles", "findings")
 KINDS = ("new", "changed", "moved", "gone", "stops", "accepted", "told")

@@ -25,9 +25,7 @@ FIRST = 1000  # boxes, of which the middle one lies where the land does
 DEGREES = re.compile(
     r"\s*(?:COMPD_CS\s*\[[^\[]*|COMPOUNDCRS\s*\[[^\[]*)?(?:GEOGCS|GEOGCRS|GEOGRAPHICCRS)\b", re.IGNORECASE
 )
-LACKING = (
-    "what it is is not known without pyproj, which is not there: install the package python3-pyproj (Debian, Ubuntu)"
-)
+LACKING = "pyproj is needed to tell what it is, and is not there: install the package python3-pyproj (Debian, Ubuntu)"
 UNKNOWN = "there is no definition of it that PROJ can use, so whether its areas are those of the land is not known"
 
 

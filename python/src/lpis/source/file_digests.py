@@ -70,4 +70,4 @@ class Contents:
 
 
 def changed(path: str) -> Trouble:
-    return Trouble(f"{path} changed while it was read: run it again when nobody writes it")
+    return Trouble(f"{path} changed while it was read: run it again when no program writes to it")

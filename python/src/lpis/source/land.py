@@ -173,7 +173,7 @@ def reads_as_metres(box):
 
 def among_metres(box):
     """What is said of a shape in degrees whose neighbours are in metres."""
-    return f"it lies at {box[0]:.4f} {box[1]:.4f}, which reads as degrees among metres"
+    return f"it lies at {box[0]:.4f} {box[1]:.4f}, which looks like degrees among metres"
 
 
 def of_made(names):
@@ -395,7 +395,7 @@ def system_of(connection, origin):
         "SELECT organization, organization_coordsys_id, definition FROM gpkg_spatial_ref_sys WHERE srs_id = ?", (srs,)
     ).fetchone()
     if found is None:
-        return coordinate_systems.System(why=f"its number {srs} stands in no row of gpkg_spatial_ref_sys")
+        return coordinate_systems.System(why=f"its number {srs} is in no row of gpkg_spatial_ref_sys")
     organization, number, definition = found
     return coordinate_systems.of_definition(
         number if str(organization).upper() == "EPSG" else None,
@@ -515,9 +515,9 @@ def tell_sheet(sheet, layer):
     """What was met while a table was read."""
     layer.faults = sheet.faults
     if sheet.encoding == spreadsheets.WINDOWS:
-        layer.notes.append("its letters are read as those of Windows (CP1252): write it in UTF-8 where they are others")
+        layer.notes.append("its text is read as Windows-1252 (CP1252): save it as UTF-8 if letters come out wrong")
     if sheet.blank:
-        layer.notes.append(f"{sheet.blank} records without any field passed over")
+        layer.notes.append(f"{sheet.blank} records without any field were skipped")
 
 
 def usual_system(layer, numbers):

@@ -77,7 +77,7 @@ def all_names(reasons: list[str], names: dict[str, str]) -> list[str]:
         asked.update((name, "COLUMN") for name in more if name not in names)
     if len(asked) < 2:
         return []
-    return ["all of it at once: " + " ".join(f"--name {name}={what}" for name, what in asked.items())]
+    return ["all names at once: " + " ".join(f"--name {name}={what}" for name, what in asked.items())]
 
 
 def of_package(base: sqlite3.Connection, names: dict[str, str]) -> dict[str, str]:

@@ -78,29 +78,29 @@ def whole(value: Value, factor: int = 1, how: str = "") -> Taken:
 
 def among_percentages(value: Value, percentage: Value) -> Taken:
     if value.number and value.number <= 1 and not value.has_sign and value.text != "1":
-        other = f"{percentage.shown()} of the same table is a percentage"
-        return Taken(None, f"is {value.shown()}, which reads as a share, and {other}: write all as {DIGITS}")
+        other = f"{percentage.shown()} in the same table is a percentage"
+        return Taken(None, f"is {value.shown()}, which looks like a share, and {other}: write all as {DIGITS}")
     return whole(value)
 
 
 def among_shares(value: Value) -> Taken:
-    taken = whole(value, 100, ", as all of the table are shares from 0 to 1")
+    taken = whole(value, 100, ", since all values of the table are shares from 0 to 1")
     if taken.percent is None and value.number is not None:
-        return Taken(None, f"is {value.shown()}, a share that is no whole percentage: write {DIGITS}")
+        return Taken(None, f"is {value.shown()}, a share that is not a whole percentage: write {DIGITS}")
     return taken
 
 
 def among_none(value: Value) -> Taken:
     """Of a table whose values are 0 and 1 alone nobody knows what 1 is."""
     if value.number:
-        both = "which reads as shares do, the whole, and as one percent"
-        return Taken(None, f"is {value.shown()}, {both}: no other value of the table tells; write 100, or 1 %")
+        both = "which may be a share, the whole, or one percent"
+        return Taken(None, f"is {value.shown()}, {both}: no other value of the table shows which; write 100, or 1 %")
     return whole(value)
 
 
 def of_eligible(value: Value) -> Taken:
     if value.number is None or value.number > 1 or value.has_sign:
-        return Taken(None, f"is {value.shown()}, and not 0 or 1: percentages are in a column {PERCENT}")
+        return Taken(None, f"is {value.shown()}, and not 0 or 1: write percentages in a column {PERCENT}")
     if PLAIN.fullmatch(value.text):
         return Taken(int(value.number) * 100)
     return among_shares(value)

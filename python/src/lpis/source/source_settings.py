@@ -24,7 +24,7 @@ PACKAGE = "findings.gpkg"  # in a folder of tables
 SINGLE = ("classes", "epsg", "between", "keep")
 MOST_WIDE = 100.0  # metres
 HEAD = """\
-# What the source beside this file calls its layers and columns, for the tools of lpis. Words of a command line go before it.
+# What the source beside this file calls its layers and columns, for the tools of lpis. Options on a command line win over it.
 """  # noqa: E501
 PART = r"[A-Za-z0-9_-]+"
 KEY = rf"{PART}(?:\s*\.\s*{PART})*"
@@ -112,7 +112,7 @@ def entries(path: str, lines: list[str]) -> Iterator[tuple[int, str, str]]:
         key = re.sub(r"\s", "", (header or entry)[1])
         key = key if header or not section else f"{section}.{key}"
         if key in seen:
-            raise Trouble(f"{path} line {number}: {key} stands twice")
+            raise Trouble(f"{path} line {number}: {key} is there twice")
         seen.add(key)
         if header:
             section = section_of(path, number, key)
@@ -123,7 +123,7 @@ def entries(path: str, lines: list[str]) -> Iterator[tuple[int, str, str]]:
 def section_of(path: str, number: int, name: str) -> str:
     known = ["layers", "columns", *(f"columns.{layer}" for layer in land.COLUMNS)]
     if name not in known:
-        raise Trouble(f"{path} line {number}: nothing knows the section [{name}]: there are {', '.join(known)}")
+        raise Trouble(f"{path} line {number}: there is no section [{name}]; there are {', '.join(known)}")
     return name
 
 
@@ -168,7 +168,7 @@ def put(found: Options, key: str, value: str | int | float, folder: str) -> None
         raise Wrong(f"{key} is {escaped(str(value))}, and not {wanted}")
     else:
         keys = [*SINGLE, *(f"{'columns' if '.' in one else 'layers'}.{one}" for one in known_names())]
-        raise Wrong(f"nothing knows the key {key}: there are {', '.join(keys)}")
+        raise Wrong(f"there is no key {key}; there are {', '.join(keys)}")
 
 
 def text_of(value: str | int | float, what: str) -> str:
@@ -273,7 +273,7 @@ def tell_lacking(path: str, words, names: dict[str, str], say: Callable) -> None
     lacking.keep = None if found.keep else options_of(words, names).keep
     lines = [line.strip() for line in lines_of(lacking, folder) if line.strip()][1:]
     if lines:
-        say(Note(f"{path} stays as it is; to keep these words too, write there: {'; '.join(lines)}"))
+        say(Note(f"{path} stays as it is; to keep these options too, add to it: {'; '.join(lines)}"))
 
 
 def system_of(folder: str) -> int | None:

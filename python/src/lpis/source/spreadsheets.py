@@ -57,12 +57,12 @@ class Sheet:
                     line = reader.line_num + 1 + before
             except csv.Error as error:
                 self.faults.append(
-                    Fault(0, f"it cannot be read behind line {line}: {error} (a quotation mark that is not closed?)")
+                    Fault(0, f"it cannot be read after line {line}: {error} (a quotation mark that is not closed?)")
                 )
             except UnicodeError as error:
                 self.faults.append(
                     Fault(
-                        0, f"it cannot be read behind line {line}: bytes that are not {self.encoding} ({error.reason})"
+                        0, f"it cannot be read after line {line}: bytes that are not {self.encoding} ({error.reason})"
                     )
                 )
 

@@ -18,7 +18,7 @@ from .trouble import Trouble
 
 TROUBLE = 64
 FULL = (errno.ENOSPC, errno.EDQUOT, errno.EFBIG, errno.EIO)  # of what is written
-FAILED = f"status {unforeseen.STATUS}: this tool failed; the sentence names where, and a file with the traceback."
+FAILED = f"status {unforeseen.STATUS}: this tool failed; it says where, and names a file with the traceback."
 # has the version where no program is built
 SOURCE = os.path.join("crates", "lpis_command_line", "src", "command_line.rt")
 
@@ -52,7 +52,7 @@ class Parser(Line):
             "--lpis",
             metavar="COMMAND",
             default=os.environ.get("LPIS", ""),
-            help="the command that is lpis (or LPIS in the environment)",
+            help="the command that runs lpis (or LPIS in the environment)",
         )
 
 

@@ -19,7 +19,7 @@ COMMANDS = [
     and os.path.isfile(os.path.join(HERE, name))
     and os.access(os.path.join(HERE, name), os.X_OK)
 ]
-PAGES = ("BELIEVE", "GUIDE", "FORMATS", "IDEA", "PROOF", "WINDOWS")
+PAGES = ("BELIEVE", "GUIDE", "GUIDE-COUNTRY", "FORMATS", "IDEA", "PROOF", "WINDOWS")
 OF_SOURCES = re.compile(
     r"`[^`]*\b(?:bench|crates|dev|tests)/[^`]*`|\]\([./]*(?:bench|tests)/|\b(?:README|CONTRIBUTING|ARCHITECTURE|DECISIONS)\.md"  # noqa: E501
 )

@@ -99,7 +99,7 @@ def of_output(number):
     """What is wrong with an output, an open file of this number."""
     mode = os.fstat(number).st_mode
     if stat.S_ISFIFO(mode) or stat.S_ISSOCK(mode):
-        return "its reader went away before the end"
+        return "the program that reads it ended early"
     if stat.S_ISREG(mode) and free_at(number) <= FULL:
         return "the disk is full"
     return "its device takes no more" if stat.S_ISCHR(mode) else "writing it failed"

@@ -28,7 +28,7 @@ from .trouble import Trouble
 JOURNAL = ".lpis-placing"
 OLD = ".old"  # in the folder of the new files: those that stood in their places
 HALF = "a run was stopped while its files took their place"
-PARTLY = "some files are in their place in {}, and others not; the next run on it ends that"
+PARTLY = "some files are in their place in {}, and others not; the next run on it finishes that"
 
 
 class Move:
@@ -125,7 +125,7 @@ def together(move: Move) -> None:
     finally:
         os.close(handle)
     if failed:
-        raise Trouble(f"{told(failed, move.out)}: what stood in {move.out} stands there still")
+        raise Trouble(f"{told(failed, move.out)}: what stood in {move.out} is still there")
 
 
 def begun(move: Move) -> tuple[str, int]:
