@@ -1,4 +1,4 @@
-"""Two years of parcels: what became of each identifier, and what changed by more than it may.
+"""Two years of parcels: what became of each identifier, and what changed beyond the bounds.
 
 In come the parcels of two years, as folders, countries or a register's shapes, and a table of lineage. Out come
 proposed rows, faults of a table, parcels that moved, and rows of change.
