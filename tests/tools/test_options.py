@@ -84,13 +84,13 @@ class TestForms:
             (
                 "epsg = 25832\nlayer = 'x'\n",
                 2,
-                "there is no key layer; there are classes, epsg, between, keep, layers.parcels",
+                "the key layer is not known: there are classes, epsg, between, keep, layers.parcels",
             ),
-            ("[layers]\nepsg = 25832\n", 2, "there is no key layers.epsg"),
-            ("[layers]\nparcels.parcel = 'x'\n", 2, "there is no key layers.parcels.parcel"),
-            ("[columns]\nparcels = 'x'\n", 2, "there is no key columns.parcels"),
-            ("[columns]\nparcels.piece = 'x'\n", 2, "there is no key columns.parcels.piece"),
-            ("\n[names]\n", 2, "there is no section [names]; there are layers, columns"),
+            ("[layers]\nepsg = 25832\n", 2, "the key layers.epsg is not known"),
+            ("[layers]\nparcels.parcel = 'x'\n", 2, "the key layers.parcels.parcel is not known"),
+            ("[columns]\nparcels = 'x'\n", 2, "the key columns.parcels is not known"),
+            ("[columns]\nparcels.piece = 'x'\n", 2, "the key columns.parcels.piece is not known"),
+            ("\n[names]\n", 2, "the section [names] is not known: there are layers, columns"),
             ("epsg = '25832'\n", 1, "epsg is 25832, and not the number of a system"),
             ("epsg = 1.5\n", 1, "epsg is 1.5"),
             ("epsg = -1\n", 1, "-1 is neither a text in quotation marks nor a number above 0"),
@@ -325,7 +325,7 @@ class TestRuns(preparing_case.Case):
             ran = tool(name, self.land, *([self.out] if name == "prepare" else ["--out", self.out]))
             assert (
                 ran.returncode,
-                f"{self.toml} line 2: there is no key layers" in ran.stderr,
+                f"{self.toml} line 2: the key layers is not known" in ran.stderr,
                 os.path.exists(self.out),
             ) == (64, True, False), ran.stderr
 

@@ -123,7 +123,7 @@ def entries(path: str, lines: list[str]) -> Iterator[tuple[int, str, str]]:
 def section_of(path: str, number: int, name: str) -> str:
     known = ["layers", "columns", *(f"columns.{layer}" for layer in land.COLUMNS)]
     if name not in known:
-        raise Trouble(f"{path} line {number}: there is no section [{name}]; there are {', '.join(known)}")
+        raise Trouble(f"{path} line {number}: the section [{name}] is not known: there are {', '.join(known)}")
     return name
 
 
@@ -168,7 +168,7 @@ def put(found: Options, key: str, value: str | int | float, folder: str) -> None
         raise Wrong(f"{key} is {escaped(str(value))}, and not {wanted}")
     else:
         keys = [*SINGLE, *(f"{'columns' if '.' in one else 'layers'}.{one}" for one in known_names())]
-        raise Wrong(f"there is no key {key}; there are {', '.join(keys)}")
+        raise Wrong(f"the key {key} is not known: there are {', '.join(keys)}")
 
 
 def text_of(value: str | int | float, what: str) -> str:
