@@ -114,7 +114,9 @@ class TestPackages(Kept):
         return done("git", "-C", place, "rev-parse", "--short=12", "HEAD").strip()
 
     @pytest.mark.long
-    @pytest.mark.skipif(not shutil.which("dpkg-deb"), reason="no dpkg (Debian: dpkg)")
+    @pytest.mark.skipif(
+        not (shutil.which("dpkg-deb") and shutil.which("mkdocs")), reason="no dpkg, or no mkdocs (Debian: dpkg, mkdocs)"
+    )
     def test_release(self):
         """release/ has the files of the last version alone, as dev/lint wants them; a commit that is not finished
         changes nothing there."""
@@ -141,6 +143,7 @@ class TestPackages(Kept):
             "facts",
             f"lpis-{version}.html",
             f"lpis-{version}-linux-x86_64.tar.gz",
+            f"lpis-{version}-site.zip",
             f"lpis_{version}_amd64.deb",
             f"lpis-{version}-py3-none-manylinux_2_34_x86_64.whl",
         }
