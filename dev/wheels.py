@@ -55,7 +55,7 @@ def plant(folder, library=None):
     for path in sorted((folder / HOME / "python" / "lpis").iterdir()):
         path.rename(folder / "lpis" / path.name)
     shutil.rmtree(folder / HOME / "python")
-    for path in [*(folder / HOME).glob("*"), *(folder / HOME / "recipes").glob("*")]:
+    for path in (folder / HOME).glob("*"):
         if path.is_file() and path.suffix in ("", ".sh"):
             path.write_text(re.sub(r'(?<=["/])python(?=["/])', UP, path.read_text(encoding="utf-8")), encoding="utf-8")
     for name in NOT_CARRIED:

@@ -137,21 +137,21 @@ DROPPED = {
     ),
     "the last piece of a cell is not written": Mutant(
         "country/cell_rounding.py",
-        '        yield from ((kind, row[kind], text) for row, text in texts[name] if row["parcel"] in cell.wanted)\n',
         (
-            "        yield from (\n            (kind, row[kind], text)\n            for row, text in texts[name][: -1"
-            ' if kind == "piece" else None]\n            if row["parcel"] in cell.wanted\n        )\n'
+            "            (kind, row[kind], made_map.text(members)) for row, members in made[name] if"
+            ' row["parcel"] in cell.wanted\n'
+        ),
+        (
+            "            (kind, row[kind], made_map.text(members))\n            for row, members in made[name][: -1 if kind =="
+            ' "piece" else None]\n            if row["parcel"] in cell.wanted\n'
         ),
         "the report compares what the cell has made, and not what it wrote",
         tool=COUNTRY,
     ),
     "a cell forgets the polygons that a piece has beside its first": Mutant(
         "country/cell_rounding.py",
-        '        yield from ((kind, row[kind], text) for row, text in texts[name] if row["parcel"] in cell.wanted)\n',
-        (
-            '        yield from (\n            (kind, row[kind], text.partition(")),((")[0].rstrip(")") + ")))")\n     '
-            '       for row, text in texts[name]\n            if row["parcel"] in cell.wanted\n        )\n'
-        ),
+        "made_map.text(members)) for row",
+        "made_map.text(members[:1])) for row",
         "the same of a part of a row",
         tool=COUNTRY,
     ),
@@ -270,9 +270,12 @@ UNTOLD = {
         "slivers that stop nobody are settled too",
     ),
     "the polygon of a conflict is that of its widest circle alone": Mutant(
-        "preparation/conflicts.py",
-        "        members = members_of(self.shape)\n",
-        '        members = members_of(self.shape.centroid.buffer(0.001) if self.kind == "overlap" else self.shape)\n',
+        "country/cell_results.py",
+        "        return (wkb.several(self.blob) if self.blob else None) or super().polygons()\n",
+        (
+            '        if self.kind == "overlap":\n            return'
+            " wkb.written(conflicts.members_of(self.shape.centroid.buffer(0.001)))\n        return super().polygons()\n"
+        ),
         "a row has to show all that it settles",
     ),
     "a parcel that was made of its pieces has a row without a polygon": Mutant(

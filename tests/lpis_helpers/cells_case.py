@@ -7,6 +7,7 @@ from unittest import mock
 
 import pytest
 from lpis_helpers.spare import Spare, read, write
+from lpis_helpers.written_tables import of_folder
 from lpis.system import shapely_there
 
 if shapely_there.is_there():
@@ -84,13 +85,12 @@ class ByCells(Case):
     def whole(self, land, width=None):
         """The conflicts of a land in one, whose tables are written."""
         layers = {
-            name: land_module.Layer(name, rows, is_valid=True)
-            for name, rows in (("parcels", land.parcels), ("covers", land.covers))
+            name: land_module.Layer(name, rows) for name, rows in (("parcels", land.parcels), ("covers", land.covers))
         }
         seen = coverage.release(layers, self.path("whole"), lambda words: None, between=width)
         source = conflicts.Source(layers)
         conflicts.find_conflicts(source, lambda words: None, seen)
-        row_outcomes.Outcome(source, self.path("whole"), land_balance.Balance(layers)).find()
+        row_outcomes.Outcome(source, of_folder(self.path("whole")), land_balance.Balance(layers)).find()
         return told(loss for loss in source.losses if loss.kind in (*cell_results.CONFLICTS, "between"))
 
     def texts(self, folder):

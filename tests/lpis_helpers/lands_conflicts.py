@@ -124,9 +124,9 @@ def widest(land: Conflicts) -> tuple[bool, bool]:
     return tuple(any(not shape.buffer(-(WIDTH / 2 + room)).is_empty for shape in found) for room in (ROOM, -ROOM))
 
 
-def audited(source: str, out: str) -> str:
+def audited(source: str, out: str, *more: str) -> str:
     """What the second checker says of a source and the tables that were made of it."""
-    words = [sys.executable, "-B", os.path.join(TOP, "audit", "source.py"), source, out]
+    words = [sys.executable, "-B", os.path.join(TOP, "audit", "source.py"), source, out, *more]
     ran = subprocess.run(words, capture_output=True, text=True, check=False, timeout=600)
     return (ran.stdout + ran.stderr).strip() or f"status {ran.returncode}"
 

@@ -17,7 +17,7 @@ from lpis_helpers.lands_judge import Judge, Written, rings_of
 
 STATUSES = {0, 1, 64}
 UNFORESEEN = 70  # the status of an error that nobody foresaw
-PROGRESS = re.compile(r"(prepare|compare|country): (reading|testing|borders|faces|tables|conflicts|comparing)")
+PROGRESS = re.compile(r"(prepare|country): (reading|testing|borders|faces|tables|conflicts|comparing)")
 NO_CUT = "no cut separates them"
 KEPT = ".cells"  # what a refused run keeps for one that accepts
 STANDING = ".lpis-standing"  # what a folder's tables are: of which run, and whether it came to its end
@@ -126,34 +126,21 @@ class Trial:
         if lines[-1] != "yes" or f" area {wanted} " not in f"{lines[-2]} ":
             self.say("area", f"lpis check: {' '.join(lines[-2:])}, and the judge has {wanted}")
 
-    def compared(self, source, out, is_sound):
-        """`compare` over the same source and tables has the same balance."""
-        other = self.path("compared")
-        shutil.rmtree(other, ignore_errors=True)
-        os.makedirs(other)
-        for name in TABLES:
-            if os.path.exists(os.path.join(out, name)):
-                shutil.copy(os.path.join(out, name), other)
-        run = self.run("recipes/compare", source, other, *([] if is_sound else ["--accept"]))
-        if run.status != 0:
-            self.say("compare", f"compare ended with {run.status}: {last_line(run.told, run.text)}")
-            return
-        self.same_balance("compare", other, out, "source_m2")
+    def audited(self, source, out, *words):
+        """`audit/source.py` says yes of the tables."""
+        told = lands_conflicts.audited(source, out, *words)
+        if told != "yes":
+            self.say("audit", told[:300])
 
-    def same_balance(self, tool, folder, out, source):
-        """The balance of another tool over the tables has their areas, and as its source those of one of their
-        columns."""
+    def same_balance(self, folder, out):
+        """The balance of a split has the areas of the tables, as its source too."""
         here = {(record["layer"], record["class"]): record for record in records(out, "balance.csv")}
         for record in records(folder, "balance.csv"):
             group = record["layer"], record["class"]
-            if group[0] == "between":  # gaps of the source, which prepare has mended before
-                continue
             mine = here.get(group, {}).get("tables_m2", "0")
-            if abs(float(record["tables_m2"]) - float(mine)) > 0.002:
-                self.say(tool, f"tables of {group}: {tool} has {record['tables_m2']}, and prepare {mine} m2")
-            mine = here.get(group, {}).get(source, "0")
-            if (not record["class"] or tool == "split") and abs(float(record["source_m2"]) - float(mine)) > 0.01:
-                self.say(tool, f"source of {group}: {tool} has {record['source_m2']}, and prepare {mine} m2")
+            for name, room in (("tables", 0.002), ("source", 0.01)):
+                if abs(float(record[f"{name}_m2"]) - float(mine)) > room:
+                    self.say("split", f"{name} of {group}: split has {record[f'{name}_m2']}, and prepare {mine} m2")
 
     def split(self, out):
         if not os.path.exists(os.path.join(out, "classes.csv")):
@@ -187,7 +174,7 @@ class Trial:
             for region in ("", *regions)
         ):
             self.say("split", "the classes of a region, or of the country, are others")
-        self.same_balance("split", country, out, "tables_m2")
+        self.same_balance(country, out)
         for region in regions:
             lpis("cut", os.path.join(country, region), os.path.join(country, region, "cert.txt"))
         status, text, told = lpis("country", country)
@@ -259,10 +246,7 @@ def try_land(trial, land, folder):
         for fault in Judge(land, out).judge():
             trial.say(*fault)
         trial.proved(out)
-        is_renamed = os.path.exists(os.path.join(out, "identifiers.csv")) or any(
-            record["kind"] == "prefix" for record in records(out, "prepared.csv")
-        )
-        trial.compared(source, out, first.status == 0 and not is_renamed)
+        trial.audited(source, out, *words)
         trial.split(out)
         next_year(trial, source, out, words)
 

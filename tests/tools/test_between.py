@@ -4,12 +4,10 @@ open, in every direction, up to a width. Wants Shapely."""
 import json
 import math
 import os
-import subprocess
 from pathlib import Path
 
 import pytest
 from lpis_helpers import dirty
-from lpis_helpers import places
 from lpis_helpers.calls import ended_with, records
 from lpis_helpers.lands_parts import boxed
 from lpis_helpers.preparing_case import Case
@@ -108,17 +106,17 @@ class TestBetween(Case):
             ]
         )
         for width, found in (("3.1", ["a b"]), ("2.9", []), ("3", ["a b"])):
-            for run in (self.run_on(source, "--between", width), self.compared(source, width)):
-                assert (
-                    run.returncode,
-                    [row["identifiers"] for row in records(self.out, "report.csv") if row["kind"] == "between"],
-                ) == (0, found), (
-                    run.stdout + run.stderr
-                )
-                assert (
-                    "between parcels, nobody" in run.stdout,
-                    os.path.exists(os.path.join(self.out, "between.geojson")),
-                ) == (bool(found), bool(found))
+            run = self.run_on(source, "--between", width)
+            assert (
+                run.returncode,
+                [row["identifiers"] for row in records(self.out, "report.csv") if row["kind"] == "between"],
+            ) == (0, found), (
+                run.stdout + run.stderr
+            )
+            assert (
+                "between parcels, nobody" in run.stdout,
+                os.path.exists(os.path.join(self.out, "between.geojson")),
+            ) == (bool(found), bool(found))
 
     def test_wide(self):
         """A search of any width looks at what is near each border, and not at what lies behind that: a number of
@@ -216,11 +214,3 @@ class TestBetween(Case):
                 )
                 < 6 * count
             )
-
-    def compared(self, source, width):
-        return subprocess.run(
-            [os.path.join(places.TOOLS, "recipes", "compare"), source, self.out, "--between", width],
-            capture_output=True,
-            text=True,
-            check=False,
-        )

@@ -7,6 +7,7 @@ import pytest
 
 from lpis_helpers.calls import tool
 from lpis_helpers.spare import Spare
+from lpis_helpers.written_tables import of_folder
 from lpis.system import shapely_there
 
 if shapely_there.is_there():
@@ -61,8 +62,8 @@ class TestBudgets(Spare):
         monkeypatch.setattr(conflicts, "OVERLAPS_EACH", 4)
         parcels, covers = strips(6)
         layers = {
-            "parcels": land.Layer("parcels", parcels, is_valid=True),
-            "covers": land.Layer("covers", covers, is_valid=True),
+            "parcels": land.Layer("parcels", parcels),
+            "covers": land.Layer("covers", covers),
         }
         source = conflicts.Source(layers)
         conflicts.find_conflicts(source, lambda words: None)
@@ -76,8 +77,8 @@ class TestBudgets(Spare):
     def test_a_few_are_measured_one_by_one(self):
         parcels, covers = strips(3)
         layers = {
-            "parcels": land.Layer("parcels", parcels, is_valid=True),
-            "covers": land.Layer("covers", covers, is_valid=True),
+            "parcels": land.Layer("parcels", parcels),
+            "covers": land.Layer("covers", covers),
         }
         source = conflicts.Source(layers)
         conflicts.find_conflicts(source, lambda words: None)
@@ -114,12 +115,12 @@ class TestBudgets(Spare):
         top = [(0.0005 * place / 2, 12.0 if place % 2 else 10.0) for place in range(2 * teeth, -1, -1)]
         ring = [(E + x, N + y) for x, y in [(0.0, 0.0), (0.0005 * teeth, 0.0), *top, (0.0, 0.0)]]
         layers = {
-            "parcels": land.Layer("parcels", [row(1, "A", ring, False)], is_valid=True),
-            "covers": land.Layer("covers", [row(1, "A", ring, True)], is_valid=True),
+            "parcels": land.Layer("parcels", [row(1, "A", ring, False)]),
+            "covers": land.Layer("covers", [row(1, "A", ring, True)]),
         }
         coverage.release(layers, self.path("out"), lambda words: None)
         source = conflicts.Source(layers)
-        row_outcomes.Outcome(source, self.path("out"), land_balance.Balance(layers)).find()
+        row_outcomes.Outcome(source, of_folder(self.path("out")), land_balance.Balance(layers)).find()
         for layer in ("parcels", "covers"):
             *found, last = [loss for loss in source.losses if loss.kind == "spike" and loss.layer == layer]
             assert 0 < len(found) <= 20 and last.words.startswith(f"{teeth - 20} more spikes and notches of this row")

@@ -15,7 +15,7 @@ from pathlib import Path
 import pytest
 from lpis_helpers.registers import TEXT, made
 from lpis_helpers.calls import tool
-from lpis_helpers.places import BUILT, TOOLS, TOP
+from lpis_helpers.places import BUILT, TOP
 from lpis.formats import codes
 
 SQUARE = "POLYGON((0 0,10 0,10 10,0 10,0 0))"
@@ -105,11 +105,6 @@ def test_a_code_has_a_meaning_a_cause_and_a_remedy(code):
 def test_formats_has_the_tables():
     page = Path(TOP, "docs", "FORMATS.md").read_text(encoding="utf-8")
     assert page == codes.with_codes(page), "`python3 python/src/lpis/formats/codes.py` writes them"
-
-
-@pytest.mark.parametrize("name", sorted(os.listdir(os.path.join(TOOLS, "recipes"))))
-def test_the_guide_names_the_recipes(name):
-    assert name in Path(TOP, "docs", "GUIDE.md").read_text(encoding="utf-8")
 
 
 MARKED = "old,new,exact\nA,B,1\nA,C,1\n"

@@ -14,7 +14,7 @@ from lpis.system import shapely_there
 
 if shapely_there.is_there():
     import numpy
-    from lpis.formats import wkb
+    from lpis.formats import polygons, wkb
     from lpis.geometry import noding
     from lpis.rounding import coverage, left_edges
     from lpis.source import land
@@ -179,7 +179,8 @@ class TestFaces:
                 ]
                 rows.append(land.Row(1, {"parcel": name, "piece": name, "class": "GRASS"}, wkb.Found(members)))
             made = coverage.Map(rows, rows, lambda words: None)
-            for number, text in made.polygons(made.pieces):
+            for (number, text), (_, corners) in zip(made.polygons(made.pieces), made.members(made.pieces)):
+                assert polygons.read(text.encode()) == made.in_millimetres(corners)
                 shape = wkt.loads(text)
                 assert shape.is_valid, text
                 assert shape.area == sum(who == "AB"[number] for who in cells.values())

@@ -33,7 +33,7 @@ def losses(parcels, pieces):
         for number, (name, sides) in enumerate(pieces, 1)
     ]
     parcels = [row(number, {"parcel": name}, sides) for number, (name, sides) in enumerate(parcels, 1)]
-    layers = {name: land.Layer(name, rows, is_valid=True) for name, rows in (("parcels", parcels), ("covers", covers))}
+    layers = {name: land.Layer(name, rows) for name, rows in (("parcels", parcels), ("covers", covers))}
     source = conflicts.Source(layers)
     conflicts.find_conflicts(source, lambda words: None, between=None)
     return [loss for loss in source.losses if loss.stops()]

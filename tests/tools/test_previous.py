@@ -234,10 +234,7 @@ class TestLands(ByCells):
     """Generated lands with edits and noise, cell by cell and as a whole."""
 
     def layers(self, name):
-        found = land_module.read(self.path(name))
-        for layer in found.values():
-            layer.is_valid = True
-        return found
+        return land_module.read(self.path(name))
 
     @pytest.mark.parametrize("seed", (*range(1, 6), *(exhaustive(seed) for seed in range(6, 51))))
     def test_cells(self, seed):

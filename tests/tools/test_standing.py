@@ -250,7 +250,6 @@ class TestReleases(Case):
             "report": (self.out,),
             "faults": (self.out, self.path("f.geojson")),
             "lineage": (self.out, other, self.path("rows.csv")),
-            "recipes/compare": (self.then, self.out),
             "country": ("split", self.out, self.path("country")),
             "prepare": (self.then, other, "--previous", self.out),
         }

@@ -23,7 +23,6 @@ CASES = [
     ["country", "split", "square", "country"],
     ["country", "prepare", "square", "prepared"],
     ["year", "lpis.db", "1", "square"],
-    ["recipes/compare", "square", "square"],
 ]
 PROBE = (
     "#!/usr/bin/env python3\nimport atexit, os, sys\nprint({!r})\nsys.stdout.flush()\natexit.register(print, 'the"

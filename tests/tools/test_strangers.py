@@ -351,7 +351,6 @@ class TestPackages(Case):
         sqlite3.connect(odd + b"/r.db").close()
         for words_of, wanted in (
             (("prepare", odd + b"/land.gpkg", odd + b"/out"), 0),
-            (("recipes/compare", odd + b"/land.gpkg", odd + b"/out"), 0),
             (("country", "split", odd + b"/out", odd + b"/country"), 0),
             (("lineage", odd + b"/out", odd + b"/out", odd + b"/l.csv"), 0),
             (("year", "--verify", odd + b"/r.db"), 1),

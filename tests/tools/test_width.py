@@ -6,6 +6,7 @@ import math
 import pytest
 from lpis.system import shapely_there
 from lpis_helpers.cells_case import ByCells, Case
+from lpis_helpers.written_tables import of_folder
 
 if shapely_there.is_there():
     from shapely.affinity import rotate, translate
@@ -186,7 +187,7 @@ class TestSilence(ByCells):
         shapes = [box(20 * number, 0, 20 * number + 10, 10) for number in range(count)]
         covers = [("A", box(*shape.bounds[:3], 13) if number == 0 else shape) for number, shape in enumerate(shapes)]
         layers = {
-            name: land_module.Layer(name, rows, is_valid=True)
+            name: land_module.Layer(name, rows)
             for name, rows in vars(Land([("A", shape) for shape in shapes], covers)).items()
             if name != "turn"
         }
@@ -208,14 +209,14 @@ class TestChanges(Case):
             )
             layers, tables = (
                 {
-                    name: land_module.Layer(name, rows, is_valid=True)
+                    name: land_module.Layer(name, rows)
                     for name, rows in (("parcels", one.parcels), ("covers", one.covers))
                 }
                 for one in (source, changed)
             )
             coverage.release(tables, self.path("tables"), lambda words: None)
             made = conflicts.Source(layers)
-            row_outcomes.Outcome(made, self.path("tables"), land_balance.Balance(layers)).find()
+            row_outcomes.Outcome(made, of_folder(self.path("tables")), land_balance.Balance(layers)).find()
             found = [loss for loss in made.losses if loss.kind == "changed" and loss.stops()]
             assert [round(loss.width, 4) for loss in found] == pytest.approx(wide * 2, abs=0.001)
             for loss in found:

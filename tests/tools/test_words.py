@@ -14,7 +14,7 @@ from lpis_helpers.spare import Spare, read, write, write_script
 from lpis.system import installation
 
 NAMES = ("explain", "faults", "report")
-OF_SHAPELY = ("prepare", "lineage .", "country prepare", "recipes/compare")
+OF_SHAPELY = ("prepare", "lineage .", "country prepare")
 STANDIN = "#!/bin/sh\necho lpis 9.8.7\n"
 
 
@@ -97,8 +97,6 @@ class TestWords(Spare):
             ("run `tools/explain 43`", "run `lpis-explain 43`"),
             ("./lpis cut a b && ./lpis check a b", "lpis cut a b && lpis check a b"),
             ("`./lpis`", "`lpis`"),
-            ("tools/recipes/compare x", "/opt/lib/lpis/recipes/compare x"),
-            ("both in `tools/recipes`.", "both in `/opt/lib/lpis/recipes`."),
             ("<tools/audit_shapes.sql", "</opt/lib/lpis/audit_shapes.sql"),
             ("see docs/FORMATS.md", "see /opt/share/doc/lpis/FORMATS.md"),
             ('LPIS="$PWD/lpis"', "LPIS=lpis"),

@@ -10,6 +10,7 @@ import os
 from shapely import wkb as shapely_wkb
 
 from . import gap_borders, gap_rings
+from ..formats import wkb
 from ..preparation import conflicts
 from ..rounding import coverage
 from ..source import land
@@ -42,6 +43,9 @@ class Stored(Loss):
     @shape.setter
     def shape(self, blob):
         self.blob = blob
+
+    def polygons(self):
+        return (wkb.several(self.blob) if self.blob else None) or super().polygons()
 
 
 class Losses:

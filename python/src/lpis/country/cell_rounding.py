@@ -170,26 +170,25 @@ def records_of(cell):
     made_map = coverage.Map(cell.parcels, cell.covers, lambda words: None, then=cell.then)
     own = cell.own["parcels"]
     # The texts of pieces of other cells are right near this one's alone.
-    texts = {
-        "covers": [(cell.covers[number], text) for number, text in made_map.polygons(made_map.pieces)],
-        "parcels": [(own[number], text) for number, text in made_map.polygons(made_map.parcels_of_faces(own))],
+    made = {
+        "covers": [(cell.covers[number], members) for number, members in made_map.members(made_map.pieces)],
+        "parcels": [(own[number], members) for number, members in made_map.members(made_map.parcels_of_faces(own))],
     }
     for kind, name in (("piece", "covers"), ("parcel", "parcels")):
-        yield from ((kind, row[kind], text) for row, text in texts[name] if row["parcel"] in cell.wanted)
+        yield from (
+            (kind, row[kind], made_map.text(members)) for row, members in made[name] if row["parcel"] in cell.wanted
+        )
     whole = land_balance.Balance({})
     for name, rows in cell.own.items():
         for row in rows:
             entry = whole.entries[id(row)] = land_balance.Entry(name, row, row.area)
             entry.founds = (row.read,) if row.read else entry.founds
     source = conflicts.Source(
-        {
-            name: land.Layer(name, rows, is_valid=True)
-            for name, rows in (("parcels", cell.parcels), ("covers", cell.covers))
-        }
+        {name: land.Layer(name, rows) for name, rows in (("parcels", cell.parcels), ("covers", cell.covers))}
     )
     conflicts.find_conflicts(source, lambda words: None, conflicts_of(cell, made_map))
     before = [loss.words for loss in source.losses]
-    compared = Compared(source, cell, texts, whole)
+    compared = Compared(source, cell, made_map, made, whole)
     compared.compare_tables()
     for number, loss in enumerate(source.losses):
         yield "loss", record_of(loss, before[number] if number < len(before) else loss.words)
@@ -214,17 +213,17 @@ class Compared(row_outcomes.Outcome):
     """The tables of a cell beside its rows. Pieces of other cells are there only where they may have a place in
     conflict."""
 
-    def __init__(self, source, cell, texts, whole):
+    def __init__(self, source, cell, made_map, made, whole):
         super().__init__(source, self.own_records, whole)
-        self.cell, self.texts = cell, texts
-        source.layers = {name: land.Layer(name, rows, is_valid=True) for name, rows in cell.own.items()}
+        self.cell, self.map, self.made = cell, made_map, made
+        source.layers = {name: land.Layer(name, rows) for name, rows in cell.own.items()}
 
     def own_records(self, name):
-        for row, text in self.texts[name]:
+        for row, corners in self.made[name]:
             is_own = row["parcel"] in self.cell.wanted
             if not is_own and not self.places:
                 continue
-            members = polygons.read(text.encode())
+            members = self.map.in_millimetres(corners)
             if is_own:
                 yield row.fields, members, polygons.doubled(members) / 2_000_000
             else:

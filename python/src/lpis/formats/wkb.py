@@ -138,6 +138,14 @@ def packed(members):
     return b"".join(parts)
 
 
+def several(blob):
+    """A polygon as GEOS writes it, or several, as a MultiPolygon; None of another shape, and where there is none."""
+    order, kind, count = HEAD.unpack_from(blob)
+    if order != 1 or kind not in (3, 6) or not count:
+        return None
+    return blob if kind == 6 else HEAD.pack(1, 6, 1) + blob
+
+
 def judge_rings(members):
     """Refuses what the grammar of the tables refuses: the members, where it does not."""
     if not members:

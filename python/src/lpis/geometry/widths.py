@@ -78,6 +78,15 @@ def widest(shape):
     return max(width, 2 * area / shape.length), place
 
 
+def widest_of(shapes):
+    """The same of some shapes, the widest of them. One without the area of so wide a circle is not looked at."""
+    found = 0.0, None
+    for area, shape in sorted(((shape.area, shape) for shape in shapes), key=lambda one: -one[0]):
+        if 2 * (area / math.pi) ** 0.5 >= found[0]:
+            found = max(found, widest(shape), key=lambda one: one[0])
+    return found
+
+
 def places_of(shape, width: float):
     """The places of a shape that are as wide as a width, and what is left of it, which is thinner."""
     grown = [core.buffer(depth + CRUMB, join_style=2, mitre_limit=SHARP) for core, depth in cores(shape, width / 2)]
@@ -101,28 +110,33 @@ def apart(shapes):
 
 def cores(shape, radius: float):
     """The parts of what is at least a radius from the border of a shape, each with how far from it that is at least."""
-    border = None
+    border = edges = None
     for part in parts_of(shape.buffer(-(1 - DOUBT) * radius)):
-        border = border or Border(shape)
+        border = border or shape.boundary
         inner = parts_of(part.buffer(-2 * DOUBT * radius))
-        if len(inner) == 1 and border.is_clear(inner[0], radius):
+        if len(inner) == 1 and is_clear(border, inner[0], radius):
             yield part, (1 - DOUBT) * radius
         else:
-            left = parts_of(part.difference(border.land(part.bounds, radius)))
-            yield from ((core, radius) for core in left if border.is_clear(core, radius))
+            edges = edges or Border(shape)
+            left = parts_of(part.difference(edges.land(part.bounds, radius)))
+            yield from ((core, radius) for core in left if is_clear(border, core, radius))
+
+
+def is_clear(border, core, radius):
+    """Whether a point of a core is a radius from the border."""
+    return border.distance(core.representative_point()) >= (1 - MISSED) * radius
 
 
 class Border:
     """The edges around a shape, which lies to their left."""
 
     def __init__(self, shape):
-        rings = Rings([wkb.Found.of_blob(wkb.HEAD.pack(1, 6, 1) + part.wkb) for part in parts_of(shape)])
+        rings = Rings([wkb.Found.of_blob(wkb.several(part.wkb)) for part in parts_of(shape)])
         edges, (_, ring) = rings.edges()[0], rings.ways()
         is_long = numpy.any(edges[:, :2] != edges[:, 2:], axis=1)
         self.edges, ring = edges[is_long], ring[is_long]
         self.way = self.edges[:, 2:] - self.edges[:, :2]
-        self.length = numpy.hypot(*self.way.T)
-        self.normal = numpy.stack([-self.way[:, 1], self.way[:, 0]], axis=1) / self.length[:, None]
+        self.normal = numpy.stack([-self.way[:, 1], self.way[:, 0]], axis=1) / numpy.hypot(*self.way.T)[:, None]
         self.following = self.next_ones(ring)
         a, b = self.edges[:, :2], self.edges[:, 2:]
         self.boxes = Boxes(numpy.hstack([numpy.minimum(a, b), numpy.maximum(a, b)]))
@@ -135,21 +149,10 @@ class Border:
         goes_on = numpy.all(self.edges[first, 2:] == self.edges[after[first], :2], axis=1)
         return numpy.where(goes_on, after, before)
 
-    def near(self, bounds, radius):
-        left, low, right, high = bounds
-        return self.boxes.meeting((left - radius, low - radius, right + radius, high + radius))
-
-    def is_clear(self, core, radius):
-        """Whether a point of a core is a radius from the border."""
-        point = core.representative_point()
-        near = self.near(point.bounds, radius)
-        to, way = numpy.array([point.x, point.y]) - self.edges[near, :2], self.way[near]
-        share = numpy.clip((to * way).sum(axis=1) / self.length[near] ** 2, 0, 1)
-        return not numpy.any(numpy.hypot(*(to - share[:, None] * way).T) < (1 - MISSED) * radius)
-
     def land(self, bounds, radius):
         """The land within a radius of the border, as far as it may lie in a box."""
-        near = self.near(bounds, radius)
+        left, low, right, high = bounds
+        near = self.boxes.meeting((left - radius, low - radius, right + radius, high + radius))
         a, b, normal, after = self.edges[near, :2], self.edges[near, 2:], self.normal[near], self.following[near]
         way = self.way[near]
         turn = numpy.arctan2(numpy.cross(way, self.way[after]), (way * self.way[after]).sum(axis=1))

@@ -1,18 +1,17 @@
-"""What is wrong with a source, by Shapely: names that do not do, shapes that cross themselves, and places that two
-pieces have, or a parcel and none of its pieces, or a piece and not its parcel."""
+"""What is wrong with a source, by Shapely: shapes that cross themselves, and places that two pieces have, or a parcel
+and none of its pieces, or a piece and not its parcel."""
 
 from __future__ import annotations
 
 from collections import Counter
 from dataclasses import dataclass, field
-from itertools import chain
 
 from shapely.errors import ShapelyError
 from shapely.geometry import LineString, Polygon
 from shapely.ops import polygonize, unary_union
-from shapely.validation import explain_validity, make_valid
+from shapely.validation import make_valid
 
-from ..formats import identifiers, wkb
+from ..formats import wkb
 from . import outlines, place_holders
 from ..source import land
 from ..system import progress
@@ -25,7 +24,6 @@ WIDE = 0.02  # metres: a conflict that is as wide as this somewhere is a fault o
 LEAST = 0.001  # metres: conflicts that are narrower are rounding, and no rows
 SPIKE = 0.0005  # metres: narrower than twice that, a part of a shape is no place to show it
 AREA = 0.000_001  # square metres: of doubles
-FAR = 20_000_000.0  # metres: the range of the tables
 FARTHEST = 1e12  # metres: places beyond are not told
 MANY = 100  # rows of one name, from which on they are asked for by their boxes
 # beyond so many in all, those of a piece that lies on more than so many others are one
@@ -221,11 +219,9 @@ class Source:
     KEYS = {"parcels": "parcel", "covers": "piece"}
 
     def __init__(self, layers):
-        self.losses, self.layers, self.shaped = [], layers, set()
-        self.parcels, self.covers = (
-            [row for row in layers[name].rows if self.has_land(layers[name], column, row)]
-            for name, column in self.KEYS.items()
-        )
+        self.losses, self.layers, self.shapes = [], layers, {}
+        self.parcels, self.covers = ([row for row in layers[name].rows if row.found] for name in self.KEYS)
+        self.shaped = {id(row) for row in (*self.parcels, *self.covers)}
         self.parcels_of, self.pieces_of = by_parcel(self.parcels), by_parcel(self.covers)
         self.boxes_of, self.holders = {}, place_holders.Holders(self.parcels, self.covers, self.shape)
 
@@ -245,112 +241,13 @@ class Source:
             self.boxes_of[id(rows)] = Boxes([one.found.box() for one in rows])
         return [rows[number] for number in self.boxes_of[id(rows)].meeting(row.found.box())]
 
-    def has_land(self, layer, column, row):
-        """Whether a row has a shape with an area, which is mended first where it crosses itself."""
-        if row.found is None or self.is_far(row):
-            return False
-        if not layer.is_valid:
-            shape = by_geos("the shape", [(layer.name, row[column], row)], shape_of, row.found)
-            if not shape.is_valid:
-                shape = self.mended(layer, column, row, shape)
-            if shape.is_empty:
-                return False
-        self.shaped.add(id(row))
-        return True
-
     def shape(self, row):
-        """The shape of a row, made when it is asked for; None where it has no land."""
-        return shape_of(row.found) if id(row) in self.shaped else None
-
-    def land(self, rows):
-        """The land of rows, or None where they have none."""
-        shapes = [shape for row in rows if (shape := self.shape(row)) is not None]
-        return (
-            by_geos(
-                "the land", [(self.of(row), row[self.KEYS[self.of(row)]], row) for row in rows], unary_union, shapes
-            )
-            if shapes
-            else None
-        )
-
-    @staticmethod
-    def of(row):
-        """The layer of a row."""
-        return "covers" if "piece" in row.fields else "parcels"
-
-    @staticmethod
-    def is_far(row):
-        """Takes a shape out of range from its row."""
-        if max(map(abs, row.found.box())) <= FAR:
-            return False
-        row.found, row.why = None, "a coordinate is beyond 20,000,000 m"
-        return True
-
-    def mended(self, layer, column, row, shape):
-        why = explain_validity(shape)
-        named, members = [(layer.name, row[column], row)], row.found.members
-        mended = by_geos("the shape", named, polygons_by, members)
-        enclosed = by_geos("the border", named, enclosed_by, members)
-        words = (
-            f"{why}; mended it has {mended.area:.3f} m2 of the {max(mended.area, enclosed.area):.3f} that its border"
-            " encloses"
-        )
-        whole = by_geos("the border", named, doubtful, members, enclosed, mended)
-        row.found = wkb.Found(members_of(mended))
-        self.losses.append(Loss("invalid", [row[column]], words, whole, None, mended.area, layer.name, [row.number]))
-        return mended
-
-
-def find_names(source):
-    """Rows whose names do not do: several of one identifier, none that is an identifier, a parcel that is not there."""
-    for name, column in Source.KEYS.items():
-        rows = {}
-        for row in source.layers[name].rows:
-            rows.setdefault(row[column], []).append(row)
-        words = "the tables have one row with the land of all" if name == "parcels" else "lpis refuses it (34)"
-        source.losses += [
-            Loss(
-                "doubled",
-                [who],
-                f"{len(found)} rows have this identifier: {words}",
-                source.land(found),
-                layer=name,
-                rows=[row.number for row in found],
-            )
-            for who, found in rows.items()
-            if len(found) > 1
-        ]
-    for name, column in (("parcels", "parcel"), ("covers", "piece"), ("covers", "class")):
-        rows = {}
-        for row in source.layers[name].rows:
-            if not identifiers.is_one(row[column]):
-                rows.setdefault(row[column], []).append(row.number)
-        source.losses += [
-            Loss(
-                "identifier",
-                [who],
-                f"this {column} is not a valid identifier, in {counted(len(found), 'row')}: lpis refuses it (33)",
-                layer=name,
-                rows=found,
-            )
-            for who, found in rows.items()
-        ]
-    known = {row["parcel"] for row in source.layers["parcels"].rows}
-    for row in source.layers["covers"].rows:
-        if row["parcel"] not in known:
-            shape = source.shape(row)
-            source.losses.append(
-                Loss(
-                    "stranger",
-                    [row["piece"], row["parcel"]],
-                    "the piece names a parcel that is not there: lpis refuses it (35)",
-                    shape,
-                    None,
-                    shape.area if shape else None,
-                    "covers",
-                    [row.number],
-                )
-            )
+        """The shape of a row, made when it is asked for and kept; None where it has no land."""
+        if id(row) not in self.shaped:
+            return None
+        if id(row) not in self.shapes:
+            self.shapes[id(row)] = shape_of(row.found)
+        return self.shapes[id(row)]
 
 
 def find_conflicts(source, say, found=None, between=land.BETWEEN):
@@ -427,23 +324,20 @@ def gaps_of(source, row, gap):
     parcels."""
     parcel, rows = row["parcel"], [row.number]
     for loss in pieces_found("gap", [parcel], rows, gap, layer="parcels"):
-        shared, alone = place_holders.apart(loss.shape, source.holders.parcels(loss.shape, parcel), WIDE - ROUNDING)
-        loss.kind = "gap" if shared is None else "overlap"
-        both = shared is not None and alone is not None
-        for one in (
-            chain.from_iterable(
-                pieces_found(kind, [parcel], rows, place, layer="parcels")
-                for kind, place in (("overlap", shared), ("gap", alone))
-            )
-            if both
-            else [loss]
-        ):
-            one.words = words_of_gap(source.holders, one, parcel)
-            yield one
+        others = source.holders.parcels(loss.shape, parcel)
+        shared, alone = place_holders.apart(loss.shape, others, WIDE - ROUNDING)
+        if shared is None or alone is None:
+            loss.kind = "gap" if shared is None else "overlap"
+            loss.words = words_of_gap(source.holders, loss, parcel, others)
+            yield loss
+            continue
+        for kind, place in (("overlap", shared), ("gap", alone)):
+            for one in pieces_found(kind, [parcel], rows, place, layer="parcels"):
+                one.words = words_of_gap(source.holders, one, parcel, source.holders.parcels(one.shape, parcel))
+                yield one
 
 
-def words_of_gap(holders, loss, parcel):
-    others = holders.parcels(loss.shape, parcel)
+def words_of_gap(holders, loss, parcel, others):
     words = holders.words_of_overlap if loss.kind == "overlap" else holders.words_of_gap
     return words(loss.shape, parcel, others)
 

@@ -22,6 +22,7 @@ OF_PLACE = ("changed", "lost")  # they come of what was found where they are
 OF_SYSTEM = ("far", "degrees", "bare")  # what comes of a layer in a wrong system
 SAME_PLACE = {"outside": "overlap", "gap": "outside", "bare": "stranger"}  # the kind that has its place already
 NO_CAUSE = (*OF_ROW, *OF_PLACE, "overlap", "gap", "outside")  # of a row: they are of a place, or come of others
+ROOM = 2 * outlines.ABOUT  # metres: of a finding that is farther nothing is about a place
 NARROW = 0.0021  # metres: what is narrower along a border is rounding, also beside last year's
 
 
@@ -71,7 +72,8 @@ class Places:
         them lie elsewhere."""
         one = Place(-1, blob)
         left, low, right, high = one.box
-        near = [self.places[number] for number in self.boxes.meeting((left - 1, low - 1, right + 1, high + 1))]
+        about = left - ROOM, low - ROOM, right + ROOM, high + ROOM
+        near = [self.places[number] for number in self.boxes.meeting(about)]
         near = [place for place in near if may_be(self.found[place.number])]
         if not near:
             return []

@@ -1,16 +1,15 @@
 """A balance of land: the square metres of a source and of the tables made of it, by class, and what became of the
 difference. No column is worked out from the others, so land for which nobody accounts shows.
 
-    whole = balance.Balance(layers)     what was read, in the tables' system of coordinates and before any repair
-    whole.join(into, rows)              where rows' land goes on in another row
-    losses.report(.., whole)            the rest: rows that the layers have no longer are left out
+    whole = land_balance.Balance(layers)    what was read of rows, before any repair
+    whole.add_table(layer, record, area)    a row of a table
+    whole.book(row, mended, change)         what became of a row
 """
 
 from __future__ import annotations
 
 import math
 import os
-from collections import Counter
 
 from ..formats import guarded_csv
 from ..system import files
@@ -26,19 +25,17 @@ UNIT = 1 << 40  # parts of a square metre: sums are whole numbers of them, so th
 class Entry:
     """A row of the source as it was read."""
 
-    __slots__ = ("area", "founds", "joined", "layer", "row")
+    __slots__ = ("area", "founds", "layer", "row")
 
     def __init__(self, layer, row, area):
         self.layer, self.row, self.area = layer, row, area
-        # its shape as it was read, and those of rows that were joined with it
-        self.founds = (row.found,) if row.found else ()
-        self.joined = False  # its land goes on in another row
+        self.founds = (row.found,) if row.found else ()  # its shape as it was read
 
     def group(self):
         return group_of(self.layer, self.row)
 
     def members(self):
-        """Its polygons as they were read, and those of rows that were joined with it."""
+        """Its polygons as they were read."""
         return without_zone(
             [member for found in self.founds for member in found.members], self.row.found and self.row.found.members
         )
@@ -61,14 +58,6 @@ class Balance:
             for row, area in zip(rows, areas_of([row.found for row in rows])):
                 self.entries[id(row)] = Entry(name, row, area)
 
-    def join(self, into, rows):
-        """The land of rows goes on in another row of their layer."""
-        entries = [self.entries[id(row)] for row in rows]
-        for entry in entries:
-            entry.joined = True
-        first = self.entries[id(into)]
-        first.founds += tuple(found for entry in entries for found in entry.founds)
-
     def area_of(self, row):
         return self.entries[id(row)].area
 
@@ -81,25 +70,6 @@ class Balance:
         """The polygons of a row as they were read; None where it has them still, or never had any."""
         entry = self.entries[id(row)]
         return None if self.is_as_read(row) or not entry.founds else entry.members()
-
-    def reasons(self):
-        """How many rows of the source have no shape, by why."""
-        return Counter(entry.row.why for entry in self.entries.values() if entry.row.why)
-
-    def left_out(self, layers):
-        """The entries of rows that the layers have no longer."""
-        kept = {id(row) for name in SHAPED if name in layers for row in layers[name].rows}
-        return [entry for key, entry in self.entries.items() if key not in kept and not entry.joined]
-
-    def begin(self, layers):
-        """Books the source, and what is left out of it before the rounding."""
-        self.sums = {}
-        for entry in self.entries.values():
-            self.add(entry.group(), "source", entry.area)
-            if entry.joined:
-                self.add(entry.group(), "mended", -entry.area)
-        for entry in self.left_out(layers):
-            self.add(entry.group(), "left out", -entry.area)
 
     def add_table(self, layer, record, area):
         """A row of a table that was written."""

@@ -1,12 +1,10 @@
-"""The report that every run of `prepare` and of a recipe ends with: what is lost in the tables or was left out before,
-where the source itself is in conflict (an overlap, a gap, a piece outside of its parcel), what changed, and the balance
-of land. By Shapely, over the source and the written tables alone, so it is the same for every recipe."""
+"""The report that every run of `prepare` ends with: what is lost in the tables or was left out before, where the source
+itself is in conflict (an overlap, a gap, a piece outside of its parcel), what changed, and the balance of land."""
 
 from __future__ import annotations
 
 import contextlib
 import json
-import math
 import os
 from collections import Counter
 from itertools import chain
@@ -14,9 +12,8 @@ from itertools import chain
 from shapely.geometry import mapping
 
 from ..formats import geopackage, guarded_csv
-from . import finding_rows, land_balance, live_findings, row_outcomes
+from . import finding_rows, land_balance
 from ..system import files
-from .conflicts import ORDER, Loss, Source, find_conflicts, find_names, polygons_by
 from .finding_rows import readable
 from ..system.printing import counted
 
@@ -29,41 +26,6 @@ COUNTED = (
     ("spike", "spikes and notches narrower than a millimetre that are not in the tables: see report.csv"),
 )
 COLUMNS = ["kind", "layer", "row", "identifiers", "width_m", "area_m2", "x", "y", "stops", "words", "place"]
-
-
-def find_all(source, tables, say, whole, between):
-    """All losses, the gravest first, and how many rows the tables have."""
-    layers = source.layers
-    find_names(source)
-    find_conflicts(source, say, between=between)
-    say("comparing the tables with the source")
-    whole.begin(layers)
-    whole.between = math.fsum(loss.area or 0.0 for loss in source.losses if loss.kind == "between")
-    for entry in whole.left_out(layers):
-        name, members = entry.row[Source.KEYS[entry.layer]], entry.members()
-        shape = polygons_by(members) if members else None
-        source.losses.append(
-            Loss(
-                "left out",
-                [name],
-                "it was left out before the rounding: prepared.csv has the reason",
-                shape,
-                None,
-                entry.area,
-                entry.layer,
-                [entry.row.number],
-            )
-        )
-    for name, layer in layers.items():
-        source.losses += [
-            Loss("column", [column], f"the column {column} of the layer {name} is in no table", layer=name)
-            for column in layer.others
-        ]
-    found = row_outcomes.Outcome(source, tables, whole).find()
-    source.losses.sort(
-        key=lambda loss: (not loss.stops(), ORDER.index(loss.kind), -(loss.width or loss.area or 0), loss.names)
-    )
-    return source.losses, found
 
 
 def put_layers(losses, out, accept, epsg, found_before, told):
@@ -194,18 +156,6 @@ def why_nothing(losses, whole):
         "; ".join(f"{counted(count, 'row')}: {words}" for words, count in found.most_common(MOST_REASONS))
         or "the tables have no row"
     )
-
-
-def report(source, out, accept, say, epsg, whole, between):
-    """Finds what became of a source in the tables of a folder, writes and prints it. The status: 1 where something is
-    lost, changed or in wide conflict, unless `accept` takes it."""
-    if epsg is None:
-        systems = [layer.system.number for layer in source.layers.values() if layer.system]
-        epsg = systems[0] if systems else None
-    losses, found = find_all(source, out, say, whole, between)
-    counts = {name: len(source.layers[name].rows) for name in ("parcels", "covers")}
-    living = live_findings.Table(out, out, None, accept, say)
-    return concluded(losses, found, counts, out, accept, epsg, whole, "", living)
 
 
 def concluded(losses, found, counts, out, accept, epsg, whole, refusal, living, found_before=()):

@@ -11,6 +11,7 @@ import os
 from ..country import cell_results, country_passes, engines, jobs, row_store
 from ..formats import geopackage
 from . import (
+    conflicts,
     decisions,
     finding_rows,
     gap_causes,
@@ -204,7 +205,7 @@ class Run(source_run.SourceRun):
         for name, layer in work.layers.items():
             for column in layer.others:
                 seen.losses.add(
-                    loss_report.Loss(
+                    conflicts.Loss(
                         "column", [column], f"the column {column} of the layer {name} is in no table", layer=name
                     )
                 )

@@ -3,8 +3,6 @@ more than rounding does; its account in the balance of land; and who has a place
 
 from __future__ import annotations
 
-import csv
-import os
 from itertools import chain, islice, product
 
 import numpy
@@ -13,13 +11,12 @@ from shapely.prepared import prep
 
 from ..formats import polygons
 from . import place_holders
-from ..source import land
 from ..system import progress
 from ..system.printing import readable
 from ..rounding.border_distance import Along, edges_of
 from .conflicts import LEAST, WIDE, Loss, Source, by_geos, polygons_by
 from ..rounding.rounded_polygons import are_rounded
-from ..geometry.widths import ROUNDING, is_as_wide, parts_of, widest
+from ..geometry.widths import ROUNDING, is_as_wide, parts_of, widest_of
 
 ROUNDED = 0.001  # metres: what a border moves by rounding, at most
 ALONG = 1.5 * ROUNDED  # metres from a border to what lies along it
@@ -40,8 +37,8 @@ class Places:
         self.middles = [Point(loss.place()) for loss in self.losses]
         self.shares = [[] for _ in self.losses]  # the pieces that have some of it, with their parcels and areas
         self.counts = [0] * len(self.losses)  # of those that have its middle
-        self.cells, self.large = {}, []
-        for number, box in enumerate(loss.shape.bounds for loss in self.losses):
+        self.cells, self.large, self.boxes = {}, [], [loss.shape.bounds for loss in self.losses]
+        for number, box in enumerate(self.boxes):
             if many_cells(box):
                 self.large.append(number)
             for cell in cells_of(box):
@@ -51,10 +48,17 @@ class Places:
         return bool(self.losses)
 
     def near(self, box):
-        """The conflicts whose boxes meet a box, or may: those of its cells, or all where it has too many."""
+        """The conflicts whose boxes meet a box."""
         if many_cells(box):
-            return range(len(self.losses))
-        return sorted({*self.large, *chain.from_iterable(self.cells.get(cell, ()) for cell in cells_of(box))})
+            found = range(len(self.losses))
+        else:
+            found = sorted({*self.large, *chain.from_iterable(self.cells.get(cell, ()) for cell in cells_of(box))})
+        west, south, east, north = box
+        return [
+            number
+            for number, (left, low, right, high) in ((number, self.boxes[number]) for number in found)
+            if left <= east and right >= west and low <= north and high >= south
+        ]
 
     def give(self, name, parcel, shape, near):
         """What a piece has of conflicts."""
@@ -100,12 +104,11 @@ def many_cells(box):
 
 
 class Outcome:
-    """Compares tables with a source: those of a folder, or records with their polygons and areas, by a function of a
-    table's name."""
+    """Compares tables with a source. `records` gives the records of a table by its name, each with its polygons in
+    whole millimetres and its area in square metres."""
 
-    def __init__(self, source, tables, whole):
-        self.source, self.whole = source, whole
-        self.records = tables if callable(tables) else lambda name: read_table(tables, name)
+    def __init__(self, source, records, whole):
+        self.source, self.records, self.whole = source, records, whole
         self.places, self.found = Places(source.losses), {}
         self.greatest = None
         self.covers = set()
@@ -256,9 +259,7 @@ class Outcome:
                 f"{gone.area:.3f} m2 went and {come.area:.3f} m2 came, from {before.area:.3f} to {after.area:.3f} m2"
             )
             width, place = (
-                max(by_geos("the width of the change", named, widest, one) for one in (gone, come))
-                if is_grave
-                else (None, None)
+                by_geos("the width of the change", named, widest_of, (gone, come)) if is_grave else (None, None)
             )
             loss = Loss(
                 "changed",
@@ -374,26 +375,3 @@ def lead_away(after, parts):
     edges, owner = edges_of(parts)
     is_along = Along(edges, edges_of(parts_of(after))[0], ALONG).are()
     return (numpy.bincount(owner[~is_along], minlength=len(parts)) > 0).tolist()
-
-
-def read_table(folder, name):
-    """The rows of a table with their polygons in millimetres and their area in square metres, to the last digit."""
-    path = os.path.join(folder, f"{name}.csv")
-    if not os.path.exists(path):
-        return
-    with open(path, newline="", encoding="utf-8-sig", errors="replace") as file:
-        table = csv.DictReader(file, strict=True)
-        try:
-            table.fieldnames = [column.lower() for column in table.fieldnames or ()]
-            lacking = {"wkt", Source.KEYS[name], *OTHERS[name]} - set(table.fieldnames)
-            if lacking:
-                raise land.Trouble(f"{path}: no column {' and '.join(sorted(lacking))}")
-            for number, record in enumerate(table, 1):
-                members = polygons.read((record["wkt"] or "").encode())
-                if members is None:
-                    raise land.Trouble(
-                        f"{path} row {number}: {record[Source.KEYS[name]]}: its wkt is no polygon in millimetres"
-                    )
-                yield record, members, polygons.doubled(members) / 2_000_000
-        except csv.Error as error:
-            raise land.Trouble(f"{path} behind line {table.line_num}: {error}") from None

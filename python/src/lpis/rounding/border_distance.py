@@ -21,6 +21,7 @@ TINY = 1e-9  # metres: of doubles
 CROWDED = 8  # times as many pairs as lines: such a cell is parted
 GAIN = 1.25  # times as many pairs as before: where parting would leave more, it does not help
 QUARTERS = (0, 0), (1, 0), (0, 1), (1, 1)
+FEW = 1 << 13  # pairs: so many are looked at all, without cells
 HELD = 1 << 18  # intervals that wait to be joined, at least
 
 
@@ -82,6 +83,10 @@ class Along:
     def pairs(self):
         """Pairs of an edge and a segment that may be near, some at a time."""
         if not len(self.edges) or not len(self.segments):
+            return
+        if len(self.edges) * len(self.segments) <= FEW:
+            edge, segment = numpy.indices((len(self.edges), len(self.segments)))
+            yield edge.ravel(), segment.ravel()
             return
         ends, lines = self.edges.reshape(-1, 2), (self.edges, self.segments)
         all_of_them = [(numpy.zeros(len(some), int), numpy.arange(len(some))) for some in lines]
@@ -257,6 +262,6 @@ def edges_of(polygons):
     """The edges of polygons of Shapely, as rows of x, y, x, y, and the number of the polygon that each is of."""
     if not polygons:
         return numpy.zeros((0, 4)), numpy.zeros(0, int)
-    rings = Rings([wkb.Found.of_blob(wkb.HEAD.pack(1, 6, 1) + polygon.wkb) for polygon in polygons])
+    rings = Rings([wkb.Found.of_blob(wkb.several(polygon.wkb)) for polygon in polygons])
     first, ring = rings.ways()
     return numpy.hstack([rings.points[first], rings.points[first + 1]]), rings.owners[ring]

@@ -48,7 +48,7 @@ class Map:
         self.faces = overlay.Faces(self.network)
         self.windings = self.faces.windings()
         self.pieces = self.owners()
-        self.texts = []
+        self.texts, self.places = [], []
 
     def rounded(self, then):
         """The borders. Where they cross one another too often, a row is named that others cross most."""
@@ -135,26 +135,37 @@ class Map:
 
     def polygons(self, owners):
         """Each owner that has a face with the text of what it has, by the owners of the faces."""
-        if not self.texts:
-            self.texts = [text for part in numpy.array_split(self.network.points, 100) for text in texts_of(part)]
+        return ((owner, self.text(members)) for owner, members in self.members(owners))
+
+    def members(self, owners):
+        """The same with polygons of corners, by their numbers."""
         before, rings = None, []
         for owner, member, ring in overlay.Rings(self.faces, owners).walked():
             if owner != before and rings:
-                yield before, self.text(rings)
+                yield before, self.closed(rings)
                 rings = []
             before = owner
             rings.append((member, ring))
         if rings:
-            yield before, self.text(rings)
+            yield before, self.closed(rings)
 
-    def text(self, rings):
+    def closed(self, rings):
+        return [[[*ring, ring[0]] for ring in member] for member in overlay.members_of(rings, self.network.points)]
+
+    def text(self, members):
+        """The text of polygons of corners."""
+        if not self.texts:
+            self.texts = [text for part in numpy.array_split(self.network.points, 100) for text in texts_of(part)]
         text_of = self.texts.__getitem__
+        shells = (",".join(f"({','.join(map(text_of, ring))})" for ring in member) for member in members)
+        return "MULTIPOLYGON(" + ",".join(f"({rings})" for rings in shells) + ")"
 
-        def written(ring):
-            return f"({','.join(map(text_of, ring))},{text_of(ring[0])})"
-
-        members = overlay.members_of(rings, self.network.points)
-        return "MULTIPOLYGON(" + ",".join("(" + ",".join(map(written, member)) + ")" for member in members) + ")"
+    def in_millimetres(self, members):
+        """Polygons of corners with the places of these: what their text says."""
+        if not self.places:
+            self.places = list(map(tuple, self.network.points.tolist()))
+        place_of = self.places.__getitem__
+        return [[list(map(place_of, ring)) for ring in member] for member in members]
 
     def parcels_of_faces(self, rows):
         """The parcel of each face: that of its piece, by the number of the first row of that name."""

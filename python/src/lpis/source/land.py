@@ -64,7 +64,6 @@ class Layer:
     others: list = field(default_factory=list)  # columns that are not taken over
     faults: list = field(default_factory=list)  # of sheets: what keeps the table from being read
     notes: list = field(default_factory=list)  # what was met on the way, without loss
-    is_valid: bool = False  # all shapes are known to be valid
     origin: Origin | None = None  # where in a GeoPackage its rows are
 
 

@@ -1,4 +1,4 @@
-"""What texts of this repository name, as it is called where lpis is installed: commands, recipes, pages.
+"""What texts of this repository name, as it is called where lpis is installed: commands, pages.
 
     python3 installation.py PREFIX FILE..        changes the names in files below PREFIX, which `./install` has just put
         there
@@ -28,7 +28,6 @@ NOTE = "> Paths below `bench/`, `crates/`, `dev/` and `tests/` are those of the 
 
 def named(text, prefix):
     """A text with the names that things have below the prefix."""
-    text = re.sub(r"\btools/recipes\b", f"{prefix}/lib/lpis/recipes", text)
     text = re.sub(rf"\btools/({'|'.join(COMMANDS)})\b", r"lpis-\1", text)
     text = re.sub(r"\btools/(audit\w*\.sql)", rf"{prefix}/lib/lpis/\1", text)
     text = re.sub(r"(?<![\w/.])audit/", f"{prefix}/lib/lpis/audit/", text)
