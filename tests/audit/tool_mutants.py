@@ -142,8 +142,8 @@ DROPPED = {
             ' row["parcel"] in cell.wanted\n'
         ),
         (
-            "            (kind, row[kind], made_map.text(members))\n            for row, members in made[name][: -1 if kind"
-            ' == "piece" else None]\n            if row["parcel"] in cell.wanted\n'
+            "            (kind, row[kind], made_map.text(members))\n            for row, members in made[name][: -1"
+            ' if kind == "piece" else None]\n            if row["parcel"] in cell.wanted\n'
         ),
         "the report compares what the cell has made, and not what it wrote",
         tool=COUNTRY,
