@@ -18,7 +18,7 @@ from typing import Any, Callable, Iterator
 from . import country_checking
 from ..country import country_passes, jobs, source_parts
 from ..faults import fault_search
-from ..preparation import conflicts, decisions, origin, preparation_run, recipe
+from ..preparation import decisions, origin, preparation_run, recipe, source_tests
 from ..register import table_standing
 from ..report import finding_views, html_page, release_page, release_report
 from ..source import land, output_names
@@ -316,7 +316,7 @@ def map_of(layers: dict) -> tuple[html_page.Layer, html_page.Layer]:
 def shapes_of(layers: dict, name: str) -> Iterator[tuple]:
     """The rows of a layer with their polygons in millimetres."""
     for row in source_parts.rows_of_layer(layers[name]) if name in layers else ():
-        if row.found and land.reads_as_metres(row.found.box()) and max(map(abs, row.found.box())) <= conflicts.FAR:
+        if row.found and land.reads_as_metres(row.found.box()) and max(map(abs, row.found.box())) <= source_tests.FAR:
             yield row, [[[(x * 1000, y * 1000) for x, y in ring] for ring in member] for member in row.found.members]
 
 
