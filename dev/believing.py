@@ -1,6 +1,7 @@
 """What stands between the marks of docs/BELIEVE.md and of the pages of docs/believe: definitions, types and contracts
 as they stand in the sources. Imported by `dev/trust`, which says what the marks are."""
 
+import math
 import os
 import re
 import textwrap
@@ -15,6 +16,8 @@ MORE = TOP / "docs" / "believe"
 INDEX = MORE / "README.md"
 COMMENTS = TOP / "dev" / "comments.txt"
 
+MOST_FORMULAS = 1  # of an example on BELIEVE
+WORDS, SIGNS, EXAMPLE = 200, 50, 20  # words of prose and of formulas in a minute; seconds for an example
 MARK = re.compile(r"(?ms)^<!-- trust: (?!end)(.*?) -->\n.*?^<!-- trust: end -->$")
 
 
@@ -22,6 +25,28 @@ def wrapped(words, first="", later=""):
     return textwrap.wrap(
         words, WIDTH, initial_indent=first, subsequent_indent=later, break_long_words=False, break_on_hyphens=False
     )
+
+
+def commented(line, comment):
+    """A line with its comment behind it, or above it where it has no room for it."""
+    whole = f"{line}  -- {comment}" if comment else line
+    return [whole] if len(whole) <= WIDTH else [*wrapped(comment, "-- ", "-- "), line]
+
+
+def laid_out(text, comment):
+    """A definition with its comment in as few lines as the width allows. A record of short fields is one line, and what
+    has no comment behind its first line of two."""
+    lines = []
+    for line in joined(text).split("\n"):
+        goes_on = lines and line.startswith("      ") and len(lines[-1]) + 1 + len(line.strip()) <= WIDTH
+        lines[-1:] = [f"{lines[-1]} {line.strip()}"] if goes_on else [*lines[-1:], line]
+    head, *rest = lines
+    first = commented(head, comment)
+    short = (f"{head} " if head.endswith(" where") else f"{head}; ") + "; ".join(line.strip() for line in rest)
+    is_record = head.endswith(" where") and not any(line.startswith("   ") for line in rest)
+    if rest and len(short) <= WIDTH and (is_record or len(rest) == 1 and (not comment or len(first) > 1)):
+        return commented(short, comment)
+    return [*first, *rest]
 
 
 def own_comments():
@@ -39,6 +64,24 @@ def begins(text):
     """The title of a page, and the promise that stands below it."""
     title, _, rest = text.partition("\n")
     return title.lstrip("# "), " ".join(line.lstrip("> ") for line in rest.strip("\n").split("\n\n")[0].split("\n"))
+
+
+def minutes_of(text):
+    """How many minutes a page takes to read, in fives: without boxes, the chapter on them and the formulas of examples;
+    with all; and how many examples it has."""
+    text = re.sub(r"(?s)<!-- trust: time -->.*?<!-- trust: end -->", "", text)
+    examples = sum(len(re.findall(r"(?m)^- ", part)) for part in re.findall(r"(?s)<!-- trust: ex(.*?)<!-- tr", text))
+    boxes = "\n".join(re.findall(r"(?ms)^```\w+\n(.*?)^```$", text))
+    plain = re.sub(r"(?s)<!--.*?-->", "", re.sub(r"(?ms)^```.*?^```$", "", text))
+    spans = [span for span in re.findall(r"`[^`]+`", plain) if " " in span or "\n" in span]
+    short = re.sub(r"(?ms)^## How to read.*?(?=^## )", "", plain)
+    comments, rest = " ".join(re.findall(r"-- (.*)", boxes)), re.sub(r"-- .*", "", boxes)
+
+    def needs(prose, signs=""):
+        words = len(re.sub(r"`[^`]+`", "code", prose).split())
+        return 5 * math.ceil((words / WORDS + len(signs.split()) / SIGNS + examples * EXAMPLE / 60) / 5)
+
+    return needs(short), needs(plain + comments, " ".join([*spans, rest])), examples
 
 
 class Nodes:
@@ -126,6 +169,7 @@ class Pages:
             self.path, self.done = path, set()
             self.new[path] = MARK.sub(self.written, self.old[path])
         for path in paths:
+            self.minutes = minutes_of(self.new[path])
             self.new[path] = MARK.sub(self.list_of_pages, self.new[path])
         labels = {node.label.replace("'s ", "/") for node in self.printed}
         trust.faults += [f"{COMMENTS.name} has {label}, and no page" for label in self.comments if label not in labels]
@@ -151,7 +195,7 @@ class Pages:
             "promise": self.promises,
             "contract": self.contracts,
         }
-        if kind in ("pages", "links"):
+        if kind in ("pages", "links", "time"):
             return match.group(0)
         if kind not in kinds:
             raise SystemExit(f"{self.path.name}: what is a mark '{match.group(1)}'?")
@@ -160,8 +204,8 @@ class Pages:
     # What the marks say.
 
     def defined(self, words):
-        """These definitions and types with all that they use and the page has not had, in as few lines as can be;
-        what lies elsewhere, behind `without`, is left out."""
+        """These definitions and types with all that they use and the page has not had, in as few lines as can be, and
+        without words that change no meaning; what lies elsewhere, behind `without`, is left out."""
         at = words.index("without") if "without" in words else len(words)
         left_out = [node for node in self.trust.reached if lies_in(words[at + 1 :], node)]
         lines = []
@@ -173,7 +217,8 @@ class Pages:
                 continue
             comment = " ".join(line.lstrip("- ") for line in self.comment_of(node))
             comment = self.comments.get(node.label, comment)
-            lines += [*wrapped(comment, "-- ", "-- "), *self.text_of(node)[len(self.comment_of(node)) :]]
+            text = "\n".join(self.text_of(node)[len(self.comment_of(node)) :])
+            lines += laid_out(re.sub(r"(?m)^( *)(?:(?:abbrev|unfoldable|pub) )+", r"\1", text), comment)
         return ["```text", *lines, "```"]
 
     def short_type(self, node):
@@ -183,13 +228,13 @@ class Pages:
         comment, _, rest = type_of(self.trust.crates[node.crate], name).partition("pub ")
         sentence = re.split(r"[.:](?: |$)", re.sub(r"/// ?", "", comment).replace("\n", " ").strip())[0]
         sentence = self.comments.get(node.label.replace("'s ", "/"), sentence)
-        head = [f"-- {sentence}"] if sentence else []
         if value := re.search(r"ghost Value = \{ (.*) \};", rest):
             generics = re.match(r"struct \w+(<[\w, ]+>)?", rest).group(1) or ""
-            return [*head, f"type {name}{generics} = {value.group(1)}"]
+            return commented(f"type {name}{generics} = {value.group(1)}", sentence)
         fields = re.findall(r"(?m)^ +(?:pub )?((?:ghost )?\w+: .*?),(?: //.*)?$", rest)
         short = f"struct {name} {{ {', '.join(fields)} }}"
-        return [*head, *([short] if len(short) <= WIDTH else rest.split("\n"))]
+        first, *lines = [short] if len(short) <= WIDTH else rest.split("\n")
+        return [*commented(first, sentence), *lines]
 
     def text_of(self, node):
         return [*self.comment_of(node), *joined(node.signature() if node.law() else node.text.rstrip("\n")).split("\n")]
@@ -199,16 +244,18 @@ class Pages:
         return [line for line in node.written if line.startswith("--") and not line.startswith("-- ----")]
 
     def examples(self, names):
-        """Laws of the crate of examples: what each says, and its clauses; on a page other than BELIEVE its name too."""
+        """Laws of the crate of examples: what each says, and its clauses, on BELIEVE where they are few; on another
+        page its name too."""
         lines = []
         for name in names:
             found = law_of(self.trust.crates[EXAMPLES], name)
             if found is None:
                 raise SystemExit(f"{self.path.name}: there is no law {name} in {EXAMPLES}")
             self.cited.add(name)
-            clauses = ", ".join(f"`{clause}`".replace(" ", "\0") for clause in found[1])
+            shown = found[1] if self.path != HEAD or len(found[1]) <= MOST_FORMULAS else []
+            clauses = ", ".join(f"`{clause}`".replace(" ", "\0") for clause in shown)
             words = re.sub(r"(\([\w./]+,) (?=[\w./]+\))", "\\1\0", found[0])  # of a point: in one line
-            lines += wrapped(f"{words} {clauses}" + f" ({name})" * (self.path != HEAD), "- ", "  ")
+            lines += wrapped(f"{words} {clauses}".rstrip() + f" ({name})" * (self.path != HEAD), "- ", "  ")
         return [line.replace("\0", " ") for line in lines]
 
     def laws(self, modules):
@@ -312,7 +359,7 @@ class Pages:
         return [*wrapped(f"Here {', '.join(told)}."), ""] if told else []
 
     def list_of_pages(self, match):
-        """A row for each page but the first, with its promise; or links to them alone."""
+        """A row for each page but the first, with its promise; or links to them alone; or how long the page takes."""
         kind, others = match.group(1), [path for path in self.new if path not in (HEAD, INDEX)]
         if kind == "links":
             links = [f"[{begins(self.new[path])[0]}]({MORE.name}/{path.name})".replace(" ", "\0") for path in others]
@@ -324,4 +371,8 @@ class Pages:
                 for title, promise in [begins(self.new[path])]
             ]
             return self.mark(kind, ["", "| Page | What it promises |", "|---|---|", *rows, ""])
+        if kind == "time":
+            short, long, examples = self.minutes
+            said = f"It takes {short} minutes, with all formulas {long}: {WORDS} words a minute, {SIGNS} of formulas"
+            return self.mark(kind, wrapped(f"{said}, {EXAMPLE} seconds for each of {examples} examples."))
         return match.group(0)

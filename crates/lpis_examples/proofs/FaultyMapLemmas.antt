@@ -7,14 +7,18 @@ use Rattle.lpis_points.specs.Plane.{crossing, orient_at}
 use Rattle.lpis_rings.specs.Edges.{hole_edges, shell_edges}
 use Rattle.lpis_tables.specs.declared.piece.Piece.{Piece}
 use Rattle.lpis_checker.specs.SoundMap.{IsInPiece, IsSoundMap}
-use Rattle.lpis_examples.specs.Shapes.{cancelling, halves, place, quarters, splinter}
-use Rattle.lpis_examples.specs.Releases.{between_millimetres, cancelling_parcel, cancelling_piece, crop_of_farm, elsewhere, exchanged, far_splinter, farm, hole_outside, listed_twice}
-use Rattle.lpis_examples.specs.Releases.{long_wood, meadow}
-use Rattle.lpis_examples.specs.Releases.{outside_twice, overlapping, parcel, piece, pieces_overlapping, reaching_out, same_parcel_twice, strayed, with_gap, without_width}
+use Rattle.lpis_examples.specs.Shapes.{halves, place, quarters, splinter}
+use Rattle.lpis_examples.specs.Releases.{between_millimetres, cancelling_parcel, cancelling_piece, crop, crop_of_farm, elsewhere, exchanged, far_splinter, farm, field, hole_outside}
+use Rattle.lpis_examples.specs.Releases.{listed_twice, long_wood, meadow}
+use Rattle.lpis_examples.specs.Releases.{outside_twice, overlapping, parcel, pieces_overlapping, reaching_out, same_parcel_twice, strayed, thin_cancelling_parcel}
+use Rattle.lpis_examples.specs.Releases.{thin_cancelling_piece, thin_outside_twice, thin_overlap, thin_parcel_twice, with_gap, without_width}
 use Rattle.lpis_examples.proofs.ListLemmas.{any_of_one, at_most_cons, at_most_nil}
 
 nought_is_one : ◌≡◌ {A = ℕ} 0 1 → ⊥
 nought_is_one e = omega (arith, e)
+
+nought_is_two : ◌≡◌ {A = ℕ} 0 2 → ⊥
+nought_is_two e = omega (arith, e)
 
 two_is_three : ◌≡◌ {A = ℕ} 2 3 → ⊥
 two_is_three e = omega (arith, e)
@@ -42,7 +46,7 @@ above_by_four = omega (arith, ints)
 -- (3, 2) is in both parcels
 pub overlapping_is_none : IsSoundMap overlapping → ⊥
 unfolding crossing orient_at shell_edges
-overlapping_is_none s = nought_is_one (s.everywhere.one_parcel (place 3 2) above 0 1 _ _ refl refl refl refl)
+overlapping_is_none s = nought_is_two (s.everywhere.one_parcel (place 3 2) above 0 2 _ _ refl refl refl refl)
 
 -- (3, 2) is in the parcel and in no piece
 pub gap_is_none : IsSoundMap with_gap → ⊥
@@ -68,7 +72,7 @@ pieces_overlapping_is_none s = nought_is_one (((s.everywhere.filled (place 2 2) 
 -- (2, 2) is in the parcel, and its piece lies elsewhere
 pub elsewhere_is_none : IsSoundMap elsewhere → ⊥
 unfolding crossing orient_at shell_edges
-elsewhere_is_none s = any_of_one (IsInPiece (place 2 2)) strayed ⊥ nought_is_one ((s.everywhere.filled (place 2 2) above 0 farm (omega arith)).0 refl).0
+elsewhere_is_none s = any_of_one (IsInPiece (place 2 2)) strayed ⊥ nought_is_one ((s.everywhere.filled (place 2 2) above 1 field (omega arith)).0 refl).0
 
 -- (2, 2) is in the parcel, and the piece that names it is the neighbour's
 pub exchanged_is_none : IsSoundMap exchanged → ⊥
@@ -80,6 +84,21 @@ pub between_is_none : IsSoundMap between_millimetres → ⊥
 unfolding crossing orient_at shell_edges
 between_is_none s =
     any_of_one (IsInPiece (quarters 3 4)) far_splinter ⊥ nought_is_one ((s.everywhere.filled (quarters 3 4) above_by_four 0 (parcel (codes "farm") (splinter 0)) (omega arith)).0 refl).0
+
+-- (3/4, 1) is in both parcels
+pub thin_overlap_is_none : IsSoundMap thin_overlap → ⊥
+unfolding crossing orient_at shell_edges
+thin_overlap_is_none s = nought_is_one (s.everywhere.one_parcel (quarters 3 4) above_by_four 0 1 _ _ refl refl refl refl)
+
+-- (3/4, 1) is in the parcel of each row
+pub thin_parcel_is_none : IsSoundMap thin_parcel_twice → ⊥
+unfolding crossing orient_at shell_edges
+thin_parcel_is_none s = nought_is_one (s.everywhere.one_parcel (quarters 3 4) above_by_four 0 1 _ _ refl refl refl refl)
+
+-- (35/4, 1) is in two pieces
+pub thin_outside_is_none : IsSoundMap thin_outside_twice → ⊥
+unfolding crossing orient_at shell_edges
+thin_outside_is_none s = two_is_three (s.everywhere.one_piece (quarters 35 4) above_by_four 2 3 _ _ refl refl refl refl)
 
 -- (2, 2) is in the parcel of each row
 pub same_parcel_is_none : IsSoundMap same_parcel_twice → ⊥
@@ -104,12 +123,22 @@ hole_outside_is_none s = wrong_way (s.turns.parcels (place 9 1) above 0 farm (om
 -- the piece turns twice round (10, 2)
 pub cancelling_piece_is_none : IsSoundMap cancelling_piece → ⊥
 unfolding crossing orient_at shell_edges hole_edges
-cancelling_piece_is_none s = neither (s.turns.pieces (place 10 2) above 0 (piece (codes "pasture") (codes "farm") (codes "grass") cancelling) (omega arith)).0
+cancelling_piece_is_none s = neither (s.turns.pieces (place 10 2) above 1 crop (omega arith)).0
 
 -- the parcel turns twice round (10, 2)
 pub cancelling_parcel_is_none : IsSoundMap cancelling_parcel → ⊥
 unfolding crossing orient_at shell_edges hole_edges
-cancelling_parcel_is_none s = neither (s.turns.parcels (place 10 2) above 0 (parcel (codes "farm") cancelling) (omega arith)).0
+cancelling_parcel_is_none s = neither (s.turns.parcels (place 10 2) above 1 field (omega arith)).0
+
+-- the piece turns twice round (35/4, 1)
+pub thin_piece_is_none : IsSoundMap thin_cancelling_piece → ⊥
+unfolding crossing orient_at shell_edges hole_edges
+thin_piece_is_none s = neither (s.turns.pieces (quarters 35 4) above_by_four 0 crop (omega arith)).0
+
+-- the parcel turns twice round (35/4, 1)
+pub thin_cancelling_is_none : IsSoundMap thin_cancelling_parcel → ⊥
+unfolding crossing orient_at shell_edges hole_edges
+thin_cancelling_is_none s = neither (s.turns.parcels (quarters 35 4) above_by_four 0 field (omega arith)).0
 
 -- a piece has no area
 pub without_width_is_none : IsSoundMap without_width → ⊥

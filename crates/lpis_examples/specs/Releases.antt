@@ -8,13 +8,17 @@ use Rattle.lpis_tables.specs.Percentages.{most_percent}
 use Rattle.lpis_release.specs.declared.parcel.Parcel.{Parcel}
 use Rattle.lpis_release.specs.Release.{Contents}
 use Rattle.lpis_examples.specs.Shapes.{box, cancelling, corner, doubled, frame, land, splinter}
-use Rattle.lpis_examples.specs.Shapes.{outside_hole, square}
+use Rattle.lpis_examples.specs.Shapes.{outside_hole, square, thin_cancelling}
 
--- classes: all of grass is eligible, and half of trees
+-- classes: all of grass is eligible, half of trees, nothing of buildings, and of heath and scrub 67
+-- and 33 percent
 abbrev pub classes : List Class
 classes =
     record { code = codes "grass"; percent = 100; within = leb→le 100 most_percent tt }
     ∷ record { code = codes "trees"; percent = 50; within = leb→le 50 most_percent tt }
+    ∷ record { code = codes "building"; percent = 0; within = leb→le 0 most_percent tt }
+    ∷ record { code = codes "heath"; percent = 67; within = leb→le 67 most_percent tt }
+    ∷ record { code = codes "scrub"; percent = 33; within = leb→le 33 most_percent tt }
     ∷ []
 
 -- a parcel, and a piece of a parcel
@@ -52,6 +56,30 @@ crop = piece (codes "crop") (codes "field") (codes "grass") (land (box 4 0 8 4))
 -- the two parcels with their three pieces
 abbrev pub two_parcels : Contents
 two_parcels = release (farm ∷ field ∷ []) (meadow ∷ wood ∷ crop ∷ [])
+
+-- `farm` with a house, scrub and a heath
+abbrev pub house : Piece
+house = piece (codes "house") (codes "farm") (codes "building") (land (box 0 0 1 4))
+
+abbrev pub scrub : Piece
+scrub = piece (codes "scrub") (codes "farm") (codes "scrub") (land (box 1 0 2 4))
+
+abbrev pub heath : Piece
+heath = piece (codes "heath") (codes "farm") (codes "heath") (land (box 2 0 4 4))
+
+abbrev pub with_house : Contents
+with_house = release (farm ∷ []) (house ∷ scrub ∷ heath ∷ [])
+
+-- a piece that is all of `farm`
+abbrev pub pasture : Piece
+pasture = piece (codes "pasture") (codes "farm") (codes "grass") square
+
+-- the parcel `orchard` above `farm`, and its piece
+abbrev pub orchard : Parcel
+orchard = parcel (codes "orchard") (land (box 0 4 4 8))
+
+abbrev pub apples : Piece
+apples = piece (codes "apples") (codes "orchard") (codes "trees") (land (box 0 4 4 8))
 
 -- `farm` in two parts, of which the first has a hole; the parcel `island` in that hole, its ring
 -- written clockwise; and the parcel `field`, which meets each part of `farm` at a corner alone
@@ -91,9 +119,6 @@ rocks = piece (codes "rocks") (codes "farm") (codes "rock") square
 
 -- `farm` with one piece, and `field` a millimetre further to the east: the strip between them is
 -- in no parcel
-abbrev pub pasture : Piece
-pasture = piece (codes "pasture") (codes "farm") (codes "grass") square
-
 abbrev pub far_field : Parcel
 far_field = parcel (codes "field") (land (box 5 0 8 4))
 
@@ -103,10 +128,16 @@ far_crop = piece (codes "crop") (codes "field") (codes "grass") (land (box 5 0 8
 abbrev pub with_strip : Contents
 with_strip = release (farm ∷ far_field ∷ []) (pasture ∷ far_crop ∷ [])
 
--- `field` begins a millimetre further to the west, in `farm`
+-- `field` begins a millimetre further to the west, in `farm`; in both tables `orchard` stands
+-- between the two
+abbrev pub early_field : Parcel
+early_field = parcel (codes "field") (land (box 3 0 8 4))
+
+abbrev pub early_crop : Piece
+early_crop = piece (codes "crop") (codes "field") (codes "grass") (land (box 3 0 8 4))
+
 abbrev pub overlapping : Contents
-overlapping = release (farm ∷ parcel (codes "field") (land (box 3 0 8 4)) ∷ [])
-    (meadow ∷ wood ∷ piece (codes "crop") (codes "field") (codes "grass") (land (box 3 0 8 4)) ∷ [])
+overlapping = release (farm ∷ orchard ∷ early_field ∷ []) (pasture ∷ apples ∷ early_crop ∷ [])
 
 -- `farm` without its wood
 abbrev pub with_gap : Contents
@@ -124,12 +155,12 @@ abbrev pub pieces_overlapping : Contents
 pieces_overlapping = release (farm ∷ [])
     (piece (codes "meadow") (codes "farm") (codes "grass") (land (box 0 0 3 4)) ∷ wood ∷ [])
 
--- the piece of `farm` lies elsewhere, and has the same area
+-- the piece of `farm` lies elsewhere, and has the same area; the rows before and behind are right
 abbrev pub strayed : Piece
 strayed = piece (codes "pasture") (codes "farm") (codes "grass") (land (box 8 0 12 4))
 
 abbrev pub elsewhere : Contents
-elsewhere = release (farm ∷ []) (strayed ∷ [])
+elsewhere = release (field ∷ farm ∷ orchard ∷ []) (crop ∷ strayed ∷ apples ∷ [])
 
 -- the pieces of the two parcels, each with the name of the neighbour's parcel
 abbrev pub crop_of_farm : Piece
@@ -147,6 +178,17 @@ far_splinter = piece (codes "pasture") (codes "farm") (codes "grass") (splinter 
 abbrev pub between_millimetres : Contents
 between_millimetres = release (parcel (codes "farm") (splinter 0) ∷ []) (far_splinter ∷ [])
 
+-- two parcels, and the piece of each, are the same thin triangle
+abbrev pub thin_farm : Parcel
+thin_farm = parcel (codes "farm") (splinter 0)
+
+abbrev pub thin_pasture : Piece
+thin_pasture = piece (codes "pasture") (codes "farm") (codes "grass") (splinter 0)
+
+abbrev pub thin_overlap : Contents
+thin_overlap = release (thin_farm ∷ parcel (codes "field") (splinter 0) ∷ [])
+    (thin_pasture ∷ piece (codes "crop") (codes "field") (codes "grass") (splinter 0) ∷ [])
+
 -- the same parcel in two rows
 abbrev pub same_parcel_twice : Contents
 same_parcel_twice = release (farm ∷ farm ∷ []) (pasture ∷ [])
@@ -156,6 +198,15 @@ abbrev pub outside_twice : Contents
 outside_twice = release (farm ∷ [])
     (meadow ∷ wood ∷ piece (codes "a") (codes "wild") (codes "grass") (land (box 8 0 12 4))
     ∷ piece (codes "b") (codes "wild") (codes "grass") (land (box 8 0 12 4)) ∷ [])
+
+-- the same of a thin parcel, and of thin pieces
+abbrev pub thin_parcel_twice : Contents
+thin_parcel_twice = release (thin_farm ∷ thin_farm ∷ []) (thin_pasture ∷ [])
+
+abbrev pub thin_outside_twice : Contents
+thin_outside_twice = release (farm ∷ [])
+    (meadow ∷ wood ∷ piece (codes "a") (codes "wild") (codes "grass") (splinter 8)
+    ∷ piece (codes "b") (codes "wild") (codes "grass") (splinter 8) ∷ [])
 
 -- a parcel and its piece, each with the same square listed twice
 abbrev pub listed_twice : Contents
@@ -167,17 +218,28 @@ abbrev pub hole_outside : Contents
 hole_outside = release (parcel (codes "farm") outside_hole ∷ [])
     (piece (codes "meadow") (codes "farm") (codes "grass") outside_hole ∷ [])
 
--- the polygon `cancelling`, as the piece of a square and as the parcel
+-- the polygon `cancelling`, as the piece of a square and as the parcel; the rows before and behind
+-- are right
 abbrev pub cancelling_piece : Contents
-cancelling_piece = release (farm ∷ [])
-    (piece (codes "pasture") (codes "farm") (codes "grass") cancelling ∷ [])
+cancelling_piece = release (field ∷ farm ∷ orchard ∷ [])
+    (crop ∷ piece (codes "pasture") (codes "farm") (codes "grass") cancelling ∷ apples ∷ [])
 
 abbrev pub cancelling_parcel : Contents
-cancelling_parcel = release (parcel (codes "farm") cancelling ∷ []) (pasture ∷ [])
+cancelling_parcel = release (field ∷ parcel (codes "farm") cancelling ∷ orchard ∷ [])
+    (crop ∷ pasture ∷ apples ∷ [])
 
--- a piece that is only a line, besides one that fills the parcel
+-- the same of the polygon `thin_cancelling`
+abbrev pub thin_cancelling_piece : Contents
+thin_cancelling_piece = release (farm ∷ [])
+    (piece (codes "pasture") (codes "farm") (codes "grass") thin_cancelling ∷ [])
+
+abbrev pub thin_cancelling_parcel : Contents
+thin_cancelling_parcel = release (parcel (codes "farm") thin_cancelling ∷ []) (pasture ∷ [])
+
+-- a piece that is only a line, between two that fill the parcel
+abbrev pub line : Piece
+line = piece (codes "line") (codes "farm") (codes "trees")
+    (land (corner 0 0 ∷ corner 4 0 ∷ corner 4 0 ∷ corner 0 0 ∷ []))
+
 abbrev pub without_width : Contents
-without_width = release (farm ∷ [])
-    (piece (codes "meadow") (codes "farm") (codes "grass") square
-    ∷ piece (codes "line") (codes "farm") (codes "trees")
-    (land (corner 0 0 ∷ corner 4 0 ∷ corner 4 0 ∷ corner 0 0 ∷ [])) ∷ [])
+without_width = release (farm ∷ []) (meadow ∷ line ∷ wood ∷ [])

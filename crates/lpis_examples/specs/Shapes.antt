@@ -1,5 +1,5 @@
 -- The points and polygons of the examples, in millimetres.
-use Rattle.std.specs.Prelude.{ℕ, suc, min, pos, ◌*ℤ◌, ◌≤ℤ◌, ◌<ℤ◌, List, [], ◌∷◌, ◌++◌}
+use Rattle.std.specs.Prelude.{ℕ, suc, min, pos, ◌*ℤ◌, ◌≤ℤ◌, ◌<ℤ◌, List, [], ◌∷◌, ◌++◌, reverse}
 use Rattle.lpis_points.specs.declared.point.Point.{Point}
 use Rattle.lpis_points.specs.declared.triangle.Triangle.{Triangle}
 use Rattle.lpis_points.specs.Plane.{RationalPoint}
@@ -48,6 +48,14 @@ wedge = land (corner 0 0 ∷ corner 4 0 ∷ corner 0 4 ∷ corner 0 0 ∷ [])
 abbrev pub frame : List Member
 frame = record { shell = box 0 0 4 4; holes = box 1 1 3 3 ∷ [] } ∷ []
 
+-- its hole written clockwise
+abbrev pub backward_frame : List Member
+backward_frame = record { shell = box 0 0 4 4; holes = reverse (box 1 1 3 3) ∷ [] } ∷ []
+
+-- a rectangle of 8 by 4 with two holes of 2 by 2
+abbrev pub two_holes : List Member
+two_holes = record { shell = box 0 0 8 4; holes = box 1 1 3 3 ∷ box 5 1 7 3 ∷ [] } ∷ []
+
 -- two squares of 4 by 4, and other land between them
 abbrev pub apart : List Member
 apart = square ++ land (box 8 0 12 4)
@@ -74,8 +82,16 @@ cancelling = record { shell = box 0 0 4 4; holes = box 12 0 16 4 ∷ box 12 0 16
     ∷ land (box 8 0 12 4) ++ land (box 8 0 12 4)
 
 -- a triangle that begins at x and contains no point with whole-millimetre coordinates
+abbrev pub thin : ℕ → List Point
+thin x = corner x 0 ∷ corner (suc x) 1 ∷ corner (suc x) 2 ∷ corner x 0 ∷ []
+
 abbrev pub splinter : ℕ → List Member
-splinter x = land (corner x 0 ∷ corner (suc x) 1 ∷ corner (suc x) 2 ∷ corner x 0 ∷ [])
+splinter x = land (thin x)
+
+-- as `cancelling`, with thin triangles in place of the second square and of the hole
+abbrev pub thin_cancelling : List Member
+thin_cancelling = record { shell = box 0 0 4 4; holes = thin 12 ∷ thin 12 ∷ [] }
+    ∷ splinter 8 ++ splinter 8
 
 -- the point is right of the left side or on it, and left of the right side; above the lower side or
 -- on it, and below the upper one

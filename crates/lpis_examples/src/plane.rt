@@ -29,8 +29,8 @@ pub fn a_point_right_of_an_edge()
     ensures { orient_at (corner 4 0) (corner 4 4) (place 6 2) ≡ negsuc 7 }
 {}
 
-/// An edge goes from (0, 0) to (4, 4). (2, 3) is on its left: the number is above 0. (3, 2) is on
-/// its right: below 0. (3, 3) is on the edge: 0.
+/// Walk from (0, 0) to (4, 4). (2, 3) is on your left: above 0. (3, 2) is on your right: below 0.
+/// (3, 3) is on the edge: 0.
 pub fn a_point_beside_a_slanted_edge()
     ensures left { orient_at (corner 0 0) (corner 4 4) (place 2 3) ≡ pos 4 }
     ensures right { orient_at (corner 0 0) (corner 4 4) (place 3 2) ≡ negsuc 3 }
@@ -44,12 +44,12 @@ pub fn half_a_millimetre_beside_an_edge()
     ensures east { orient_at (corner 4 0) (corner 4 4) (halves 9 4) ≡ negsuc 3 }
 {}
 
-/// Seen from the west, an edge that goes up counts 1.
+/// An edge goes from (4, 0) up to (4, 4). From (1, 2) you meet it: 1.
 pub fn an_edge_is_crossed_upward()
     ensures { crossing (corner 4 0) (corner 4 4) (place 1 2) ≡ pos 1 }
 {}
 
-/// The same edge, going down, counts -1.
+/// The same edge goes down, from (4, 4) to (4, 0): -1.
 pub fn an_edge_is_crossed_downward()
     ensures { crossing (corner 4 4) (corner 4 0) (place 1 2) ≡ negsuc 0 }
 {}
@@ -66,8 +66,9 @@ pub fn an_edge_under_the_point_is_not_crossed()
     ensures down { crossing (corner 4 4) (corner 4 0) (place 4 2) ≡ pos 0 }
 {}
 
-/// From a point level with its lower end an edge counts, from one level with its upper end it does
-/// not. So where one edge ends at a corner and the next goes on upward, one of the two counts.
+/// At its lower end, seen from (1, 0), this edge counts, whichever way it goes. At its upper end,
+/// seen from (1, 4), it does not. So where one edge ends at a corner and the next goes on upward,
+/// one of them counts. Where both go up from it two count, where both end there none.
 pub fn the_lower_end_is_part_of_an_edge()
     ensures lower { crossing (corner 4 0) (corner 4 4) (place 1 0) ≡ pos 1 }
     ensures upper { crossing (corner 4 0) (corner 4 4) (place 1 4) ≡ pos 0 }
