@@ -43,7 +43,7 @@ except ImportError:
 ROUNDED, KEPT, STRAIGHTENED = Fraction(708, 1000), Fraction(3, 2), Fraction(51, 100)  # millimetres; the last with ours
 HAIR = 0.001  # millimetres about the polygon of a finding
 SLACK = 0.00002  # millimetres that doubles may be off
-SAYING_NOTHING = ("between", "kept", "spike", "column")  # findings that change no land
+SAYING_NOTHING = ("between", "kept", "spike", "slit", "column")  # findings that change no land
 CONFLICTS = ("overlap", "gap", "outside")  # those of places alone: no row is gone for them
 
 Key = tuple  # what a row says of its points: (parcel), or (piece, parcel, class, percentage)

@@ -20,7 +20,9 @@ def rows_of(folder):
     with contextlib.closing(sqlite3.connect(path_of(folder))) as base:
         base.row_factory = sqlite3.Row
         columns = "table_name, srs_id, min_x, min_y, max_x, max_y"
-        layers = base.execute(f"SELECT {columns} FROM gpkg_contents ORDER BY rowid").fetchall()
+        layers = base.execute(
+            f"SELECT {columns} FROM gpkg_contents WHERE data_type = 'features' ORDER BY rowid"
+        ).fetchall()
         for name, system, *box in layers:
             found = base.execute(f'SELECT * FROM "{name}" ORDER BY fid')
             found = [{**row, "geom": shape_of(row["geom"], system)} for row in found]

@@ -9,7 +9,7 @@ from lpis.system import shapely_there
 
 if shapely_there.is_there():
     import numpy
-    from lpis.preparation import row_outcomes
+    from lpis.preparation import narrow_changes
     from lpis.rounding.border_distance import Along
     from shapely.geometry import LineString, MultiLineString, Polygon
 
@@ -179,7 +179,7 @@ class TestEdges:
                 False,
             ),
         }
-        assert row_outcomes.lead_away(after, [Polygon(way) for way, _ in parts.values()]) == [
+        assert narrow_changes.lead_away(after, [Polygon(way) for way, _ in parts.values()]) == [
             wanted for _, wanted in parts.values()
         ]
-        assert row_outcomes.lead_away(after, []) == []
+        assert narrow_changes.lead_away(after, []) == []

@@ -12,7 +12,7 @@ from lpis.system import shapely_there
 
 if shapely_there.is_there():
     from lpis.formats import wkb
-    from lpis.preparation import conflicts, land_balance, row_outcomes
+    from lpis.preparation import conflicts, land_balance, narrow_changes, row_outcomes
     from lpis.rounding import coverage, snap_rounding
     from lpis.source import land
     from lpis.system.trouble import Trouble
@@ -110,7 +110,7 @@ class TestBudgets(Spare):
 
     def test_very_many_spikes(self, monkeypatch):
         """A comb of teeth half a millimetre wide: the first are told one by one, and all others in one row."""
-        monkeypatch.setattr(row_outcomes, "MOST_SPIKES", 20)
+        monkeypatch.setattr(narrow_changes, "MOST", 20)
         teeth = 60
         top = [(0.0005 * place / 2, 12.0 if place % 2 else 10.0) for place in range(2 * teeth, -1, -1)]
         ring = [(E + x, N + y) for x, y in [(0.0, 0.0), (0.0005 * teeth, 0.0), *top, (0.0, 0.0)]]

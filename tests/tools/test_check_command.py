@@ -18,6 +18,7 @@ from lpis_helpers.browser import CHROMIUM, Browser
 from lpis_helpers.calls import ended_with, lpis, run, tool
 from lpis_helpers.places import BUILT, PACKAGE, TOOLS
 from lpis_helpers.spare import Kept, Spare, read, write, write_script
+from lpis.formats import geopackage
 from lpis.register import table_standing
 from lpis.report import finding_views
 from lpis.system import placing, shapely_there
@@ -42,7 +43,7 @@ def rows_of(path):
     """All findings of a GeoPackage: kind, layer, row, identifiers, whether there is a polygon, and whether it is shown
     by itself: all but the greatest change."""
     base = sqlite3.connect(path)
-    layers = [name for (name,) in base.execute("SELECT table_name FROM gpkg_contents")]
+    layers = geopackage.layers_of(base)
     rows = [
         row
         for name in layers
@@ -378,9 +379,7 @@ class TestCountries(Spare):
         read."""
         knobs = "; ".join(f"{module}.MOST_ROWS = 3" for module in known)
         script = f"import os, runpy, sys; sys.path.insert(0, {PACKAGE!r})\n"
-        script += (
-            f"from lpis.checking import country_checking; from lpis.preparation import tested_source\n{knobs}\n{first}\n"
-        )
+        script += f"from lpis.checking import country_checking; from lpis.preparation import tested_source\n{knobs}\n{first}\n"
         script += f"runpy.run_path({os.path.join(TOOLS, 'check')!r}, run_name='__main__')"
         return run(
             shapely_there.python(), "-B", "-c", script, "--lpis", shlex.quote(BUILT), "--out", self.out, self.land
@@ -392,6 +391,7 @@ class TestCountries(Spare):
         assert (table_standing.of(self.out).state, table_standing.why_not(self.out)) == ("whole", "")
         assert os.path.isfile(self.path("out", "country.txt")) and "border of a region" in read(self.out, "index.html")
         assert names_in(self.out) & TABLES == {"classes.csv"}
+        assert not [*Path(self.out).glob("*/cert.txt"), *Path(self.out).glob("*/cut.txt")]
 
     def test_to_its_end(self):
         self.yes(self.checked())
@@ -403,7 +403,13 @@ class TestCountries(Spare):
             == ended_with(1, checked(self.land, "--out", self.path("release"))).stdout.splitlines()[-1]
         ), ran.stdout
         shown = data_of(read(self.out, "index.html"))["map"]["findings"]["names"]
-        assert sorted(shown) == ["changed null", "changed wide", "changed wide.2", "gap null", "overlap wide-2.1 wide.2"]
+        assert sorted(shown) == [
+            "changed null",
+            "changed wide",
+            "changed wide.2",
+            "gap null",
+            "overlap wide-2.1 wide.2",
+        ]
 
     @pytest.mark.parametrize("known", (("tested_source", "country_checking"), ("tested_source",)))
     def test_over_a_release(self, known):

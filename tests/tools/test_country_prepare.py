@@ -61,6 +61,11 @@ def workers_of(folder):
     return [words for words in found if os.fsencode(folder) in words]
 
 
+def stopping(folder):
+    """The rows of findings.csv, but for what is settled without asking."""
+    return [row for row in records(folder, "findings.csv") if row["state"] != "told"]
+
+
 class TestSources(Case):
     """A source with every kind of dirt, prepared as one release and as a country."""
 
@@ -74,7 +79,7 @@ class TestSources(Case):
         }
         cls.refused = [sorted(os.listdir(folder)) for folder in (cls.whole, cls.country)]
         cls.findings = [read(folder, "prepared.csv") for folder in (cls.whole, cls.country)]
-        cls.rows = [records(folder, "findings.csv") for folder in (cls.whole, cls.country)]
+        cls.rows = [stopping(folder) for folder in (cls.whole, cls.country)]
         cls.polygons = [Path(folder, "findings.gpkg").read_bytes() for folder in (cls.whole, cls.country)]
         cls.runs["accepted"] = tool("prepare", cls.land, cls.whole, "--accept"), tool(
             "country",
@@ -118,7 +123,7 @@ class TestSources(Case):
         )
         assert told.groups() == accepted.groups()
         assert self.rows[0] == self.rows[1] and len(self.rows[0]) == sum(map(int, told.groups()))
-        later = [records(folder, "findings.csv") for folder in (self.whole, self.country)]
+        later = [stopping(folder) for folder in (self.whole, self.country)]
         assert later[0] == later[1]
         for one, other in zip(self.rows[0], later[0]):
             assert (one["number"], one["comes_from"], one["place"]) == (

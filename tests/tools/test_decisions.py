@@ -11,7 +11,7 @@ from lpis_helpers import dirty
 from lpis_helpers.calls import ended_with, records, run, tool
 from lpis_helpers.places import BUILT
 from lpis_helpers.spare import Spare, read, write
-from lpis.lineage import year_comparison
+from lpis.lineage import accepted_changes, year_comparison
 from lpis.preparation import acceptance, decisions, origin
 from lpis.register import ledger
 from lpis.system import shapely_there
@@ -125,7 +125,7 @@ class TestTables(Spare):
             "r.csv",
         )
         for _ in range(2):
-            decisions.add_changes(self.folder, rows, year_comparison.Marks([self.path("r.csv")]))
+            decisions.add_changes(self.folder, rows, accepted_changes.Marks([self.path("r.csv")]))
         first, second = decisions.records(self.folder)
         assert (
             first["kind"],
@@ -137,7 +137,7 @@ class TestTables(Spare):
             second["why"],
         ) == ("gap", "open", "area", decisions.CHANGE, "parcel a", "Bo", "new survey")
         assert decisions.faults_of(self.folder, {}) == []
-        decisions.add_changes(self.folder, rows, year_comparison.Marks([]))
+        decisions.add_changes(self.folder, rows, accepted_changes.Marks([]))
         assert len(list(decisions.records(self.folder))) == 1
         assert decisions.left_over(self.folder) == [decisions.name_of(sha256(self.folder, "r.csv"))]
 
@@ -155,11 +155,11 @@ class TestRuns(Spare):
         )
         ended_with(1, tool("prepare", land, out, "--quiet"))
         rows = records(out, "findings.csv")
-        assert {row["state"] for row in rows} == {"open"}
+        assert {row["state"] for row in rows} == {"open", "told"}
         kinds = {"overlap", "gap", "doubled"}
         marked(marks, rows, lambda row: row["kind"] in kinds, MORE)
         ended_with(0, tool("prepare", land, out, "--quiet", "--accept-from", marks, "--accept"))
-        found = list(decisions.records(out))
+        found = [row for row in decisions.records(out) if row["state"] != "told"]
         mine = [row for row in found if row["accepted_by"] == "Ada Muster"]
         assert {row["kind"] for row in mine} == kinds
         assert all(

@@ -109,7 +109,9 @@ class TestFormat(Polygons):
             with sqlite3.connect(found_layers.path_of(self.out)) as base:
                 assert [row[1] for row in base.execute("PRAGMA table_info(overlap)")] == COLUMNS
                 assert base.execute("PRAGMA integrity_check").fetchall() == [("ok",)]
-                assert {system for (system,) in base.execute("SELECT srs_id FROM gpkg_contents")} == {25832}
+                assert {system for (system,) in base.execute("SELECT srs_id FROM gpkg_contents")} == {25832, None}
+                every = "SELECT name FROM sqlite_master WHERE type = 'table' AND name NOT LIKE 'gpkg%'"
+                assert {*base.execute(every)} == {*base.execute("SELECT table_name FROM gpkg_contents")}
 
     def test_names(self):
         """The names are those of the tables."""

@@ -43,13 +43,16 @@ def shapeless(row, name="x", kind="shape", words="no shape (NULL)"):
 
 @lacks_shapely
 class TestTable(Spare):
-    def run_of(self, found, marks=(), kinds=None, folder="out", previous=None, is_whole=True):
+    has_row = None
+
+    def run_of(self, found, marks=(), kinds=None, folder="out", previous=None, is_whole=True, settled=()):
         """The rows of the table after a run that found this."""
         os.makedirs(self.path(folder), exist_ok=True)
         self.told = []
         accept = acceptance.Accepting(kinds, [self.path(name) for name in marks])
         table = live_findings.Table(self.path(folder), self.path(folder), previous, accept, self.told.append)
-        table.take(found, is_whole)
+        self.table, table.has_row = table, self.has_row
+        table.take(found, is_whole, settled)
         table.write()
         return list(decisions.records(self.path(folder)))
 
@@ -82,6 +85,41 @@ class TestTable(Spare):
         ]
         assert {row["state"] for row in self.run_of([])} == {"gone"}
         assert self.told_of([overlap(70)])[0] == ("7", "new", "a b")
+
+    def test_a_number_stays_with_its_row(self):
+        """Where the source still has the row that had it, what lies there now is another finding; a row that was
+        renamed keeps it, and so does one of the same number where nobody knows the source's rows."""
+        for there, number in (("a", "2"), ("", "1"), (None, "1")):
+            self.has_row = (
+                None if there is None else lambda layer, name, there=there: (layer, name) == ("covers", there)
+            )
+            folder = f"of {there}"
+            self.run_of([overlap(0, kind="changed", names=["a"], rows=[1])], folder=folder)
+            (now, *_) = self.run_of([overlap(0, kind="changed", names=["a-2"], rows=[1])], folder=folder)
+            assert (now["identifiers"], now["number"]) == ("a-2", number), there
+
+    def test_what_is_settled_is_told(self):
+        """Below what stops, with a number that holds; it is nothing to decide, and it may come to stop."""
+        narrow = overlap(10)
+        narrow.width, narrow.is_grave = 0.01, False
+        rows = self.run_of([overlap(0)], settled=[narrow])
+        assert [(row["number"], row["state"], row["place"] > "") for row in rows] == [
+            ("1", "open", True),
+            ("2", "told", True),
+        ]
+        assert (self.table.count(), self.table.left_open().count) == (1, 1)
+        assert self.told_of([overlap(10)], settled=[]) == [("2", "new", "a b"), ("1", "gone", "a b")]
+
+    def test_marks_that_fit_nothing_are_said(self):
+        """With their rows, and why."""
+        self.run_of([overlap(0), overlap(10, kind="gap")])
+        self.mark("m.csv", "12")
+        self.run_of([overlap(0, 2)], ["m.csv"])
+        first, second = self.told
+        assert "m.csv row 1: overlap a b (covers) is accepted there, and what is there now" in str(first)
+        assert "m.csv row 2: gap a b (covers) is accepted there, and there is no such finding" in str(second)
+        self.run_of([overlap(0), overlap(10, kind="gap")], ["m.csv"])
+        assert self.told == []
 
     def test_the_most_in_common(self):
         """Of two places that both meet an earlier one the larger share goes first, and each row is taken once."""
@@ -173,7 +211,9 @@ class TestTable(Spare):
             ("3", "open", "", "", ""),
             ("1", "gone", "", "Ada", "seen"),
         ]
-        assert self.told == []
+        assert [str(note).split("findings.csv ")[1].split(" is accepted")[0] for note in self.told] == [
+            "row 1: overlap a b (covers)"  # its place is gone
+        ]
 
     def test_notes(self):
         """What somebody wrote beside a row stays, also where it is not accepted; and a table with marks that no run was
@@ -255,7 +295,7 @@ class TestRuns(Spare):
             tables.append(read(self.path(folder), "findings.csv"))
             self.last = ran.stdout.splitlines()
         assert tables[0] == tables[1]
-        return records(self.path("whole"), "findings.csv")
+        return [row for row in records(self.path("whole"), "findings.csv") if row["state"] != "told"]
 
     def test_districts(self):
         """A sheet goes to each district and comes back, while the source has other fids; a year later the numbers

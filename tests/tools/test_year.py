@@ -5,6 +5,8 @@ import argparse
 import datetime
 import json
 import os
+import re
+import shlex
 import shutil
 from pathlib import Path
 
@@ -12,7 +14,7 @@ import pytest
 from lpis_helpers.registers import made
 from lpis_helpers.calls import ended_with, tool
 from lpis_helpers.places import BUILT, TOP
-from lpis_helpers.spare import Spare, read
+from lpis_helpers.spare import Spare, read, write_script
 from lpis.register import ledger, publication_steps
 from lpis.system import files
 
@@ -238,10 +240,49 @@ class TestYears(Case):
         for base, year, folder, words in (
             (os.path.join(self.folder, "no", "lpis.db"), "2024", self.folder, "no is not there"),
             (self.folder, "2024", self.folder, "is a folder, and no register"),
+            ("/dev/full", "2024", self.folder, "is no file, and no register"),
             (self.base, "2024", os.path.join(self.folder, "none"), "none is not there"),
         ):
             ran = run(base, year, folder, "--new")
             assert (64, True, []) == (ran.returncode, words in ran.stderr, os.listdir(self.folder)), ran.stderr
+
+    def test_lpis_looks_at_the_release_once_before_it_is_published(self):
+        """`publish` does, and then the report of what is published."""
+        write_script(
+            f'#!/bin/sh\necho "$1" >>{shlex.quote(self.path("calls"))}\nexec {shlex.quote(BUILT)} "$@"\n',
+            self.path("program"),
+        )
+        for year, more in ((2024, ["--new"]), (2025, [])):
+            shutil.copytree(os.path.join(EXAMPLES, str(year)), folder := self.path(str(year)))
+            lineage = [line.rpartition(",")[0] for line in read(folder, "lineage.csv").splitlines()]
+            Path(folder, "lineage.csv").write_text("\n".join(lineage) + "\n", encoding="ascii")  # no row is marked
+            ran = tool("year", self.base, year, folder, *more, "--lpis", shlex.quote(self.path("program")))
+            assert re.search(r"(?m)^total area [0-9.]+ eligible [0-9.]+$", ended_with(0, ran).stdout)
+        calls = [word for word in read(self.folder, "calls").split() if word in ("check", "cut", "publish")]
+        assert calls == ["publish", "check"] * 2
+
+    def test_a_first_year_that_is_refused_leaves_no_register(self):
+        shutil.copytree(os.path.join(EXAMPLES, "2024"), folder := self.path("2024"))
+        rows = read(folder, "covers.csv").splitlines(keepends=True)
+        Path(folder, "covers.csv").write_text("".join(rows[:-1]), encoding="ascii")
+        ran = ended_with(2, self.year(2024, "--new"))
+        assert "refused 37 parcels" in ran.stdout and "nothing was published" in ran.stderr
+        assert not [
+            name for name in os.listdir(self.folder) if name.startswith("lpis.db") and not name.endswith(".log")
+        ]
+        Path(folder, "covers.csv").write_text("".join(rows), encoding="ascii")
+        ended_with(0, self.year(2024, "--new"))
+
+    def test_a_refusal_goes_before_changes(self):
+        """Of a year that lpis refuses nobody is asked to accept what changed since the last one."""
+        ended_with(0, self.year(2024, "--new"))
+        shutil.copytree(os.path.join(EXAMPLES, "2024"), folder := self.path("2025"))
+        rows = read(folder, "covers.csv").splitlines(keepends=True)
+        Path(folder, "covers.csv").write_text("".join(rows[:-1]), encoding="ascii")
+        classes = read(folder, "classes.csv").replace(",100", ",50")
+        Path(folder, "classes.csv").write_text(classes, encoding="ascii")
+        ran = ended_with(2, self.year(2025))
+        assert "refused 37 parcels" in ran.stdout and "to look at" not in ran.stderr
 
     def test_a_refusal_publishes_nothing(self):
         assert 0 == self.year(2024, "--new").returncode

@@ -12,7 +12,7 @@ from lpis_helpers.calls import ended_with, records, tool
 from lpis_helpers.places import BUILT
 from lpis_helpers.registers import rows
 from lpis_helpers.spare import Spare
-from lpis.lineage import two_years, year_comparison
+from lpis.lineage import accepted_changes, two_years, year_comparison
 from lpis.register import ledger
 from lpis.system import shapely_there
 from lpis.system.trouble import Trouble
@@ -126,7 +126,7 @@ class TestRows(Case):
             self.folder_of("new", {"DEBY0405": LAND["DEBY0406"], "DEBY0406": LAND["DEBY0405"]})
         ) as found:
             found.compare(None, self.folder_of("old"))
-            told = year_comparison.judged(found, year_comparison.Marks(()), "2024")
+            told = accepted_changes.judged(found, accepted_changes.Marks(()), "2024")
         assert [line for line in told.lines if "it has the land that DEBY0406 had" in line and "moved DEBY0405" in line]
         assert told.lines[-1] == year_comparison.NO_SHAPELY
 
@@ -153,7 +153,7 @@ class TestRows(Case):
             shutil.copy(os.path.join(folder, "a", "classes.csv"), folder)
         with year_comparison.Comparison(self.path("new"), workers=2) as found:
             found.compare(None, self.path("old"))
-            told, sums = year_comparison.judged(found, year_comparison.Marks(()), "2024"), [
+            told, sums = accepted_changes.judged(found, accepted_changes.Marks(()), "2024"), [
                 row for row in found.rows() if row.of == "all"
             ]
         assert [(row.kind, row.before, row.after) for row in sums] == [
@@ -170,7 +170,7 @@ class TestRows(Case):
 class TestMarks(Case):
     def marks(self, text):
         Path(self.path("marks.csv")).write_text(text, encoding="utf-8")
-        return year_comparison.Marks([self.path("marks.csv")])
+        return accepted_changes.Marks([self.path("marks.csv")])
 
     def test_a_mark_is_of_its_figures(self):
         row = year_comparison.Row("area", "parcel", "A", 100.5, 200.25)

@@ -5,6 +5,7 @@ from __future__ import annotations
 
 import argparse
 import contextlib
+import glob
 import json
 import os
 import shlex
@@ -22,6 +23,7 @@ OWN = ".lpis-check"  # a file in the folder: a run that was stopped goes on ther
 PAGE = "index.html"
 OF_BEFORE = ("parcels.csv", "covers.csv", "cert.txt", "report.txt", PAGE)  # of the run before: a release, and the page
 LAYERS = ("parcels", "covers")
+CUT = "cut.txt"  # what `cut` printed of a region, beside the certificate that it made
 
 
 def rows_of(source: str, names: dict) -> int:
@@ -105,6 +107,13 @@ class Country:
         ran = self.called("prepare", *options_of(self.words), "--", self.words.land, self.words.out)
         if ran.returncode == 1:
             return self.stopped(finding_views.of_package(self.path(finding_views.PACKAGE), is_settled=False))
+        try:
+            return self.checked(ran)
+        finally:
+            self.let_certificates_go()
+
+    def checked(self, ran: subprocess.CompletedProcess) -> tuple[int, list[str]]:
+        """What lpis says of the regions that `prepare` wrote, if it did."""
         ran = ran if ran.returncode else self.called("cut", self.lpis, "--", self.words.out)
         if ran.returncode == 1:
             return self.stopped(self.faults())
@@ -121,6 +130,13 @@ class Country:
         ]
         files.run(report, stdout=subprocess.DEVNULL, check=True)
         return 0, [*(line for line in ran.stdout.splitlines() if line.startswith("country ")), self.where(), "yes"]
+
+    def let_certificates_go(self) -> None:
+        """Removes the certificates that `cut` made of the regions, unless they are to be kept: a yes needs none."""
+        made = [] if self.words.certificate else glob.glob(os.path.join(glob.escape(self.words.out), "*", CUT))
+        for path in made:
+            files.remove(os.path.join(os.path.dirname(path), "cert.txt"))
+            files.remove(path)
 
     def faults(self) -> list[finding_views.Found]:
         """What `tools/country cut` found in regions that are refused."""

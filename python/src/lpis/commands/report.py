@@ -38,7 +38,7 @@ import os
 
 from ..faults import fault_search
 from ..formats import register_rows
-from ..lineage import release_differences, year_comparison
+from ..lineage import accepted_changes, release_differences, year_comparison
 from ..preparation import origin
 from ..register import second_checker, table_standing
 from ..report import country_report, finding_views, release_page, release_report
@@ -111,7 +111,7 @@ def compared(facts, words, workers=1):
         facts["difference"]["against"] = [dict(zip(year_comparison.COLUMNS, row.fields())) for row in found.rows()]
         if words.changes:
             year_comparison.write(words.changes, found.rows())
-        return year_comparison.judged(found, year_comparison.Marks(words.accept_from), words.diff)
+        return accepted_changes.judged(found, accepted_changes.Marks(words.accept_from), words.diff)
 
 
 def ended(facts, told, words):

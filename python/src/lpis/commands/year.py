@@ -57,7 +57,7 @@ import subprocess
 import sys
 
 from ..formats import byte_tables
-from ..lineage import year_comparison
+from ..lineage import accepted_changes, two_years
 from ..preparation import origin
 from ..register import (
     ledger,
@@ -72,6 +72,7 @@ from ..system import files, placing, processes, program, progress, shapely_there
 from ..system import command_line as words_of_tools
 from ..system.printing import counted
 from ..register.publication_steps import STOPPED, Stop, told
+from ..system.trouble import Trouble
 
 DONE = 0
 TABLES = ("parcels.csv", "covers.csv", "classes.csv", "lineage.csv")
@@ -160,11 +161,10 @@ def place_of_certificates(words):
 
 
 def certified(command, words, place):
-    """Has lpis look at the release, before anything is compared. The certificate to publish with: one is made in a
-    folder where marked rows want blocks in it, where it is kept, and for the second checker; else None."""
+    """The certificate to publish with: one is made in a folder where marked rows want blocks in it, where it is kept,
+    and for the second checker; else None, and `publish` alone looks at the release."""
     is_marked = has_marks(words.folder)
     if not (is_marked or words.certificate or words.audit):
-        print(*told(command, "check", words.folder).decode().splitlines()[-2:-1])
         return None
     cert, exact = (os.path.join(place, name) for name in CERTIFICATES)
     print(told(command, "cut", words.folder, cert).decode().strip())
@@ -177,6 +177,29 @@ def certified(command, words, place):
         if is_marked and said == second_checker.YES:
             print(second_checker.of_lineage(words.register, words.folder, cert))
     return cert
+
+
+def compared(command, words, last, marks):
+    """What publication_steps.compare answers. Where it stops, what lpis refuses goes first: nobody is to look at
+    changes of tables that are none."""
+    try:
+        return publication_steps.compare(words, last, marks)
+    except Trouble:
+        told(command, "check", words.folder)
+        raise
+
+
+def published(command, words, cert):
+    """What `publish` prints, by which lpis checks the release. A new register in which it put nothing goes."""
+    try:
+        text = told(command, "publish", words.register, str(words.year), words.folder, *([cert] if cert else []))
+    except Stop:
+        if words.new and os.path.isfile(words.register) and not two_years.last_year(words.register):
+            for end in ("", "-wal", "-shm"):
+                files.remove(words.register + end)
+        raise
+    print(*(line for line in text.decode(errors="replace").splitlines() if line.startswith("total ")), sep="\n")
+    return text
 
 
 def begin_lineage(path):
@@ -197,7 +220,7 @@ def run(words):
     processes.tell("nothing was published")
     words.folder = year_source.folder_of(words)
     publication_steps.look_at_places(words, "what is printed and the report")
-    last, marks = publication_steps.last_year(words), year_comparison.Marks(words.accept_from)
+    last, marks = publication_steps.last_year(words), accepted_changes.Marks(words.accept_from)
     files.alone(words.folder)
     publication_steps.look_at_tables(words, last)
     if words.new:
@@ -211,9 +234,9 @@ def run(words):
             publication_steps.back_up(words.register, words.year)
         cert = certified(command, words, place)
         kept = cert if words.certificate else None
-        old = publication_steps.compare(words, last, marks)
+        old = compared(command, words, last, marks)
         with publication_steps.publishing(words):
-            text = told(command, "publish", words.register, str(words.year), words.folder, *([cert] if cert else []))
+            text = published(command, words, cert)
             printed = publication_steps.write_printed(words, text)
             digest = ledger.add(
                 log, words.register, publication_steps.entry_of(words, command, TABLES, kept, printed, before)

@@ -57,6 +57,7 @@ UNIT["degree",0.0174532925199433],AUTHORITY["EPSG","4326"]]', 'longitude/latitud
 """
 SYSTEM = "INSERT INTO gpkg_spatial_ref_sys VALUES (?, ?, 'EPSG', ?, 'undefined', NULL)"
 CONTENTS = "INSERT INTO gpkg_contents VALUES (?1, 'features', ?1, '', ?2, NULL, NULL, NULL, NULL, ?3)"
+OTHERS = "INSERT INTO gpkg_contents VALUES (?1, 'attributes', ?1, '', ?2, NULL, NULL, NULL, NULL, NULL)"  # no shapes
 SHAPES = "INSERT INTO gpkg_geometry_columns VALUES (?, 'geom', 'MULTIPOLYGON', ?, 0, 0)"
 EXTENT = "UPDATE gpkg_contents SET min_x = ?, min_y = ?, max_x = ?, max_y = ? WHERE table_name = ?"
 HEAD = struct.Struct("<2sBBi4d")  # of a shape: GP, version 0, little endian with a box, the system, the box
@@ -95,6 +96,7 @@ class Package:
     def end(self) -> None:
         """Writes how far each layer extends, and how QGIS draws it."""
         self.base.executescript(layer_style.TABLE)
+        self.base.execute(OTHERS, (layer_style.NAME, CHANGED))
         style = layer_style.text()
         self.base.executemany(layer_style.ROW, [(name, style, CHANGED) for name in self.boxes])
         found = [(*box, name) for name, box in self.boxes.items() if box]
@@ -110,6 +112,12 @@ def joined(box: Box | None, other: Box) -> Box:
 def fit(value: Any) -> Any:
     """A value that a table takes: letters that are none are written out."""
     return value.encode("utf-8", "backslashreplace").decode() if isinstance(value, str) else value
+
+
+def layers_of(base: sqlite3.Connection) -> list[str]:
+    """The names of the layers of a GeoPackage that have shapes, in the order in which they were made."""
+    found = base.execute("SELECT table_name FROM gpkg_contents WHERE data_type = 'features' ORDER BY rowid")
+    return [name for (name,) in found]
 
 
 @contextlib.contextmanager

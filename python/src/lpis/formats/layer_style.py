@@ -11,12 +11,13 @@ STATES = {  # as on a page
 }
 WIDTHS = {"new": 1.2}  # of the border, in millimetres
 USUAL = 0.6
-TABLE = """
-CREATE TABLE layer_styles (id INTEGER PRIMARY KEY NOT NULL, f_table_catalog TEXT, f_table_schema TEXT,
+NAME = "layer_styles"
+TABLE = f"""
+CREATE TABLE {NAME} (id INTEGER PRIMARY KEY NOT NULL, f_table_catalog TEXT, f_table_schema TEXT,
   f_table_name TEXT, f_geometry_column TEXT, styleName TEXT, styleQML TEXT, styleSLD TEXT, useAsDefault BOOLEAN,
   description TEXT, owner TEXT, ui TEXT, update_time DATETIME);
 """
-ROW = "INSERT INTO layer_styles VALUES (NULL, '', '', ?, 'geom', 'findings', ?, '', 1, 'by state', '', NULL, ?)"
+ROW = f"INSERT INTO {NAME} VALUES (NULL, '', '', ?, 'geom', 'findings', ?, '', 1, 'by state', '', NULL, ?)"
 
 
 def rgb(colour: str, opaque: int) -> str:

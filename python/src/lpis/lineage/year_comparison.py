@@ -23,29 +23,20 @@ from itertools import islice
 
 from ..formats import guarded_csv, polygons, table_streams
 from . import parcel_questions, two_years
-from ..preparation import decisions
 from ..report import release_report
-from ..source import spreadsheets
 from ..system import files, progress, shapely_there
 from ..formats.square_metres import hectares
 from ..system.printing import counted, escaped
-from ..system.trouble import Trouble
 
 OF_SUMS, OF_PARCELS = 1.0, 20.0  # percent
 LEAST = 100  # square metres: less of a class or a parcel is a border that moved, or a parcel of some metres
 AREA, ELIGIBLE = 2_000_000, 200_000_000  # parts of a square metre
 COLUMNS = ["kind", "of", "identifier", "before", "after", "difference", "percent", "words"]
-WANTED = COLUMNS[:5]
 HEAD = ",".join(COLUMNS) + "\n"
-MARK = "accepted"
-NOTHING = "nothing changed beyond the bounds"
-MOST_TOLD = 20
-EPSILON = 0.0011  # the last digit of a figure, as the table has it
 NAMED = {"eligible": "eligible area", "area": "area"}
 NO_SHAPELY = "parcels that moved are found by their boxes alone: Shapely is not there (Debian: python3-shapely)"
 NO_TABLES = "percentages of classes and eligible areas are not compared: {}; --previous FOLDER names last year's tables"
 NO_SHAPES = "the area of all, and {} are not compared: the register keeps no shape of them"
-COPY = "it is no copy of the table of what changed, with a column accepted"
 FOUND = "CREATE TABLE found (kind TEXT, of_what TEXT, name TEXT, before REAL, after REAL, words TEXT)"
 SHARE = "CREATE TABLE share (name TEXT PRIMARY KEY, eligible INTEGER) WITHOUT ROWID"
 SHARES = """SELECT name, its.eligible, share.eligible FROM share JOIN past.share AS its USING (name)
@@ -343,54 +334,6 @@ def merged_words(others: Sequence[str]) -> str:
     return f"with {' '.join(islice(others, 5))}{' ..' if len(others) > 5 else ''}, merged into it" if others else ""
 
 
-class Marks:
-    """The rows that somebody accepted, each with its figures."""
-
-    def __init__(self, paths: Iterable[str]):
-        self.rows: dict[tuple, list] = {}
-        self.tables = decisions.Tables()
-        for path in paths:
-            self.read(path)
-
-    def read(self, path: str) -> None:
-        sheet = spreadsheets.read(path)
-        records = [{name.lower(): (value or "").strip() for name, value in row.items()} for row in sheet.records]
-        lacking = [name for name in (*WANTED, MARK) if name not in map(str.lower, sheet.columns)]
-        faults = [f"{path}: {fault.words}" for fault in sheet.faults]
-        faults += [f"{path}: no column {' and '.join(lacking)}: {COPY}"] if lacking else []
-        if faults:
-            raise Trouble(*faults)
-        digest = self.tables.add(path)
-        for number, record in enumerate(records, 1):
-            if record[MARK] not in ("", "0", "1"):
-                raise Trouble(f"{path} row {number}: {MARK} is {record[MARK]!r}, and not 1, 0 or empty")
-            if record[MARK] == "1":
-                self.add(record, f"{path} row {number}", self.tables.decision(digest, record))
-
-    def add(self, record: dict, place: str, decision: decisions.Decision) -> None:
-        try:
-            figures = tuple(guarded_csv.number(record[name]) for name in ("before", "after"))
-        except ValueError:
-            raise Trouble(f"{place}: a figure is no number, in a row that is accepted") from None
-        key = record["kind"], record["of"], guarded_csv.plain(record["identifier"]).strip()
-        self.rows.setdefault(key, []).append((*figures, decision))
-
-    def takes(self, row: Row) -> bool:
-        return self.decision(row) is not None
-
-    def decision(self, row: Row) -> decisions.Decision | None:
-        """Who accepted a row with its figures; None where nobody did."""
-        marks = self.rows.get(row.key(), ())
-        near = (
-            decision for before, after, decision in marks if is_near(before, row.before) and is_near(after, row.after)
-        )
-        return next(near, None)
-
-
-def is_near(one: float, other: float) -> bool:
-    return abs(one - other) <= EPSILON
-
-
 def write(path: str, rows: Iterable[Row]) -> None:
     """The table; what somebody wrote into the one that is there is kept under a name with a number."""
     if os.path.isfile(path):
@@ -401,30 +344,3 @@ def write(path: str, rows: Iterable[Row]) -> None:
         table = guarded_csv.Writer(file)
         table.writerow(COLUMNS)
         table.writerows(row.fields() for row in rows)
-
-
-@dataclass
-class Judged:
-    """How many rows there are, and how many of them nobody accepted; lines for people."""
-
-    count: int = 0
-    left: int = 0
-    lines: list = field(default_factory=list)
-
-
-def judged(found: Comparison, marks: Marks, before: object) -> Judged:
-    """`before` names the year before."""
-    told = Judged()
-    for row in found.rows():
-        told.count += 1
-        if not marks.takes(row):
-            told.left += 1
-            if told.left <= MOST_TOLD:
-                told.lines.append(f"  {row.line()}")
-    if told.left > MOST_TOLD:
-        told.lines.append(f"  and {told.left - MOST_TOLD} more")
-    accepted = f", {told.count - told.left} of them accepted" if told.count > told.left else ""
-    changes = f"{counted(told.count, 'change')} to look at{accepted}" if told.count else NOTHING
-    told.lines.insert(0, f"against {before}: {changes}")
-    told.lines += found.lacking
-    return told

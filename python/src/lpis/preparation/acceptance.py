@@ -136,8 +136,8 @@ class Accepting:
         if faults:
             raise land.Trouble(*faults)
         digest = self.tables.add(path)
+        records = [{name.lower(): (value or "").strip() for name, value in record.items()} for record in records]
         for number, record in enumerate(records, 1):
-            record = {name.lower(): (value or "").strip() for name, value in record.items()}
             if record["accepted"] not in ("", "0", "1"):
                 raise land.Trouble(f"{path} row {number}: accepted is {record['accepted']!r}, and not 1, 0 or empty")
             if record["accepted"] == "1":
@@ -148,7 +148,7 @@ class Accepting:
     def add(self, path, number, record, decision):
         """A row that is marked."""
         try:
-            mark = Mark(record, decision)
+            mark = Mark(record, decision, f"{path} row {number}")
         except outlines.Damaged:
             raise land.Trouble(
                 f"{path} row {number}: its place is not as it was written: take the row from the table again, and leave"
@@ -171,8 +171,7 @@ class Accepting:
                     mark.held = row
 
     def marks_of(self, found):
-        kind, layer, _, names = found.key_words()
-        return self.rows.get((kind, layer, same_name(names)), ())
+        return self.rows.get(key_of_rows(found), ())
 
     def takes(self, found):
         """Whether a finding or a loss is accepted."""
@@ -199,6 +198,25 @@ class Accepting:
             return decisions.Decision(decisions.BY_OPTION)
         return decisions.Decision(decisions.BY_OTHERS) if key_of(found) in self.following else None
 
+    def unfit(self, founds):
+        """What is said of marks that are for nothing that was found: each with its row, and why not, where something
+        of the same kind and names is there."""
+        kept = {key_of_rows(found) for found in founds}
+        for found in founds:
+            for mark in self.marks_of(found):
+                mark.is_used = mark.is_used or mark.is_for(found)
+        for key, marks in self.rows.items():
+            kind, layer, names = key
+            there = (
+                "what is there now lies elsewhere, is larger, or has other words"
+                if key in kept
+                else "there is no such finding"
+            )
+            for mark in marks:
+                if not mark.is_used:
+                    what = " ".join(filter(None, (kind, names, layer and f"({layer})")))
+                    yield f"{mark.stands}: {what} is accepted there, and {there}"
+
     def notes_of(self, number, kind):
         """What tables of marks have beside a row that they do not accept."""
         return self.notes.get((str(number), kind), {})
@@ -207,17 +225,23 @@ class Accepting:
         return bool(self.is_all or self.kinds or self.rows)
 
 
+def key_of_rows(found):
+    """By what the marks of a finding or a loss are found."""
+    kind, layer, _, names = found.key_words()
+    return kind, layer, same_name(names)
+
+
 def key_of(found):
     """What a loss that comes of others is known by."""
     return (*found.key_words(), found.words)
 
 
 class Mark:
-    """A row that somebody marked, and who did. `held` is the number of the row for which it holds, where it has no
-    polygons."""
+    """A row that somebody marked, who did, and where that stands. `held` is the number of the row for which it holds,
+    where it has no polygons."""
 
-    def __init__(self, record, decision):
-        self.decision, self.held = decision, None
+    def __init__(self, record, decision, stands=""):
+        self.decision, self.held, self.stands, self.is_used = decision, None, stands, False
         self.row, self.size = record["row"], [value_of(record[name]) for name in ("area_m2", "x", "y")]
         self.words, self.place = without_sizes(guarded_csv.plain(record["words"])), record["place"]
         if self.place:

@@ -43,10 +43,12 @@ ORDER = (
     "outside",
     "between",
     "spike",
+    "slit",
     "changed",
     "column",
 )
 STOPPING = frozenset(ORDER[:9])
+SETTLED = frozenset(("overlap", "gap", "outside", "spike", "slit"))
 
 
 @dataclass
@@ -77,6 +79,10 @@ class Loss:
 
     def stops(self):
         return self.kind in STOPPING or self.is_wide() or self.is_grave
+
+    def is_settled(self):
+        """Whether the tables settle a place of it that is too narrow to stop."""
+        return self.kind in SETTLED and not self.stops()
 
     def key_words(self):
         """What a row of its table is known by: the kind, the layer, the row and the identifiers."""

@@ -23,6 +23,7 @@ from ..system.printing import escaped
 
 FILE = "findings.csv"
 OPEN, NEW, ACCEPTED, GONE = "open", "new", "accepted", "gone"  # states
+TOLD = "told"  # the state of what was settled without asking, since it is too narrow to stop
 BY_OPTION, BY_OTHERS = "--accept", "its cause"  # who accepted a row that no table of marks has
 WHO = "who"  # the column of a table of marks that names who accepted
 COLUMNS = [
@@ -220,7 +221,7 @@ def counts(folder: str) -> Counter:
 def states(folder: str) -> dict[str, int]:
     """How many findings of each state there are."""
     found = Counter(row.get("state") for row in records(folder) if row.get("layer") != CHANGE)
-    return {state: found[state] for state in (OPEN, NEW, ACCEPTED, GONE) if found[state]}
+    return {state: found[state] for state in (OPEN, NEW, ACCEPTED, GONE, TOLD) if found[state]}
 
 
 def in_words(found: dict[str, int]) -> str:

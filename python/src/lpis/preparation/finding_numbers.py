@@ -1,5 +1,6 @@
 """The numbers of findings: one that a table of an earlier run had keeps its number while its kind and its place hold,
-whatever its row is called now, and although it grew or shrank. A number is given once."""
+although it grew or shrank, and although its row was renamed. A number is given once, and does not pass to another row:
+where the source still has a row of the earlier name, what lies there now is another finding."""
 
 from __future__ import annotations
 
@@ -26,17 +27,21 @@ class Known:
     def __init__(self, records: Iterable[dict]) -> None:
         self.records = [record for record in records if NUMBER.fullmatch(record.get("number") or "")]
         self.free = dict.fromkeys(range(len(self.records)))  # in their order
+        self.has_row: Callable | None = None
         self.next = 1 + max((int(record["number"]) for record in self.records), default=0)
 
     def left(self) -> list[dict]:
         """The rows that no finding took up."""
         return [self.records[number] for number in self.free]
 
-    def take(self, found: list) -> dict[int, dict]:
-        """The earlier rows of findings, by their places in a list: those that are alike in most go first."""
+    def take(self, found: list, has_row: Callable | None = None) -> dict[int, dict]:
+        """The earlier rows of findings, by their places in a list: those that are alike in most go first. `has_row`
+        says whether the source has a row of a layer and a name; where nothing does, a row that was renamed is one that
+        has its number still."""
         taken: dict[int, dict] = {}
         if not self.records:
             return taken
+        self.has_row = has_row
         ours = [Facts(*one.key_words(), one.words, one.outline(), one.polygons(), one.at()) for one in found]
         theirs = [Facts.of_record(record) for record in self.records]
         for key in KEYS:
@@ -56,8 +61,10 @@ class Known:
             if (known := key(theirs[one])) is not None:
                 waiting[known].append(one)
         for at, our in enumerate(ours):
-            if at not in taken and waiting.get(key(our)):
-                self.give(taken, at, waiting[key(our)].pop())
+            some = waiting.get(key(our), []) if at not in taken else []
+            if (one := next((one for one in reversed(some) if self.may_be(our, theirs[one])), None)) is not None:
+                some.remove(one)
+                self.give(taken, at, one)
 
     def pair_places(self, ours: list, theirs: list, is_named: bool, taken: dict) -> None:
         """Takes up the rows of the same kind with which findings have most land in common."""
@@ -70,11 +77,24 @@ class Known:
         for at, our in enumerate(ours):
             group = our.group(is_named)
             if at not in taken and our.has_land() and group in groups:
-                near = (groups[group][number] for number in boxes[group].meeting(our.box()))
+                near = [groups[group][number] for number in boxes[group].meeting(our.box())]
+                near = [one for one in near if self.may_be(our, theirs[one])]
                 common += [(area, -at, -one) for one in near if (area := our.common(theirs[one])) > TINY]
         for _, at, one in sorted(common, reverse=True):
             if -at not in taken and -one in self.free:
                 self.give(taken, -at, -one)
+
+    def may_be(self, our: Facts, their: Facts) -> bool:
+        """Whether a finding may be one of before by its names: they are the same, or those of a row that was
+        renamed."""
+        if our.names == their.names:
+            return True
+        if self.has_row is None:
+            return our.row == their.row
+        kept, layers = set(our.names.split()), their.layers()
+        return not any(
+            name not in kept and self.has_row(layer, name) for name, layer in zip(their.told.split(), layers)
+        )
 
 
 class Facts:
@@ -92,6 +112,7 @@ class Facts:
         at: tuple | None,
     ) -> None:
         self.kind, self.layer, self.row, self.names = kind, layer, str(row), same_name(names)
+        self.told = names  # in their order
         self.words = without_sizes(words)
         self.outline, self.blob, self.at, self.made = outline, blob, at, None
 
@@ -105,6 +126,10 @@ class Facts:
             blob, at = None, None
         names = (record.get(name) or "" for name in ("kind", "layer", "row", "identifiers", "words"))
         return cls(*names, text, blob, at)
+
+    def layers(self) -> list[str]:
+        """The layer of each of its names: a piece outside of its parcel has that behind its own."""
+        return ["covers", "parcels"] if self.kind == "outside" else [self.layer] * (1 + self.told.count(" "))
 
     def group(self, is_named: bool) -> tuple:
         return self.kind, self.layer, self.names if is_named else None

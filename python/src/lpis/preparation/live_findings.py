@@ -1,6 +1,7 @@
-"""findings.csv, the table of what stops, which lives from run to run and from year to year: a row a finding, with a
-number that holds while its kind and its place hold, whatever its row is called. What comes of a finding stands below
-it. A row is open, new since the last run, accepted, or gone; what somebody wrote beside it stays.
+"""findings.csv, the table of what stops or is settled, which lives from run to run and from year to year: a row a
+finding, with a number that holds while its kind and its place hold, although its row was renamed. What comes of a
+finding stands below it. A row is open, new since the last run, accepted, told, or gone; what somebody wrote beside it
+stays.
 
     table = Table(folder, standing, previous, accept, say)
     table.take(found)          who accepted what, and the numbers; `accept` takes then what comes of what it accepts
@@ -18,7 +19,7 @@ from ..system import files
 from ..system.progress import Note
 from . import consequences, decisions, outlines
 from .acceptance import Accepting, Left
-from .decisions import ACCEPTED, FILE, GONE, NEW, OPEN, PLACE, Decision
+from .decisions import ACCEPTED, FILE, GONE, NEW, OPEN, PLACE, TOLD, Decision
 from .finding_numbers import Known
 
 
@@ -96,9 +97,11 @@ class Table:
         accept: Accepting,
         say: Callable,
     ) -> None:
-        self.folder, self.accept = folder, accept
+        self.folder, self.accept, self.say = folder, accept, say
         self.kept: Any = None  # the columns of the source that go with rows of its layers
+        self.has_row: Callable | None = None  # whether the source has a row of a layer and a name
         self.rows: list[Row] = []
+        self.settled: list[Row] = []
         self.is_whole = True
         before = [place for place in (standing, previous) if place and os.path.isfile(os.path.join(place, FILE))]
         self.is_later = bool(before)
@@ -108,23 +111,38 @@ class Table:
             row for row in (decisions.records(before[0]) if before else ()) if row.get("layer") != decisions.CHANGE
         )
 
-    def take(self, found: Iterable, is_whole: bool = True) -> None:
-        """Takes what stops. Of a run that stopped at once (not whole) the other rows stay as they were."""
+    def take(self, found: Iterable, is_whole: bool = True, settled: Iterable = ()) -> None:
+        """Takes what stops, and what is settled without asking. Of a run that stopped at once (not whole) the other
+        rows stay as they were."""
         self.rows, self.is_whole = [Row(one) for one in found], is_whole
+        self.settled = [Row(one, state=TOLD) for one in settled]
         for at, causes in consequences.causes_of(self.rows).items():
             self.rows[at].causes = causes
         self.accept.bind(self.rows)
         for row in self.rows:
             row.decision = None if is_hopeless(row.found) else self.accept.decision(row)
         self.follow()
-        before = self.known.take(self.rows)
+        if is_whole:
+            self.tell_unfit()
+        before = self.known.take([*self.rows, *self.settled], self.has_row)
         for at in self.order():
             self.tell(self.rows[at], before.get(at))
+        for at, row in enumerate(self.settled, len(self.rows)):
+            self.tell(row, before.get(at))
         for row in self.rows:
             row.comes_from = " ".join(str(number) for number in sorted(self.rows[at].number for at in row.causes))
         if self.kept:
-            for row, values in zip(self.rows, self.kept.of_rows([row.key_words()[1:3] for row in self.rows])):
+            every = [*self.rows, *self.settled]
+            for row, values in zip(every, self.kept.of_rows([row.key_words()[1:3] for row in every])):
                 row.kept = values
+
+    def tell_unfit(self) -> None:
+        """Says which marks are for nothing that was found."""
+        told = list(self.accept.unfit([*self.rows, *self.settled]))
+        for words in told[: decisions.MOST_TOLD]:
+            self.say(Note(words))
+        if len(told) > decisions.MOST_TOLD:
+            self.say(Note(f"and {len(told) - decisions.MOST_TOLD} more marks that are for nothing that was found"))
 
     def follow(self) -> None:
         """What comes of rows that are all accepted is accepted."""
@@ -153,10 +171,11 @@ class Table:
 
     def tell(self, row: Row, before: dict | None) -> None:
         """Gives a row its number, its state and its notes."""
-        is_new = before is None or before.get("state") == GONE
+        is_new = before is None or before.get("state") in (GONE, TOLD)
         row.number = int(before["number"]) if before else self.known.next
         self.known.next += before is None
-        row.state = ACCEPTED if row.decision else NEW if is_new and self.is_later else OPEN
+        if row.state != TOLD:
+            row.state = ACCEPTED if row.decision else NEW if is_new and self.is_later else OPEN
         columns = self.kept.columns if self.kept else ()
         noted = self.accept.notes_of(row.number, row.kind) or decisions.notes_of(before or {})
         row.notes = {name: value for name, value in noted.items() if name not in columns}
@@ -164,7 +183,7 @@ class Table:
     def write(self) -> None:
         """Writes the table, and the tables of marks beside it."""
         self.accept.tables.keep(self.folder)
-        rows = [self.rows[at].record() for at in self.order()]
+        rows = [self.rows[at].record() for at in self.order()] + [row.record() for row in self.settled]
         decisions.write(
             self.folder, [*rows, *map(self.left, self.known.left())], self.kept.columns if self.kept else ()
         )
@@ -178,8 +197,12 @@ class Table:
     # What it says.
 
     def told(self) -> Iterator[tuple]:
-        """The last columns of findings.gpkg, of each row as they were taken."""
+        """The last columns of findings.gpkg, of each row that stops as they were taken."""
         return (row.told() for row in self.rows)
+
+    def told_settled(self) -> Iterator[tuple]:
+        """The same of each that is settled without asking."""
+        return (row.told() for row in self.settled)
 
     def left_open(self) -> Left:
         """What is to be decided and is not accepted, or cannot be."""

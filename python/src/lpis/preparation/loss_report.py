@@ -24,17 +24,19 @@ APART = "between"  # a kind that has a file of its own, where there is any
 COUNTED = (
     ("between", "places between parcels that nobody has: see report.csv"),
     ("spike", "spikes and notches narrower than a millimetre that are not in the tables: see report.csv"),
+    ("slit", "slits narrower than a millimetre in the tables, which the source does not have: see findings.csv"),
 )
 COLUMNS = ["kind", "layer", "row", "identifiers", "width_m", "area_m2", "x", "y", "stops", "words", "place"]
 
 
-def put_layers(losses, out, accept, epsg, found_before, told):
-    """The layers of what was found before the tables were made, and of the report; `told` gives the last columns of
-    what stops, in its order."""
+def put_layers(losses, out, accept, epsg, found_before, living):
+    """The layers of what was found before the tables were made, and of the report; `living` gives the last columns of
+    what stops, and of what is settled, each in its order."""
+    told, settled = living.told(), living.told_settled()
     with geopackage.anew(os.path.join(out, LAYERS), epsg) as package:
         finding_rows.put(found_before, accept, package, told)
         for loss in losses:
-            more = next(told) if loss.stops() else finding_rows.NOT_STOPPING
+            more = next(told) if loss.stops() else next(settled) if loss.is_settled() else finding_rows.NOT_STOPPING
             package.add(loss.kind, loss.polygons(), (*loss.of_layer(accept), *more))
 
 
@@ -161,9 +163,12 @@ def why_nothing(losses, whole):
 def concluded(losses, found, counts, out, accept, epsg, whole, refusal, living, found_before=()):
     """Writes and prints what was found, the gravest first: `losses` are gone over several times. The status of the
     run."""
-    living.take(chain((one for one in found_before if one.is_grave()), (one for one in losses if one.stops())))
+    living.take(
+        chain((one for one in found_before if one.is_grave()), (one for one in losses if one.stops())),
+        settled=(one for one in losses if one.is_settled()),
+    )
     written = [*write(losses, out, epsg), LAYERS]
-    put_layers(losses, out, accept, epsg, found_before, living.told())
+    put_layers(losses, out, accept, epsg, found_before, living)
     living.write()
     whole.write(out)
     for line in [

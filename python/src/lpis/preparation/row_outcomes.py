@@ -5,26 +5,22 @@ from __future__ import annotations
 
 from itertools import chain, islice, product
 
-import numpy
-from shapely.geometry import MultiPolygon, Point
+from shapely.geometry import Point
 from shapely.prepared import prep
 
 from ..formats import polygons
-from . import place_holders
+from . import narrow_changes, place_holders
 from ..system import progress
 from ..system.printing import readable
-from ..rounding.border_distance import Along, edges_of
-from .conflicts import LEAST, WIDE, Loss, Source, by_geos, polygons_by
+from .conflicts import WIDE, Loss, Source, by_geos, polygons_by
 from ..rounding.rounded_polygons import are_rounded
-from ..geometry.widths import ROUNDING, is_as_wide, parts_of, widest_of
+from ..geometry.widths import ROUNDING, is_as_wide, widest_of
 
 ROUNDED = 0.001  # metres: what a border moves by rounding, at most
-ALONG = 1.5 * ROUNDED  # metres from a border to what lies along it
 TINY = 0.000_001  # square metres: of doubles
 CELL = 100.0  # metres: conflicts are found by the cells of a grid
 MOST_CELLS = 100  # of a conflict or a piece that are looked up; what has more is looked at each time
 AT_ONCE = 2048  # records
-MOST_SPIKES = 1_000  # of a row that are told one by one
 NAMESAKE = "the tables have fewer rows of its identifier"
 OTHERS = {"parcels": (), "covers": ("parcel", "class")}
 
@@ -59,6 +55,10 @@ class Places:
             for number, (left, low, right, high) in ((number, self.boxes[number]) for number in found)
             if left <= east and right >= west and low <= north and high >= south
         ]
+
+    def of_row(self, name, box):
+        """The conflicts near a box that name a row."""
+        return [loss for number in self.near(box) if name in (loss := self.losses[number]).names]
 
     def give(self, name, parcel, shape, near):
         """What a piece has of conflicts."""
@@ -275,37 +275,9 @@ class Outcome:
             )
             self.source.losses += [loss] if is_grave else []
             self.keep_greatest(name, change, loss)
-        self.spikes(name, row, column, after, (("a spike", gone), ("a notch", come)))
-
-    def spikes(self, name, row, column, after, changes):
-        """Of what went and what came the parts that are narrow and lead away from the border."""
-        parts = [
-            (what, part)
-            for what, found in changes
-            for part in parts_of(found)
-            if 2 * part.area < LEAST * part.length and part.length > 4 * ROUNDED
-        ]
-        found = [each for each, leads_away in zip(parts, lead_away(after, [part for _, part in parts])) if leads_away]
-        for what, part in found[:MOST_SPIKES]:
-            if not is_as_wide(part, LEAST):
-                words = f"{what} of {part.length / 2:.3f} m, narrower than a millimetre, is not in the tables"
-                self.source.losses.append(
-                    Loss("spike", [row[column]], words, part, None, part.area, name, [row.number])
-                )
-        if rest := [part for _, part in found[MOST_SPIKES:]]:
-            words = f"{len(rest)} more spikes and notches of this row are not in the tables: they are reported together"
-            self.source.losses.append(
-                Loss(
-                    "spike",
-                    [row[column]],
-                    words,
-                    MultiPolygon(rest),
-                    None,
-                    sum(part.area for part in rest),
-                    name,
-                    [row.number],
-                )
-            )
+        self.source.losses += narrow_changes.found(
+            name, row, before, after, gone, come, lambda part: self.places.of_row(row[column], part.bounds)
+        )
 
     def least(self, name, row, column, before, area, members):
         """Of a row that was rounded alone the change is no more than its border has room for. Its place is one in
@@ -365,13 +337,3 @@ class Outcome:
                 else "no piece names it"
             )
         return "narrower than a millimetre, or other pieces have its whole place"
-
-
-def lead_away(after, parts):
-    """Which narrow parts of a change lead away from the border that a shape has afterwards: some edge of such a part
-    does not lie along it. Its edges stand for what is between them, which is narrow."""
-    if not parts:
-        return []
-    edges, owner = edges_of(parts)
-    is_along = Along(edges, edges_of(parts_of(after))[0], ALONG).are()
-    return (numpy.bincount(owner[~is_along], minlength=len(parts)) > 0).tolist()

@@ -108,7 +108,7 @@ class SourceRun:
         steps = country_passes.named(work, names, starts, are_metres, self.HAS_LIMITS)
         for _ in progress.each(steps, self.NAME, "names", country_passes.STEPS, "steps", 1):
             pass
-        self.renamed = names.renamed
+        self.renamed, self.living.has_row = names.renamed, self.has_row
         work.at(tested_source.CLASSES)
         classes = self.tested_classes(work, names)
         self.last_year(work)
@@ -118,6 +118,11 @@ class SourceRun:
         """Has the columns go with the findings that --keep names."""
         if self.words.keep:
             self.living.kept = kept_columns.Kept(self.words.land, layers, self.names, self.words.keep)
+
+    def has_row(self, layer, name):
+        """Whether the source has a row of this name in a layer."""
+        query = "SELECT 1 FROM row WHERE name = ? AND is_cover = ? LIMIT 1"
+        return self.base.execute(query, (name, layer == "covers")).fetchone() is not None
 
     def begin_results(self):
         jobs.clear_changed(jobs.begin(self.results), "cell")

@@ -8,7 +8,7 @@ from collections import Counter
 
 from ..country import engines, region_split
 from ..formats import tile_plan
-from ..lineage import year_comparison
+from ..lineage import accepted_changes
 from ..preparation import origin
 from . import ledger, publication_steps, second_checker, table_standing
 from ..system import command_line, file_progress, processes, program, progress
@@ -104,7 +104,7 @@ def publish(command, said, say):
     processes.tell("nothing was published")
     publication_steps.look_at_places(said, "the certificates, and what is printed,")
     kept = Kept(said.folder, said.year)
-    marks = year_comparison.Marks(said.accept_from)
+    marks = accepted_changes.Marks(said.accept_from)
     try:
         last = publication_steps.last_year(said)
     except Stop as stop:

@@ -11,7 +11,7 @@ import subprocess
 import sys
 
 from ..formats import register_rows
-from ..lineage import two_years, year_comparison
+from ..lineage import accepted_changes, two_years, year_comparison
 from ..preparation import decisions
 from . import ledger, table_standing
 from ..system import command_line, files, processes, program
@@ -72,8 +72,9 @@ def look_at_places(said, made):
                 ),
                 command_line.TROUBLE,
             )
-    if os.path.isdir(said.register):
-        raise Stop(f"{said.register} is a folder, and no register", command_line.TROUBLE)
+    if os.path.exists(said.register) and not os.path.isfile(said.register):
+        what = "a folder" if os.path.isdir(said.register) else "no file"
+        raise Stop(f"{said.register} is {what}, and no register", command_line.TROUBLE)
 
 
 def last_year(said):
@@ -199,7 +200,7 @@ def compare(said, last, marks, place="", workers=1):
     with year_comparison.Comparison(said.folder, said.jump, workers) as found:
         found.compare(said.register, before, why)
         year_comparison.write(path, found.rows())
-        judged = year_comparison.judged(found, marks, last)
+        judged = accepted_changes.judged(found, marks, last)
         decisions.add_changes(said.folder, found.rows(), marks)
     print("\n".join(judged.lines), flush=True)
     if judged.left:

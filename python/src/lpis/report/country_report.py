@@ -11,7 +11,7 @@ from dataclasses import dataclass, field
 from ..formats import polygons, register_rows, table_streams, tile_plan
 from ..lineage import release_differences
 from ..preparation import origin
-from . import country_changes, finding_views, html_page, release_page, release_report
+from . import country_changes, decision_tables, finding_views, html_page, release_page, release_report
 from ..system import file_progress, processes, program, progress
 from ..formats.square_metres import AREA, both, decimal, hectares
 from ..faults.explanation import Explained
@@ -322,6 +322,7 @@ def write(path, country):
             chart_of(country),
             [
                 *country.picture.tables(),
+                *decision_tables.tables_of(facts["folder"], country.picture),
                 regions,
                 *release_page.origin_tables(facts["origin"]),
                 *release_page.changes_tables(facts),

@@ -122,7 +122,7 @@ def of_package(path: str, is_settled: bool) -> list[Found]:
         return []
     columns, values = decisions.kept_columns(os.path.dirname(path))
     with contextlib.closing(databases.opened(path)) as base:
-        layers = [name for (name,) in base.execute("SELECT table_name FROM gpkg_contents ORDER BY table_name")]
+        layers = sorted(geopackage.layers_of(base))
         found = [found_of(row, is_settled) for name in layers for row in rows_of(base, name)]
     for one in found:
         one.kept = dict(zip(columns, values.get(one.number, [""] * len(columns))))
@@ -207,7 +207,7 @@ def of_feature(feature: dict) -> Found:
 def add_to(path: str, features: list[dict], epsg: int | None) -> None:
     """Adds faults to the findings of a GeoPackage, which is written anew."""
     with contextlib.closing(databases.opened(path)) as base:
-        layers = [name for (name,) in base.execute("SELECT table_name FROM gpkg_contents ORDER BY rowid")]
+        layers = geopackage.layers_of(base)
         rows = [
             base.execute(f'SELECT geom, {", ".join(geopackage.COLUMNS)} FROM "{name}"').fetchall() for name in layers
         ]

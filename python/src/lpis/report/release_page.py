@@ -10,7 +10,7 @@ from decimal import Decimal
 from ..faults import fault_search
 from ..formats import polygons, register_rows
 from ..preparation import origin
-from . import finding_views, html_page
+from . import decision_tables, finding_views, html_page
 from ..system import files
 from . import release_report as reports
 from ..formats.square_metres import AREA, both, decimal, hectares
@@ -74,7 +74,7 @@ def write_release(path, report, title="", lead=()):
     if not report.features and "place" in facts.get("refusal", {}):
         marks = [*marks, (*(float(value) * 1000 for value in facts["refusal"]["place"]), facts["refusal"]["line"])]
     old, kinds = older(report)
-    tables = [*picture.tables(), classes_table(facts["classes"])]
+    tables = [*picture.tables(), *decision_tables.tables_of(report.folder, picture), classes_table(facts["classes"])]
     tables += origin_tables(facts["origin"])
     tables += difference_tables(report, old)
     tables.append(parcels_table(report))

@@ -172,10 +172,12 @@ def words_of_database(error):
 
 
 def in_place_of_a_folder(error):
-    """What a file is that was handed over in place of a folder of tables."""
-    path = os.fspath(error.filename or "")
-    while path and not os.path.isfile(path):
-        path = os.path.dirname(path)
+    """What stands in the place of a folder: a file that was handed over as a folder of tables, or a device."""
+    path = file_in_the_way(os.path.abspath(os.fspath(error.filename or ".")))
+    if path is None:
+        return error
+    if not os.path.isfile(path):
+        return f"{readable(path)} is no file and no folder: nothing can be written below it"
     try:
         with open(path, "rb") as file:
             kind = byte_tables.kind_of_file(file.read(byte_tables.START))
@@ -184,6 +186,14 @@ def in_place_of_a_folder(error):
     if "tools/check" in (kind or ""):
         return f"{readable(path)} is {kind}, and makes the folder of tables that is wanted here"
     return f"{readable(path)} is {kind or 'a file'}, and no folder of tables, which is wanted here"
+
+
+def file_in_the_way(path):
+    """What is no folder on the way to a path; None where all of it are folders, as far as it is there."""
+    ways = [path]
+    while (parent := os.path.dirname(ways[-1])) != ways[-1]:
+        ways.append(parent)
+    return next((way for way in reversed(ways) if os.path.lexists(way) and not os.path.isdir(way)), None)
 
 
 def say(name, words):
