@@ -23,10 +23,10 @@ if it ends without tables, the tables there are from an earlier run, and all too
 
 OUT/findings.csv has a row for each finding that stops or is settled without asking, with a number that stays from run
 to run and from year to year, and who accepted it. OUT/prepared.csv has all that the tests found, OUT/identifiers.csv
-the names that were changed, OUT/report.csv and OUT/report.geojson what was settled or left out, OUT/between.geojson land
-between parcels that nobody has, and OUT/balance.csv the balance of land, by class. OUT/findings.gpkg has a layer for
-each kind of finding, with polygons of the land where the tables differ from the source; it is also written if the run
-stops.
+the names that were changed, OUT/report.csv and OUT/report.geojson what was settled or left out, OUT/between.geojson
+land between parcels that nobody has, and OUT/balance.csv the balance of land, by class. OUT/findings.gpkg has a layer
+for each kind of finding, with polygons of the land where the tables differ from the source; it is also written if the
+run stops.
 
 lpis.toml next to LAND keeps --name, --classes, --epsg, --between and --keep: the first run with --name writes it, and
 later runs read it; options on the command line win over it. If no layer has the name, the only layer that has polygons
