@@ -33,4 +33,4 @@ class TestLosses(Spare):
 
         with pytest.raises(land.Trouble) as trouble:
             conflicts.by_geos("the overlap", [("covers", "A.1", land.Row(7, {}))], fails)
-        assert "the overlap of covers A.1 (row 7) cannot be worked out: mend the shape" in str(trouble.value)
+        assert "the overlap of covers A.1 (row 7) cannot be computed: mend the shape" in str(trouble.value)
