@@ -62,7 +62,7 @@ class ByCells(Case):
             last.put(base, [os.path.join(results, source_parts.made(part, results)) for part in last.planned()])
         names = [cell_rounding.made(base, number, results) for number in range(count)]
         found = cell_results.Gathered(base, results, names, land_balance.Balance({}))
-        found.read(mock.Mock())
+        found.read(range(count), mock.Mock())
         if width:
             names += self.between(found, results, width)
         found.tables(made, lambda rows, name, count: rows)

@@ -162,15 +162,12 @@ class TestSources(Case):
             0,
             True,
         ), again.stderr
-        for kind in ("jsonl", "part"):
+        for number, (kind, status) in enumerate((("jsonl", 0), ("part", 64)), 2):
             for path in Path(folder, ".cells").glob(f"*.{kind}"):
                 path.write_text("x", encoding="ascii")
-            assert (
-                "is not as it was written"
-                in ended_with(
-                    64, tool("country", "prepare", source, folder, "--accept", "--parcels", 30, "--between", 2)
-                ).stderr
-            )
+            made(source, f"DELETE FROM covers WHERE fid = {number}")
+            words = ("country", "prepare", source, folder, "--accept", "--parcels", 30, "--between", 2)
+            assert ("is not as it was written" in ended_with(status, tool(*words)).stderr) == bool(status)
 
     def test_corrected(self):
         """Of a piece that gets another class its part is read, its cell is rounded, and one table is another: no

@@ -14,11 +14,11 @@ once, has the country checked, and publishes a year.
 
 prepare: tests, mends and rounds a source as tools/prepare does, with the same options, findings and coordinates, and
 splits the tables. Rows are read in parts and borders are rounded cell by cell, by one process for each processor, or by
-Snakemake: a parcel's coordinates depend only on the rows next to it. DIR/.cells keeps the results of parts and cells: a
-run that was stopped goes on there, and after a change of the source only the cells that changed are made again. Land
-that nobody has between parcels is joined across cells, up to --between METRES, or else a metre. prepared.csv,
-identifiers.csv, report.csv, report.geojson, between.geojson, balance.csv and findings.gpkg, which has the polygons of
-what was found, are those of the whole country.
+Snakemake: a parcel's coordinates depend only on the rows next to it. DIR/.cells keeps what a run made: a run that was
+stopped goes on there, after a correction of some rows only their cells and the tables of their regions are made again,
+and where nothing changed the run says so. Land that nobody has between parcels is joined across cells, up to --between
+METRES, or else a metre. prepared.csv, identifiers.csv, report.csv, report.geojson, between.geojson, balance.csv and
+findings.gpkg, which has the polygons of what was found, are those of the whole country.
 
 split: SOURCE has parcels.csv, covers.csv and classes.csv, as tools/prepare writes them. The land is cut into tiles
 until no region has over 60,000 rows of parcels, 190,000 of covers or 1,900,000 points of covers. Each row is written to

@@ -4,6 +4,7 @@ by one only where something is wrong with them."""
 
 from __future__ import annotations
 
+import json
 from collections import Counter
 
 from ..formats import wkb
@@ -133,6 +134,26 @@ class Balance(land_balance.Balance):
             self.add(group, "source", area)
             if not is_kept:
                 self.add(group, "mended" if is_joined else "left out", -area)
+        self.keep()
+
+    def keep(self):
+        """Has the store keep what was booked of its rows, for a run that takes it up."""
+        self.base.execute("DELETE FROM booked")
+        self.base.executemany(
+            "INSERT INTO booked VALUES (?, ?, ?)", ((*group, json.dumps(sums)) for group, sums in self.sums.items())
+        )
+
+    def begin_again(self, changed):
+        """Takes what was booked of the rows of a store, but for those that changed: each with its group and its area
+        before, and the same now."""
+        self.sums = {
+            (layer, land_class): json.loads(sums)
+            for layer, land_class, sums in self.base.execute("SELECT layer, class, sums FROM booked ORDER BY rowid")
+        }
+        for before, now in changed:
+            for sign, (group, area) in ((-1, before), (1, now)):
+                self.add_exact(group, "source", sign * int(area * land_balance.UNIT))
+        self.keep()
 
     def reasons(self):
         return Counter(dict(self.base.execute("SELECT why, count(*) FROM row WHERE why <> '' GROUP BY why")))

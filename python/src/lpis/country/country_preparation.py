@@ -6,7 +6,7 @@ from __future__ import annotations
 import os
 import shutil
 
-from . import country_passes, jobs, region_split
+from . import corrected_run, country_passes, jobs, region_split
 from ..formats import table_streams
 from ..preparation import identifier_passes, preparation_run
 from ..source import land
@@ -14,7 +14,7 @@ from ..system import files, placing, progress
 from ..system.printing import counted
 
 
-class Run(preparation_run.Run):
+class Run(corrected_run.Corrected, preparation_run.Run):
     """A run whose tables are those of regions. `words` has also the limits of a region, `anew`, `lineage` and
     `tables`."""
 
@@ -71,12 +71,23 @@ class Run(preparation_run.Run):
         taken = sum(name in before for name in names)
         self.say(progress.Note(f"cells as they were: {taken} of {len(names)}, rounded: {len(names) - taken}"))
 
+    def write_tables(self, seen):
+        """Not before they take their place: a run that is refused needs none."""
+
     def put(self):
-        """Splits the tables into regions; the balance of the folder stays that from the source to the tables."""
+        """Writes the tables of the regions that changed, or splits the country; the balance of the folder stays that
+        from the source to the tables."""
+        changes = self.correction and self.correction.changes
+        lines = changes and self.corrected(changes)
+        print((lines or self.split())[-1])
+
+    def split(self):
+        """Splits the tables into regions."""
         words = self.words
+        super().write_tables(self.gathered)
         if words.tables:
             self.put_whole(words.tables)
-        lines = region_split.split(
+        return region_split.split(
             table_streams.Folder(self.made),
             words.out,
             words.most,
@@ -87,7 +98,6 @@ class Run(preparation_run.Run):
             self.whole,
             self.making,
         )
-        print(lines[-1])
 
     def put_whole(self, folder):
         """The tables of the whole country in a folder of their own."""

@@ -21,6 +21,7 @@ CREATE TABLE ring (id INTEGER PRIMARY KEY, area REAL, length REAL);
 CREATE VIRTUAL TABLE box_of_ring USING rtree(id, left, right, low, high);
 CREATE TABLE asked (width REAL);
 """  # noqa: E501
+AWAY = "".join(f"DROP TABLE IF EXISTS {name};" for name in ("way", "box_of_way", "ring", "box_of_ring", "asked"))
 INDICES = (
     "CREATE INDEX way_of_cell ON way (cell); CREATE INDEX way_of_ring ON way (ring); CREATE INDEX open_way ON way (ax,"
     " ay) WHERE NOT is_closed;"

@@ -21,10 +21,10 @@ from ..system import files, installation, processes, program, progress
 
 JOB, PARENT = "job", "of"  # the word of tools/country that starts a worker; behind it, the process with which that ends
 OF_CELLS = ("cell", "gap")  # kinds of jobs of which there is one for each cell
-FOLDER, PLAN, PARTS, COUNT, STORE = ".cells", "plan.json", "parts", "count", "rows.db"
+FOLDER, PLAN, PARTS, COUNT, STORE, KEPT = ".cells", "plan.json", "parts", "count", "rows.db", "kept.json"
 # names of results, and of what a killed worker left
 OWN = re.compile(
-    r"[0-9a-f]{64}\.(jsonl|part)|\d+\.(cell|gap)|(cell|gap)s\.json|plan\.json|parts|count|rows\.db(-journal)?|\.lpis-[0-9a-f]+\.new"  # noqa: E501
+    r"[0-9a-f]{64}\.(jsonl|part)|\d+\.(cell|gap)|(cell|gap)s\.json|(plan|kept)\.json|parts|count|rows\.db(-journal)?|\.lpis-[0-9a-f]+\.new"  # noqa: E501
 )
 TOOL = os.path.join(program.HERE, "country")
 
@@ -180,6 +180,17 @@ def clear_changed(folder, kind):
             if OWN.fullmatch(name) and files.digest(os.path.join(folder, name)) == then
         ]
     clear(folder, sound)
+
+
+def drop_changed(folder, kind):
+    """Removes the files of a kind that are not as a run before kept them, so that no job is taken for done by them."""
+    with contextlib.suppress(OSError, ValueError, TypeError):
+        with open(os.path.join(folder, f"{kind}s.json"), encoding="utf-8") as file:
+            _, names, wanted = json.load(file)
+        for name, then in zip(names, wanted):
+            path = os.path.join(folder, name)
+            if OWN.fullmatch(name) and os.path.isfile(path) and files.digest(path) != then:
+                files.remove(path)
 
 
 def kept(folder, kind, digest):

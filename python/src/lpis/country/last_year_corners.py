@@ -185,6 +185,7 @@ class LastYear:
     def count(self, base, text_of):
         """How many parcels have the text that they had, and how many there were; `text_of` gives this year's by
         identifier. `base` is a database for it."""
+        base.execute("DROP TABLE IF EXISTS last_year")
         base.execute("CREATE TABLE last_year (name TEXT PRIMARY KEY, is_same INTEGER) WITHOUT ROWID")
         base.executemany(
             "INSERT OR IGNORE INTO last_year VALUES (?, ?)",

@@ -28,6 +28,8 @@ CREATE VIRTUAL TABLE box USING rtree(id, left, right, low, high);
 CREATE TABLE cell (parcel TEXT PRIMARY KEY, number INTEGER) WITHOUT ROWID;
 CREATE TABLE used (name TEXT PRIMARY KEY) WITHOUT ROWID;
 CREATE TABLE text (id INTEGER PRIMARY KEY, cell INTEGER, at INTEGER);
+CREATE TABLE given (cell INTEGER PRIMARY KEY, parcels INTEGER, pieces INTEGER, records TEXT, ways TEXT);
+CREATE TABLE booked (layer TEXT, class TEXT, sums TEXT);
 CREATE TABLE corner (id INTEGER PRIMARY KEY, places BLOB);
 CREATE VIRTUAL TABLE box_of_corner USING rtree(id, left, right, low, high);
 CREATE TABLE loss (seq INTEGER PRIMARY KEY, is_stopping INTEGER, kind INTEGER, size REAL, names TEXT, words TEXT, told TEXT, shape BLOB, width REAL,
@@ -51,6 +53,13 @@ def new(path, *tables):
     """A new file with tables, which nobody reads before it is whole."""
     base = sqlite3.connect(path)
     base.executescript(FAST + "".join(tables))
+    return base
+
+
+def reopened(path):
+    """A store that is there, to go on with."""
+    base = sqlite3.connect(path)
+    base.executescript(FAST)
     return base
 
 
@@ -296,7 +305,7 @@ def found(base, starts, count, shown):
 
 # Cells.
 
-MOST_POINTS = 150_000  # of a cell's parcels, unless one has more
+MOST_POINTS = 40_000  # of a cell's parcels, unless one has more
 SIDE, LEAST = 36, 10  # powers of two: the side of all cells in millimetres, and that of the smallest
 LARGE = 2000.0  # metres: a parcel with a longer box, a road or a river, is a cell of its own
 EXTENTS = (
@@ -306,9 +315,9 @@ EXTENTS = (
 EXTENT = [("id", "i8"), ("left", "f8"), ("low", "f8"), ("right", "f8"), ("high", "f8"), ("points", "i8")]
 
 
-def put_cells(base):
-    """Parts the kept parcels into cells; answers how many there are. A cell is a square whose sides are powers of two
-    millimetres; a parcel is in the cell that has the lower left corner of its pieces' box."""
+def put_cells(base, table="cell"):
+    """Parts the kept parcels into cells, in a table; answers how many there are. A cell is a square whose sides are
+    powers of two millimetres; a parcel is in the cell that has the lower left corner of its pieces' box."""
     found, count = numpy.fromiter(base.execute(EXTENTS), dtype=EXTENT), 0
     is_large = numpy.maximum(found["right"] - found["left"], found["high"] - found["low"]) > LARGE
     usual = found[~is_large]
@@ -318,10 +327,11 @@ def put_cells(base):
         *found["id"][is_large].reshape(-1, 1),
     ):
         base.executemany(
-            "INSERT INTO cell SELECT parcel, ? FROM row WHERE id = ?", ((count, number) for number in ids.tolist())
+            f"INSERT INTO {table} SELECT parcel, ? FROM row WHERE id = ?", ((count, number) for number in ids.tolist())
         )
         count += 1
-    base.execute("CREATE INDEX by_cell ON cell (number)")
+    if table == "cell":
+        base.execute("CREATE INDEX by_cell ON cell (number)")
     base.commit()
     return count
 

@@ -37,7 +37,7 @@ class Kept:
 
     def __init__(self, base, name):
         self.base, self.name = base, name
-        base.execute(f"CREATE TABLE {name} (number INTEGER PRIMARY KEY, old TEXT UNIQUE, new TEXT)")
+        base.execute(f"CREATE TABLE IF NOT EXISTS {name} (number INTEGER PRIMARY KEY, old TEXT UNIQUE, new TEXT)")
 
     def get(self, old, default=None):
         found = self.base.execute(f"SELECT new FROM {self.name} WHERE old = ?", (old,)).fetchone()

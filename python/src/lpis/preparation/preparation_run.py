@@ -26,13 +26,13 @@ from ..system.printing import counted
 
 TABLES = ("parcels.csv", "covers.csv", "classes.csv")
 FINDINGS = "prepared.csv"
-KEPT_FILES = ("cells.json", "gaps.json", jobs.STORE)
+KEPT_FILES = ("cells.json", "gaps.json", jobs.STORE, jobs.KEPT)
 
 
 class Run(source_run.SourceRun):
     """A run from a source to tables. `close` ends it."""
 
-    before = gathered = None
+    before = gathered = gaps = None
 
     def close(self):
         try:
@@ -130,20 +130,32 @@ class Run(source_run.SourceRun):
         """Has all cells rounded, and puts together what they give."""
         if self.gathered is None:
             count = row_store.put_cells(self.base)
-            digest = jobs.digest_of(
-                [part["file"] for part in self.plan], self.given, self.previous.digests() if self.previous else None
-            )
-            names = self.cells(count, digest)
+            names = self.cells(count, self.digest())
             self.whole.begin()
             self.gathered = cell_results.Gathered(self.base, self.results, names, self.whole)
-            self.gathered.read(progress.Progress(self.NAME, "reading what was rounded", count, "cells"))
-            self.gathered.tell_causes(gap_causes.Causes(self.base, work.layers["covers"].key))
-            names = [*names, *self.between(names, f"{digest} {self.words.between}")]
-            jobs.clear(self.results, [*self.kept_files, *names, *KEPT_FILES])
-            if self.previous:
-                self.say(f"comparing with {self.previous.folder}")
-                self.previous.count(self.base, self.gathered.text_of_parcel)
+            shown = progress.Progress(self.NAME, "reading what was rounded", count, "cells")
+            self.gathered.read(range(count), shown)
+            self.gathered.tell_causes(gap_causes.Causes(self.base, work.layers["covers"].key), range(count))
+            self.gaps = self.between(names)
+            self.settle()
         return self.gathered
+
+    def settle(self):
+        """Ends the rounding: what no run needs goes, and last year's texts are looked for."""
+        self.gathered.sum_between()
+        jobs.clear(self.results, [*self.kept_files, *self.gathered.names, *self.gaps, *KEPT_FILES])
+        if self.previous:
+            self.say(f"comparing with {self.previous.folder}")
+            self.previous.count(self.base, self.gathered.text_of_parcel)
+
+    def digest(self):
+        """Of all that cells hang on."""
+        return jobs.digest_of(
+            [part["file"] for part in self.plan], self.given, self.previous.digests() if self.previous else None
+        )
+
+    def digest_between(self):
+        return f"{self.digest()} {self.words.between}"
 
     def cells(self, count, digest):
         """The names of the files that have what the cells give. Where all that these hang on is as it was when a run
@@ -183,10 +195,11 @@ class Run(source_run.SourceRun):
             self.words, self.results, kind, [None] * count, what, self.base if self.is_small else None
         )
 
-    def between(self, cells, digest):
+    def between(self, cells):
         """Has the land looked for that nobody has between parcels; the names of the files that have its arms."""
         self.say(f"land between parcels, up to {self.words.between:g} m")
         self.gathered.read_narrow(self.words.between)
+        digest = self.digest_between()
         names = jobs.kept(self.results, "gap", digest)
         if names is None or len(names) != len(cells):
             jobs.tell_kept(self.results, "cell", cells)
@@ -200,8 +213,8 @@ class Run(source_run.SourceRun):
     # The report and the tables.
 
     def report(self, work, seen):
-        for loss in country_passes.left_out(self.base):
-            seen.losses.add(loss)
+        self.tell_left_out(seen)
+        seen.losses.at(cell_results.COLUMN)
         for name, layer in work.layers.items():
             for column in layer.others:
                 seen.losses.add(
@@ -210,8 +223,20 @@ class Run(source_run.SourceRun):
                     )
                 )
         self.base.commit()
+        self.write_tables(seen)
+        return self.concluded(work, seen)
+
+    def tell_left_out(self, seen):
+        seen.losses.at(cell_results.LEFT_OUT)
+        for loss in country_passes.left_out(self.base):
+            seen.losses.add(loss)
+
+    def write_tables(self, seen):
         self.say("tables")
         seen.tables(self.made, lambda rows, what, count: progress.each(rows, self.NAME, what, count, "rows"))
+
+    def concluded(self, work, seen):
+        """Writes the report, and tells it; the status of the run."""
         return loss_report.concluded(
             seen.losses,
             seen.counts,

@@ -21,6 +21,7 @@ class SourceRun:
     `close` ends it. `words` has also how jobs are done: `workers`, `snakemake` and `profile`."""
 
     NAME, HAS_LIMITS = "prepare", True  # those of one release
+    is_taken_up = is_store_kept = False  # the store: from the run before, and for the next one
 
     def __init__(self, words, names, say, standing=""):
         """`standing` is the folder where the tables take their place, if that is another than the one of `words`."""
@@ -53,7 +54,8 @@ class SourceRun:
         self.making.close()
         if self.base:
             self.base.close()
-            files.remove(os.path.join(self.results, jobs.STORE))
+            if not self.is_store_kept:
+                files.remove(os.path.join(self.results, jobs.STORE))
         for folder in self.own_folders():
             placing.clear(folder)
 
@@ -103,11 +105,12 @@ class SourceRun:
         )
         self.begin_results()
         starts, are_metres = self.stored(work, layers)
-        self.say("names, and what they name")
         names = identifier_passes.Names(work, self.given)
-        steps = country_passes.named(work, names, starts, are_metres, self.HAS_LIMITS)
-        for _ in progress.each(steps, self.NAME, "names", country_passes.STEPS, "steps", 1):
-            pass
+        if not self.is_taken_up:
+            self.say("names, and what they name")
+            steps = country_passes.named(work, names, starts, are_metres, self.HAS_LIMITS)
+            for _ in progress.each(steps, self.NAME, "names", country_passes.STEPS, "steps", 1):
+                pass
         self.renamed, self.living.has_row = names.renamed, self.has_row
         work.at(tested_source.CLASSES)
         classes = self.tested_classes(work, names)
@@ -146,10 +149,7 @@ class SourceRun:
             self.base, begins, self.kept_files = *row_store.in_memory(source_parts.put(self.plan)), []
         else:
             self.kept_files = self.read_parts(self.plan, self.contents)
-            self.say("writing all rows by their places")
-            self.base, begins = row_store.merged(
-                os.path.join(self.results, jobs.STORE), [os.path.join(self.results, name) for name in self.kept_files]
-            )
+            begins = self.begins = self.taken_up() or self.merged()
         ends = [*begins[1:], self.base.execute("SELECT count(*) FROM row").fetchone()[0]]
         starts = {}
         for name, begin, end in zip((part["layer"] for part in self.plan), begins, ends):
@@ -159,6 +159,17 @@ class SourceRun:
         work.counts.update({name: count for name, (_, count) in starts.items()})
         self.whole = country_passes.Balance(self.base)
         return starts, are_metres
+
+    def taken_up(self):
+        """Takes the store of the run before, where that is possible; where each part begins in it, or nothing."""
+
+    def merged(self):
+        """Makes the store of the parts; where each begins in it."""
+        self.say("writing all rows by their places")
+        self.base, begins = row_store.merged(
+            os.path.join(self.results, jobs.STORE), [os.path.join(self.results, name) for name in self.kept_files]
+        )
+        return begins
 
     def read_parts(self, plan, known, what=""):
         """The names of the files of parts. Where one is new, the files that they come of have to be as they were."""

@@ -232,16 +232,22 @@ class Making:
         source = self.standing.source()
         return source.line() if source else ""
 
-    def finish(self, made: str, names: Iterable[str]) -> str:
+    def finish(self, made: str, names: Iterable[str], others: dict[str, str] | None = None) -> str:
         """Writes the file beside new tables, of these names, with which it takes its place; its name. Trouble where the
-        source is another by now."""
+        source is another by now. `others` has all tables with their digests, where those stay that are not new."""
+        new = ledger.digests_of({name: os.path.join(made, name) for name in names}, "digests of the tables")
+        with files.fresh(os.path.join(made, FILE), encoding="utf-8") as file:
+            file.write(self.whole({**(others or {}), **new}).text())
+        return FILE
+
+    def stand(self, tables: dict[str, str]) -> None:
+        """The tables that stand are those of this run too."""
+        write(self.out, self.whole(tables))
+
+    def whole(self, tables: dict[str, str]) -> Standing:
         for source in self.standing.sources:
             source.hold(self.known)
-        tables = ledger.digests_of({name: os.path.join(made, name) for name in names}, "digests of the tables")
-        whole = dataclasses.replace(self.standing, state=WHOLE, ended=now(), why="", tables=tables)
-        with files.fresh(os.path.join(made, FILE), encoding="utf-8") as file:
-            file.write(whole.text())
-        return FILE
+        return dataclasses.replace(self.standing, state=WHOLE, ended=now(), why="", tables=tables)
 
     def close(self) -> None:
         """Ends the run: who begins in the folder from now on is another one."""
