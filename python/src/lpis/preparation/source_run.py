@@ -8,7 +8,6 @@ import tempfile
 
 from ..country import country_passes, engines, jobs, last_year_corners, row_store, source_parts
 from . import acceptance, identifier_passes, live_findings, recipe, tested_source
-from ..geometry import shapely_objects
 from ..register import table_standing
 from ..source import kept_columns, land, source_settings
 from ..system import files, placing, progress
@@ -25,7 +24,6 @@ class SourceRun:
 
     def __init__(self, words, names, say, standing=""):
         """`standing` is the folder where the tables take their place, if that is another than the one of `words`."""
-        shapely_objects.quicken()
         self.words, self.names, self.say, self.previous = words, names, say, None
         self.standing = standing or words.out
         self.making = table_standing.begin(
