@@ -163,5 +163,5 @@ def test_report(year, said, tmp_path):
 def test_year(tmp_path):
     """`--audit` of tools/year, of two years in a register."""
     years = shutil.copytree(EXACT, tmp_path / "years")
-    for year, said, more in (("2024", "says of", ["--new"]), ("2025", "agree on the marks of", [])):
+    for year, said, more in (("2024", "says about", ["--new"]), ("2025", "agree on the marks of", [])):
         expect_agreement(said, "year", "--year-anyway", tmp_path / "tools.db", year, years / year, *more)

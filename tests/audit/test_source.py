@@ -343,7 +343,7 @@ def test_tools(tool, tmp_path):
     table.write_text(table.read_text().replace(",grass,", ",arable,", 1))
     ended = calls.tool(tool, *words, "--source", wrong)
     assert (ended.returncode, register.exists()) == (1, False), ended.stderr
-    assert re.search("the second checker says of .*a land and .*: no at .* class arable .* class grass", ended.stderr)
+    assert re.search("the second checker says about .*a land and .*: no at .* class arable .* class grass", ended.stderr)
     ended = calls.tool(tool, *words, "--source", f"{exact} --classes {exact}/classes.csv --previous")
     assert (
         ended.returncode == 0 and f"the second checker says about {exact} and {out}: yes\n" in ended.stdout

@@ -219,7 +219,7 @@ class TestRuns(Spare):
             assert not TABLES & names_in(self.out)
         ran = ended_with(1, checked(self.land, "--out", self.out, "--previous", self.path("none")))
         told = (
-            "not looked for yet: overlaps, gaps, pieces outside of their parcel, since previous stops the run before:"
+            "not looked for yet: overlaps, gaps, pieces outside of their parcel, since previous stops the run first:"
             " mend that, and run it again"
         )
         assert f"\n{told}\n" in ran.stdout and told in read(self.out, "index.html")
@@ -231,7 +231,7 @@ class TestRuns(Spare):
         covers = [("A1", "A", "GRASS", shapes[0]), ("B1", "B", "FALLOW", shapes[1])]
         dirty.put(self.land, [("A", None), ("B", shapes[1])], covers)
         ran = ended_with(1, checked(self.land, "--out", self.out))
-        assert "class FALLOW, at 550025.000 5400005.000: 1 piece has this class, B1 (fid 2), and the" in ran.stdout
+        assert "class FALLOW, at 550025.000 5400005.000: 1 piece has this class, B1 (fid 2), which the table" in ran.stdout
         assert "add the line FALLOW,? to that table, with its percentage in place of the ?" in ran.stdout
         page = read(self.out, "index.html")
         assert '"class FALLOW"' in page and '"shape A"' in page

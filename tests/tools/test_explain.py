@@ -349,7 +349,7 @@ CASES = [
     ("refused 81 lineage 75 A", 1, {}, ["code 75"]),
     ("refused 81 lineage 76 A 2023", 1, {}, ["code 76"]),
     ("refused 83", 1, {}, ["in no release"]),
-    ("refused 84", 2, {}, ["no register"]),
+    ("refused 84", 2, {}, ["cannot be read as a register"]),
 ]
 
 

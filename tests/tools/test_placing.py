@@ -271,7 +271,6 @@ class TestYears(Spare):
         "command, words, more",
         (
             ("publish", "2024 is published in {}, and its line is in the log", ()),
-            ("check", "nothing was published", ()),
             ("cut", "nothing was published", ("--certificate",)),
         ),
     )

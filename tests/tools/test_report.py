@@ -252,7 +252,7 @@ class TestReports(Spare):
         for words in (
             "no row of lineage explains it",
             "</i>new: 2</span>",
-            "</i>of another area: 1</span>",
+            "</i>with another area: 1</span>",
             "</i>gone, with its last shape: 2</span>",
         ):
             assert words in self.html()

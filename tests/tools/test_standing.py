@@ -163,7 +163,7 @@ class TestFiles(Case):
         assert "changed since" in table_standing.look_at_sources(self.out, True)[0]
         self.made("parcels.csv", of="PG:dbname=land password='my secret' user=clerk")
         (told,) = table_standing.look_at_sources(self.out, False)
-        assert "PG:dbname=land password=*** user=clerk is no file" in told
+        assert "PG:dbname=land password=*** user=clerk is not a file" in told
         assert "secret" not in read(self.out, table_standing.FILE)
 
     def test_a_log_of_writes(self):

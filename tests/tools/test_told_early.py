@@ -108,7 +108,7 @@ class TestStops(Spare):
     def test_devices_in_place_of_folders(self):
         """Below what is no folder nothing can be written: that is said at once, before the source is read."""
         for name, more in (("prepare", ()), ("country", ("prepare",)), ("check", ())):
-            for out, words in (("/dev/full/x", "/dev/full is no file and no folder"), (self.land + "/x", "no folder")):
+            for out, words in (("/dev/full/x", "/dev/full is no file and no folder"), (self.land + "/x", "land.gpkg is ")):
                 place = ["--out", out] if name == "check" else [out]
                 ended = ended_with(64, tool(name, *more, self.land, *place, timeout=60))
                 assert words in ended.stderr and "reading" not in ended.stderr, ended.stderr
