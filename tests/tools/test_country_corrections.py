@@ -26,7 +26,7 @@ from lpis_helpers.places import TOP
 from lpis.commands import country
 from lpis.country import jobs
 from lpis.register import table_standing
-from lpis.system import shapely_there
+from lpis.system import progress, shapely_there
 
 if shapely_there.is_there():
     from lpis.country import row_store
@@ -195,7 +195,9 @@ class Country:
         words = ("prepare", self.source.path, out, "--accept", "--quiet", *LIMITS, *self.more, *more)
         told = [io.StringIO(), io.StringIO()]
         with contextlib.redirect_stdout(told[0]), contextlib.redirect_stderr(told[1]), by_small_cells():
-            with mock.patch.object(sys, "argv", ["country", *words]):
+            with mock.patch.object(sys, "argv", ["country", *words]), mock.patch.object(
+                progress.Quiet, "is_quiet", True
+            ):
                 status = country.main()
         gc.enable()
         return subprocess.CompletedProcess(words, status, *(text.getvalue() for text in told))
@@ -206,7 +208,7 @@ class Country:
     def correct(self, kind):
         self.source.correct(kind)
         if kind in OF_CLASSES:  # the table that stands goes before that of the source
-            os.remove(os.path.join(self.out, "classes.csv"))
+            Path(self.out, "classes.csv").unlink(missing_ok=True)
 
     def again(self, *more):
         """A run after a correction, which has to give what one from nothing gives; what it told."""
